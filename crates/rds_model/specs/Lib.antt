@@ -1,0 +1,12 @@
+pub mod Log
+pub mod Past
+pub mod Streams
+pub mod Alive
+pub mod Owed
+pub mod Reading
+pub mod Legal
+pub mod Honest
+pub mod Fifo
+pub mod Pairs
+pub mod Drained
+pub mod Store
