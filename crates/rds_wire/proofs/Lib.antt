@@ -1,0 +1,4 @@
+pub mod Decoding
+pub mod FieldSum
+pub mod Folding
+pub mod Headers
