@@ -6,7 +6,7 @@ use Rattle.std.proofs.lemmas.List.Elements.{All-from_get_or, All-get_or, All-tak
 use Rattle.std.proofs.lemmas.Nat.{be_bytes_2, be_bytes_4, be_bytes_8}
 use Rattle.std.proofs.Math.Seq.{take-add}
 use Rattle.byteorder.specs.Endian.{big_bytes, big_number}
-use Rattle.byteorder.specs.Numbers.{big_from-lt}
+use Rattle.byteorder.specs.Numbers.{big_from-lt, big_from-take}
 use Rattle.rds_wire.specs.declared.header.Header.{Header}
 use Rattle.rds_wire.specs.Bytes.{header_bytes, IsHeader, IsBytes}
 
@@ -52,6 +52,17 @@ big_bytes-4 xs len bytes = be_bytes_4 xs (big_number 4 xs) len (byte_lt xs bytes
 
 big_bytes-2 : (xs : List ℕ) → length xs ≡ 2 → IsBytes xs → big_bytes 2 (big_number 2 xs) ≡ xs
 big_bytes-2 xs len bytes = be_bytes_2 xs (big_number 2 xs) len (byte_lt xs bytes) (omega arith)
+
+-- the bytes of the number at the front of a list are the front
+pub take-number_4 : (xs : List ℕ) (n : ℕ) → 4 ≤ length xs → ((i : ℕ) → get_or xs i 0 < 256) → n ≡ big_number 4 xs → take 4 xs ≡ big_bytes 4 n
+take-number_4 xs n fits byte is =
+    let bytes : IsBytes (take 4 xs) = All-take (λ x. x < 256) 4 xs (All-from_get_or (λ x. x < 256) xs 0 (λ i below. byte i)) in
+    sym (ap (big_bytes 4) (is ∙ sym (big_from-take 0 4 4 xs (omega arith))) ∙ big_bytes-4 (take 4 xs) (length-take-le 4 xs fits) bytes)
+
+pub take-number_2 : (xs : List ℕ) (n : ℕ) → 2 ≤ length xs → ((i : ℕ) → get_or xs i 0 < 256) → n ≡ big_number 2 xs → take 2 xs ≡ big_bytes 2 n
+take-number_2 xs n fits byte is =
+    let bytes : IsBytes (take 2 xs) = All-take (λ x. x < 256) 2 xs (All-from_get_or (λ x. x < 256) xs 0 (λ i below. byte i)) in
+    sym (ap (big_bytes 2) (is ∙ sym (big_from-take 0 2 2 xs (omega arith))) ∙ big_bytes-2 (take 2 xs) (length-take-le 2 xs fits) bytes)
 
 -- the parts of 48 bytes, one after another, are those bytes
 parts : (b : List ℕ) → length b ≡ 48

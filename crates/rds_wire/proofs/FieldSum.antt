@@ -56,37 +56,37 @@ folded-header h fits =
     let tail : h.padding ++ big_bytes 2 0 ++ h.ext ≡ h.padding ++ (big_bytes 2 0 ++ (front ++ back)) =
     append_assoc h.padding (big_bytes 2 0) h.ext ∙ ap (λ (x : List ℕ). h.padding ++ (big_bytes 2 0 ++ x)) (sym (take-append-drop 8 h.ext)) in
     let lists : header_bytes (record h { csum = 0 })
-      ≡ big_bytes 8 h.sequence ++ (big_bytes 8 h.ack ++ (big_bytes 4 h.len ++ (big_bytes 2 h.sport ++ (big_bytes 2 h.dport ++ (marks ++ (h.padding ++ (big_bytes 2 0 ++ (front ++ back)))))))) =
+    ≡ big_bytes 8 h.sequence ++ (big_bytes 8 h.ack ++ (big_bytes 4 h.len ++ (big_bytes 2 h.sport ++ (big_bytes 2 h.dport ++ (marks ++ (h.padding ++ (big_bytes 2 0 ++ (front ++ back)))))))) =
     (λ i. big_bytes 8 h.sequence ++ (big_bytes 8 h.ack ++ (big_bytes 4 h.len ++ (big_bytes 2 h.sport ++ (big_bytes 2 h.dport ++ (marks ++ tail i)))))) in
     let sums = word_sum-ten
-      (big_bytes 8 h.sequence)
-      (big_bytes 8 h.ack)
-      (big_bytes 4 h.len)
-      (big_bytes 2 h.sport)
-      (big_bytes 2 h.dport)
-      marks
-      h.padding
-      (big_bytes 2 0)
-      front
-      back
-      refl
-      refl
-      refl
-      refl
-      refl
-      refl
-      fits.padding
-      refl
-      (length-take-le 8 h.ext (omega (arith, fits.ext))) in
+    (big_bytes 8 h.sequence)
+    (big_bytes 8 h.ack)
+    (big_bytes 4 h.len)
+    (big_bytes 2 h.sport)
+    (big_bytes 2 h.dport)
+    marks
+    h.padding
+    (big_bytes 2 0)
+    front
+    back
+    refl
+    refl
+    refl
+    refl
+    refl
+    refl
+    fits.padding
+    refl
+    (length-take-le 8 h.ext (omega (arith, fits.ext))) in
     let both_marks : word_sum marks ≡ 256 * h.flags + h.credit = omega (arith, fits.flags, fits.credit) in
     ap folded (ap word_sum lists ∙ sums)
     ∙ folded-add _ _ _ _ (folded-number 4 h.sequence fits.sequence)
-      (folded-add _ _ _ _ (folded-number 4 h.ack fits.ack)
-      (folded-add _ _ _ _ (folded-number 2 h.len fits.len)
-      (folded-add _ _ _ _ (folded-number 1 h.sport fits.sport)
-      (folded-add _ _ _ _ (folded-number 1 h.dport fits.dport)
-      (folded-add _ _ _ _ (ap folded both_marks)
-      (folded-add _ _ _ _ (folded-words 2 h.padding fits.padding)
-      (folded-add _ _ _ _ refl
-      (folded-add _ _ _ _ (folded-words 4 front (length-take-le 8 h.ext (omega (arith, fits.ext))))
-        (folded-words 4 back (omega (arith, length-drop 8 h.ext, fits.ext)))))))))))
+    (folded-add _ _ _ _ (folded-number 4 h.ack fits.ack)
+    (folded-add _ _ _ _ (folded-number 2 h.len fits.len)
+    (folded-add _ _ _ _ (folded-number 1 h.sport fits.sport)
+    (folded-add _ _ _ _ (folded-number 1 h.dport fits.dport)
+    (folded-add _ _ _ _ (ap folded both_marks)
+    (folded-add _ _ _ _ (folded-words 2 h.padding fits.padding)
+    (folded-add _ _ _ _ refl
+    (folded-add _ _ _ _ (folded-words 4 front (length-take-le 8 h.ext (omega (arith, fits.ext))))
+    (folded-words 4 back (omega (arith, length-drop 8 h.ext, fits.ext)))))))))))

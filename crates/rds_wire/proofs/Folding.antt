@@ -35,9 +35,9 @@ Folds-add a b c d left right = record {
   times = left.times + right.times;
   sum = omega (arith, left.sum, right.sum);
   zero = λ z.
-    let first = left.zero (omega arith) in
-    let second = right.zero (omega arith) in
-    omega arith;
+      let first = left.zero (omega arith) in
+      let second = right.zero (omega arith) in
+      omega arith;
 }
 
 -- sums of numbers that fold alike fold alike
@@ -109,10 +109,10 @@ Folds-words (suc n) (x ∷ y ∷ xs) even =
       times = 256 * (x * power.0) + y * power.0 + rest.times;
       sum = omega (arith, whole, rest.sum);
       zero = λ z.
-        let none_x : x ≡ 0 = omega arith in
-        let none_y : y ≡ 0 = omega arith in
-        let none = rest.zero (omega arith) in
-        spelt ∙ (λ i. none_x i * (256 * 256 ^ (2 * n)) + (none_y i * 256 ^ (2 * n) + none i)) ∙ omega arith;
+          let none_x : x ≡ 0 = omega arith in
+          let none_y : y ≡ 0 = omega arith in
+          let none = rest.zero (omega arith) in
+          spelt ∙ (λ i. none_x i * (256 * 256 ^ (2 * n)) + (none_y i * 256 ^ (2 * n) + none i)) ∙ omega arith;
     }
 
 pub folded-words : (n : ℕ) (xs : List ℕ) → length xs ≡ 2 * n → folded (word_sum xs) ≡ folded (big_number (2 * n) xs)

@@ -44,7 +44,7 @@ IsBytes-header_bytes h is =
     let is_d =
     both (c ++ big_bytes 1 h.flags) (big_bytes 1 h.credit) (both c (big_bytes 1 h.flags) is_c (number 1 h.flags)) (number 1 h.credit) in
     both (d ++ h.padding ++ big_bytes 2 h.csum) h.ext
-      (both (d ++ h.padding) (big_bytes 2 h.csum) (both d h.padding is_d is.padding.1) (number 2 h.csum)) is.ext.1
+    (both (d ++ h.padding) (big_bytes 2 h.csum) (both d h.padding is_d is.padding.1) (number 2 h.csum)) is.ext.1
 
 -- two headers with the same bytes are the same
 pub header_bytes-injective : (g h : Header) → IsHeader g → IsHeader h → header_bytes g ≡ header_bytes h → g ≡ h
@@ -88,3 +88,12 @@ header_bytes-injective g h is_g is_h same =
       ext = ext i;
     }
 
+-- nor do two headers with the same bytes differ where something follows them
+pub header_bytes-append : (g h : Header) (xs ys : List ℕ) → IsHeader g → IsHeader h
+    → header_bytes g ++ xs ≡ header_bytes h ++ ys → (g ≡ h) × (xs ≡ ys)
+header_bytes-append g h xs ys is_g is_h same =
+    let len_g = length-header_bytes g is_g in
+    let len_h = length-header_bytes h is_h in
+    let fronts = sym (take_at (header_bytes g) xs 48 len_g) ∙ ap (take 48) same ∙ take_at (header_bytes h) ys 48 len_h in
+    let backs = sym (drop_at (header_bytes g) xs 48 len_g) ∙ ap (drop 48) same ∙ drop_at (header_bytes h) ys 48 len_h in
+    (header_bytes-injective g h is_g is_h fronts, backs)

@@ -2,3 +2,4 @@ pub mod Decoding
 pub mod FieldSum
 pub mod Folding
 pub mod Headers
+pub mod OneExt

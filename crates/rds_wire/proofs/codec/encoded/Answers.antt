@@ -21,7 +21,7 @@ returns c =
       c.write_u16.ensures,
       c.write_u32.ensures,
       c.write_u64-2.ensures,
-      c.write_u64.ensures
+      c.write_u64.ensures,
     ) (λ i.
-      big_bytes 8 h.sequence ++ big_bytes 8 h.ack ++ big_bytes 4 h.len ++ big_bytes 2 h.sport ++ big_bytes 2 h.dport
-      ++ (flags i ∷ credit i ∷ tail i))
+    big_bytes 8 h.sequence ++ big_bytes 8 h.ack ++ big_bytes 4 h.len ++ big_bytes 2 h.sport ++ big_bytes 2 h.dport
+    ++ (flags i ∷ credit i ∷ tail i))

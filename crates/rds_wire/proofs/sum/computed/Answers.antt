@@ -5,7 +5,7 @@ use Rattle.rds_wire.proofs.sum.computed.Goals as goal
 
 pub returns : goal.returns
 unfolding computed
-returns c = 
+returns c =
     let a : folded c.carry.result ≡ folded c.field_sum.result = ap folded c.carry.ensures ∙ folded-carry c.field_sum.result in
     let b : folded c.carry-2.result ≡ folded c.carry.result = ap folded c.carry-2.ensures ∙ folded-carry c.carry.result in
     let d : folded c.carry-carried.result ≡ folded c.carry-2.result = ap folded c.carry-carried.ensures ∙ folded-carry c.carry-2.result in

@@ -29,17 +29,17 @@ returns-clause-sum c =
     ap folded c.halves-4.ensures ∙ folded-halves c.read_u64-2.result
     ∙ ap folded (c.read_u64-2.ensures ∙ ap (big_number 8) (take_rest h.ext 8)) in
     let whole = c.halves.result + (c.halves-2.result + (h.len + (h.sport + (h.dport + (256 * h.flags + h.credit
-      + (big_number 4 h.padding + (0 + (c.halves-3.result + c.halves-4.result)))))))) in
+    + (big_number 4 h.padding + (0 + (c.halves-3.result + c.halves-4.result)))))))) in
     let grouped : c.halves.result + c.halves-2.result + c.from.result + c.from-2.result + c.from-3.result + 256 * c.from-4.result + c.from-5.result + c.from-6.result + c.halves-3.result + c.halves-4.result ≡ whole =
     omega (arith, padding) in
     ap folded grouped
     ∙ folded-add _ _ _ _ sequence
-      (folded-add _ _ _ _ ack
-      (folded-add _ _ _ _ refl
-      (folded-add _ _ _ _ refl
-      (folded-add _ _ _ _ refl
-      (folded-add _ _ _ _ refl
-      (folded-add _ _ _ _ refl
-      (folded-add _ _ _ _ refl
-      (folded-add _ _ _ _ front back))))))))
+    (folded-add _ _ _ _ ack
+    (folded-add _ _ _ _ refl
+    (folded-add _ _ _ _ refl
+    (folded-add _ _ _ _ refl
+    (folded-add _ _ _ _ refl
+    (folded-add _ _ _ _ refl
+    (folded-add _ _ _ _ refl
+    (folded-add _ _ _ _ front back))))))))
     ∙ sym (folded-header h fits)
