@@ -1,0 +1,5 @@
+pub mod Decoding
+pub mod FieldSum
+pub mod Folding
+pub mod Headers
+pub mod OneExt
