@@ -4,6 +4,7 @@ use Rattle.std.specs.List.{AllPairs}
 use Rattle.rds_model.specs.declared.entry.Msg.{Msg}
 use Rattle.rds_model.specs.declared.entry.Target.{Target}
 use Rattle.rds_model.specs.Alive.{aims_at}
+use Rattle.rds_msgs.specs.declared.store.TheConstants.{MAX_MESSAGES}
 
 -- the messages in the order of their numbers; how many of them, from the front, are pulled; for how many more there is
 -- room; and below which number the slots are
@@ -52,5 +53,5 @@ without_first h = record h { messages = drop 1 h.messages; mark = h.mark - 1 }
 pub record IsStore (messages : List Msg) (mark spare capacity : ℕ) : Type 0 where
   pub ascending : IsAscending messages
   pub pulled : mark ≤ length messages
-  pub few : length messages ≤ 4294967294
+  pub few : length messages ≤ MAX_MESSAGES
   pub room : length messages + spare ≤ capacity

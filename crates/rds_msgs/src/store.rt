@@ -3,7 +3,7 @@ ghost use Rattle.rds_model.specs.declared.entry.Target.TheVariants.{Port, All as
 ghost use Rattle.rds_msgs.specs.Held.{IsAscending, numbers, bytes_of, taken, cancelled, without_first};
 
 use crate::Steps;
-use crate::walk::{takes, withdraw};
+use crate::walk::{covers, withdraw};
 use rds_model::{Msg, NO_SLOT, Target};
 use rds_wire::Memory;
 use std::alloc::Global;
@@ -167,12 +167,12 @@ impl Store {
         ensures ok { OnOk result (out.new.items ≡ numbers (taken slot target.now self.now.messages)) }
         ensures err { OnErr result (out.new.items ≡ out.old.items) }
     {
-        let mut found = Vec::new(*out.allocator());
-        for m in &self.messages {
-            if takes(slot, *target, m) {
-                found.push(m.num)?;
-            }
-        }
+        let found = self
+            .messages
+            .iter()
+            .filter(|m| covers(slot, *target, m))
+            .map(|m| m.num)
+            .collect(*out.allocator())?;
         *out = found;
         Ok(())
     }

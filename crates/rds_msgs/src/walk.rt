@@ -1,8 +1,9 @@
 ghost use Rattle.std.specs.Prelude.{◌≡◌, ◌≤◌, ◌+◌, ◌*◌, length, take};
 ghost use Rattle.std.specs.VecDeque.{deque_capacity};
-ghost use Rattle.rds_msgs.specs.Held.{bytes_of, left, taken};
+ghost use Rattle.rds_msgs.specs.Held.{bytes_of, left, taken, takes};
 
 use crate::Steps;
+use crate::store::MAX_MESSAGES;
 use rds_model::{Msg, Target};
 use std::collections::VecDeque;
 use std::sync::ledger::Ledger;
@@ -14,9 +15,9 @@ pub(crate) struct Withdrawn {
     pub(crate) bytes: u64,
 }
 
-/// Whether a cancellation by a slot takes a message.
-pub(crate) fn takes(slot: u16, target: Target, m: &Msg) -> bool
-    ensures { result ≡ Rattle.rds_msgs.specs.Held.takes slot target m.now }
+/// Whether a cancellation by a slot covers a message.
+pub(crate) fn covers(slot: u16, target: Target, m: &Msg) -> bool
+    ensures { result ≡ takes slot target m.now }
 {
     slot == m.slot
         && match target {
@@ -34,7 +35,7 @@ pub(crate) fn withdraw<L: Ledger>(
     target: Target,
     steps: &mut Steps<L>,
 ) -> Withdrawn
-    requires few { length messages.old.items ≤ 4294967294 }
+    requires few { length messages.old.items ≤ MAX_MESSAGES }
     ensures left { messages.new.items ≡ left slot target messages.old.items }
     ensures room { deque_capacity messages.new ≡ deque_capacity messages.old }
     ensures mark { result.mark ≡ length (left slot target (take mark messages.old.items)) }
@@ -45,10 +46,10 @@ pub(crate) fn withdraw<L: Ledger>(
     let mut kept = Withdrawn { mark: 0, bytes: 0 };
     for i in 0..messages.len() {
         let Some(m) = messages.pop_front() else {
-            break;
+            unreachable!()
         };
         steps.tick();
-        if takes(slot, target, &m) {
+        if covers(slot, target, &m) {
             kept.bytes += u64::from(m.len);
         } else {
             kept.mark += usize::from(i < mark);
