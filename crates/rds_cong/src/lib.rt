@@ -1,13 +1,8 @@
-// A library with one function.
+//! The congestion map of a host, and when a port is congested.
 #![tactic(auto)]
 
-ghost use Rattle.std.specs.Prelude.{◌≡◌};
-ghost use Rattle.rds_cong.specs.Echo.{echo_of};
+mod limit;
+mod map;
 
-// The `ensures` clause is the contract: what `echo` returns is `echo_of` of its argument, a definition
-// in `specs/Echo.antt`, which a caller's clause can cite too.
-pub fn echo(x: usize) -> usize
-    ensures { result ≡ echo_of x }
-{
-    x
-}
+pub use limit::hysteresis;
+pub use map::{MAP_BYTES, PortMap, WORDS};
