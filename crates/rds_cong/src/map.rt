@@ -1,9 +1,9 @@
-ghost use Rattle.std.specs.Prelude.{◌≡◌, ℕ, ◌+◌, ◌*◌, ◌/◌, ◌%◌, ◌<◌, ◌==◌, ◌&&◌, ◌||◌, not, ◌↔◌, if◌then◌else◌, IsTrue, IfOk};
+ghost use Rattle.std.specs.Prelude.{◌≡◌, ℕ, ◌+◌, ◌*◌, ◌/◌, ◌%◌, ◌<◌, ◌==◌, ◌&&◌, ◌||◌, not, ◌↔◌, if◌then◌else◌, false, IsTrue, IfOk};
 ghost use Rattle.std.specs.Int.{bit_at};
 ghost use Rattle.rds_cong.specs.Map.{IsMap, no_ports, has_port, with_port, without_port, word_at, with_word};
 
 use byteorder::{ByteOrder, LittleEndian};
-use rds_wire::Memory;
+use rds_wire::{MAP_LENGTH, Memory};
 use std::alloc::Global;
 use std::marker::Model;
 
@@ -11,7 +11,7 @@ use std::marker::Model;
 pub const WORDS: usize = 1024;
 
 /// How many bytes a map has on the wire.
-pub const MAP_BYTES: usize = 8192;
+pub const MAP_BYTES: usize = MAP_LENGTH as usize;
 
 /// A set of ports. Contracts see its bytes on the wire.
 #[derive(Drop)]
@@ -20,22 +20,23 @@ pub struct PortMap {
 }
 
 impl Model for PortMap {
-    ghost use Rattle.std.specs.Prelude.{◌≡◌, ℕ, List, vec_len};
+    ghost use Rattle.std.specs.Prelude.{ℕ, List};
     ghost use Rattle.std.specs.List.{flat_map};
     ghost use Rattle.byteorder.specs.Endian.{little_bytes};
-    ghost use Rattle.rds_cong.specs.declared.map.TheConstants.{WORDS};
+    ghost use Rattle.rds_cong.specs.Map.{IsWords};
 
     ghost Value = { List ℕ };
 
     ghost view = { λ m. flat_map (little_bytes 8) m.words.items };
 
-    ghost invariant = { λ m. vec_len m.words ≡ WORDS };
+    ghost invariant = { λ m. IsWords m.words.items };
 }
 
 impl PortMap {
     /// A map without ports.
     pub fn new(alloc: Global) -> Result<PortMap, Memory>
         ensures empty { IfOk result (λ m. m ≡ no_ports) }
+        ensures ports { IfOk result (λ m. (q : ℕ) → has_port m q ≡ false) }
     {
         Ok(PortMap {
             words: vec![in alloc; 0; WORDS]?,
@@ -101,6 +102,7 @@ impl PortMap {
     /// Whether the two have the same ports.
     pub fn same(&self, other: &PortMap) -> bool
         ensures value { IsTrue result ↔ (self.now ≡ other.now) }
+        ensures ports { ((q : ℕ) → has_port self.now q ≡ has_port other.now q) → IsTrue result }
     {
         self.words == other.words
     }
