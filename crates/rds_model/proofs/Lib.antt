@@ -1,0 +1,15 @@
+pub mod Moments
+pub mod Numbers
+pub mod Frames
+pub mod Legality
+pub mod StreamOrder
+pub mod LawfulFrames
+pub mod Outcomes
+pub mod Decoding
+pub mod Matching
+pub mod Happenings
+pub mod Rise
+pub mod Endings
+pub mod Skip
+pub mod OldCopies
+pub mod Fifo
