@@ -1,5 +1,8 @@
 //! A command from the words of its line.
 
+ghost use Rattle.std.specs.Prelude.{◌<◌, ◌≤◌, IfOk};
+ghost use Rattle.rds_script.specs.Script.{IsSocket, IsPair, IsBinding, IsCommand};
+
 use crate::fault::Fault;
 use crate::name::Name;
 use crate::payload::payload_at;
@@ -15,7 +18,9 @@ pub(crate) fn command_of(
     hosts: u8,
     name: Name,
     words: &[u8],
-) -> Result<Command, Fault> {
+) -> Result<Command, Fault>
+    ensures { IfOk result (IsCommand hosts) }
+{
     match name {
         Name::Hosts => Err(Fault::Refused(Cause::Command)),
         Name::Bind => {
@@ -73,21 +78,27 @@ pub(crate) fn command_of(
 }
 
 /// A host and a port.
-fn socket_at(hosts: u8, words: &[u8]) -> Result<(u8, u16, &[u8]), Cause> {
+fn socket_at(hosts: u8, words: &[u8]) -> Result<(u8, u16, &[u8]), Cause>
+    ensures { IfOk result (λ r. IsSocket hosts r.0 r.1) }
+{
     let (host, words) = host_at(hosts, words)?;
     let (port, words) = port_at(words)?;
     Ok((host, port, words))
 }
 
 /// A host and another host.
-fn pair_at(hosts: u8, words: &[u8]) -> Result<(u8, u8, &[u8]), Cause> {
+fn pair_at(hosts: u8, words: &[u8]) -> Result<(u8, u8, &[u8]), Cause>
+    ensures { IfOk result (λ r. IsPair hosts r.0 r.1) }
+{
     let (host, words) = host_at(hosts, words)?;
     let (peer, words) = peer_at(hosts, host, words)?;
     Ok((host, peer, words))
 }
 
 /// A host, a port and the limits of the two buffers.
-fn binding(hosts: u8, words: &[u8]) -> Result<(u8, u16, u32, u32), Cause> {
+fn binding(hosts: u8, words: &[u8]) -> Result<(u8, u16, u32, u32), Cause>
+    ensures { IfOk result (λ r. IsBinding hosts r.0 r.1 r.2 r.3) }
+{
     let (host, port, words) = socket_at(hosts, words)?;
     let (sndbuf, words) = number_at(1, MAX_BUFFER, words)?;
     let (rcvbuf, _) = number_at(2, MAX_BUFFER, words)?;
@@ -95,7 +106,9 @@ fn binding(hosts: u8, words: &[u8]) -> Result<(u8, u16, u32, u32), Cause> {
 }
 
 /// A host and a port, another host and port, and a payload.
-fn send(alloc: Global, hosts: u8, words: &[u8]) -> Result<Command, Fault> {
+fn send(alloc: Global, hosts: u8, words: &[u8]) -> Result<Command, Fault>
+    ensures { IfOk result (IsCommand hosts) }
+{
     let (host, port, words) = socket_at(hosts, words)?;
     let (to, dport, words) = socket_at(hosts, words)?;
     let payload = payload_at(alloc, words)?;
