@@ -1,2 +1,4 @@
 pub mod Keeping
 pub mod Taking
+pub mod OneSplit
+pub mod Feeding

@@ -52,7 +52,7 @@ Takes-early old head came body waiting refused highest piece filled n is fill ea
       bytes = new_bytes ∙ fill.bytes ∙ (λ i. sym old_bytes i ++ take n piece);
       ready = sym (λ i. is_some (is.none_waits i));
       all = λ _. whole;
-      progress = λ none some. omega (arith, whole);
+      progress = λ none ready. cc;
       clear = λ short h more fits same.
           let lens = ap length (sym new_bytes ∙ same) ∙ length-append (header_bytes h) more in
           absurd (omega (arith, lens, length-header_bytes h fits, len));
@@ -256,7 +256,7 @@ Takes-part old head came body waiting refused highest piece filled grown n d is 
           ∙ (λ i. sym old_bytes i ++ (take-append-drop n piece ∙ sym all) i);
       ready = sym (λ i. is_some (is.none_waits i));
       all = λ _. refl;
-      progress = λ none some. some;
+      progress = λ none ready. cc;
       clear = λ short.
           clear-of highest (held_bytes (held_of filled 48 grown waiting refused)) d grown fits (new_bytes ∙ (λ i. sym bytes i ++ grown))
           (passed.clear (early-held old head came body waiting refused is short));
@@ -287,7 +287,7 @@ Takes-frame old head came body waiting refused highest piece filled rest payload
           ∙ (λ i. sym old_bytes i ++ (sym (take-add n missing piece) ∙ ap (λ k. take k piece) (sym used)) i);
       ready = refl;
       all = λ no. cc;
-      progress = λ none some. elim (cases_lt came 48) [
+      progress = λ none ready. elim (cases_lt came 48) [
         | inl early ↦ omega (arith, late, early)
         | inr full ↦
             let at : came ≡ 48 = omega (arith, is.keeps.came_fits) in
@@ -345,7 +345,7 @@ Takes-nothing highest old piece held waits = from-waiting old.waiting refl waits
     bytes = sym (append-nil (held_bytes old));
     ready = sym waits;
     all = λ no. cc;
-    progress = λ none some. cc;
+    progress = λ none ready. cc;
     clear = λ short. let long = waiting-whole old f alone.0 alone.1 in absurd (omega arith);
     still_open = ap (λ (h : Held). h.refused) alone.1;
   }

@@ -1,5 +1,5 @@
 -- What one piece does to a splitter.
-use Rattle.std.specs.Prelude.{◌≡◌, ℕ, ◌-◌, ◌<◌, ◌≤◌, ◌++◌, false, List, length, take, Option, Some, None, is_some}
+use Rattle.std.specs.Prelude.{◌≡◌, ℕ, ◌-◌, ◌<◌, ◌≤◌, ◌++◌, true, false, List, length, take, Option, Some, None, is_some}
 use Rattle.rds_wire.specs.declared.header.Header.{Header}
 use Rattle.rds_wire.specs.declared.kind.Malformed.{Malformed}
 use Rattle.rds_wire.specs.Bytes.{header_bytes, IsHeader}
@@ -14,7 +14,7 @@ pub record Takes (highest : ℕ) (old : Held) (piece : List ℕ) (took : Took) (
   pub bytes : held_bytes new ≡ held_bytes old ++ take took.used piece
   pub ready : took.ready ≡ is_some new.waiting
   pub all : took.ready ≡ false → took.used ≡ length piece
-  pub progress : old.waiting ≡ None → 0 < length piece → 0 < took.used
+  pub progress : old.waiting ≡ None → took.ready ≡ true → 0 < took.used
   pub clear : length (held_bytes old) < 48 → IsClear highest (held_bytes new)
   pub still_open : new.refused ≡ None
 
