@@ -10,9 +10,10 @@ use Rattle.rds_wire.specs.declared.frame.Frame.{Frame}
 use Rattle.rds_wire.specs.declared.kind.Malformed.{Malformed}
 use Rattle.rds_wire.specs.Bytes.{frame_bytes, header_bytes, IsHeader}
 use Rattle.rds_wire.specs.Kinds.{cause}
+use Rattle.rds_wire.proofs.Causes.{cause-rises}
 use Rattle.rds_wire.proofs.Headers.{length-header_bytes}
 use Rattle.rds_frame.specs.declared.took.Took.{Took}
-use Rattle.rds_frame.specs.Splitting.{frames_bytes, IsClear, IsFrame, IsMalformed, IsPartial, IsSound, Splits}
+use Rattle.rds_frame.specs.Splitting.{BeginsMalformed, frames_bytes, IsClear, IsFrame, IsMalformed, IsPartial, IsSound, Splits}
 use Rattle.rds_frame.specs.Holding.{Held, held_bytes, IsFed, IsHeld, nothing_held}
 use Rattle.rds_frame.specs.Taking.{Refuses, Takes}
 use Rattle.rds_frame.proofs.OneSplit.{Splits-only}
@@ -91,17 +92,19 @@ IsMalformed-refuses highest bytes frames old piece fault new fed refuses =
     let n : ℕ = 48 - length (held_bytes old) in
     record {
       frames = frames;
-      header = refuses.header;
-      more = drop n piece;
-      whole =
-          (λ i. fed.bytes_are i ++ piece)
-          ∙ append_assoc (frames_bytes frames) (held_bytes old) piece
-          ∙ (λ i. frames_bytes frames ++ (held_bytes old ++ sym (take-append-drop n piece) i))
-          ∙ (λ i. frames_bytes frames ++ sym (append_assoc (held_bytes old) (take n piece) (drop n piece)) i)
-          ∙ (λ i. frames_bytes frames ++ (sym refuses.bytes i ++ drop n piece));
+      after = held_bytes old ++ piece;
+      whole = (λ i. fed.bytes_are i ++ piece) ∙ append_assoc (frames_bytes frames) (held_bytes old) piece;
       each = fed.each;
-      fits = refuses.fits;
-      cause = refuses.cause;
+      refuses = record {
+        header = refuses.header;
+        more = drop n piece;
+        whole =
+            (λ i. held_bytes old ++ sym (take-append-drop n piece) i)
+            ∙ sym (append_assoc (held_bytes old) (take n piece) (drop n piece))
+            ∙ (λ i. sym refuses.bytes i ++ drop n piece);
+        fits = refuses.fits;
+        cause = refuses.cause;
+      };
     }
 
 -- what comes after a refused header changes nothing
@@ -109,15 +112,16 @@ pub IsMalformed-append : (highest : ℕ) (bytes after : List ℕ) (fault : Malfo
     → IsMalformed highest bytes fault → IsMalformed highest (bytes ++ after) fault
 IsMalformed-append highest bytes after fault is = record {
   frames = is.frames;
-  header = is.header;
-  more = is.more ++ after;
-  whole =
-      (λ i. is.whole i ++ after)
-      ∙ append_assoc (frames_bytes is.frames) (header_bytes is.header ++ is.more) after
-      ∙ (λ i. frames_bytes is.frames ++ append_assoc (header_bytes is.header) is.more after i);
+  after = is.after ++ after;
+  whole = (λ i. is.whole i ++ after) ∙ append_assoc (frames_bytes is.frames) is.after after;
   each = is.each;
-  fits = is.fits;
-  cause = is.cause;
+  refuses = record {
+    header = is.refuses.header;
+    more = is.refuses.more ++ after;
+    whole = (λ i. is.refuses.whole i ++ after) ∙ append_assoc (header_bytes is.refuses.header) is.refuses.more after;
+    fits = is.refuses.fits;
+    cause = is.refuses.cause;
+  };
 }
 
 -- at the end the stream is the frames, and then less than a whole one
@@ -214,3 +218,38 @@ pub Splits-fed-only : (highest : ℕ) (bytes : List ℕ) (frames : List Frame) (
     → (others : List Frame) (rest : List ℕ) → Splits bytes others rest → frames ≡ others
 Splits-fed-only highest bytes frames held fed none others rest split =
     (Splits-only bytes frames others held.rest rest (Splits-fed highest bytes frames held fed none) split).0
+
+-- the highest number only rises
+pub IsFed-rises : (low high : ℕ) (bytes : List ℕ) (frames : List Frame) (held : Held)
+    → low ≤ high → IsFed low bytes frames held → IsFed high bytes frames held
+IsFed-rises low high bytes frames held rises fed = record {
+  bytes_are = fed.bytes_are;
+  each =
+      All-weaker (IsSound low) (IsSound high)
+      (λ f sound. record { frame = sound.frame; cause = cause-rises f.header low high rises sound.cause }) frames fed.each;
+  held_is = fed.held_is;
+  clear = λ h more fits same. cause-rises h low high rises (fed.clear h more fits same);
+  «open» = fed.«open»;
+}
+
+-- one frame more was read off a whole list
+pub frames_bytes-more : (highest : ℕ) (bytes rest cut : List ℕ) (frames more : List Frame) (f : Frame) (n : ℕ)
+    → bytes ≡ frames_bytes frames ++ rest → All (IsSound highest) frames
+    → IsSound highest f → rest ≡ frame_bytes f ++ drop n rest → more ≡ frames ++ f ∷ [] → cut ≡ drop n rest
+    → (bytes ≡ frames_bytes more ++ cut) × All (IsSound highest) more
+frames_bytes-more highest bytes rest cut frames more f n whole each sound first grown is = (
+  whole
+      ∙ (λ i. frames_bytes frames ++ first i)
+      ∙ sym (append_assoc (frames_bytes frames) (frame_bytes f) (drop n rest))
+      ∙ (λ i. (sym (frames_bytes-push frames f) ∙ ap frames_bytes (sym grown)) i ++ sym is i),
+  subst (λ (fs : List Frame). All (IsSound highest) fs) (sym grown) (All-push (IsSound highest) frames f each sound),
+)
+
+-- sound frames and less than one frame after them are the one split
+pub Splits-sound_only : (highest : ℕ) (bytes rest : List ℕ) (frames : List Frame)
+    → bytes ≡ frames_bytes frames ++ rest → All (IsSound highest) frames → IsPartial rest
+    → (others : List Frame) (left : List ℕ) → Splits bytes others left → frames ≡ others
+Splits-sound_only highest bytes rest frames whole each partial others left split =
+    let one : Splits bytes frames rest =
+    record { whole = whole; each = All-weaker (IsSound highest) IsFrame (λ f sound. sound.frame) frames each; partial = partial } in
+    (Splits-only bytes frames others rest left one split).0

@@ -2,3 +2,4 @@ pub mod Keeping
 pub mod Taking
 pub mod OneSplit
 pub mod Feeding
+pub mod FirstFrame

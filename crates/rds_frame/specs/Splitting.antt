@@ -45,12 +45,18 @@ abbrev pub IsClear : ℕ → List ℕ → Type 0
 IsClear highest bytes =
     (h : Header) (more : List ℕ) → IsHeader h → bytes ≡ header_bytes h ++ more → cause h highest ≡ None
 
+-- the bytes begin with a header that has this fault
+pub record BeginsMalformed (highest : ℕ) (bytes : List ℕ) (fault : Malformed) : Type 0 where
+  pub header : Header
+  pub more : List ℕ
+  pub whole : bytes ≡ header_bytes header ++ more
+  pub fits : IsHeader header
+  pub cause : cause header highest ≡ Some fault
+
 -- sound frames, and then a header with this fault
 pub record IsMalformed (highest : ℕ) (bytes : List ℕ) (fault : Malformed) : Type 0 where
   pub frames : List Frame
-  pub header : Header
-  pub more : List ℕ
-  pub whole : bytes ≡ frames_bytes frames ++ (header_bytes header ++ more)
+  pub after : List ℕ
+  pub whole : bytes ≡ frames_bytes frames ++ after
   pub each : All (IsSound highest) frames
-  pub fits : IsHeader header
-  pub cause : cause header highest ≡ Some fault
+  pub refuses : BeginsMalformed highest after fault
