@@ -1,3 +1,4 @@
+pub mod Causes
 pub mod Decoding
 pub mod FieldSum
 pub mod Folding

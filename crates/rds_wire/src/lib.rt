@@ -20,3 +20,6 @@ pub use laws::{one_ext, one_header};
 pub use memory::Memory;
 pub use payload::Payload;
 pub use sum::{sealed, sum_ok};
+
+#[cfg(test)]
+mod tests;

@@ -1,0 +1,255 @@
+-- A stream, piece by piece, for whoever hands the pieces to a splitter.
+use Rattle.std.proofs.Common.{◌≡◌, ℕ, ◌+◌, ◌-◌, ◌<◌, ◌≤◌, List, [], ◌∷◌, ◌++◌, length, take, drop, get_or, Option, Some, None, IfSome, is_some, refl, sym, ap, ◌∙◌, subst, arith, inl, inr, append_assoc, length-append, length-drop}
+use Rattle.std.proofs.lemmas.Bool.{cases_lt}
+use Rattle.std.proofs.lemmas.List.{append-nil, drop_more, take_all, take_at, take-append-drop, take-append-le, length-take-le}
+use Rattle.std.proofs.lemmas.List.Concat.{flat_map-append}
+use Rattle.std.proofs.lemmas.List.Elements.{All-nil, All-push, All-weaker}
+use Rattle.std.specs.List.{All, flat_map}
+use Rattle.rds_wire.specs.declared.header.Header.{Header}
+use Rattle.rds_wire.specs.declared.frame.Frame.{Frame}
+use Rattle.rds_wire.specs.declared.kind.Malformed.{Malformed}
+use Rattle.rds_wire.specs.Bytes.{frame_bytes, header_bytes, IsHeader}
+use Rattle.rds_wire.specs.Kinds.{cause}
+use Rattle.rds_wire.proofs.Causes.{cause-rises}
+use Rattle.rds_wire.proofs.Headers.{length-header_bytes}
+use Rattle.rds_frame.specs.declared.took.Took.{Took}
+use Rattle.rds_frame.specs.Splitting.{BeginsMalformed, frames_bytes, IsClear, IsFrame, IsMalformed, IsPartial, IsSound, Splits}
+use Rattle.rds_frame.specs.Holding.{Held, held_bytes, IsFed, IsHeld, nothing_held}
+use Rattle.rds_frame.specs.Taking.{Refuses, Takes}
+use Rattle.rds_frame.proofs.OneSplit.{Splits-only}
+
+-- nothing was taken
+pub IsFed-nothing : (highest : ℕ) → IsFed highest [] [] nothing_held
+IsFed-nothing highest = record {
+  bytes_are = refl;
+  each = All-nil (IsSound highest);
+  held_is = record { waiting = tt; refused = tt; partial = λ _ _. inl (omega arith) };
+  clear = λ h more fits same.
+      absurd (omega (arith, ap length same ∙ length-append (header_bytes h) more, length-header_bytes h fits));
+  «open» = refl;
+}
+
+-- a header at the front stays where bytes come after it
+clear-longer : (highest : ℕ) (old taken new : List ℕ) → 48 ≤ length old → new ≡ old ++ taken → IsClear highest old → IsClear highest new
+clear-longer highest old taken new long are clear h more fits same =
+    let front : take 48 old ≡ header_bytes h =
+    sym (take-append-le 48 old taken long) ∙ ap (take 48) (sym are ∙ same) ∙ take_at (header_bytes h) more 48 (length-header_bytes h fits) in
+    clear h (drop 48 old) fits (sym (take-append-drop 48 old) ∙ (λ i. front i ++ drop 48 old))
+
+pub IsFed-take : (highest : ℕ) (bytes : List ℕ) (frames : List Frame) (old : Held) (piece : List ℕ) (took : Took) (new : Held)
+    → IsFed highest bytes frames old → Takes highest old piece took new → IsHeld new
+    → IsFed highest (bytes ++ take took.used piece) frames new
+IsFed-take highest bytes frames old piece took new fed takes held = record {
+  bytes_are =
+      (λ i. fed.bytes_are i ++ take took.used piece)
+      ∙ append_assoc (frames_bytes frames) (held_bytes old) (take took.used piece)
+      ∙ (λ i. frames_bytes frames ++ sym takes.bytes i);
+  each = fed.each;
+  held_is = held;
+  clear = elim (cases_lt (length (held_bytes old)) 48) [
+    | inl short ↦ takes.clear short
+    | inr long ↦ clear-longer highest (held_bytes old) (take took.used piece) (held_bytes new) long takes.bytes fed.clear
+  ];
+  «open» = takes.still_open;
+}
+
+-- one frame more was handed out
+frames_bytes-push : (frames : List Frame) (f : Frame) → frames_bytes (frames ++ f ∷ []) ≡ frames_bytes frames ++ frame_bytes f
+frames_bytes-push frames f =
+    flat_map-append frame_bytes frames (f ∷ []) ∙ (λ i. frames_bytes frames ++ append-nil (frame_bytes f) i)
+
+alone : (held : Held) (f : Frame) → IsHeld held → held.waiting ≡ Some f
+    → IsFrame f × (held ≡ record { rest = []; waiting = Some f; refused = None })
+alone held f is waits =
+    subst (λ (o : Option Frame). IfSome o (λ g. IsFrame g × (held ≡ record { rest = []; waiting = Some g; refused = None }))) waits is.waiting
+
+pub IsFed-done : (highest : ℕ) (bytes : List ℕ) (frames : List Frame) (old : Held) (f : Frame)
+    → IsFed highest bytes frames old → old.waiting ≡ Some f → IsHeld (record old { waiting = None })
+    → IsFed highest bytes (frames ++ f ∷ []) (record old { waiting = None })
+IsFed-done highest bytes frames old f fed waits held =
+    let one = alone old f fed.held_is waits in
+    let none : old.rest ≡ [] = ap (λ (h : Held). h.rest) one.1 in
+    let are : held_bytes old ≡ frame_bytes f = ap held_bytes one.1 ∙ append-nil (frame_bytes f) in
+    let sound : IsSound highest f = record { frame = one.0; cause = fed.clear f.header f.payload one.0.header are } in
+    record {
+      bytes_are =
+          fed.bytes_are
+          ∙ (λ i. frames_bytes frames ++ are i)
+          ∙ sym (frames_bytes-push frames f)
+          ∙ sym (append-nil (frames_bytes (frames ++ f ∷ [])))
+          ∙ (λ i. frames_bytes (frames ++ f ∷ []) ++ sym none i);
+      each = All-push (IsSound highest) frames f fed.each sound;
+      held_is = held;
+      clear = λ h more fits same.
+          absurd (omega (arith, ap length (sym none ∙ same) ∙ length-append (header_bytes h) more, length-header_bytes h fits));
+      «open» = fed.«open»;
+    }
+
+-- a header was refused
+pub IsMalformed-refuses : (highest : ℕ) (bytes : List ℕ) (frames : List Frame) (old : Held) (piece : List ℕ) (fault : Malformed) (new : Held)
+    → IsFed highest bytes frames old → Refuses highest old piece fault new → IsMalformed highest (bytes ++ piece) fault
+IsMalformed-refuses highest bytes frames old piece fault new fed refuses =
+    let n : ℕ = 48 - length (held_bytes old) in
+    record {
+      frames = frames;
+      after = held_bytes old ++ piece;
+      whole = (λ i. fed.bytes_are i ++ piece) ∙ append_assoc (frames_bytes frames) (held_bytes old) piece;
+      each = fed.each;
+      refuses = record {
+        header = refuses.header;
+        more = drop n piece;
+        whole =
+            (λ i. held_bytes old ++ sym (take-append-drop n piece) i)
+            ∙ sym (append_assoc (held_bytes old) (take n piece) (drop n piece))
+            ∙ (λ i. sym refuses.bytes i ++ drop n piece);
+        fits = refuses.fits;
+        cause = refuses.cause;
+      };
+    }
+
+-- what comes after a refused header changes nothing
+pub IsMalformed-append : (highest : ℕ) (bytes after : List ℕ) (fault : Malformed)
+    → IsMalformed highest bytes fault → IsMalformed highest (bytes ++ after) fault
+IsMalformed-append highest bytes after fault is = record {
+  frames = is.frames;
+  after = is.after ++ after;
+  whole = (λ i. is.whole i ++ after) ∙ append_assoc (frames_bytes is.frames) is.after after;
+  each = is.each;
+  refuses = record {
+    header = is.refuses.header;
+    more = is.refuses.more ++ after;
+    whole = (λ i. is.refuses.whole i ++ after) ∙ append_assoc (header_bytes is.refuses.header) is.refuses.more after;
+    fits = is.refuses.fits;
+    cause = is.refuses.cause;
+  };
+}
+
+-- at the end the stream is the frames, and then less than a whole one
+pub Splits-fed : (highest : ℕ) (bytes : List ℕ) (frames : List Frame) (held : Held)
+    → IsFed highest bytes frames held → held.waiting ≡ None → Splits bytes frames held.rest
+Splits-fed highest bytes frames held fed none = record {
+  whole = fed.bytes_are ∙ (λ i. frames_bytes frames ++ held_bytes (record held { waiting = none i }));
+  each = All-weaker (IsSound highest) IsFrame (λ f sound. sound.frame) frames fed.each;
+  partial = fed.held_is.partial none fed.«open»;
+}
+
+-- in the midst of a piece
+pub record IsFeeding (highest : ℕ) (bytes piece left : List ℕ) (frames : List Frame) (held : Held) : Type 0 where
+  pub none_waits : held.waiting ≡ None
+  pub taken : List ℕ
+  pub cut : piece ≡ taken ++ left
+  pub fed : IsFed highest (bytes ++ taken) frames held
+
+-- a piece was taken in part, and a frame handed out
+pub IsFeeding-more : (highest : ℕ) (bytes piece left rest : List ℕ) (frames more : List Frame) (old new done : Held) (took : Took) (f : Frame)
+    → IsFeeding highest bytes piece left frames old → Takes highest old left took new → IsHeld new
+    → new.waiting ≡ Some f → done ≡ record new { waiting = None } → IsHeld done
+    → more ≡ frames ++ f ∷ [] → rest ≡ drop took.used left
+    → IsFeeding highest bytes piece rest more done
+IsFeeding-more highest bytes piece left rest frames more old new done took f feeding takes held waits after held_done grown cut =
+    let here : List ℕ = take took.used left in
+    let fed = IsFed-take highest (bytes ++ feeding.taken) frames old left took new feeding.fed takes held in
+    let held_after : IsHeld (record new { waiting = None }) = subst (λ (h : Held). IsHeld h) after held_done in
+    let next = IsFed-done highest (bytes ++ feeding.taken ++ here) frames new f fed waits held_after in
+    record {
+      none_waits = ap (λ (h : Held). h.waiting) after;
+      taken = feeding.taken ++ here;
+      cut =
+          feeding.cut
+          ∙ (λ i. feeding.taken ++ sym (take-append-drop took.used left) i)
+          ∙ sym (append_assoc feeding.taken here (drop took.used left))
+          ∙ (λ i. (feeding.taken ++ here) ++ sym cut i);
+      fed =
+          subst (λ (h : Held). IsFed highest (bytes ++ (feeding.taken ++ here)) more h) (sym after)
+          (subst (λ (fs : List Frame). IsFed highest (bytes ++ (feeding.taken ++ here)) fs (record new { waiting = None })) (sym grown)
+          (subst (λ (b : List ℕ). IsFed highest b (frames ++ f ∷ []) (record new { waiting = None }))
+          (append_assoc bytes feeding.taken here) next));
+    }
+
+-- a piece was taken whole
+pub IsFeeding-whole : (highest : ℕ) (bytes piece left : List ℕ) (frames : List Frame) (old new done : Held) (took : Took)
+    → IsFeeding highest bytes piece left frames old → Takes highest old left took new → IsHeld new
+    → new.waiting ≡ None → done ≡ record new { waiting = None }
+    → IsFed highest (bytes ++ piece) frames done
+IsFeeding-whole highest bytes piece left frames old new done took feeding takes held none after =
+    let used : took.used ≡ length left = takes.all (takes.ready ∙ ap is_some none) in
+    let all : take took.used left ≡ left = take_all took.used left (omega arith) in
+    let fed = IsFed-take highest (bytes ++ feeding.taken) frames old left took new feeding.fed takes held in
+    let whole : bytes ++ feeding.taken ++ take took.used left ≡ bytes ++ piece =
+    (λ i. bytes ++ feeding.taken ++ all i) ∙ append_assoc bytes feeding.taken left ∙ (λ i. bytes ++ sym feeding.cut i) in
+    let same : new ≡ done = (λ i. record new { waiting = none i }) ∙ sym after in
+    subst (λ (h : Held). IsFed highest (bytes ++ piece) frames h) same
+    (subst (λ (b : List ℕ). IsFed highest b frames new) whole fed)
+
+-- a header was refused in the midst of a piece
+pub IsFeeding-refuses : (highest : ℕ) (bytes piece left : List ℕ) (frames : List Frame) (old new : Held) (fault : Malformed)
+    → IsFeeding highest bytes piece left frames old → Refuses highest old left fault new
+    → IsMalformed highest (bytes ++ piece) fault
+IsFeeding-refuses highest bytes piece left frames old new fault feeding refuses =
+    let whole : bytes ++ feeding.taken ++ left ≡ bytes ++ piece =
+    append_assoc bytes feeding.taken left ∙ (λ i. bytes ++ sym feeding.cut i) in
+    subst (λ (b : List ℕ). IsMalformed highest b fault) whole
+    (IsMalformed-refuses highest (bytes ++ feeding.taken) frames old left fault new feeding.fed refuses)
+
+-- the bytes of some pieces, at the piece at hand
+flat_map-at : {X : Type 0} (f : X → List ℕ) (xs : List X) (i : ℕ) (x : X) → i < length xs → x ≡ get_or xs i x
+    → flat_map f xs ≡ flat_map f (take i xs) ++ f x ++ flat_map f (drop (i + 1) xs)
+flat_map-at f xs i x within is =
+    let rest : drop i xs ≡ x ∷ drop (i + 1) xs = drop_more xs i x within ∙ (λ k. sym is k ∷ drop (i + 1) xs) in
+    ap (flat_map f) (sym (take-append-drop i xs))
+    ∙ flat_map-append f (take i xs) (drop i xs)
+    ∙ (λ k. flat_map f (take i xs) ++ flat_map f (rest k))
+    ∙ sym (append_assoc (flat_map f (take i xs)) (f x) (flat_map f (drop (i + 1) xs)))
+
+-- a header was refused in one of the pieces
+pub IsMalformed-pieces : {X : Type 0} (f : X → List ℕ) (highest : ℕ) (xs : List X) (i : ℕ) (x : X) (frames : List Frame) (held : Held) (fault : Malformed)
+    → i < length xs → x ≡ get_or xs i x → IsFed highest (flat_map f (take i xs)) frames held
+    → IsMalformed highest (frames_bytes frames ++ held_bytes held ++ f x) fault
+    → IsMalformed highest (flat_map f xs) fault
+IsMalformed-pieces f highest xs i x frames held fault within is fed malformed =
+    let front : flat_map f (take i xs) ++ f x ≡ frames_bytes frames ++ held_bytes held ++ f x = (λ k. fed.bytes_are k ++ f x) in
+    subst (λ (b : List ℕ). IsMalformed highest b fault)
+    ((λ k. sym front k ++ flat_map f (drop (i + 1) xs)) ∙ sym (flat_map-at f xs i x within is))
+    (IsMalformed-append highest (frames_bytes frames ++ held_bytes held ++ f x) (flat_map f (drop (i + 1) xs)) fault malformed)
+
+-- no other frames are the stream
+pub Splits-fed-only : (highest : ℕ) (bytes : List ℕ) (frames : List Frame) (held : Held)
+    → IsFed highest bytes frames held → held.waiting ≡ None
+    → (others : List Frame) (rest : List ℕ) → Splits bytes others rest → frames ≡ others
+Splits-fed-only highest bytes frames held fed none others rest split =
+    (Splits-only bytes frames others held.rest rest (Splits-fed highest bytes frames held fed none) split).0
+
+-- the highest number only rises
+pub IsFed-rises : (low high : ℕ) (bytes : List ℕ) (frames : List Frame) (held : Held)
+    → low ≤ high → IsFed low bytes frames held → IsFed high bytes frames held
+IsFed-rises low high bytes frames held rises fed = record {
+  bytes_are = fed.bytes_are;
+  each =
+      All-weaker (IsSound low) (IsSound high)
+      (λ f sound. record { frame = sound.frame; cause = cause-rises f.header low high rises sound.cause }) frames fed.each;
+  held_is = fed.held_is;
+  clear = λ h more fits same. cause-rises h low high rises (fed.clear h more fits same);
+  «open» = fed.«open»;
+}
+
+-- one frame more was read off a whole list
+pub frames_bytes-more : (highest : ℕ) (bytes rest cut : List ℕ) (frames more : List Frame) (f : Frame) (n : ℕ)
+    → bytes ≡ frames_bytes frames ++ rest → All (IsSound highest) frames
+    → IsSound highest f → rest ≡ frame_bytes f ++ drop n rest → more ≡ frames ++ f ∷ [] → cut ≡ drop n rest
+    → (bytes ≡ frames_bytes more ++ cut) × All (IsSound highest) more
+frames_bytes-more highest bytes rest cut frames more f n whole each sound first grown is = (
+  whole
+      ∙ (λ i. frames_bytes frames ++ first i)
+      ∙ sym (append_assoc (frames_bytes frames) (frame_bytes f) (drop n rest))
+      ∙ (λ i. (sym (frames_bytes-push frames f) ∙ ap frames_bytes (sym grown)) i ++ sym is i),
+  subst (λ (fs : List Frame). All (IsSound highest) fs) (sym grown) (All-push (IsSound highest) frames f each sound),
+)
+
+-- sound frames and less than one frame after them are the one split
+pub Splits-sound_only : (highest : ℕ) (bytes rest : List ℕ) (frames : List Frame)
+    → bytes ≡ frames_bytes frames ++ rest → All (IsSound highest) frames → IsPartial rest
+    → (others : List Frame) (left : List ℕ) → Splits bytes others left → frames ≡ others
+Splits-sound_only highest bytes rest frames whole each partial others left split =
+    let one : Splits bytes frames rest =
+    record { whole = whole; each = All-weaker (IsSound highest) IsFrame (λ f sound. sound.frame) frames each; partial = partial } in
+    (Splits-only bytes frames others rest left one split).0

@@ -1,0 +1,5 @@
+pub mod Keeping
+pub mod Taking
+pub mod OneSplit
+pub mod Feeding
+pub mod FirstFrame

@@ -1,0 +1,48 @@
+ghost use Rattle.std.specs.Prelude.{◌≡◌, List, ℕ, ◌+◌, ◌++◌, ◌≤◌, All, length, drop, IfOk, MatchOption, IsErrOf};
+ghost use Rattle.rds_wire.specs.declared.frame.Frame.{Frame};
+ghost use Rattle.rds_wire.specs.declared.kind.Malformed.{Malformed};
+ghost use Rattle.rds_wire.specs.Bytes.{frame_bytes};
+ghost use Rattle.rds_frame.specs.Splitting.{BeginsMalformed, IsMalformed, IsPartial, IsSound, Splits};
+
+use crate::FrameError;
+use rds_wire::{Frame, Payload, check, decode};
+use std::alloc::Global;
+
+/// The frames of a whole list of bytes, read off one after another as the definition says: what `frames_of` gives,
+/// with no state between pieces.
+pub fn frames_in(alloc: Global, bytes: &[u8], highest: u64) -> Result<Vec<Frame>, FrameError>
+    ensures split { IfOk result (λ frames. (rest : List ℕ) × Splits bytes.now frames.items rest) }
+    ensures only { IfOk result (λ frames. (others : List Frame) (rest : List ℕ) → Splits bytes.now others rest → frames.items ≡ others) }
+    ensures sound { IfOk result (λ frames. All (IsSound highest) frames.items) }
+    ensures malformed { (fault : Malformed) → result ≡ Err (FrameError.Malformed fault) → IsMalformed highest bytes.now fault }
+    ensures never_closed { IsErrOf result FrameError.Closed → ⊥ }
+{
+    let mut frames = Vec::new(alloc);
+    let mut rest = bytes;
+    while let Some(frame) = first_frame(alloc, rest, highest)? {
+        rest = &rest[48 + frame.payload.len() as usize..];
+        frames.push(frame)?;
+    }
+    Ok(frames)
+}
+
+fn first_frame(alloc: Global, bytes: &[u8], highest: u64) -> Result<Option<Frame>, FrameError>
+    ensures found { IfOk result (λ found. MatchOption found (IsPartial bytes.now)
+        (λ f. IsSound highest f × (48 + length f.payload ≤ length bytes.now) × (bytes.now ≡ frame_bytes f ++ drop (48 + length f.payload) bytes.now))) }
+    ensures malformed { (fault : Malformed) → result ≡ Err (FrameError.Malformed fault) → BeginsMalformed highest bytes.now fault }
+    ensures never_closed { IsErrOf result FrameError.Closed → ⊥ }
+{
+    let Some((head, body)) = bytes.split_first_chunk::<48>() else {
+        return Ok(None);
+    };
+    let header = decode(head);
+    if let Err(fault) = check(&header, highest) {
+        return Err(FrameError::Malformed(fault));
+    }
+    let len = header.len as usize;
+    if body.len() < len {
+        return Ok(None);
+    }
+    let payload = Payload::copy_of(alloc, &body[..len])?;
+    Ok(Some(Frame { header, payload }))
+}
