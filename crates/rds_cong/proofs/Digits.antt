@@ -40,7 +40,8 @@ bit-byte j k n h =
     ap (λ b. bit_at b k) (byte_is j n) ∙ cut ∙ ap (λ p. n / p / 2 ^ k % 2) (pow_bytes j) ∙ ap (λ x. x % 2) (shr-shr n (8 * j) k)
 
 -- byte j of the number in n bytes is the byte there
-pub byte-little : (n i j : ℕ) (bytes : List ℕ) → ((k : ℕ) → slice_index bytes k < 256) → j < n → byte_at j (little_from i n bytes) ≡ slice_index bytes (i + j)
+pub byte-little : (n i j : ℕ) (bytes : List ℕ) → ((k : ℕ) → slice_index bytes k < 256) → j < n
+    → byte_at j (little_from i n bytes) ≡ slice_index bytes (i + j)
 byte-little zero i j bytes small h = absurd (omega arith)
 byte-little (suc n) i zero bytes small h =
     let x = slice_index bytes i in

@@ -7,7 +7,7 @@ use Rattle.std.proofs.lemmas.List.Concat.{flat_map-append}
 use Rattle.std.specs.Int.{byte_at}
 use Rattle.std.specs.List.{flat_map, All}
 use Rattle.byteorder.specs.Endian.{little_bytes, little_number, IsRead}
-use Rattle.byteorder.specs.Numbers.{little_number-reads_back, little_from-lt}
+use Rattle.byteorder.specs.Numbers.{little_number-reads_back}
 use Rattle.rds_wire.specs.Bytes.{IsBytes}
 use Rattle.rds_cong.specs.Map.{word_at, with_word, IsWords, IsMap}
 use Rattle.rds_cong.specs.declared.map.TheConstants.{WORDS}
@@ -63,7 +63,8 @@ pub drop-bytes : (words : List ℕ) (i : ℕ) → i ≤ length words → drop (8
 drop-bytes words i h = ap (drop (8 * i)) (split_bytes words i) ∙ drop_at _ _ (8 * i) (front_length words i h)
 
 -- a word can be read back
-pub word-bytes : (words : List ℕ) (i : ℕ) → i < length words → slice_index words i < 2 ^ 64 → word_at (bytes_of words) i ≡ slice_index words i
+pub word-bytes : (words : List ℕ) (i : ℕ) → i < length words → slice_index words i < 2 ^ 64
+    → word_at (bytes_of words) i ≡ slice_index words i
 unfolding word_at
 word-bytes words i h fits =
     ap (little_number 8) (drop-bytes words i (omega arith) ∙ ap bytes_of (drop_more words i 0 h))
@@ -79,7 +80,8 @@ bytes-set words i w h =
     ∙ sym (rw (next, take-bytes words i (omega arith), drop-bytes words (suc i) (omega arith)) refl)
 
 -- words are the same where their bytes are
-pub same_words : (xs ys : List ℕ) → length xs ≡ length ys → All (λ w. w < 2 ^ 64) xs → All (λ w. w < 2 ^ 64) ys → bytes_of xs ≡ bytes_of ys → xs ≡ ys
+pub same_words : (xs ys : List ℕ) → length xs ≡ length ys → All (λ w. w < 2 ^ 64) xs → All (λ w. w < 2 ^ 64) ys
+    → bytes_of xs ≡ bytes_of ys → xs ≡ ys
 same_words xs ys long fx fy e =
     ext_get_or 0 xs ys long (λ i h.
     sym (word-bytes xs i h (fx i 0 h)) ∙ ap (λ b. word_at b i) e ∙ word-bytes ys i (subst (λ n. i < n) long h) (fy i 0 (subst (λ n. i < n) long h)))
@@ -95,7 +97,8 @@ small_drop bytes n small k d h =
     subst (λ b. b < 256) (sym (get_or-drop n bytes k d)) (small (n + k) d (omega arith))
 
 -- words that were read from bytes have those bytes
-pub bytes-read : (bytes words : List ℕ) → length bytes ≡ 8 * length words → IsBytes bytes → IsRead little_number 8 bytes words → bytes_of words ≡ bytes
+pub bytes-read : (bytes words : List ℕ) → length bytes ≡ 8 * length words → IsBytes bytes
+    → IsRead little_number 8 bytes words → bytes_of words ≡ bytes
 bytes-read bytes words long small read =
     let same : length (bytes_of words) ≡ length bytes = length-bytes words ∙ sym long in
     ext_get_or 0 (bytes_of words) bytes same (λ k h.
@@ -124,13 +127,6 @@ pub IsWords-set : (words : List ℕ) (i w : ℕ) → w < 2 ^ 64 → IsWords word
 IsWords-set words i w fits h = record {
   count = length-set words i w ∙ h.count;
   fit = All-set (λ w. w < 2 ^ 64) words i w fits h.fit;
-}
-
--- words that were read from bytes fit
-pub IsWords-read : (bytes words : List ℕ) → IsBytes bytes → IsRead little_number 8 bytes words → length words ≡ WORDS → IsWords words
-IsWords-read bytes words small read count = record {
-  count = count;
-  fit = λ i d h. subst (λ w. w < 2 ^ 64) (sym (get_or_default words i d 0 h ∙ read i h)) (little_from-lt 0 8 (drop (8 * i) bytes) (small_at (drop (8 * i) bytes) (small_drop bytes (8 * i) small)));
 }
 
 -- the bytes of a map

@@ -10,7 +10,8 @@ use Rattle.rds_model.specs.declared.entry.Target.{Target}
 use Rattle.rds_msgs.specs.Held.{IsAscending, IsStore, takes, left}
 
 -- where the first number is above a bound, each is
-pub above_first : (bound : ℕ) (messages : List Msg) (m : Msg) → IsAscending messages → m ≡ slice_index_or messages 0 m → bound < m.num → All (λ (k : Msg). bound < k.num) messages
+pub above_first : (bound : ℕ) (messages : List Msg) (m : Msg) → IsAscending messages → m ≡ slice_index_or messages 0 m
+    → bound < m.num → All (λ (k : Msg). bound < k.num) messages
 above_first bound (n ∷ messages) m ascending is h zero d in' = let e : bound < n.num = rw (← is) h in e
 above_first bound (n ∷ messages) m ascending is h (suc k) d in' =
     let first : bound < n.num = rw (← is) h in
@@ -24,13 +25,16 @@ ascending_rest [] ascending i j d below in' = absurd (omega arith)
 ascending_rest (m ∷ messages) ascending i j d below in' = ascending (suc i) (suc j) d (omega arith) (omega arith)
 
 -- a store keeps its promise without its first message
-pub without_first_kept : (messages : List Msg) (mark spare capacity : ℕ) → IsStore messages mark spare capacity → IsStore (drop 1 messages) (mark - 1) spare capacity
+pub without_first_kept : (messages : List Msg) (mark spare capacity : ℕ) → IsStore messages mark spare capacity
+    → IsStore (drop 1 messages) (mark - 1) spare capacity
 without_first_kept messages mark spare capacity s =
     let n : length (drop 1 messages) ≡ length messages - 1 = length-drop 1 messages in
     record { ascending = ascending_rest messages s.ascending; pulled = omega arith; few = omega arith; room = omega arith }
 
 -- and after a cancellation
-pub cancelled_kept : (slot : ℕ) (target : Target) (messages : List Msg) (mark spare capacity : ℕ) → IsStore messages mark spare capacity → IsStore (left slot target messages) (length (left slot target (take mark messages))) spare capacity
+pub cancelled_kept : (slot : ℕ) (target : Target) (messages : List Msg) (mark spare capacity : ℕ)
+    → IsStore messages mark spare capacity
+    → IsStore (left slot target messages) (length (left slot target (take mark messages))) spare capacity
 cancelled_kept slot target messages mark spare capacity s =
     let p = λ (m : Msg). not (takes slot target m) in
     let all = length-filter_both (takes slot target) p (λ _. refl) messages in

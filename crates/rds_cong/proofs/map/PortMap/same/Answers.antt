@@ -5,12 +5,16 @@ use Rattle.rds_cong.proofs.Ports.{same_maps}
 use Rattle.rds_cong.proofs.map.PortMap.same.Goals as goal
 
 pub returns-clause-value : goal.returns-clause-value
-returns-clause-value c = (
-  (λ t. let words : c.self.inside.words.items ≡ c.other.inside.words.items = search rules in sym c.self.view_is ∙ ap bytes_of words ∙ c.other.view_is),
-  (λ e.
-      let words = same_words c.self.inside.words.items c.other.inside.words.items (c.self.invariant.count ∙ sym c.other.invariant.count) c.self.invariant.fit c.other.invariant.fit (c.self.view_is ∙ e ∙ sym c.other.view_is) in
-      search rules),
-)
+returns-clause-value c =
+    let mine = c.self.inside.words.items in
+    let theirs = c.other.inside.words.items in
+    let count = c.self.invariant.count ∙ sym c.other.invariant.count in (
+      (λ t. let words : mine ≡ theirs = search rules in sym c.self.view_is ∙ ap bytes_of words ∙ c.other.view_is),
+      (λ e.
+          let bytes = c.self.view_is ∙ e ∙ sym c.other.view_is in
+          let words = same_words mine theirs count c.self.invariant.fit c.other.invariant.fit bytes in
+          search rules),
+    )
 
 pub returns-clause-ports : goal.returns-clause-ports
 returns-clause-ports c same =
