@@ -13,3 +13,11 @@ pub mod Endings
 pub mod Skip
 pub mod OldCopies
 pub mod Fifo
+pub mod Bounds
+pub mod SoundFrames
+pub mod NoBad
+pub mod LeastDue
+pub mod Owing
+pub mod Answering
+pub mod LastMap
+pub mod Drained

@@ -33,12 +33,12 @@ highest_grows now = omega arith
 highest_grows (before {e} {j} m) = omega (arith, highest_step e j, highest_grows m)
 
 -- the entry of the newest number, and the others
-datagram_newest : (slot sport dport : ℕ) (payload : List ℕ) (past : List Entry) (n : ℕ) → n ≡ suc (accepted past) →
+pub datagram_newest : (slot sport dport : ℕ) (payload : List ℕ) (past : List Entry) (n : ℕ) → n ≡ suc (accepted past) →
     datagram (Accept slot sport dport payload ∷ past) n
     ≡ Some (record { place = length past; slot = slot; sport = sport; dport = dport; payload = payload })
 datagram_newest slot sport dport payload past n e = cond-true (n == suc (accepted past)) _ (datagram past n) (eq-eqb _ _ e)
 
-datagram_other : (slot sport dport : ℕ) (payload : List ℕ) (past : List Entry) (n : ℕ) → (n ≡ suc (accepted past) → ⊥) →
+pub datagram_other : (slot sport dport : ℕ) (payload : List ℕ) (past : List Entry) (n : ℕ) → (n ≡ suc (accepted past) → ⊥) →
     datagram (Accept slot sport dport payload ∷ past) n ≡ datagram past n
 datagram_other slot sport dport payload past n ne = cond-false (n == suc (accepted past)) _ (datagram past n) (ne_eqb _ _ ne)
 
