@@ -17,9 +17,9 @@ use Rattle.rds_model.proofs.LawfulFrames.{map_asks_not, kind_of_data_pull, kind_
 pub asking_wants : (k : ℕ) (past : List Entry) (f : Frame) → IsLawfulPull k past f → asks f ≡ true → wants_answer f ≡ true
 asking_wants k past f lawful asking =
     elim lawful.owed [
-      inl pull ↦ absurd (both_ways _ (ap asks pull.is ∙ map_asks_not past f.payload) asking)
-    | inr (inl pull) ↦ and_from (asks f) (answers_kind (kind_of f.header)) asking (ap answers_kind (kind_of_data_pull k past f pull))
-    | inr (inr pull) ↦ and_from (asks f) (answers_kind (kind_of f.header)) asking (ap answers_kind (kind_of_ack_pull k past f pull))
+      | inl pull ↦ absurd (both_ways _ (ap asks pull.is ∙ map_asks_not past f.payload) asking)
+      | inr (inl pull) ↦ and_from (asks f) (answers_kind (kind_of f.header)) asking (ap answers_kind (kind_of_data_pull k past f pull))
+      | inr (inr pull) ↦ and_from (asks f) (answers_kind (kind_of f.header)) asking (ap answers_kind (kind_of_ack_pull k past f pull))
     ]
 
 -- a frame that asks, pulled on the stream after a frame or that one itself
@@ -39,21 +39,21 @@ asked_step : (k : ℕ) (f : Frame) (sender : List Entry) (e : Entry) (past : Lis
     (must_ask k past ≡ false → AskedSince k f sender past) → must_ask k (e ∷ past) ≡ false → AskedSince k f sender (e ∷ past)
 asked_step k f sender (Pull s g) past legal m older none =
     elim (cases_Bool (s == k)) [
-      inl is ↦
-      let on : (not (asks g) && (is_datagram g || must_ask k past)) ≡ false = sym (cond-true (s == k) _ (must_ask k past) is) ∙ none in
-      elim (and_cases (not (asks g)) (is_datagram g || must_ask k past) on) [
-        inl asking ↦
-        let is_k = eqb-true s k is in
-        record {
-          asking = g;
-          past = past;
-          at = subst (λ (t : ℕ). Moment (Pull t g ∷ past) (Pull s g ∷ past)) is_k now;
-          since = before m;
-          wants = asking_wants s past g (lawful_pull s g legal now) (not-false (asks g) asking);
-        }
-      | inr quiet ↦ asked_before k f sender (Pull s g) past (older (or_parts (is_datagram g) (must_ask k past) quiet).1)
-      ]
-    | inr other ↦ asked_before k f sender (Pull s g) past (older (sym (cond-false (s == k) _ (must_ask k past) other) ∙ none))
+      | inl is ↦
+          let on : (not (asks g) && (is_datagram g || must_ask k past)) ≡ false = sym (cond-true (s == k) _ (must_ask k past) is) ∙ none in
+          elim (and_cases (not (asks g)) (is_datagram g || must_ask k past) on) [
+            | inl asking ↦
+                let is_k = eqb-true s k is in
+                record {
+                  asking = g;
+                  past = past;
+                  at = subst (λ (t : ℕ). Moment (Pull t g ∷ past) (Pull s g ∷ past)) is_k now;
+                  since = before m;
+                  wants = asking_wants s past g (lawful_pull s g legal now) (not-false (asks g) asking);
+                }
+            | inr quiet ↦ asked_before k f sender (Pull s g) past (older (or_parts (is_datagram g) (must_ask k past) quiet).1)
+          ]
+      | inr other ↦ asked_before k f sender (Pull s g) past (older (sym (cond-false (s == k) _ (must_ask k past) other) ∙ none))
     ]
 asked_step k f sender e past legal m older none = asked_before k f sender e past (older none)
 
@@ -66,14 +66,14 @@ asked_since k f sender j legal m is none = go m legal none
         let on : (not (asks f) && (is_datagram f || must_ask k sender)) ≡ false =
         sym (cond-true (k == k) _ (must_ask k sender) (eq-eqb k k refl)) ∙ none in
         elim (and_cases (not (asks f)) (is_datagram f || must_ask k sender) on) [
-          inl asking ↦ record {
+          | inl asking ↦ record {
             asking = f;
             past = sender;
             at = now;
             since = now;
             wants = asking_wants k sender f (lawful_pull k f legal now) (not-false (asks f) asking);
           }
-        | inr quiet ↦ absurd (both_ways _ quiet (or_left (is_datagram f) (must_ask k sender) is))
+          | inr quiet ↦ absurd (both_ways _ quiet (or_left (is_datagram f) (must_ask k sender) is))
         ]
     go (before {e} {j} m) legal none = asked_step k f sender e j legal m (go m legal.1) none
 
@@ -92,17 +92,17 @@ answered_step : (k : ℕ) (f : Frame) (o : Outcome) (reader : List Entry) (e : E
     (is_asked k past ≡ false → AnsweredSince k f o reader past) → is_asked k (e ∷ past) ≡ false → AnsweredSince k f o reader (e ∷ past)
 answered_step k f o reader (Pull s g) past m older none =
     elim (cases_Bool (s == k)) [
-      inl is ↦ record {
+      | inl is ↦ record {
         answer = g;
         past = past;
         at = subst (λ (t : ℕ). Moment (Pull t g ∷ past) (Pull s g ∷ past)) (eqb-true s k is) now;
         since = m;
       }
-    | inr other ↦
-      elim (and_cases (not (s == k)) (is_asked k past) none) [
-        inl is ↦ absurd (both_ways _ other (not-false (s == k) is))
-      | inr older_none ↦ answered_before k f o reader (Pull s g) past (older older_none)
-      ]
+      | inr other ↦
+          elim (and_cases (not (s == k)) (is_asked k past) none) [
+            | inl is ↦ absurd (both_ways _ other (not-false (s == k) is))
+            | inr older_none ↦ answered_before k f o reader (Pull s g) past (older older_none)
+          ]
     ]
 answered_step k f o reader (Read s g p) past m older none =
     answered_before k f o reader (Read s g p) past (older (or_parts (s == k && wants_answer g) (is_asked k past) none).1)

@@ -26,13 +26,13 @@ pub datagram_fits : (past : List Entry) (n : ℕ) (d : Accepted) → IsLegal pas
 datagram_fits [] n d legal known = cc
 datagram_fits (Accept slot from to payload ∷ past) n d legal known =
     elim (cases_eq n (suc (accepted past))) [
-      inl newest ↦
-      let is : Some (record { place = length past; slot = slot; sport = from; dport = to; payload = payload }) ≡ Some d =
-      sym (datagram_newest slot from to payload past n newest) ∙ known in
-      let same : record { place = length past; slot = slot; sport = from; dport = to; payload = payload } ≡ d = cc in
-      let fits = acceptable slot from to payload legal now in
-      subst Fits same (record { sport = fits.sport; dport = fits.dport; short = fits.short })
-    | inr other ↦ datagram_fits past n d legal.1 (sym (datagram_other slot from to payload past n other) ∙ known)
+      | inl newest ↦
+          let is : Some (record { place = length past; slot = slot; sport = from; dport = to; payload = payload }) ≡ Some d =
+          sym (datagram_newest slot from to payload past n newest) ∙ known in
+          let same : record { place = length past; slot = slot; sport = from; dport = to; payload = payload } ≡ d = cc in
+          let fits = acceptable slot from to payload legal now in
+          subst Fits same (record { sport = fits.sport; dport = fits.dport; short = fits.short })
+      | inr other ↦ datagram_fits past n d legal.1 (sym (datagram_other slot from to payload past n other) ∙ known)
     ]
 datagram_fits (_ ∷ past) n d legal known = datagram_fits past n d legal.1 known
 
@@ -47,5 +47,5 @@ pub last_passed_fits : (past : List Entry) → IsLegal past → last_passed past
 last_passed_fits [] legal = omega arith
 last_passed_fits (Read stream frame outcome ∷ past) legal =
     cond_both (passes outcome) (number frame) (last_passed past) (λ x. x < 2 ^ 64)
-      (λ _. (lawful_read stream frame outcome legal now).header.sequence) (λ _. last_passed_fits past legal.1)
+    (λ _. (lawful_read stream frame outcome legal now).header.sequence) (λ _. last_passed_fits past legal.1)
 last_passed_fits (_ ∷ past) legal = last_passed_fits past legal.1

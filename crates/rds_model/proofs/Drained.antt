@@ -35,11 +35,11 @@ passed_is_bounded : (p a b : List Entry) → ArePeers a b → Moment p b → (n 
 passed_is_bounded [] a b peers m n was = absurd (false≢true was)
 passed_is_bounded (Read k f o ∷ past) a b peers m n was =
     elim (or_cases (passes o && (number f == n)) (was_passed past n) was) [
-      inl this ↦
-      let both = and_parts (passes o) (number f == n) this in
-      omega (arith, passed_bounds k f o peers now m both.0, eqb-true (number f) n both.1)
-    | inr older ↦
-      omega (arith, passed_is_bounded past a b peers (past_of m) n older, last_passed_grows peers (before now) m)
+      | inl this ↦
+          let both = and_parts (passes o) (number f == n) this in
+          omega (arith, passed_bounds k f o peers now m both.0, eqb-true (number f) n both.1)
+      | inr older ↦
+          omega (arith, passed_is_bounded past a b peers (past_of m) n older, last_passed_grows peers (before now) m)
     ]
 passed_is_bounded (x ∷ past) a b peers m n was = passed_is_bounded past a b peers (past_of m) n was
 
@@ -63,7 +63,7 @@ same_front : (k : ℕ) (f : Frame) (o : Outcome) (p q : List Entry) → reads k 
     pulls k (Pull k f ∷ p) ≡ reads k (Read k f o ∷ q)
 same_front k f o p q same =
     cond-true (k == k) (pulls k p ++ f ∷ []) (pulls k p) (eq-eqb k k refl) ∙ ap (λ (fs : List Frame). fs ++ f ∷ []) (sym same)
-      ∙ sym (cond-true (k == k) (reads k q ++ f ∷ []) (reads k q) (eq-eqb k k refl))
+    ∙ sym (cond-true (k == k) (reads k q ++ f ∷ []) (reads k q) (eq-eqb k k refl))
 
 acknowledges : (k : ℕ) (f : Frame) (o : Outcome) (p : List Entry) → f.header.ack ≤ acked (Read k f o ∷ p)
 acknowledges k f o p = omega arith
@@ -107,19 +107,20 @@ none_lives k a b peers forth back map_a map_b idle_a idle_b n alive =
     asked pull since =
         let enough =
         answered k a b peers forth back (or_parts (is_asked k b) (must_ask k b) idle_b.unasked).0 n since.asking since.past since.at since.wants
-          (pulled_on_at k n pull.frame since.since pull.carries) in
+        (pulled_on_at k n pull.frame since.since pull.carries) in
         omega (arith, enough, (alive_parts a n alive).unacknowledged)
+
     from : PullOf k n a → ⊥
     from pull =
         asked pull
-          (asked_since k pull.frame pull.past a peers.legal_a pull.at (and_parts (is_datagram pull.frame) (number pull.frame == n) pull.carries).0
-            (or_parts (is_asked k a) (must_ask k a) idle_a.unasked).1)
+        (asked_since k pull.frame pull.past a peers.legal_a pull.at (and_parts (is_datagram pull.frame) (number pull.frame == n) pull.carries).0
+        (or_parts (is_asked k a) (must_ask k a) idle_a.unasked).1)
 
 none_alive : (k : ℕ) (a b : List Entry) → ArePeers a b → reads k b ≡ pulls k a → reads k a ≡ pulls k b →
     (map_a map_b : List ℕ) → IsIdle k a map_a → IsIdle k b map_b → alive_numbers a ≡ []
 none_alive k a b peers forth back map_a map_b idle_a idle_b =
     passes_none (is_alive a) (accepted a)
-      (λ n above within. false_from_ne_true (is_alive a n) (none_lives k a b peers forth back map_a map_b idle_a idle_b n))
+    (λ n above within. false_from_ne_true (is_alive a n) (none_lives k a b peers forth back map_a map_b idle_a idle_b n))
 
 -- the map that B read last is the one that A pulled last
 map_arrived : (k : ℕ) (a b : List Entry) → ArePeers a b → open_stream b ≡ Some k → reads k b ≡ pulls k a → (map : List ℕ) →

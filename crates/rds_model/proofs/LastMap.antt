@@ -97,11 +97,12 @@ last_read k (Read s f o ∷ past) legal on =
     let older = last_read k past legal.1 on in
     let reading = lawful_read s f o legal now in
     let is = one_stream past s k reading.on on in
-    let here = cond-true (s == k) (reads k past ++ f ∷ []) (reads k past) (eq-eqb s k is) in
-    (older.0,
+    let here = cond-true (s == k) (reads k past ++ f ∷ []) (reads k past) (eq-eqb s k is) in (
+      older.0,
       map_outcome (kind_of f.header) past f.header o f.payload (last_map_read past) reading.obeys
-        ∙ ap (λ (m : Option (List ℕ)). cond (is_map f) (Some f.payload) m) older.1
-        ∙ sym (among_more older.0 (reads k past) f) ∙ ap (last_among older.0) (sym here))
+          ∙ ap (λ (m : Option (List ℕ)). cond (is_map f) (Some f.payload) m) older.1
+          ∙ sym (among_more older.0 (reads k past) f) ∙ ap (last_among older.0) (sym here),
+    )
 last_read k (Accept slot sport dport payload ∷ past) legal on = last_read k past legal.1 on
 last_read k (Cancel slot target ∷ past) legal on = last_read k past legal.1 on
 last_read k (Pull s f ∷ past) legal on = last_read k past legal.1 on

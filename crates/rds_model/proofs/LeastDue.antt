@@ -22,22 +22,22 @@ module _ (p : ℕ → Bool) where
   none_passes zero none i above within = absurd (omega arith)
   none_passes (suc m) none i above within =
       elim (cases_Bool (p (suc m))) [
-        inl passes ↦
-        let empty : suc m ∷ [] ≡ [] = (front_empty (filter p (up_to m)) (suc m ∷ []) (sym (passed_more m passes) ∙ none)).1 in
-        cc
-      | inr fails ↦
-        let older = (front_empty (filter p (up_to m)) [] (sym (failed_more m fails) ∙ none)).0 in
-        elim (cases_eq i (suc m)) [
-          inl is ↦ ap p is ∙ fails
-        | inr other ↦ none_passes m older i above (omega arith)
-        ]
+        | inl passes ↦
+            let empty : suc m ∷ [] ≡ [] = (front_empty (filter p (up_to m)) (suc m ∷ []) (sym (passed_more m passes) ∙ none)).1 in
+            cc
+        | inr fails ↦
+            let older = (front_empty (filter p (up_to m)) [] (sym (failed_more m fails) ∙ none)).0 in
+            elim (cases_eq i (suc m)) [
+              | inl is ↦ ap p is ∙ fails
+              | inr other ↦ none_passes m older i above (omega arith)
+            ]
       ]
 
   pub passes_none : (m : ℕ) → ((i : ℕ) → 0 < i → i ≤ m → p i ≡ false) → filter p (up_to m) ≡ []
   passes_none zero none = refl
   passes_none (suc m) none =
       failed_more m (none (suc m) (omega arith) (omega arith))
-        ∙ ap (λ (l : List ℕ). l ++ []) (passes_none m (λ i above within. none i above (omega arith)))
+      ∙ ap (λ (l : List ℕ). l ++ []) (passes_none m (λ i above within. none i above (omega arith)))
 
   -- the first number that passes
   pub record IsFirst (m n : ℕ) : Type 0 where
@@ -55,8 +55,8 @@ module _ (p : ℕ → Bool) where
       IsFirst (suc m) n
   first_of_step m n rest older is (x ∷ l) older_is _ =
       let same : x ≡ n = elim (cases_Bool (p (suc m))) [
-        inl passes ↦ cc (passed_more m passes)
-      | inr fails ↦ cc (failed_more m fails)
+        | inl passes ↦ cc (passed_more m passes)
+        | inr fails ↦ cc (failed_more m fails)
       ] in
       first_step m n (older l (older_is ∙ ap (λ (y : ℕ). y ∷ l) same))
   first_of_step m n rest older is [] older_is (inl passes) =
@@ -83,18 +83,18 @@ module _ (p : ℕ → Bool) where
   filter_of_first zero n first = absurd (omega (arith, first.above, first.within))
   filter_of_first (suc m) n first =
       elim (cases_eq n (suc m)) [
-        inl is ↦
-        let empty = passes_none m (λ i above within. first.least i above (omega arith)) in
-        ([], passed_more m (ap p (sym is) ∙ first.passes) ∙ ap (λ (l : List ℕ). l ++ suc m ∷ []) empty ∙ ap (λ (x : ℕ). x ∷ []) (sym is))
-      | inr other ↦
-        let older = filter_of_first m n (record {
-          within = omega (arith, first.within);
-          above = first.above;
-          passes = first.passes;
-          least = first.least;
-        }) in
-        elim (cases_Bool (p (suc m))) [
-          inl passes ↦ (older.0 ++ suc m ∷ [], passed_more m passes ∙ ap (λ (l : List ℕ). l ++ suc m ∷ []) older.1)
-        | inr fails ↦ (older.0 ++ [], failed_more m fails ∙ ap (λ (l : List ℕ). l ++ []) older.1)
-        ]
+        | inl is ↦
+            let empty = passes_none m (λ i above within. first.least i above (omega arith)) in
+            ([], passed_more m (ap p (sym is) ∙ first.passes) ∙ ap (λ (l : List ℕ). l ++ suc m ∷ []) empty ∙ ap (λ (x : ℕ). x ∷ []) (sym is))
+        | inr other ↦
+            let older = filter_of_first m n (record {
+              within = omega (arith, first.within);
+              above = first.above;
+              passes = first.passes;
+              least = first.least;
+            }) in
+            elim (cases_Bool (p (suc m))) [
+              | inl passes ↦ (older.0 ++ suc m ∷ [], passed_more m passes ∙ ap (λ (l : List ℕ). l ++ suc m ∷ []) older.1)
+              | inr fails ↦ (older.0 ++ [], failed_more m fails ∙ ap (λ (l : List ℕ). l ++ []) older.1)
+            ]
       ]

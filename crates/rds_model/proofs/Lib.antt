@@ -21,3 +21,5 @@ pub mod Owing
 pub mod Answering
 pub mod LastMap
 pub mod Drained
+pub mod PairLists
+pub mod Headline

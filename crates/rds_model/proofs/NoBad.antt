@@ -49,23 +49,23 @@ acknowledged_is_known : (k : ℕ) (h : Header) (found : Malformed) {p r a b : Li
     Moment (Bad k h found ∷ p) b → Moment r a → open_stream r ≡ Some k → last_passed r ≤ highest p
 acknowledged_is_known k h found {p} {r} {a} {b} peers bad m on =
     elim (cases_lt 0 (last_passed r)) [
-      inr none ↦ omega arith
-    | inl some ↦
-      let last = last_was_passed r some in
-      let at = earlier last.at m in
-      let back = other_way a b peers in
-      let pull = pull_of_read last.stream last.frame last.outcome back at in
-      let is = (passed_datagram last.stream last.frame last.outcome peers.legal_a at last.passed).0 in
-      elim (of_two_entries pull.at bad) [
-        first earlier_pull ↦ omega (arith, pulled_bounds last.stream last.frame earlier_pull is, last.is)
-      | second later_pull ↦
-        let pulled = lawful_pull last.stream last.frame peers.legal_b pull.at in
-        let read = lawful_read last.stream last.frame last.outcome peers.legal_a at in
-        let after = later_streams k h found last.stream (legal_at (past_of pull.at) peers.legal_b) later_pull pulled.on in
-        let before = on_earlier_stream last.stream k (legal_at m peers.legal_a) (past_of last.at) read.on on in
-        omega (arith, after, before)
-      | same is_bad is_past ↦ absurd (cc)
-      ]
+      | inr none ↦ omega arith
+      | inl some ↦
+          let last = last_was_passed r some in
+          let at = earlier last.at m in
+          let back = other_way a b peers in
+          let pull = pull_of_read last.stream last.frame last.outcome back at in
+          let is = (passed_datagram last.stream last.frame last.outcome peers.legal_a at last.passed).0 in
+          elim (of_two_entries pull.at bad) [
+            | first earlier_pull ↦ omega (arith, pulled_bounds last.stream last.frame earlier_pull is, last.is)
+            | second later_pull ↦
+                let pulled = lawful_pull last.stream last.frame peers.legal_b pull.at in
+                let read = lawful_read last.stream last.frame last.outcome peers.legal_a at in
+                let after = later_streams k h found last.stream (legal_at (past_of pull.at) peers.legal_b) later_pull pulled.on in
+                let before = on_earlier_stream last.stream k (legal_at m peers.legal_a) (past_of last.at) read.on on in
+                omega (arith, after, before)
+            | same is_bad is_past ↦ absurd (cc)
+          ]
     ]
 
 no_header : (h : Header) (rest : List ℕ) → IsHeader h → [] ≡ header_bytes h ++ rest → ⊥

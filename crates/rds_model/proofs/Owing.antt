@@ -65,8 +65,8 @@ is_due k past n = is_alive past n && not (pulled_on k past n)
 pulled_unless_due : (k : ℕ) (past : List Entry) (m : ℕ) → is_alive past m ≡ true → is_due k past m ≡ false → pulled_on k past m ≡ true
 pulled_unless_due k past m alive other =
     elim (and_cases (is_alive past m) (not (pulled_on k past m)) other) [
-      inl dead ↦ absurd (both_ways _ dead alive)
-    | inr was ↦ not-false (pulled_on k past m) was
+      | inl dead ↦ absurd (both_ways _ dead alive)
+      | inr was ↦ not-false (pulled_on k past m) was
     ]
 
 -- where none is due, each number that is alive was pulled on the stream
@@ -78,9 +78,9 @@ none_due k past none m alive =
 due_none : (k : ℕ) (past : List Entry) → ((m : ℕ) → is_alive past m ≡ true → pulled_on k past m ≡ true) → due k past ≡ []
 due_none k past pulled =
     passes_none (is_due k past) (accepted past)
-      (λ m above within. false_from_ne_true (is_due k past m) (λ is.
-        let both = and_parts (is_alive past m) (not (pulled_on k past m)) is in
-        both_ways _ (not-true (pulled_on k past m) both.1) (pulled m both.0)))
+    (λ m above within. false_from_ne_true (is_due k past m) (λ is.
+    let both = and_parts (is_alive past m) (not (pulled_on k past m)) is in
+    both_ways _ (not-true (pulled_on k past m) both.1) (pulled m both.0)))
 
 -- the least number that is due is alive, wasn't pulled on the stream, and each smaller one that is alive was
 pub record IsLeastDue (k : ℕ) (past : List Entry) (n : ℕ) : Type 0 where
@@ -96,8 +96,8 @@ least_due k past n rest is =
       alive = both.0;
       once = not-true (pulled_on k past n) both.1;
       least = λ m below alive.
-        let range = number_of_known past m (alive_parts past m alive).known in
-        pulled_unless_due k past m alive (first.least m range.0 below);
+          let range = number_of_known past m (alive_parts past m alive).known in
+          pulled_unless_due k past m alive (first.least m range.0 below);
     }
 
 due_of_least : (k : ℕ) (past : List Entry) (n : ℕ) → IsLeastDue k past n → (rest : List ℕ) × (due k past ≡ n ∷ rest)
@@ -108,8 +108,8 @@ due_of_least k past n least =
       above = range.0;
       passes = and_from (is_alive past n) (not (pulled_on k past n)) least.alive (not_from_false (pulled_on k past n) least.once);
       least = λ m above below. false_from_ne_true (is_due k past m) (λ is.
-        let both = and_parts (is_alive past m) (not (pulled_on k past m)) is in
-        both_ways _ (not-true (pulled_on k past m) both.1) (least.least m below both.0));
+          let both = and_parts (is_alive past m) (not (pulled_on k past m)) is in
+          both_ways _ (not-true (pulled_on k past m) both.1) (least.least m below both.0));
     })
 
 -- the three frames, each with a header that fits and the length that it says
@@ -118,7 +118,7 @@ map_is_lawful : (k : ℕ) (past : List Entry) (map : List ℕ) → IsLegal past 
 map_is_lawful k past map legal on long new = record {
   on = on;
   header =
-    header_fits past 0 MAP_LENGTH 0 0 CONG_BITMAP legal (omega arith) (omega arith) (omega arith) (omega arith) (omega arith);
+      header_fits past 0 MAP_LENGTH 0 0 CONG_BITMAP legal (omega arith) (omega arith) (omega arith) (omega arith) (omega arith);
   whole = long ∙ sym (len_is past 0 MAP_LENGTH 0 0 CONG_BITMAP);
   owed = inl (record { new = last_is_not (last_map k past) map new; is = refl });
 }
@@ -131,7 +131,7 @@ data_is_lawful k past n d legal on behind known least =
     record {
       on = on;
       header =
-        header_fits past n (length d.payload) d.sport d.dport (data_flags k past n d) legal (omega (arith, range, few_accepted past legal))
+          header_fits past n (length d.payload) d.sport d.dport (data_flags k past n d) legal (omega (arith, range, few_accepted past legal))
           (omega (arith, fits.short)) fits.sport fits.dport (flags_fit (was_pulled past n) (asks_with k past n d));
       whole = sym (len_is past n (length d.payload) d.sport d.dport (data_flags k past n d));
       owed = inr (inl (record {
@@ -156,7 +156,7 @@ ack_is_lawful k past legal on behind none asked =
     record {
       on = on;
       header =
-        header_fits past 0 0 0 0 flags legal (omega arith) (omega arith) (omega arith) (omega arith) (ack_flags_fit (must_ask k past));
+          header_fits past 0 0 0 0 flags legal (omega arith) (omega arith) (omega arith) (omega arith) (ack_flags_fit (must_ask k past));
       whole = sym (len_is past 0 0 0 0 flags);
       owed = inr (inr (record { behind_a_map = behind; all_pulled = none_due k past none; asked = asked; is = refl }));
     }
@@ -170,13 +170,13 @@ behind_map : (k : ℕ) (past : List Entry) (f : Frame) → IsLegal past → open
     (numbers : List ℕ) → due k past ≡ numbers → owed_behind k past numbers ≡ Some f → IsLawfulPull k past f
 behind_map k past f legal on behind [] none is =
     elim (cases_Bool (is_asked k past || must_ask k past)) [
-      inl asked ↦
-      let given : Some (ack_frame past (must_ask k past)) ≡ Some f = sym (cond-true _ (Some (ack_frame past (must_ask k past))) None asked) ∙ is in
-      let same : ack_frame past (must_ask k past) ≡ f = cc in
-      subst (IsLawfulPull k past) same (ack_is_lawful k past legal on behind none asked)
-    | inr unasked ↦
-      let given : None ≡ Some f = sym (cond-false _ (Some (ack_frame past (must_ask k past))) None unasked) ∙ is in
-      cc
+      | inl asked ↦
+          let given : Some (ack_frame past (must_ask k past)) ≡ Some f = sym (cond-true _ (Some (ack_frame past (must_ask k past))) None asked) ∙ is in
+          let same : ack_frame past (must_ask k past) ≡ f = cc in
+          subst (IsLawfulPull k past) same (ack_is_lawful k past legal on behind none asked)
+      | inr unasked ↦
+          let given : None ≡ Some f = sym (cond-false _ (Some (ack_frame past (must_ask k past))) None unasked) ∙ is in
+          cc
     ]
 behind_map k past f legal on behind (n ∷ rest) some is = the_data (datagram past n) refl is
   where
@@ -191,14 +191,14 @@ pub owed_is_lawful : (k : ℕ) (past : List Entry) (map : List ℕ) (f : Frame) 
     owed k past map ≡ Some f → IsLawfulPull k past f
 owed_is_lawful k past map f legal on long is =
     elim (cases_Bool (is_last_map (last_map k past) map)) [
-      inl last ↦
-      let same = last_is (last_map k past) map last in
-      behind_map k past f legal on (some_of (last_map k past) map same) (due k past) refl
-        (sym (cond-true _ (owed_behind k past (due k past)) (Some (map_frame past map)) last) ∙ is)
-    | inr new ↦
-      let given : Some (map_frame past map) ≡ Some f = sym (cond-false _ (owed_behind k past (due k past)) (Some (map_frame past map)) new) ∙ is in
-      let same : map_frame past map ≡ f = cc in
-      subst (IsLawfulPull k past) same (map_is_lawful k past map legal on long new)
+      | inl last ↦
+          let same = last_is (last_map k past) map last in
+          behind_map k past f legal on (some_of (last_map k past) map same) (due k past) refl
+          (sym (cond-true _ (owed_behind k past (due k past)) (Some (map_frame past map)) last) ∙ is)
+      | inr new ↦
+          let given : Some (map_frame past map) ≡ Some f = sym (cond-false _ (owed_behind k past (due k past)) (Some (map_frame past map)) new) ∙ is in
+          let same : map_frame past map ≡ f = cc in
+          subst (IsLawfulPull k past) same (map_is_lawful k past map legal on long new)
     ]
 
 -- where no pong is owed, a lawful entry may stand
@@ -214,11 +214,12 @@ pub record IsIdle (k : ℕ) (past : List Entry) (map : List ℕ) : Type 0 where
 
 idle_behind : (k : ℕ) (past : List Entry) (numbers : List ℕ) → due k past ≡ numbers → owed_behind k past numbers ≡ None →
     (due k past ≡ []) × ((is_asked k past || must_ask k past) ≡ false)
-idle_behind k past [] none nothing =
-    (none,
-      false_from_ne_true (is_asked k past || must_ask k past) (λ asked.
-        let given : Some (ack_frame past (must_ask k past)) ≡ None = sym (cond-true _ (Some (ack_frame past (must_ask k past))) None asked) ∙ nothing in
-        cc))
+idle_behind k past [] none nothing = (
+  none,
+  false_from_ne_true (is_asked k past || must_ask k past) (λ asked.
+      let given : Some (ack_frame past (must_ask k past)) ≡ None = sym (cond-true _ (Some (ack_frame past (must_ask k past))) None asked) ∙ nothing in
+      cc),
+)
 idle_behind k past (n ∷ rest) some nothing =
     let alive = alive_parts past n (least_due k past n rest some).alive in
     absurd (the_data (datagram past n) alive.known nothing)
@@ -230,13 +231,13 @@ idle_behind k past (n ∷ rest) some nothing =
 pub idle : (k : ℕ) (past : List Entry) (map : List ℕ) → owed k past map ≡ None → IsIdle k past map
 idle k past map nothing =
     elim (cases_Bool (is_last_map (last_map k past) map)) [
-      inl last ↦
-      let both =
-      idle_behind k past (due k past) refl (sym (cond-true _ (owed_behind k past (due k past)) (Some (map_frame past map)) last) ∙ nothing) in
-      record { last = last_is (last_map k past) map last; none_due = both.0; unasked = both.1 }
-    | inr new ↦
-      let given : Some (map_frame past map) ≡ None = sym (cond-false _ (owed_behind k past (due k past)) (Some (map_frame past map)) new) ∙ nothing in
-      cc
+      | inl last ↦
+          let both =
+          idle_behind k past (due k past) refl (sym (cond-true _ (owed_behind k past (due k past)) (Some (map_frame past map)) last) ∙ nothing) in
+          record { last = last_is (last_map k past) map last; none_due = both.0; unasked = both.1 }
+      | inr new ↦
+          let given : Some (map_frame past map) ≡ None = sym (cond-false _ (owed_behind k past (due k past)) (Some (map_frame past map)) new) ∙ nothing in
+          cc
     ]
 
 least_of_pull : (k : ℕ) (past : List Entry) (f : Frame) (pull : IsDataPull k past f) → IsLeastDue k past pull.n
@@ -248,12 +249,12 @@ pub only_another_map : (k : ℕ) (past : List Entry) (map : List ℕ) (f : Frame
 only_another_map k past map f nothing lawful =
     let is = idle k past map nothing in
     elim lawful.owed [
-      inl pull ↦ (pull, λ same. pull.new (is.last ∙ ap (λ (m : List ℕ). Some m) (sym same)))
-    | inr (inl pull) ↦
-      let some = due_of_least k past pull.n (least_of_pull k past f pull) in
-      let clash : [] ≡ pull.n ∷ some.0 = sym is.none_due ∙ some.1 in
-      absurd (cc)
-    | inr (inr pull) ↦ absurd (both_ways _ is.unasked pull.asked)
+      | inl pull ↦ (pull, λ same. pull.new (is.last ∙ ap (λ (m : List ℕ). Some m) (sym same)))
+      | inr (inl pull) ↦
+          let some = due_of_least k past pull.n (least_of_pull k past f pull) in
+          let clash : [] ≡ pull.n ∷ some.0 = sym is.none_due ∙ some.1 in
+          absurd (cc)
+      | inr (inr pull) ↦ absurd (both_ways _ is.unasked pull.asked)
     ]
 
 behind_last : (k : ℕ) (past : List Entry) (f : Frame) → IsSome (last_map k past) → owed_behind k past (due k past) ≡ Some f →
@@ -269,17 +270,18 @@ behind_last k past f behind is = last (last_map k past) refl behind
 pub lawful_is_owed : (k : ℕ) (past : List Entry) (f : Frame) → IsLawfulPull k past f → (map : List ℕ) × (owed k past map ≡ Some f)
 lawful_is_owed k past f lawful =
     elim lawful.owed [
-      inl pull ↦
-      (f.payload,
+      | inl pull ↦ (
+        f.payload,
         cond-false _ (owed_behind k past (due k past)) (Some (map_frame past f.payload)) (last_of_other (last_map k past) f.payload pull.new)
-          ∙ ap (λ (g : Frame). Some g) (sym pull.is))
-    | inr (inl pull) ↦
-      let some = due_of_least k past pull.n (least_of_pull k past f pull) in
-      behind_last k past f pull.behind_a_map
-        (ap (owed_behind k past) some.1 ∙ ap (data_owed k past pull.n) pull.known ∙ ap (λ (g : Frame). Some g) (sym pull.is))
-    | inr (inr pull) ↦
-      behind_last k past f pull.behind_a_map
-        (ap (owed_behind k past) (due_none k past pull.all_pulled)
+            ∙ ap (λ (g : Frame). Some g) (sym pull.is),
+      )
+      | inr (inl pull) ↦
+          let some = due_of_least k past pull.n (least_of_pull k past f pull) in
+          behind_last k past f pull.behind_a_map
+          (ap (owed_behind k past) some.1 ∙ ap (data_owed k past pull.n) pull.known ∙ ap (λ (g : Frame). Some g) (sym pull.is))
+      | inr (inr pull) ↦
+          behind_last k past f pull.behind_a_map
+          (ap (owed_behind k past) (due_none k past pull.all_pulled)
           ∙ cond-true _ (Some (ack_frame past (must_ask k past))) None pull.asked
           ∙ ap (λ (g : Frame). Some g) (sym pull.is))
     ]

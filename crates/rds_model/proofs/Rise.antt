@@ -81,7 +81,7 @@ pub record PassedAt (n : ℕ) (j : List Entry) : Type 0 where
   pub passed : passes outcome ≡ true
   pub is : number frame ≡ n
 
-passed_before : (n : ℕ) (e : Entry) (past : List Entry) → PassedAt n past → PassedAt n (e ∷ past)
+pub passed_before : (n : ℕ) (e : Entry) (past : List Entry) → PassedAt n past → PassedAt n (e ∷ past)
 passed_before n e past r = record {
   stream = r.stream;
   frame = r.frame;

@@ -20,7 +20,7 @@ none_of_four : (a b c d : Bool) (w x y z : Option Malformed) → a ≡ false →
     cond a w (cond b x (cond c y (cond d z None))) ≡ None
 none_of_four a b c d w x y z no_a no_b no_c no_d =
     cond-false a w (cond b x (cond c y (cond d z None))) no_a ∙ cond-false b x (cond c y (cond d z None)) no_b
-      ∙ cond-false c y (cond d z None) no_c ∙ cond-false d z None no_d
+    ∙ cond-false c y (cond d z None) no_c ∙ cond-false d z None no_d
 
 -- a header that is sealed, short, and with a number and an acknowledgement in their ranges has no fault
 pub no_fault : (h : Header) (m : ℕ) → h.csum ≡ computed h → h.len ≤ MAX_LENGTH →
@@ -53,27 +53,30 @@ sealed_pull k past f lawful =
     let seal = λ (g : Frame) (is : f ≡ g) (sealed : g.header.csum ≡ computed g.header).
     ap (λ (x : Frame). x.header.csum) is ∙ sealed ∙ ap (λ (x : Frame). computed x.header) (sym is) in
     elim lawful.owed [
-      inl map ↦ seal (map_frame past f.payload) map.is (sealed_header past 0 MAP_LENGTH 0 0 CONG_BITMAP)
-    | inr (inl pull) ↦
-      let d = pull.d in
-      seal (data_frame k past pull.n d) pull.is
-        (sealed_header past pull.n (length d.payload) d.sport d.dport (data_flags k past pull.n d))
-    | inr (inr ack) ↦
-      seal (ack_frame past (must_ask k past)) ack.is (sealed_header past 0 0 0 0 (flag_if (must_ask k past) ACK_REQUIRED))
+      | inl map ↦ seal (map_frame past f.payload) map.is (sealed_header past 0 MAP_LENGTH 0 0 CONG_BITMAP)
+      | inr (inl pull) ↦
+          let d = pull.d in
+          seal (data_frame k past pull.n d) pull.is
+          (sealed_header past pull.n (length d.payload) d.sport d.dport (data_flags k past pull.n d))
+      | inr (inr ack) ↦
+          seal (ack_frame past (must_ask k past)) ack.is (sealed_header past 0 0 0 0 (flag_if (must_ask k past) ACK_REQUIRED))
     ]
 
 short_pull : (k : ℕ) (past : List Entry) (f : Frame) → IsLegal past → IsLawfulPull k past f → f.header.len ≤ MAX_LENGTH
 short_pull k past f legal lawful =
     let len = λ (g : Frame) (is : f ≡ g). ap (λ (x : Frame). x.header.len) is in
     elim lawful.owed [
-      inl map ↦ omega (arith, len (map_frame past f.payload) map.is, len_of_header past 0 MAP_LENGTH 0 0 CONG_BITMAP)
-    | inr (inl pull) ↦
-      let d = pull.d in
-      omega (arith, len (data_frame k past pull.n d) pull.is,
-        len_of_header past pull.n (length d.payload) d.sport d.dport (data_flags k past pull.n d),
-        (datagram_fits past pull.n d legal pull.known).short)
-    | inr (inr ack) ↦
-      omega (arith, len (ack_frame past (must_ask k past)) ack.is, len_of_header past 0 0 0 0 (flag_if (must_ask k past) ACK_REQUIRED))
+      | inl map ↦ omega (arith, len (map_frame past f.payload) map.is, len_of_header past 0 MAP_LENGTH 0 0 CONG_BITMAP)
+      | inr (inl pull) ↦
+          let d = pull.d in
+          omega (
+            arith,
+            len (data_frame k past pull.n d) pull.is,
+            len_of_header past pull.n (length d.payload) d.sport d.dport (data_flags k past pull.n d),
+            (datagram_fits past pull.n d legal pull.known).short,
+          )
+      | inr (inr ack) ↦
+          omega (arith, len (ack_frame past (must_ask k past)) ack.is, len_of_header past 0 0 0 0 (flag_if (must_ask k past) ACK_REQUIRED))
     ]
 
 -- a lawful frame has no fault for a reader that has pulled what it acknowledges
@@ -82,9 +85,9 @@ pub lawful_frame_is_sound : (k : ℕ) (past : List Entry) (f : Frame) (m : ℕ) 
 lawful_frame_is_sound k past f m legal lawful known =
     let acknowledges = pull_acknowledges k past f lawful in
     no_fault f.header m (sealed_pull k past f lawful) (short_pull k past f legal lawful)
-      (λ is.
-        let pull = data_pull_of k past f lawful is in
-        let number_is = number_of_pull k past f pull in
-        let range = number_of_known past pull.n (ap is_some pull.known) in
-        (omega (arith, number_is, range), omega (arith, number_is, range, few_accepted past legal)))
-      (omega (arith, acknowledges, known))
+    (λ is.
+    let pull = data_pull_of k past f lawful is in
+    let number_is = number_of_pull k past f pull in
+    let range = number_of_known past pull.n (ap is_some pull.known) in
+    (omega (arith, number_is, range), omega (arith, number_is, range, few_accepted past legal)))
+    (omega (arith, acknowledges, known))
