@@ -23,3 +23,6 @@ pub mod LastMap
 pub mod Drained
 pub mod PairLists
 pub mod Headline
+pub mod ExampleSteps
+pub mod HelloRun
+pub mod CutRun

@@ -285,3 +285,9 @@ lawful_is_owed k past f lawful =
           ∙ cond-true _ (Some (ack_frame past (must_ask k past))) None pull.asked
           ∙ ap (λ (g : Frame). Some g) (sym pull.is))
     ]
+
+-- what is owed for the map that was pulled last
+pub owed_behind_last : (k : ℕ) (past : List Entry) (map : List ℕ) → last_map k past ≡ Some map →
+    owed k past map ≡ owed_behind k past (due k past)
+owed_behind_last k past map is =
+    cond-true _ (owed_behind k past (due k past)) (Some (map_frame past map)) (last_of_same (last_map k past) map is)

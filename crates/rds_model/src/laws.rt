@@ -1,4 +1,4 @@
-ghost use Rattle.std.specs.Prelude.{◌≡◌, ◌≢◌, ℕ, List, ◌∷◌, Some, None, length};
+ghost use Rattle.std.specs.Prelude.{◌≡◌, ◌≢◌, ℕ, List, [], ◌∷◌, Some, None, length};
 ghost use Rattle.rds_wire.specs.declared.frame.Frame.{Frame};
 ghost use Rattle.rds_wire.specs.declared.kind.TheConstants.{MAP_LENGTH};
 ghost use Rattle.rds_model.specs.declared.entry.Entry.{Entry};
@@ -8,8 +8,9 @@ ghost use Rattle.rds_model.specs.Owed.{owed};
 ghost use Rattle.rds_model.specs.Legal.{IsLegal, IsWhole, IsMapPull};
 ghost use Rattle.rds_model.specs.Honest.{IsHonest};
 ghost use Rattle.rds_model.specs.Fifo.{IsFifo, HasNoBad};
-ghost use Rattle.rds_model.specs.Pairs.{IsDeliveredOnce};
+ghost use Rattle.rds_model.specs.Pairs.{IsDeliveredOnce, delivered, taken_back};
 ghost use Rattle.rds_model.specs.Drained.{IsQuiet, IsSettledBetween};
+ghost use Rattle.rds_model.specs.Examples.{AreSound, hello_sender, hello_receiver, cut_sender, cut_receiver};
 
 use crate::Journal;
 
@@ -79,4 +80,16 @@ pub fn owed_is_lawful()
         IsWhole (Pull k f ∷ past) → IsMapPull k past f × (f.payload ≢ map) }
     ensures only { (k : ℕ) (past : List Entry) (f : Frame) → IsWhole (Pull k f ∷ past) →
         ((map : List ℕ) × (owed k past map ≡ Some f)) }
+{}
+
+/// The premises of the laws are met: a plain run keeps all rules, and so does one with a cut in the middle of a payload, a
+/// retransmission, an old copy and a cancellation. Both end quiet. In the second the receiver delivers what was accepted
+/// but for the datagram that was taken back.
+pub fn examples()
+    ensures hello { (map : List ℕ) → length map ≡ MAP_LENGTH → AreSound (hello_sender map) (hello_receiver map) }
+    ensures hello_quiet { (map : List ℕ) → IsQuiet 1 (hello_sender map) (hello_receiver map) }
+    ensures cut { (map : List ℕ) → length map ≡ MAP_LENGTH → AreSound (cut_sender map) (cut_receiver map) }
+    ensures cut_quiet { (map : List ℕ) → IsQuiet 2 (cut_sender map) (cut_receiver map) }
+    ensures delivered { (map : List ℕ) → delivered 4000 4001 (cut_receiver map) ≡ 1 ∷ 2 ∷ 4 ∷ [] }
+    ensures taken_back { (map : List ℕ) → taken_back 4000 4002 (cut_sender map) ≡ 3 ∷ [] }
 {}
