@@ -15,12 +15,13 @@ use Rattle.rds_model.specs.Owed.{last_map, is_asked, must_ask, wants_answer}
 use Rattle.rds_model.specs.Fifo.{HasNoBad}
 use Rattle.rds_model.specs.Drained.{IsQuiet, IsSettledBetween, last_map_read}
 use Rattle.rds_model.proofs.Moments.{past_of}
-use Rattle.rds_model.proofs.Numbers.{alive_parts, acked_grows}
+use Rattle.rds_model.proofs.Numbers.{acknowledges_itself, alive_parts, acked_grows}
 use Rattle.rds_model.proofs.Frames.{pull_begins, read_moment, ReadAfter}
 use Rattle.rds_model.proofs.Legality.{lawful_pull}
 use Rattle.rds_model.proofs.LawfulFrames.{pull_acknowledges}
 use Rattle.rds_model.proofs.LeastDue.{passes_none}
-use Rattle.rds_model.proofs.Owing.{idle, IsIdle, none_due}
+use Rattle.rds_model.proofs.Due.{none_due}
+use Rattle.rds_model.proofs.Owing.{idle, IsIdle}
 use Rattle.rds_model.proofs.Decoding.{same_frames}
 use Rattle.rds_model.proofs.Happenings.{pull_of, PullOf, pulled_on_at, read_as_pulled}
 use Rattle.rds_model.proofs.Matching.{ArePeers, other_way, sound_pulls, sound_reads}
@@ -65,9 +66,6 @@ same_front k f o p q same =
     cond-true (k == k) (pulls k p ++ f ∷ []) (pulls k p) (eq-eqb k k refl) ∙ ap (λ (fs : List Frame). fs ++ f ∷ []) (sym same)
     ∙ sym (cond-true (k == k) (reads k q ++ f ∷ []) (reads k q) (eq-eqb k k refl))
 
-acknowledges : (k : ℕ) (f : Frame) (o : Outcome) (p : List Entry) → f.header.ack ≤ acked (Read k f o ∷ p)
-acknowledges k f o p = omega arith
-
 -- a number that B has read is acknowledged by the next frame that B pulls, when A has read that one
 acknowledged_by : (k : ℕ) (a b : List Entry) → ArePeers a b → reads k a ≡ pulls k b → (n : ℕ) (reader : List Entry) →
     Moment reader b → was_passed reader n ≡ true → (answer : Frame) (past : List Entry) → Moment (Pull k answer ∷ past) b →
@@ -78,7 +76,7 @@ acknowledged_by k a b peers back n reader m was answer past pulled since =
     let carried = pull_acknowledges k past answer (lawful_pull k answer peers.legal_b pulled) in
     let begins = pull_begins k answer pulled in
     let reading = read_moment k a (pulls k past) answer begins.0 (back ∙ begins.1) in
-    omega (arith, bound, grown, carried, acknowledges k answer reading.outcome reading.past, acked_grows reading.at)
+    omega (arith, bound, grown, carried, acknowledges_itself k answer reading.outcome reading.past, acked_grows reading.at)
 
 -- a number that A pulled, no later than a frame that asks, is acknowledged
 answered : (k : ℕ) (a b : List Entry) → ArePeers a b → reads k b ≡ pulls k a → reads k a ≡ pulls k b → is_asked k b ≡ false →

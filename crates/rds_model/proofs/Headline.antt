@@ -18,7 +18,9 @@ use Rattle.rds_model.proofs.Numbers.{number_of_known}
 use Rattle.rds_model.proofs.Matching.{ArePeers}
 use Rattle.rds_model.proofs.Rise.{PassedAt, passed_before, rise, passed_bounds}
 use Rattle.rds_model.proofs.Fifo.{fifo}
-use Rattle.rds_model.proofs.PairLists.{ReadFor, read_for, listed_at, rises, AcceptedFor, accepted_number, number_accepted, in_filter}
+use Rattle.rds_model.proofs.NumberLists.{in_filter}
+use Rattle.rds_model.proofs.ReadLists.{ReadFor, read_for, listed_at, rises}
+use Rattle.rds_model.proofs.AcceptedLists.{AcceptedFor, accepted_number, number_accepted}
 
 -- a passed read was delivered, dropped or taken by port 0
 delivery_passes : (o : Outcome) → is_delivery o ≡ true → passes o ≡ true

@@ -17,11 +17,15 @@ pub mod Bounds
 pub mod SoundFrames
 pub mod NoBad
 pub mod LeastDue
+pub mod Due
+pub mod LawfulPulls
 pub mod Owing
 pub mod Answering
 pub mod LastMap
 pub mod Drained
-pub mod PairLists
+pub mod NumberLists
+pub mod ReadLists
+pub mod AcceptedLists
 pub mod Headline
 pub mod ExampleSteps
 pub mod HelloRun

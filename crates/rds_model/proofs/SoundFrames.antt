@@ -13,7 +13,7 @@ use Rattle.rds_model.specs.Past.{number, last_passed}
 use Rattle.rds_model.specs.Owed.{header_of, map_frame, ack_frame, data_frame, data_flags, flag_if, must_ask}
 use Rattle.rds_model.specs.Legal.{IsLegal, IsLawfulPull}
 use Rattle.rds_model.proofs.Numbers.{number_of_known}
-use Rattle.rds_model.proofs.LawfulFrames.{pull_acknowledges, data_pull_of, number_of_pull}
+use Rattle.rds_model.proofs.LawfulFrames.{len_of_header, pull_acknowledges, data_pull_of, number_of_pull}
 use Rattle.rds_model.proofs.Bounds.{few_accepted, datagram_fits}
 
 none_of_four : (a b c d : Bool) (w x y z : Option Malformed) → a ≡ false → b ≡ false → c ≡ false → d ≡ false →
@@ -43,10 +43,6 @@ sealed_header : (past : List Entry) (number len sport dport flags : ℕ) →
     (header_of past number len sport dport flags).csum ≡ computed (header_of past number len sport dport flags)
 unfolding header_of computed
 sealed_header past number len sport dport flags = refl
-
-len_of_header : (past : List Entry) (number len sport dport flags : ℕ) → (header_of past number len sport dport flags).len ≡ len
-unfolding header_of
-len_of_header past number len sport dport flags = refl
 
 sealed_pull : (k : ℕ) (past : List Entry) (f : Frame) → IsLawfulPull k past f → f.header.csum ≡ computed f.header
 sealed_pull k past f lawful =
