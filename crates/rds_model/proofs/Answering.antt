@@ -59,10 +59,10 @@ asked_step k f sender e past legal m older none = asked_before k f sender e past
 
 pub asked_since : (k : ℕ) (f : Frame) (sender j : List Entry) → IsLegal j → Moment (Pull k f ∷ sender) j → is_datagram f ≡ true →
     must_ask k j ≡ false → AskedSince k f sender j
-asked_since k f sender j legal m is none = go m legal none
+asked_since k f sender j legal m is none = since_pull m legal none
   where
-    go : {j : List Entry} → Moment (Pull k f ∷ sender) j → IsLegal j → must_ask k j ≡ false → AskedSince k f sender j
-    go now legal none =
+    since_pull : {j : List Entry} → Moment (Pull k f ∷ sender) j → IsLegal j → must_ask k j ≡ false → AskedSince k f sender j
+    since_pull now legal none =
         let on : (not (asks f) && (is_datagram f || must_ask k sender)) ≡ false =
         sym (cond-true (k == k) _ (must_ask k sender) (eq-eqb k k refl)) ∙ none in
         elim (and_cases (not (asks f)) (is_datagram f || must_ask k sender) on) [
@@ -75,7 +75,7 @@ asked_since k f sender j legal m is none = go m legal none
           }
           | inr quiet ↦ absurd (both_ways _ quiet (or_left (is_datagram f) (must_ask k sender) is))
         ]
-    go (before {e} {j} m) legal none = asked_step k f sender e j legal m (go m legal.1) none
+    since_pull (before {e} {j} m) legal none = asked_step k f sender e j legal m (since_pull m legal.1) none
 
 -- a frame that was pulled on a stream after a reading there
 pub record AnsweredSince (k : ℕ) (f : Frame) (o : Outcome) (reader j : List Entry) : Type 0 where

@@ -33,24 +33,24 @@ among_more earlier (g ∷ fs) f = among_more (if is_map g then Some g.payload el
 -- where there is a map among them, it doesn't matter what was before
 pub among_some : (earlier : Option (List ℕ)) (fs : List Frame) (map : List ℕ) → last_among None fs ≡ Some map → last_among earlier fs ≡ Some map
 among_some earlier [] map is = cc
-among_some earlier (f ∷ fs) map is = go (is_map f) is (among_some earlier fs map)
+among_some earlier (f ∷ fs) map is = by_kind (is_map f) is (among_some earlier fs map)
   where
-    go : (b : Bool) → last_among (cond b (Some f.payload) None) fs ≡ Some map → (last_among None fs ≡ Some map → last_among earlier fs ≡ Some map) →
+    by_kind : (b : Bool) → last_among (cond b (Some f.payload) None) fs ≡ Some map → (last_among None fs ≡ Some map → last_among earlier fs ≡ Some map) →
         last_among (cond b (Some f.payload) earlier) fs ≡ Some map
-    go true is more = is
-    go false is more = more is
+    by_kind true is more = is
+    by_kind false is more = more is
 
 -- the map that was pulled last on a stream
 pub last_pulled : (k : ℕ) (j : List Entry) → last_map k j ≡ last_among None (pulls k j)
 last_pulled k [] = refl
-last_pulled k (Pull s f ∷ past) = go (s == k) (is_map f) (last_pulled k past) (among_more None (pulls k past) f)
+last_pulled k (Pull s f ∷ past) = by_stream (s == k) (is_map f) (last_pulled k past) (among_more None (pulls k past) f)
   where
-    go : (on map : Bool) → last_map k past ≡ last_among None (pulls k past) →
+    by_stream : (on map : Bool) → last_map k past ≡ last_among None (pulls k past) →
         last_among None (pulls k past ++ f ∷ []) ≡ cond map (Some f.payload) (last_among None (pulls k past)) →
         cond (on && map) (Some f.payload) (last_map k past) ≡ last_among None (cond on (pulls k past ++ f ∷ []) (pulls k past))
-    go true true older more = sym more
-    go true false older more = older ∙ sym more
-    go false map older more = older
+    by_stream true true older more = sym more
+    by_stream true false older more = older ∙ sym more
+    by_stream false map older more = older
 last_pulled k (_ ∷ past) = last_pulled k past
 
 -- a frame that is read is a map exactly where its outcome is one
@@ -59,16 +59,16 @@ map_outcome : (kind : Kind) (past : List Entry) (h : Header) (o : Outcome) (payl
 map_outcome Map past h o payload earlier obeys = ap (λ (x : Outcome). map_of x payload earlier) obeys
 map_outcome OddMap past h o payload earlier obeys = ap (λ (x : Outcome). map_of x payload earlier) obeys
 map_outcome Ack past h o payload earlier obeys = ap (λ (x : Outcome). map_of x payload earlier) obeys
-map_outcome Data past h o payload earlier obeys = go (is_old past h) (h.dport == 0) (h.sport == 0) o obeys
+map_outcome Data past h o payload earlier obeys = by_ports (is_old past h) (h.dport == 0) (h.sport == 0) o obeys
   where
-    go : (old to_0 from_0 : Bool) (o : Outcome) →
+    by_ports : (old to_0 from_0 : Bool) (o : Outcome) →
         Obeys (cond old verdict.Old (cond to_0 (cond from_0 verdict.Void verdict.Ping) (verdict.Deliver h.dport))) o →
         map_of o payload earlier ≡ earlier
-    go true to_0 from_0 o obeys = ap (λ (x : Outcome). map_of x payload earlier) obeys
-    go false true true o obeys = ap (λ (x : Outcome). map_of x payload earlier) obeys
-    go false true false o obeys = ap (λ (x : Outcome). map_of x payload earlier) obeys
-    go false false from_0 outcome.Map obeys = absurd obeys
-    go false false from_0 _ obeys = refl
+    by_ports true to_0 from_0 o obeys = ap (λ (x : Outcome). map_of x payload earlier) obeys
+    by_ports false true true o obeys = ap (λ (x : Outcome). map_of x payload earlier) obeys
+    by_ports false true false o obeys = ap (λ (x : Outcome). map_of x payload earlier) obeys
+    by_ports false false from_0 outcome.Map obeys = absurd obeys
+    by_ports false false from_0 _ obeys = refl
 
 -- on a stream that isn't opened yet nothing is read
 unread_stream : (k : ℕ) (past : List Entry) → IsLegal past → newest_stream past < k → reads k past ≡ []

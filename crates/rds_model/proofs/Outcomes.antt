@@ -18,11 +18,11 @@ pub passed_kind : (kind : Kind) (past : List Entry) (h : Header) (o : Outcome) �
 passed_kind Map past h o passed obeys = absurd (true≢false (sym passed ∙ ap passes obeys))
 passed_kind OddMap past h o passed obeys = absurd (true≢false (sym passed ∙ ap passes obeys))
 passed_kind Ack past h o passed obeys = absurd (true≢false (sym passed ∙ ap passes obeys))
-passed_kind Data past h o passed obeys = (refl, go (is_old past h) obeys)
+passed_kind Data past h o passed obeys = (refl, by_age (is_old past h) obeys)
   where
-    go : (b : Bool) → Obeys (cond b verdict.Old (verdict_of_ports h.sport h.dport)) o → b ≡ false
-    go true obeys = absurd (true≢false (sym passed ∙ ap passes obeys))
-    go false obeys = refl
+    by_age : (b : Bool) → Obeys (cond b verdict.Old (verdict_of_ports h.sport h.dport)) o → b ≡ false
+    by_age true obeys = absurd (true≢false (sym passed ∙ ap passes obeys))
+    by_age false obeys = refl
 
 is_delivered : (o : Outcome) → passes o ≡ false → IsDelivered o → ⊥
 is_delivered (outcome.Slot slot) unpassed delivered = true≢false unpassed

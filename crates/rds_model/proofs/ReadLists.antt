@@ -117,8 +117,8 @@ module _ (such : Outcome → Bool) (sport dport : ℕ) where
   rises_step _ peers passed m older = record { rising = older.rising; bounded = older.bounded }
 
   pub rises : {j a b : List Entry} → ArePeers a b → ((o : Outcome) → such o ≡ true → passes o ≡ true) → Moment j b → Rises j
-  rises {j} {a} {b} peers passed m = go j m
+  rises {j} {a} {b} peers passed m = by_moment j m
     where
-      go : (j : List Entry) → Moment j b → Rises j
-      go [] m = record { rising = λ k within. absurd (omega arith); bounded = All-nil (λ n. n ≤ 0) }
-      go (e ∷ past) m = rises_step e peers passed m (go past (past_of m))
+      by_moment : (j : List Entry) → Moment j b → Rises j
+      by_moment [] m = record { rising = λ k within. absurd (omega arith); bounded = All-nil (λ n. n ≤ 0) }
+      by_moment (e ∷ past) m = rises_step e peers passed m (by_moment past (past_of m))
