@@ -1,7 +1,7 @@
 -- Bytes tell the frames: a list of frames that begins with the bytes of others begins with those frames.
 use Rattle.std.proofs.Common.{◌≡◌, ℕ, List, [], ◌∷◌, ◌++◌, length, take, drop, refl, sym, ◌∙◌, ap, arith, append_assoc, length-append}
 use Rattle.std.specs.List.{All, flat_map}
-use Rattle.std.proofs.lemmas.List.{take_at, drop_at}
+use Rattle.std.proofs.lemmas.List.{take_at, drop_at, append-nil}
 use Rattle.std.proofs.lemmas.List.Elements.{All-head, All-tail}
 use Rattle.rds_wire.specs.declared.frame.Frame.{Frame}
 use Rattle.rds_wire.specs.declared.header.Header.{Header}
@@ -53,3 +53,17 @@ decoded (f ∷ fs) (g ∷ gs) rest sound_fs sound_gs same =
     (same ∙ append_assoc (frame_bytes g) (flat_map frame_bytes gs) rest) in
     let more = decoded fs gs rest (All-tail IsSound f fs sound_fs) (All-tail IsSound g gs sound_gs) both.1 in
     (more.0, (λ i. both.0 i ∷ more.1 i), more.2)
+
+no_bytes : (f : Frame) (xs : List ℕ) → IsSound f → [] ≡ frame_bytes f ++ xs → ⊥
+no_bytes f xs sound none = no_frame f xs [] sound (none ∙ sym (append-nil (frame_bytes f ++ xs)))
+
+-- frames with the same bytes are the same
+pub same_frames : (fs gs : List Frame) → All IsSound fs → All IsSound gs → flat_map frame_bytes fs ≡ flat_map frame_bytes gs → fs ≡ gs
+same_frames [] [] sound_fs sound_gs same = refl
+same_frames [] (g ∷ gs) sound_fs sound_gs same = absurd (no_bytes g (flat_map frame_bytes gs) (All-head IsSound g gs sound_gs) same)
+same_frames (f ∷ fs) [] sound_fs sound_gs same = absurd (no_bytes f (flat_map frame_bytes fs) (All-head IsSound f fs sound_fs) (sym same))
+same_frames (f ∷ fs) (g ∷ gs) sound_fs sound_gs same =
+    let both =
+    first_frame f g (flat_map frame_bytes fs) (flat_map frame_bytes gs) (All-head IsSound f fs sound_fs) (All-head IsSound g gs sound_gs) same in
+    let more = same_frames fs gs (All-tail IsSound f fs sound_fs) (All-tail IsSound g gs sound_gs) both.1 in
+    λ i. both.0 i ∷ more i

@@ -13,12 +13,12 @@ use Rattle.rds_model.specs.Streams.{pulls, reads}
 -- a list is empty or has a last element
 ends : (fs : List Frame) → (fs ≡ []) ⊎ ((front : List Frame) × (last : Frame) × (fs ≡ front ++ last ∷ []))
 ends [] = inl refl
-ends (f ∷ fs) = inr (go (ends fs))
+ends (f ∷ fs) = inr (cons_ends (ends fs))
   where
-    go : (fs ≡ []) ⊎ ((front : List Frame) × (last : Frame) × (fs ≡ front ++ last ∷ [])) →
+    cons_ends : (fs ≡ []) ⊎ ((front : List Frame) × (last : Frame) × (fs ≡ front ++ last ∷ [])) →
         (front : List Frame) × (last : Frame) × (f ∷ fs ≡ front ++ last ∷ [])
-    go (inl e) = ([], f, ap (λ (rest : List Frame). f ∷ rest) e)
-    go (inr (front, last, e)) = (f ∷ front, last, ap (λ (rest : List Frame). f ∷ rest) e)
+    cons_ends (inl e) = ([], f, ap (λ (rest : List Frame). f ∷ rest) e)
+    cons_ends (inr (front, last, e)) = (f ∷ front, last, ap (λ (rest : List Frame). f ∷ rest) e)
 
 nothing_within : (xs : List Frame) (f : Frame) (rest : List Frame) → [] ≡ xs ++ f ∷ rest → ⊥
 nothing_within [] f rest e = cc
@@ -64,17 +64,17 @@ module _ (carried : Entry → Option Frame) where
   frame_moment : (j : List Entry) (fs : List Frame) (f : Frame) (rest : List Frame) →
       frames carried j ≡ fs ++ f ∷ rest → Carried carried fs f j
   frame_moment [] fs f rest is = absurd (nothing_within fs f rest is)
-  frame_moment (e ∷ past) fs f rest is = go (λ r. frame_moment past fs f r) (carried e) refl is (ends rest)
+  frame_moment (e ∷ past) fs f rest is = by_entry (λ r. frame_moment past fs f r) (carried e) refl is (ends rest)
     where
-      go : ((r : List Frame) → frames carried past ≡ fs ++ f ∷ r → Carried carried fs f past) →
+      by_entry : ((r : List Frame) → frames carried past ≡ fs ++ f ∷ r → Carried carried fs f past) →
           (o : Option Frame) → carried e ≡ o → frames carried past ++ option_to_list o ≡ fs ++ f ∷ rest →
           (rest ≡ []) ⊎ ((front : List Frame) × (last : Frame) × (rest ≡ front ++ last ∷ [])) →
           Carried carried fs f (e ∷ past)
-      go older None none is _ = carried_before fs f e past (older rest (sym (append-nil (frames carried past)) ∙ is))
-      go older (Some g) some is (inl empty) =
+      by_entry older None none is _ = carried_before fs f e past (older rest (sym (append-nil (frames carried past)) ∙ is))
+      by_entry older (Some g) some is (inl empty) =
           let both = same_from_push (frames carried past) fs g f (is ∙ ap (λ (r : List Frame). fs ++ f ∷ r) empty) in
           record { e = e; past = past; at = now; carries = some ∙ ap (λ (x : Frame). Some x) both.1; earlier = both.0 }
-      go older (Some g) some is (inr (front, last, split)) =
+      by_entry older (Some g) some is (inr (front, last, split)) =
           let pushed = ap (λ (r : List Frame). fs ++ f ∷ r) split ∙ sym (append_assoc fs (f ∷ front) (last ∷ [])) in
           let both = same_from_push (frames carried past) (fs ++ f ∷ front) g last (is ∙ pushed) in
           carried_before fs f e past (older front both.0)

@@ -1,5 +1,5 @@
 -- That a number was pulled, read or passed, and the moment at which it was.
-use Rattle.std.proofs.Common.{◌≡◌, inl, inr, ℕ, ◌==◌, ◌&&◌, true, List, [], ◌∷◌, sym, ◌∙◌, subst}
+use Rattle.std.proofs.Common.{◌≡◌, inl, inr, ℕ, ◌==◌, ◌&&◌, true, List, [], ◌∷◌, refl, sym, ◌∙◌, subst}
 use Rattle.std.proofs.lemmas.Bool.{and_parts, and_from, or_cases, or_left, or_right, eqb-true, eq-eqb, false≢true}
 use Rattle.rds_wire.specs.declared.frame.Frame.{Frame}
 use Rattle.rds_model.specs.declared.entry.Entry.{Entry}
@@ -47,6 +47,15 @@ was_passed_at k f o n {p} m passed is =
 pub was_read_at : (k : ℕ) (f : Frame) (o : Outcome) (n : ℕ) {p j : List Entry} → Moment (Read k f o ∷ p) j → carries_number n f ≡ true →
     was_read j n ≡ true
 was_read_at k f o n {p} m carries = was_read_stays m n (or_left (carries_number n f) (was_read p n) carries)
+
+pulled_on_step : (k : ℕ) (e : Entry) (past : List Entry) (n : ℕ) → pulled_on k past n ≡ true → pulled_on k (e ∷ past) n ≡ true
+pulled_on_step k (Pull stream frame) past n was = or_right (stream == k && carries_number n frame) _ was
+pulled_on_step k _ past n was = was
+
+pub pulled_on_at : (k n : ℕ) (f : Frame) {p j : List Entry} → Moment (Pull k f ∷ p) j → carries_number n f ≡ true → pulled_on k j n ≡ true
+pulled_on_at k n f {p} now carries =
+    or_left (k == k && carries_number n f) (pulled_on k p n) (and_from (k == k) (carries_number n f) (eq-eqb k k refl) carries)
+pulled_on_at k n f (before {e} {j} m) carries = pulled_on_step k e j n (pulled_on_at k n f m carries)
 
 -- pulled on one stream is pulled
 pub pulled_on_some : (k : ℕ) (p : List Entry) (n : ℕ) → pulled_on k p n ≡ true → was_pulled p n ≡ true

@@ -63,6 +63,10 @@ pub ack_of_header : (past : List Entry) (number len sport dport flags : ℕ) →
 unfolding header_of
 ack_of_header past number len sport dport flags = refl
 
+pub len_of_header : (past : List Entry) (number len sport dport flags : ℕ) → (header_of past number len sport dport flags).len ≡ len
+unfolding header_of
+len_of_header past number len sport dport flags = refl
+
 pub number_of_data : (k : ℕ) (past : List Entry) (n : ℕ) (d : Accepted) → number (data_frame k past n d) ≡ n
 unfolding header_of
 number_of_data k past n d = refl

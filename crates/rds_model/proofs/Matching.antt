@@ -85,7 +85,7 @@ longer fs gs f rest is =
 pub same_order : (k l : ℕ) (f g : Frame) (o o' : Outcome) {p q a b : List Entry} → ArePeers a b →
     Moment (Read k f o ∷ p) q → Moment (Read l g o' ∷ q) b →
     (x : PulledAfter k (reads k p) f a) (y : PulledAfter l (reads l q) g a) → Moment (Pull k f ∷ x.past) y.past
-same_order k l f g o o' {p} {q} {a} {b} peers m n x y = go (of_two_entries x.at y.at)
+same_order k l f g o o' {p} {q} {a} {b} peers m n x y = by_order (of_two_entries x.at y.at)
   where
     earlier_read : (k ≡ l) → length (reads k p) < length (reads l q)
     earlier_read is =
@@ -94,15 +94,15 @@ same_order k l f g o o' {p} {q} {a} {b} peers m n x y = go (of_two_entries x.at 
         let along = ap (λ s. length (reads s q)) is in
         omega (arith, more, along)
 
-    go : InOrder (Pull k f) x.past (Pull l g) y.past → Moment (Pull k f ∷ x.past) y.past
-    go (first before_it) = before_it
-    go (same is is_past) =
+    by_order : InOrder (Pull k f) x.past (Pull l g) y.past → Moment (Pull k f ∷ x.past) y.past
+    by_order (first before_it) = before_it
+    by_order (same is is_past) =
         let is_k : k ≡ l = cc in
         let x_long = ap length x.earlier in
         let y_long = ap length y.earlier in
         let along : length (pulls k x.past) ≡ length (pulls l y.past) = λ i. length (pulls (is_k i) (is_past i)) in
         absurd (omega (arith, earlier_read is_k, x_long, y_long, along))
-    go (second before_it) =
+    by_order (second before_it) =
         let legal_q = legal_at (past_of n) peers.legal_b in
         let pull_x = lawful_pull k f peers.legal_a x.at in
         let pull_y = lawful_pull l g peers.legal_a y.at in

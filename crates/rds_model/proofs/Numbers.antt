@@ -1,8 +1,10 @@
 -- The numbers of datagrams, and what stays true of them from one moment to a later one.
 use Rattle.std.proofs.Common.{◌≡◌, inl, inr, ℕ, suc, ◌<◌, ◌≤◌, ◌==◌, not, max, true, false, Some, is_some, List, [], ◌∷◌, length, sym, ◌∙◌, ap, arith}
 use Rattle.std.proofs.lemmas.Bool.{and_parts, and_from, or_right, not-true, not_from_false, ltb-true, lt-ltb, ne_eqb, eq-eqb, cond_both, cond-true, cond-false, cases_eq, false≢true, false_from_ne_true, both_ways}
+use Rattle.rds_wire.specs.declared.frame.Frame.{Frame}
 use Rattle.rds_model.specs.declared.entry.Entry.{Entry}
 use Rattle.rds_model.specs.declared.entry.Entry.TheVariants.{Accept, Cancel, Pull, Read}
+use Rattle.rds_model.specs.declared.entry.Outcome.{Outcome}
 use Rattle.rds_model.specs.Past.{Moment, now, before, Accepted, accepted, datagram, acked, highest, number, is_datagram}
 use Rattle.rds_model.specs.Alive.{is_cancelled, is_alive}
 
@@ -22,6 +24,10 @@ pub acked_grows : {p j : List Entry} → Moment p j → acked p ≤ acked j
 acked_grows now = omega arith
 acked_grows (before {e} {j} m) = omega (arith, acked_step e j, acked_grows m)
 
+-- the reading of a frame counts its acknowledgement
+pub acknowledges_itself : (k : ℕ) (f : Frame) (o : Outcome) (p : List Entry) → f.header.ack ≤ acked (Read k f o ∷ p)
+acknowledges_itself k f o p = omega arith
+
 highest_step : (e : Entry) (past : List Entry) → highest past ≤ highest (e ∷ past)
 highest_step (Pull stream frame) past =
     cond_both (is_datagram frame) (max (number frame) (highest past)) (highest past) (λ x. highest past ≤ x)
@@ -33,12 +39,12 @@ highest_grows now = omega arith
 highest_grows (before {e} {j} m) = omega (arith, highest_step e j, highest_grows m)
 
 -- the entry of the newest number, and the others
-datagram_newest : (slot sport dport : ℕ) (payload : List ℕ) (past : List Entry) (n : ℕ) → n ≡ suc (accepted past) →
+pub datagram_newest : (slot sport dport : ℕ) (payload : List ℕ) (past : List Entry) (n : ℕ) → n ≡ suc (accepted past) →
     datagram (Accept slot sport dport payload ∷ past) n
     ≡ Some (record { place = length past; slot = slot; sport = sport; dport = dport; payload = payload })
 datagram_newest slot sport dport payload past n e = cond-true (n == suc (accepted past)) _ (datagram past n) (eq-eqb _ _ e)
 
-datagram_other : (slot sport dport : ℕ) (payload : List ℕ) (past : List Entry) (n : ℕ) → (n ≡ suc (accepted past) → ⊥) →
+pub datagram_other : (slot sport dport : ℕ) (payload : List ℕ) (past : List Entry) (n : ℕ) → (n ≡ suc (accepted past) → ⊥) →
     datagram (Accept slot sport dport payload ∷ past) n ≡ datagram past n
 datagram_other slot sport dport payload past n ne = cond-false (n == suc (accepted past)) _ (datagram past n) (ne_eqb _ _ ne)
 

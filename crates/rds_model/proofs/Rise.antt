@@ -81,7 +81,7 @@ pub record PassedAt (n : ℕ) (j : List Entry) : Type 0 where
   pub passed : passes outcome ≡ true
   pub is : number frame ≡ n
 
-passed_before : (n : ℕ) (e : Entry) (past : List Entry) → PassedAt n past → PassedAt n (e ∷ past)
+pub passed_before : (n : ℕ) (e : Entry) (past : List Entry) → PassedAt n past → PassedAt n (e ∷ past)
 passed_before n e past r = record {
   stream = r.stream;
   frame = r.frame;
@@ -95,14 +95,14 @@ passed_before n e past r = record {
 -- the last passed number was passed, where it isn't 0
 pub last_was_passed : (j : List Entry) → 0 < last_passed j → PassedAt (last_passed j) j
 last_was_passed [] above = absurd (omega arith)
-last_was_passed (Read stream frame outcome ∷ past) above = go (passes outcome) refl above (last_was_passed past)
+last_was_passed (Read stream frame outcome ∷ past) above = by_outcome (passes outcome) refl above (last_was_passed past)
   where
-    go : (b : Bool) → passes outcome ≡ b → 0 < cond b (number frame) (last_passed past) →
+    by_outcome : (b : Bool) → passes outcome ≡ b → 0 < cond b (number frame) (last_passed past) →
         (0 < last_passed past → PassedAt (last_passed past) past) →
         PassedAt (cond b (number frame) (last_passed past)) (Read stream frame outcome ∷ past)
-    go true passed above older =
+    by_outcome true passed above older =
         record { stream = stream; frame = frame; outcome = outcome; past = past; at = now; passed = passed; is = refl }
-    go false passed above older = passed_before (last_passed past) (Read stream frame outcome) past (older above)
+    by_outcome false passed above older = passed_before (last_passed past) (Read stream frame outcome) past (older above)
 last_was_passed (x ∷ past) above = passed_before (last_passed past) x past (last_was_passed past above)
 
 -- a passed frame is a datagram, and no old copy
@@ -143,11 +143,11 @@ rise k f o {past} peers m passed =
 
 -- the last passed number never falls
 last_step : (e : Entry) {past a b : List Entry} → ArePeers a b → Moment (e ∷ past) b → last_passed past ≤ last_passed (e ∷ past)
-last_step (Read k f o) {past} peers m = go (passes o) refl
+last_step (Read k f o) {past} peers m = by_outcome (passes o) refl
   where
-    go : (b : Bool) → passes o ≡ b → last_passed past ≤ cond b (number f) (last_passed past)
-    go true passed = omega (arith, rise k f o peers m passed)
-    go false unpassed = omega arith
+    by_outcome : (b : Bool) → passes o ≡ b → last_passed past ≤ cond b (number f) (last_passed past)
+    by_outcome true passed = omega (arith, rise k f o peers m passed)
+    by_outcome false unpassed = omega arith
 last_step _ peers m = omega arith
 
 pub last_passed_grows : {p q a b : List Entry} → ArePeers a b → Moment p q → Moment q b → last_passed p ≤ last_passed q

@@ -9,7 +9,7 @@ use Rattle.rds_model.specs.Past.{Moment, now, before, number, passes, last_passe
 use Rattle.rds_model.specs.Streams.{reads, was_read}
 use Rattle.rds_model.specs.Alive.{is_alive, was_taken_back}
 use Rattle.rds_model.proofs.Moments.{earlier, past_of, of_two_entries, InOrder, first, second, same}
-use Rattle.rds_model.proofs.Numbers.{known_of_number, alive_parts, acked_grows}
+use Rattle.rds_model.proofs.Numbers.{acknowledges_itself, known_of_number, alive_parts, acked_grows}
 use Rattle.rds_model.proofs.Frames.{PulledAfter}
 use Rattle.rds_model.proofs.Legality.{lawful_pull}
 use Rattle.rds_model.proofs.LawfulFrames.{pull_acknowledges}
@@ -43,12 +43,12 @@ arrival_before n e past r = record {
 
 pub arrival : (n : ℕ) (j : List Entry) → 0 < n → n ≤ last_passed j → Arrival n j
 arrival n [] above within = absurd (omega arith)
-arrival n (Read stream frame outcome ∷ past) above within = go (passes outcome) refl within (arrival n past above) (cases_lt (last_passed past) n)
+arrival n (Read stream frame outcome ∷ past) above within = by_outcome (passes outcome) refl within (arrival n past above) (cases_lt (last_passed past) n)
   where
-    go : (b : Bool) → passes outcome ≡ b → n ≤ cond b (number frame) (last_passed past) →
+    by_outcome : (b : Bool) → passes outcome ≡ b → n ≤ cond b (number frame) (last_passed past) →
         (n ≤ last_passed past → Arrival n past) → (last_passed past < n) ⊎ (n ≤ last_passed past) →
         Arrival n (Read stream frame outcome ∷ past)
-    go true passed within older (inl below) = record {
+    by_outcome true passed within older (inl below) = record {
       stream = stream;
       frame = frame;
       outcome = outcome;
@@ -58,12 +58,9 @@ arrival n (Read stream frame outcome ∷ past) above within = go (passes outcome
       below = below;
       reaches = within;
     }
-    go true passed within older (inr already) = arrival_before n (Read stream frame outcome) past (older already)
-    go false passed within older _ = arrival_before n (Read stream frame outcome) past (older within)
+    by_outcome true passed within older (inr already) = arrival_before n (Read stream frame outcome) past (older already)
+    by_outcome false passed within older _ = arrival_before n (Read stream frame outcome) past (older within)
 arrival n (x ∷ past) above within = arrival_before n x past (arrival n past above within)
-
-acknowledges_itself : (k : ℕ) (f : Frame) (o : Outcome) (p : List Entry) → f.header.ack ≤ acked (Read k f o ∷ p)
-acknowledges_itself k f o p = omega arith
 
 -- No acknowledgement frees a skipped number. Let f be passed over n, and let A have read, before it pulled f, a frame g that
 -- acknowledges n. If B pulled g before it read f, then g acknowledges at most the last passed number, which is below n. If B

@@ -10,3 +10,4 @@ pub mod Fifo
 pub mod Pairs
 pub mod Drained
 pub mod Store
+pub mod Examples

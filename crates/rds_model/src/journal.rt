@@ -64,7 +64,7 @@ impl Journal {
         ensures full { self.old.limit < length self.old.past + n → result ≡ Err (errors.Spent (length self.old.past)) }
         ensures limit { self.old.limit ≤ MAX_ENTRIES }
     {
-        let entries = self.entries.len() as u32;
+        let entries = self.len();
         if n > self.limit - entries {
             return Err(JournalError::Spent { entries });
         }

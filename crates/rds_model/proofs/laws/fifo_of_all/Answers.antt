@@ -1,9 +1,8 @@
 use Rattle.rds_model.proofs.Fifo.{fifo}
-use Rattle.rds_model.proofs.Matching.{other_way}
+use Rattle.rds_model.proofs.Matching.{ArePeers, other_way}
 use Rattle.rds_model.proofs.laws.fifo_of_all.Goals as goal
 
 pub returns : goal.returns
-returns c a b legal_a legal_b honest = (
-  fifo a b (record { legal_a = legal_a; legal_b = legal_b; honest = honest }),
-  fifo b a (other_way a b (record { legal_a = legal_a; legal_b = legal_b; honest = honest })),
-)
+returns c a b legal_a legal_b honest =
+    let peers : ArePeers a b = record { legal_a = legal_a; legal_b = legal_b; honest = honest } in
+    (fifo a b peers, fifo b a (other_way a b peers))

@@ -1,0 +1,85 @@
+-- Steps by which an example journal is seen to be legal, and two of them to be honest.
+use Rattle.std.proofs.Common.{◌≡◌, ℕ, suc, ◌<◌, ◌≤◌, ◌^◌, Some, None, List, [], ◌∷◌, ◌++◌, length, refl, sym, ◌∙◌, ap}
+use Rattle.std.specs.List.{flat_map}
+use Rattle.std.proofs.lemmas.List.{append-nil}
+use Rattle.std.proofs.lemmas.List.Concat.{flat_map-append}
+use Rattle.rds_wire.specs.Bytes.{frame_bytes}
+use Rattle.rds_wire.specs.declared.frame.Frame.{Frame}
+use Rattle.rds_wire.specs.declared.kind.TheConstants.{MAP_LENGTH, MAX_LENGTH}
+use Rattle.rds_model.specs.declared.entry.Entry.{Entry}
+use Rattle.rds_model.specs.declared.entry.Entry.TheVariants.{Accept, Pull, Read}
+use Rattle.rds_model.specs.declared.entry.Outcome.{Outcome}
+use Rattle.rds_model.specs.Past.{Moment, accepted, open_stream, highest, last_passed}
+use Rattle.rds_model.specs.Streams.{pulls, reads, refused, wrote, got}
+use Rattle.rds_model.specs.Alive.{due}
+use Rattle.rds_model.specs.Honest.{Begins}
+use Rattle.rds_model.specs.Drained.{OwesNothing}
+use Rattle.rds_model.specs.Owed.{last_map, owed, owed_behind}
+use Rattle.rds_model.specs.Reading.{verdict_of, Obeys}
+use Rattle.rds_model.specs.Legal.{IsWhole, IsLawful, pong_to}
+use Rattle.rds_model.proofs.Moments.{past_of}
+use Rattle.rds_model.proofs.Legality.{legal_at, lawful_pull}
+use Rattle.rds_model.proofs.Owing.{owed_is_lawful, settled_continues, owed_behind_last}
+use Rattle.rds_model.proofs.SoundFrames.{lawful_frame_is_sound}
+
+-- one more entry that is lawful
+pub more : (e : Entry) (past : List Entry) → IsWhole past → IsLawful past e → pong_to (e ∷ past) ≡ None → IsWhole (e ∷ past)
+more e past whole lawful settled =
+    record { legal = (settled_continues past e whole.settled lawful, whole.legal); settled = settled }
+
+-- the pull of what is owed
+pub pulling : (k : ℕ) (f : Frame) (past : List Entry) (map : List ℕ) → IsWhole past → open_stream past ≡ Some k → length map ≡ MAP_LENGTH →
+    owed k past map ≡ Some f → IsWhole (Pull k f ∷ past)
+pulling k f past map whole on long is = more (Pull k f) past whole (owed_is_lawful k past map f whole.legal on long is) refl
+
+-- the reading of a frame that the peer pulled
+pub reading : (k : ℕ) (f : Frame) (o : Outcome) (past : List Entry) {sender peer : List Entry} → IsWhole past → open_stream past ≡ Some k →
+    IsWhole peer → Moment (Pull k f ∷ sender) peer → last_passed sender ≤ highest past → Obeys (verdict_of past f.header) o →
+    pong_to (Read k f o ∷ past) ≡ None → IsWhole (Read k f o ∷ past)
+reading k f o past {sender} {peer} whole on peer_whole m known obeys settled =
+    let lawful = lawful_pull k f peer_whole.legal m in
+    more (Read k f o) past whole (record {
+      on = on;
+      header = lawful.header;
+      whole = lawful.whole;
+      sound = lawful_frame_is_sound k sender f (highest past) (legal_at (past_of m) peer_whole.legal) lawful known;
+      obeys = obeys;
+    }) settled
+
+pub nothing_yet : IsWhole []
+nothing_yet = record { legal = tt; settled = refl }
+
+-- the pull of what is owed behind the last map
+pub pulling_behind : (k : ℕ) (f : Frame) (past : List Entry) (map : List ℕ) → IsWhole past → open_stream past ≡ Some k → length map ≡ MAP_LENGTH →
+    last_map k past ≡ Some map → owed_behind k past (due k past) ≡ Some f → IsWhole (Pull k f ∷ past)
+pulling_behind k f past map whole on long last is = pulling k f past map whole on long (owed_behind_last k past map last ∙ is)
+
+-- the acceptance of a datagram from slot 0
+pub accepting : (sport dport : ℕ) (payload : List ℕ) (past : List Entry) → IsWhole past → sport < 2 ^ 16 → dport < 2 ^ 16 →
+    length payload ≤ MAX_LENGTH → suc (accepted past) < 2 ^ 63 → IsWhole (Accept 0 sport dport payload ∷ past)
+accepting sport dport payload past whole fits_sport fits_dport short few =
+    more (Accept 0 sport dport payload) past whole (record {
+      socket = λ e. cc;
+      sport_fits = fits_sport;
+      dport_fits = fits_dport;
+      payload_fits = short;
+      number_fits = few;
+    }) refl
+
+-- honest on a stream: the frames that were read are the first of those that were pulled, and no header was refused
+pub begins : (k : ℕ) (a b : List Entry) (left : List Frame) → pulls k a ≡ reads k b ++ left → refused k b ≡ [] → Begins (got k b) (wrote k a)
+begins k a b left frames none = (
+  flat_map frame_bytes left,
+  ap (flat_map frame_bytes) frames ∙ flat_map-append frame_bytes (reads k b) left
+      ∙ ap (λ (l : List ℕ). l ++ flat_map frame_bytes left) (sym (append-nil (flat_map frame_bytes (reads k b))))
+      ∙ ap (λ (l : List ℕ). (flat_map frame_bytes (reads k b) ++ l) ++ flat_map frame_bytes left) (sym none),
+)
+
+-- an end that owes nothing for the map that it pulled last
+pub owing_nothing : (k : ℕ) (past : List Entry) (map : List ℕ) → last_map k past ≡ Some map → owed_behind k past (due k past) ≡ None → OwesNothing k past
+owing_nothing k past map last none = record { map = map; pulled = last; nothing = owed_behind_last k past map last ∙ none }
+
+-- one end got all that the other wrote
+pub all_got : (k : ℕ) (a b : List Entry) → reads k b ≡ pulls k a → refused k b ≡ [] → got k b ≡ wrote k a
+all_got k a b frames none =
+    ap (λ (l : List ℕ). flat_map frame_bytes (reads k b) ++ l) none ∙ append-nil (flat_map frame_bytes (reads k b)) ∙ ap (flat_map frame_bytes) frames

@@ -1,0 +1,15 @@
+use Rattle.rds_model.proofs.HelloRun.{hello_is_sound, hello_is_quiet}
+use Rattle.rds_model.proofs.CutRun.{cut_is_sound, cut_is_quiet}
+use Rattle.rds_model.proofs.laws.examples.Goals as goal
+
+pub returns-clause-hello : goal.returns-clause-hello
+returns-clause-hello c map long = hello_is_sound map long
+
+pub returns-clause-hello_quiet : goal.returns-clause-hello_quiet
+returns-clause-hello_quiet c map = hello_is_quiet map
+
+pub returns-clause-cut : goal.returns-clause-cut
+returns-clause-cut c map long = cut_is_sound map long
+
+pub returns-clause-cut_quiet : goal.returns-clause-cut_quiet
+returns-clause-cut_quiet c map = cut_is_quiet map
