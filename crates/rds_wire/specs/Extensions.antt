@@ -21,6 +21,12 @@ IsExt (RdmaDest key offset) = (key < 2 ^ 32) × (offset < 2 ^ 32)
 IsExt (Paths paths) = paths < 2 ^ 16
 IsExt (Generation generation) = generation < 2 ^ 32
 
+-- the bytes begin with the extension, whole
+pub record BeginsWith (list : List ℕ) (e : Ext) : Type 0 where
+  pub fits : IsExt e
+  pub within : length (ext_bytes e) ≤ length list
+  pub bytes : take (length (ext_bytes e)) list ≡ ext_bytes e
+
 -- the extension stands in the area at this place, whole
 pub record StandsAt (area : List ℕ) (pos : ℕ) (e : Ext) : Type 0 where
   pub fits : IsExt e

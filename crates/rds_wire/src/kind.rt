@@ -1,3 +1,9 @@
+ghost use Rattle.std.specs.Prelude.{◌≡◌, IsTrue, ◌↔◌};
+ghost use Rattle.rds_wire.specs.Kinds.{carries as carries_flag, checked, kind_of as kind_of_header};
+
+use crate::sum::computed;
+use crate::{CONG_BITMAP, Header};
+
 /// How many bytes a congestion map has: one bit for each port.
 pub const MAP_LENGTH: u32 = 8192;
 
@@ -28,4 +34,49 @@ pub enum Malformed {
     Sequence { number: u64 },
     /// An acknowledgement above the highest number that the reader has ever pulled.
     Ack { ack: u64, highest: u64 },
+}
+
+/// What a header says that its frame is.
+pub fn kind_of(h: &Header) -> Kind
+    ensures { result ≡ kind_of_header h.now }
+{
+    if h.flags & CONG_BITMAP != 0 {
+        if h.len == MAP_LENGTH {
+            Kind::Map
+        } else {
+            Kind::OddMap
+        }
+    } else if h.sequence == 0 && h.len == 0 && h.dport == 0 {
+        Kind::Ack
+    } else {
+        Kind::Data
+    }
+}
+
+/// The kind of a header, or the first thing that is wrong with it, where `highest` is the highest number that
+/// the reader has ever pulled, or 0.
+#[tactic(auto, unfolding(crate::specs::Kinds::cause))]
+pub fn check(h: &Header, highest: u64) -> Result<Kind, Malformed>
+    ensures { result ≡ checked h.now highest }
+{
+    let kind = kind_of(h);
+    if h.csum != 0 && h.csum != computed(*h) {
+        return Err(Malformed::Sum {
+            found: h.csum,
+            computed: computed(*h),
+        });
+    }
+    if h.len > MAX_LENGTH {
+        return Err(Malformed::Length { len: h.len });
+    }
+    if kind == Kind::Data && (h.sequence == 0 || h.sequence >= 1 << 63) {
+        return Err(Malformed::Sequence { number: h.sequence });
+    }
+    if h.ack > highest {
+        return Err(Malformed::Ack {
+            ack: h.ack,
+            highest,
+        });
+    }
+    Ok(kind)
 }

@@ -1,0 +1,4 @@
+pub mod Splitting
+pub mod Holding
+pub mod Taking
+pub mod Fields

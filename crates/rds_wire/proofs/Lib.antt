@@ -1,0 +1,6 @@
+pub mod Causes
+pub mod Decoding
+pub mod FieldSum
+pub mod Folding
+pub mod Headers
+pub mod OneExt
