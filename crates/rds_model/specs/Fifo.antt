@@ -1,8 +1,10 @@
 -- First in, first out, and each once: from the sender's journal a to the receiver's journal b. Source: this project's own.
 use Rattle.std.specs.Prelude.{◌≡◌, ◌⊎◌, ℕ, ◌<◌, ◌≤◌, true, false, Some, List, ◌∷◌}
 use Rattle.rds_wire.specs.declared.frame.Frame.{Frame}
+use Rattle.rds_wire.specs.declared.header.Header.{Header}
+use Rattle.rds_wire.specs.declared.kind.Malformed.{Malformed}
 use Rattle.rds_model.specs.declared.entry.Entry.{Entry}
-use Rattle.rds_model.specs.declared.entry.Entry.TheVariants.{Read}
+use Rattle.rds_model.specs.declared.entry.Entry.TheVariants.{Read, Bad}
 use Rattle.rds_model.specs.declared.entry.Outcome.{Outcome}
 use Rattle.rds_model.specs.declared.entry.Outcome.TheVariants as outcome
 use Rattle.rds_model.specs.Past.{Accepted, Moment, datagram, number, passes, last_passed}
@@ -29,3 +31,7 @@ pub record IsFifo (a b : List Entry) : Type 0 where
   -- an old copy has the number of a datagram that was passed before
   pub repeated : (k : ℕ) (f : Frame) (past : List Entry) →
       Moment (Read k f outcome.Old ∷ past) b → was_passed past (number f) ≡ true
+
+-- no header was refused
+abbrev pub HasNoBad : List Entry → Type 0
+HasNoBad j = (k : ℕ) (h : Header) (found : Malformed) (past : List Entry) → ¬ Moment (Bad k h found ∷ past) j

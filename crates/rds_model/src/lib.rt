@@ -3,6 +3,7 @@
 
 mod entry;
 mod journal;
+pub mod laws;
 mod order;
 mod owed;
 

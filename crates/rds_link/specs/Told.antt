@@ -1,0 +1,38 @@
+-- What sources and sinks tell of the bytes that they hold, and how they count faults. Source: this project's own.
+use Rattle.std.specs.Prelude.{◌≡◌, ◌⊎◌, ℕ, ◌<◌, ◌^◌, ◌-◌, Option, Some, None, MatchOption, List, [], ◌++◌, take}
+
+-- A count of faults rose. It stands still at the last value of a u64, and counts as risen there.
+abbrev pub HasRisen : ℕ → ℕ → Type 0
+HasRisen old new = (old < new) ⊎ (new ≡ 2 ^ 64 - 1)
+
+-- where a source tells what it has left, it handed out these bytes from the front
+abbrev pub Hands : Option (List ℕ) → Option (List ℕ) → List ℕ → Type 0
+Hands None new bytes = Unit {0}
+Hands (Some old) new bytes = MatchOption new ⊥ (λ rest. old ≡ bytes ++ rest)
+
+-- where a source tells what it has left, nothing is
+abbrev pub IsAtEnd : Option (List ℕ) → Type 0
+IsAtEnd left = MatchOption left (Unit {0}) (λ rest. rest ≡ [])
+
+-- where a source tells what it has left, these are the first bytes of it, at most so many
+abbrev pub HandsFront : Option (List ℕ) → ℕ → List ℕ → Type 0
+HandsFront left most bytes = MatchOption left (Unit {0}) (λ all. bytes ≡ take most all)
+
+-- where a sink tells what it holds, it took these bytes at the end
+abbrev pub Takes : Option (List ℕ) → Option (List ℕ) → List ℕ → Type 0
+Takes None new bytes = Unit {0}
+Takes (Some old) new bytes = new ≡ Some (old ++ bytes)
+
+-- where a sink tells what it holds, it took a beginning of these bytes
+abbrev pub TakesFront : Option (List ℕ) → Option (List ℕ) → List ℕ → Type 0
+TakesFront old new bytes = (n : ℕ) × Takes old new (take n bytes)
+
+-- a source in memory: what is left, and how often it has failed
+pub record Supply : Type 0 where
+  pub left : List ℕ
+  pub faults : ℕ
+
+-- a sink in memory: what it holds, and how often it has failed
+pub record Pile : Type 0 where
+  pub held : List ℕ
+  pub faults : ℕ

@@ -1,0 +1,59 @@
+ghost use Rattle.std.specs.Prelude.{◌≡◌, ◌≤◌, ◌<◌, List, ℕ, Option, length, take, IfOk, OnErr, IsErrOf};
+ghost use Rattle.rds_link.specs.Told.{HasRisen, Hands, HandsFront, IsAtEnd};
+ghost use Rattle.rds_link.specs.declared.source.ReadError.TheVariants as errors;
+
+use crate::Failed;
+use std::alloc::Global;
+
+/// Where bytes come from.
+pub trait Source {
+    /// The bytes that are left, where the source tells.
+    ghost left: { Self → Option (List ℕ) };
+
+    /// How many faults there were.
+    ghost faults: { Self → ℕ };
+
+    /// Reads some bytes to the front of `buf`, which isn't empty. `Ok(0)` is the end of input.
+    fn read(&mut self, buf: &mut [u8]) -> Result<usize, Failed>
+        requires { 0 < length buf.old }
+        ensures count { IfOk result (λ n. n ≤ length buf.old) }
+        ensures bytes { IfOk result (λ n. Hands (left self.old) (left self.new) (take n buf.new)) }
+        ensures end { result ≡ Ok 0 → IsAtEnd (left self.old) }
+        ensures kept { OnErr result (left self.new ≡ left self.old) }
+        ensures failed { OnErr result (HasRisen (faults self.old) (faults self.new)) }
+        ensures counts { faults self.old ≤ faults self.new };
+}
+
+/// Why a source wasn't read to its end.
+#[derive(Clone, Copy, Debug, PartialEq, Eq)]
+pub enum ReadError {
+    Failed,
+    Memory,
+}
+
+/// How many bytes one read asks for at most.
+const PIECE: usize = 65_536;
+
+/// Reads a source to its end, but stops after `most` bytes.
+pub fn read_all<S: Source>(alloc: Global, source: &mut S, most: usize) -> Result<Vec<u8>, ReadError>
+    ensures bytes { IfOk result (λ v. HandsFront (S.left source.old) most v.items) }
+    ensures failed { IsErrOf result errors.Failed → HasRisen (S.faults source.old) (S.faults source.new) }
+    ensures counts { S.faults source.old ≤ S.faults source.new }
+{
+    let mut bytes = Vec::new(alloc);
+    let mut piece = [0u8; PIECE];
+    while bytes.len() < most {
+        let room = PIECE.min(most - bytes.len());
+        let count = match source.read(&mut piece[..room]) {
+            Ok(count) => count,
+            Err(_) => return Err(ReadError::Failed),
+        };
+        if count == 0 {
+            return Ok(bytes);
+        }
+        if bytes.extend_from_slice(&piece[..count]).is_err() {
+            return Err(ReadError::Memory);
+        }
+    }
+    Ok(bytes)
+}
