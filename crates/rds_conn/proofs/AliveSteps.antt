@@ -53,7 +53,7 @@ unpulled_on k past legal n above =
       omega (arith, within, bound))
 
 -- the newest number is alive, and the others stay what they were
-alive_newest : (slot sport dport : ℕ) (payload : List ℕ) (past : List Entry) → IsLegal past →
+pub alive_newest : (slot sport dport : ℕ) (payload : List ℕ) (past : List Entry) → IsLegal past →
     is_alive (Accept slot sport dport payload ∷ past) (suc (accepted past)) ≡ true
 alive_newest slot sport dport payload past legal =
     alive_from (Accept slot sport dport payload ∷ past) (suc (accepted past)) (record {
@@ -62,7 +62,7 @@ alive_newest slot sport dport payload past legal =
       unacknowledged = omega (arith, acked_within past legal, highest_within past legal);
     })
 
-alive_other : (slot sport dport : ℕ) (payload : List ℕ) (past : List Entry) (n : ℕ) → n ≤ accepted past →
+pub alive_other : (slot sport dport : ℕ) (payload : List ℕ) (past : List Entry) (n : ℕ) → n ≤ accepted past →
     is_alive (Accept slot sport dport payload ∷ past) n ≡ is_alive past n
 alive_other slot sport dport payload past n within =
     ap (λ o. is_some o && (not (is_cancelled past n) && nat_lt (acked past) n)) (datagram_other slot sport dport payload past n within)

@@ -66,3 +66,12 @@ filter_none_done alive done m none =
 pub filter_true : (xs : List ℕ) → filter (λ n. true) xs ≡ xs
 filter_true [] = refl
 filter_true (x ∷ xs) = ap (λ (ys : List ℕ). x ∷ ys) (filter_true xs)
+
+pub filter_same : {X : Type 0} (p q : X → Bool) → ((x : X) → q x ≡ p x) → (xs : List X) → filter q xs ≡ filter p xs
+filter_same p q same [] = refl
+filter_same p q same (x ∷ xs) =
+    ap (λ b. cond b (x ∷ filter q xs) (filter q xs)) (same x) ∙ ap (λ (ys : List _). cond (p x) (x ∷ ys) ys) (filter_same p q same xs)
+
+pub not_not : (b : Bool) → not (not b) ≡ b
+not_not true = refl
+not_not false = refl

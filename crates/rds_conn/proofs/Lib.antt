@@ -6,3 +6,8 @@ pub mod Untouched
 pub mod Messages
 pub mod Held
 pub mod KeepsStreams
+pub mod Totals
+pub mod GoneBytes
+pub mod KeepsOrders
+pub mod Reading
+pub mod KeepsReads

@@ -1,16 +1,18 @@
-ghost use Rattle.std.specs.Prelude.{◌≡◌, ◌≢◌, ℕ, ◌↔◌, None, IfOk, IsSome, OnOk};
+ghost use Rattle.std.specs.Prelude.{◌≡◌, ◌≢◌, ℕ, ◌-◌, ◌≤◌, ◌↔◌, ◌∷◌, None, IfOk, IsSome, IfSome, OnOk};
+ghost use Rattle.rds_frame.specs.Holding.{nothing_held};
+ghost use Rattle.rds_model.specs.declared.entry.Entry.TheVariants as entry;
 ghost use Rattle.rds_wire.specs.declared.kind.Malformed.{Malformed};
 ghost use Rattle.rds_conn.specs.Connection.{IsReady, stream_of};
 ghost use Rattle.rds_conn.specs.Feeding.{Feeds, Refuses};
 ghost use Rattle.rds_conn.specs.declared.conn.ConnError.TheVariants as errors;
 
 use super::{Conn, ConnError, Fed};
-use rds_frame::FrameError;
-use rds_model::Entry;
+use rds_frame::{FrameError, Splitter};
+use rds_model::{Entry, Journal};
 use rds_wire::Malformed;
 
 impl Conn {
-    /// Takes bytes of the open stream, until the piece ends or a frame is whole.
+    /// Takes bytes of the open stream, until the piece ends or a frame is whole. A malformed header ends the stream.
     pub fn feed(&mut self, piece: &[u8]) -> Result<Fed, ConnError>
         requires { IsReady self.old }
         ensures ok { IfOk result (Feeds piece.now self.old self.new) }
@@ -30,28 +32,34 @@ impl Conn {
                 used: took.used,
                 waiting: took.ready,
             }),
-            Err(FrameError::Malformed(cause)) => {
-                self.refuse(stream, cause);
-                Err(ConnError::Malformed(cause))
+            Err(FrameError::Malformed(fault)) => {
+                refuse(&mut self.journal, &mut self.splitter, stream, fault);
+                self.spare -= 1;
+                self.stream = None;
+                self.store.reset();
+                Err(ConnError::Malformed(fault))
             }
             Err(FrameError::Memory) => Err(ConnError::Memory),
             Err(FrameError::Closed) => unreachable!(),
         }
     }
+}
 
-    // A malformed header ended the stream.
-    fn refuse(&mut self, stream: u32, cause: Malformed) {
-        let Some(header) = self.splitter.refused() else {
-            unreachable!()
-        };
-        self.journal.push(Entry::Bad {
-            stream,
-            header: *header,
-            cause,
-        });
-        self.spare -= 1;
-        self.stream = None;
-        self.splitter.wipe();
-        self.store.reset();
-    }
+// Records the header that was refused, and forgets it.
+fn refuse(journal: &mut Journal, splitter: &mut Splitter, stream: u32, fault: Malformed)
+    requires room { 1 ≤ journal.old.spare }
+    requires refused { IsSome splitter.old.refused }
+    ensures entry { IfSome splitter.old.refused (λ h. journal.new ≡
+        record journal.old { past = entry.Bad stream h fault ∷ journal.old.past; spare = journal.old.spare - 1 }) }
+    ensures fresh { splitter.new ≡ nothing_held }
+{
+    let Some(header) = splitter.refused() else {
+        unreachable!()
+    };
+    journal.push(Entry::Bad {
+        stream,
+        header: *header,
+        cause: fault,
+    });
+    splitter.wipe();
 }

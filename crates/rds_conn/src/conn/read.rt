@@ -1,8 +1,10 @@
-ghost use Rattle.std.specs.Prelude.{◌≡◌, ℕ, ◌+◌, ◌<◌, ◌≤◌, None, Some, [], ◌∷◌, IsSome, IfSome, option_copied};
+ghost use Rattle.std.specs.Prelude.{◌≡◌, ℕ, ◌+◌, ◌<◌, ◌≤◌, None, Some, [], ◌∷◌, IsSome, IfSome, option_copied, length, sum, ◌^◌};
 ghost use Rattle.std.specs.Option.{option_map};
 ghost use Rattle.rds_wire.specs.declared.frame.Frame.{Frame};
 ghost use Rattle.rds_model.specs.Reading.{verdict_of as verdict_after};
 ghost use Rattle.rds_conn.specs.Connection.{IsReady, held, logged, stream_of};
+ghost use Rattle.rds_msgs.specs.Held.{bytes_of};
+ghost use Rattle.rds_conn.specs.Freeing.{Frees, acknowledged};
 ghost use Rattle.rds_conn.specs.Gone.{gone};
 ghost use Rattle.rds_conn.specs.Passing.{Matches, outcome_of as outcome_after, read_entries};
 
@@ -92,7 +94,12 @@ impl Conn {
 }
 
 // Frees the messages up to an acknowledged number.
-fn acknowledge<L: Ledger>(store: &mut Store, freed: &mut FreedBytes, upto: u64, steps: &mut Steps<L>) {
+fn acknowledge<L: Ledger>(store: &mut Store, freed: &mut FreedBytes, upto: u64, steps: &mut Steps<L>)
+    requires marked { store.old.mark ≤ length store.old.messages }
+    requires fits { sum freed.old + bytes_of store.old.messages < 2 ^ 64 }
+    ensures store { store.new ≡ acknowledged upto store.old }
+    ensures freed { Frees store.old store.new freed.old freed.new }
+{
     while let Some(msg) = store.pop_acked(upto, steps) {
         freed.add(msg.slot, u64::from(msg.len));
     }
