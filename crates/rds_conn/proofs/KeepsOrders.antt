@@ -150,7 +150,7 @@ keeps_send c slot sport dport payload keeps some store_some lawful =
     }
 
 -- a cancellation leaves a store whose mark is within
-marked_after : (keep : Msg → Bool) (mark : ℕ) (ms : List Msg) → length (filter keep (take mark ms)) ≤ length (filter keep ms)
+pub marked_after : (keep : Msg → Bool) (mark : ℕ) (ms : List Msg) → length (filter keep (take mark ms)) ≤ length (filter keep ms)
 marked_after keep zero ms = omega arith
 marked_after keep (suc mark) [] = omega arith
 marked_after keep (suc mark) (m ∷ ms) =

@@ -11,3 +11,5 @@ pub mod GoneBytes
 pub mod KeepsOrders
 pub mod Reading
 pub mod KeepsReads
+pub mod Acknowledging
+pub mod KeepsPassing

@@ -1,9 +1,13 @@
-ghost use Rattle.std.specs.Prelude.{◌≡◌, ℕ, ◌+◌, ◌<◌, ◌≤◌, None, Some, [], ◌∷◌, IsSome, IfSome, option_copied, length, sum, ◌^◌};
-ghost use Rattle.std.specs.Option.{option_map};
+ghost use Rattle.std.specs.Prelude.{◌≡◌, ◌≢◌, ℕ, ◌+◌, ◌-◌, ◌<◌, ◌≤◌, ◌^◌, None, Some, [], ◌∷◌, IsSome, IfSome, false, length, sum};
+ghost use Rattle.std.specs.Option.{option_map, option_copied};
 ghost use Rattle.rds_wire.specs.declared.frame.Frame.{Frame};
-ghost use Rattle.rds_model.specs.Reading.{verdict_of as verdict_after};
-ghost use Rattle.rds_conn.specs.Connection.{IsReady, held, logged, stream_of};
+ghost use Rattle.rds_model.specs.declared.entry.Entry.TheVariants as entry;
+ghost use Rattle.rds_model.specs.declared.entry.Outcome.TheVariants as outcomes;
+ghost use Rattle.rds_model.specs.declared.entry.Verdict.TheVariants as verdict;
+ghost use Rattle.rds_model.specs.Legal.{pong_for};
+ghost use Rattle.rds_model.specs.Reading.{verdict_of as verdict_after, Obeys};
 ghost use Rattle.rds_msgs.specs.Held.{bytes_of};
+ghost use Rattle.rds_conn.specs.Connection.{IsReady, held, logged, stream_of};
 ghost use Rattle.rds_conn.specs.Freeing.{Frees, acknowledged};
 ghost use Rattle.rds_conn.specs.Gone.{gone};
 ghost use Rattle.rds_conn.specs.Passing.{Matches, outcome_of as outcome_after, read_entries};
@@ -54,8 +58,21 @@ impl Conn {
         }
     }
 
-    fn pass_as<L: Ledger>(&mut self, outcome: Outcome, steps: &mut Steps<L>) {
-        let (Some(stream), Some(frame)) = (self.stream, self.splitter.done()) else {
+    fn pass_as<L: Ledger>(&mut self, outcome: Outcome, steps: &mut Steps<L>)
+        requires ready { IsReady self.old }
+        requires waiting { IsSome self.old.waiting }
+        requires lawful { IfSome self.old.waiting (λ f. Obeys (verdict_after self.old.log.past f.header) outcome) }
+        requires no_pong { (port : ℕ) → pong_for outcome port ≡ None }
+        ensures entry { (k : ℕ) (f : Frame) → stream_of self.old ≡ Some k → self.old.waiting ≡ Some f →
+            self.new ≡ record (logged (entry.Read k f outcome ∷ []) self.old) { waiting = None; freed = self.new.freed } }
+        ensures freed { (slot : ℕ) → slot < self.old.slots →
+            held slot self.new + gone slot self.old.log.past ≡ held slot self.old + gone slot self.new.log.past }
+        ensures on { IsSome (stream_of self.old) }
+    {
+        let Some(stream) = self.stream else {
+            unreachable!()
+        };
+        let Some(frame) = self.splitter.done() else {
             unreachable!()
         };
         let header = frame.header;
@@ -70,8 +87,21 @@ impl Conn {
         acknowledge(&mut self.store, &mut self.freed, header.ack, steps);
     }
 
-    fn pass_ping<L: Ledger>(&mut self, steps: &mut Steps<L>) {
-        let (Some(stream), Some(frame)) = (self.stream, self.splitter.done()) else {
+    fn pass_ping<L: Ledger>(&mut self, steps: &mut Steps<L>)
+        requires ready { IsReady self.old }
+        requires waiting { IfSome self.old.waiting (λ f. verdict_after self.old.log.past f.header ≡ verdict.Ping) }
+        requires one { IsSome self.old.waiting }
+        ensures entry { (k : ℕ) (f : Frame) → stream_of self.old ≡ Some k → self.old.waiting ≡ Some f →
+            self.new ≡ record (logged (read_entries k f outcomes.Ping) self.old)
+                { waiting = None; store_spare = self.old.store_spare - 1; has_pong = false; freed = self.new.freed } }
+        ensures freed { (slot : ℕ) → slot < self.old.slots →
+            held slot self.new + gone slot self.old.log.past ≡ held slot self.old + gone slot self.new.log.past }
+        ensures on { IsSome (stream_of self.old) }
+    {
+        let Some(stream) = self.stream else {
+            unreachable!()
+        };
+        let Some(frame) = self.splitter.done() else {
             unreachable!()
         };
         let Some(pong) = self.pong.take() else {
