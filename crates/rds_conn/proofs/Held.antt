@@ -1,5 +1,6 @@
 -- What a store holds after each entry.
 use Rattle.std.proofs.Common.{◌≡◌, ◌⊎◌, inl, inr, ℕ, zero, suc, ◌+◌, ◌-◌, ◌<◌, ◌≤◌, ◌&&◌, ◌||◌, ◌==◌, not, nat_lt, Bool, true, false, cond, Option, Some, None, is_some, List, [], ◌∷◌, ◌++◌, length, take, drop, map, filter, refl, sym, ◌∙◌, ap, subst, arith, add-one}
+use Rattle.std.specs.Prelude.{slice_get}
 use Rattle.std.specs.List.{filter_map, cons_option}
 use Rattle.std.specs.Option.{option_map}
 use Rattle.std.proofs.lemmas.Bool.{cases_Bool, cond-true, cond-false}
@@ -14,6 +15,7 @@ use Rattle.rds_model.specs.Past.{Accepted, accepted, datagram, open_stream, is_d
 use Rattle.rds_model.specs.Alive.{is_alive, up_to, alive_numbers, due, covers, aims_at}
 use Rattle.rds_model.specs.Store.{message, alive_messages, due_on, Holds}
 use Rattle.rds_model.specs.Legal.{IsLegal}
+use Rattle.rds_conn.specs.Choosing.{IsMessage, IsFirstDue, IsNextDue}
 use Rattle.rds_conn.proofs.Messages.{message_of, messages_of, AllKnown, alive_known, messages_sieved, numbers_of, messages_after_accept, messages_after_cancel, messages_after_read}
 use Rattle.rds_conn.proofs.AliveSteps.{alive_after_accept, due_after_accept, alive_after_cancel, due_after_cancel, alive_after_read, due_after_read, due_after_first, due_after_other, is_spared, alive_rises}
 use Rattle.rds_conn.proofs.Untouched.{Untouched, untouched, due_of_untouched}
@@ -29,15 +31,9 @@ drop_filter p (suc m) (x ∷ xs) =
     ]
 
 
--- a message tells what was accepted under its number
-pub record Tells (past : List Entry) (m : Msg) : Type 0 where
-  pub d : Accepted
-  pub known : datagram past m.num ≡ Some d
-  pub is : m ≡ message m.num d
-
 abbrev pub AllTell : List Entry → List Msg → Type 0
 AllTell past [] = Unit {0}
-AllTell past (m ∷ ms) = Tells past m × AllTell past ms
+AllTell past (m ∷ ms) = IsMessage past m × AllTell past ms
 
 pub messages_tell : (past : List Entry) (ns : List ℕ) → AllTell past (messages_of past ns)
 messages_tell past [] = tt
@@ -188,3 +184,28 @@ holds_after_other k f past ms mark on not_data holds =
         ∙ sym (due_after_other k f past not_data)
         ∙ sym (ap (λ o. due_on o (Pull k f ∷ past)) on);
     }
+
+-- the first message behind the mark is due next
+get_behind : {X : Type 0} (mark : ℕ) (xs : List X) → slice_get xs mark ≡ slice_get (drop mark xs) 0
+get_behind zero xs = refl
+get_behind (suc mark) [] = refl
+get_behind (suc mark) (x ∷ xs) = get_behind mark xs
+
+pub next_of_held : (k : ℕ) (past : List Entry) (ms : List Msg) (mark : ℕ) → open_stream past ≡ Some k → Holds ms mark past →
+    IsNextDue k past (slice_get ms mark)
+next_of_held k past ms mark on holds =
+    subst (IsNextDue k past) (sym (get_behind mark ms))
+      (go (drop mark ms) (tell_drop past mark ms (subst (AllTell past) (sym holds.alive) (messages_tell past (alive_numbers past))))
+        (sym (ap (λ o. due_on o past) on) ∙ sym holds.unpulled))
+  where
+    go : (behind : List Msg) → AllTell past behind → due k past ≡ map (λ (m : Msg). m.num) behind → IsNextDue k past (slice_get behind 0)
+    go [] tell is = is
+    go (m ∷ rest) tell is = record { rest = map (λ (x : Msg). x.num) rest; first = is; tells = tell.0 }
+
+-- the next message is behind the mark
+pub behind_mark : (mark : ℕ) (ms : List Msg) (m : Msg) → slice_get ms mark ≡ Some m → (rest : List Msg) × (drop mark ms ≡ m ∷ rest)
+behind_mark mark ms m is = go (drop mark ms) (sym (get_behind mark ms) ∙ is) 
+  where
+    go : (behind : List Msg) → slice_get behind 0 ≡ Some m → (rest : List Msg) × (behind ≡ m ∷ rest)
+    go [] is = cc
+    go (x ∷ rest) is = (rest, let same : x ≡ m = cc in ap (λ (y : Msg). y ∷ rest) same)

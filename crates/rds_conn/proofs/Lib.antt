@@ -13,3 +13,7 @@ pub mod Reading
 pub mod KeepsReads
 pub mod Acknowledging
 pub mod KeepsPassing
+pub mod Places
+pub mod Unasked
+pub mod Owing
+pub mod KeepsPulls

@@ -4,6 +4,7 @@ pub mod Readying
 pub mod Freeing
 pub mod Gone
 pub mod Asking
+pub mod Choosing
 pub mod Pulling
 pub mod Feeding
 pub mod Passing

@@ -41,6 +41,13 @@ impl Asking {
         self.unasked >= MAX_UNASKED as u64 || self.bytes + u64::from(len) > MAX_UNASKED_BYTES
     }
 
+    /// Whether an acknowledgement is owed: the peer asks, or this end has to.
+    pub(crate) fn owes(self) -> bool
+        ensures { result ≡ (self.is_asked || self.must_ask) }
+    {
+        self.is_asked || self.must_ask
+    }
+
     /// After a map was pulled.
     pub(crate) fn after_map(self) -> Asking
         ensures { result ≡ record self { is_asked = false } }
