@@ -5,6 +5,7 @@ use Rattle.rds_model.specs.declared.owed.TheConstants.{MAX_UNASKED, MAX_UNASKED_
 use Rattle.rds_model.specs.Streams.{was_pulled}
 use Rattle.std.proofs.lemmas.Bool.{cases_Bool, cond-true, cond-false, false≢true, eq-eqb, ne_eqb}
 use Rattle.rds_wire.specs.declared.frame.Frame.{Frame}
+use Rattle.rds_wire.specs.declared.header.TheConstants.{ACK_REQUIRED, RETRANSMITTED}
 use Rattle.rds_wire.specs.declared.kind.TheConstants.{MAP_LENGTH, MAX_LENGTH}
 use Rattle.rds_wire.specs.Kinds.{kind_of, is_data}
 use Rattle.rds_model.specs.declared.entry.Entry.{Entry}
@@ -12,7 +13,7 @@ use Rattle.rds_model.specs.declared.entry.Entry.TheVariants.{Pull}
 use Rattle.rds_model.specs.declared.entry.Msg.{Msg}
 use Rattle.rds_model.specs.Past.{Moment, now, before, Accepted, accepted, datagram, open_stream, highest, number, is_datagram}
 use Rattle.rds_model.specs.Alive.{due}
-use Rattle.rds_model.specs.Owed.{asks, is_map, is_map_kind, last_map, is_last_map, is_asked, must_ask, asks_with, map_frame, ack_frame, data_frame, owed, owed_behind}
+use Rattle.rds_model.specs.Owed.{asks, is_map, is_map_kind, last_map, is_last_map, is_asked, must_ask, asks_with, map_frame, ack_frame, data_frame, data_flags, header_of, flag_if, owed, owed_behind}
 use Rattle.rds_model.specs.Legal.{IsLegal, IsLawfulPull}
 use Rattle.rds_model.specs.Store.{Holds, due_on, message}
 use Rattle.std.proofs.lemmas.List.{length-map}
@@ -27,6 +28,7 @@ use Rattle.rds_conn.specs.Choosing.{IsFirstDue}
 use Rattle.rds_conn.specs.Keeping.{Keeps, HasRoom, IsCounted, IsLinked, IsReading, IsStored, IsFreed}
 use Rattle.rds_conn.proofs.Held.{holds_after_data, holds_after_other}
 use Rattle.rds_conn.proofs.KeepsStreams.{whole_with}
+use Rattle.rds_conn.proofs.Places.{frame_of}
 use Rattle.rds_conn.proofs.Owing.{last_of_pulled, owed_map, owed_data, owed_last, owed_ack, asks_is}
 use Rattle.rds_conn.proofs.Reading.{clear_higher}
 use Rattle.rds_conn.proofs.Unasked.{nothing_asked, asking_after_asking, asking_after_other, asking_after_data, map_pull, len_of_data, unasked_few, unasked_bytes}
@@ -261,3 +263,14 @@ asks_here c k m d last keeps on first known test =
     ap (λ b. was_pulled c.journal.past m.num || ((nat_le MAX_UNASKED c.asking.unasked || nat_lt MAX_UNASKED_BYTES (c.asking.bytes + m.len)) || b))
       (last_is c m.num first.rest last (behind_of c k m.num first.rest keeps on first.first) test)
     ∙ asks_is k c.journal.past m c.asking d first known (asking_of c k keeps on)
+
+-- the frame of a datagram, with the flags that the rules give
+pub framed_data : (k : ℕ) (past : List Entry) (n : ℕ) (d : Accepted) (f : Frame) (again asks_too : Bool) (flags : ℕ) →
+    f ≡ record { header = header_of past n (length d.payload) d.sport d.dport flags; payload = d.payload } →
+    flags ≡ flag_if again RETRANSMITTED + flag_if asks_too ACK_REQUIRED → again ≡ was_pulled past n → asks_too ≡ asks_with k past n d →
+    f ≡ data_frame k past n d
+framed_data k past n d f again asks_too flags f_is flags_are again_is asks_are =
+    let all : flags ≡ data_flags k past n d =
+        flags_are ∙ ap (λ b. flag_if b RETRANSMITTED + flag_if asks_too ACK_REQUIRED) again_is
+        ∙ ap (λ b. flag_if (was_pulled past n) RETRANSMITTED + flag_if b ACK_REQUIRED) asks_are in
+    f_is ∙ ap (λ x. frame_of (header_of past n (length d.payload) d.sport d.dport x) d.payload) all

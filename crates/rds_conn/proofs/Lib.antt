@@ -17,3 +17,4 @@ pub mod Places
 pub mod Unasked
 pub mod Owing
 pub mod KeepsPulls
+pub mod Outcomes

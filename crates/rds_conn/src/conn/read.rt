@@ -51,10 +51,13 @@ impl Conn {
             held slot self.new + gone slot self.old.log.past ≡ held slot self.old + gone slot self.new.log.past }
         ensures on { IsSome (stream_of self.old) }
     {
-        match self.verdict() {
-            Some(Verdict::Ping) => self.pass_ping(steps),
-            Some(verdict) => self.pass_as(outcome_of(verdict, found), steps),
-            None => unreachable!(),
+        self.known();
+        let Some(verdict) = self.verdict() else {
+            unreachable!()
+        };
+        match verdict {
+            Verdict::Ping => self.pass_ping(steps),
+            _ => self.pass_as(outcome_of(verdict, found), steps),
         }
     }
 
