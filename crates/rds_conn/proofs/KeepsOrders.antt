@@ -14,12 +14,12 @@ use Rattle.rds_model.specs.declared.entry.Msg.{Msg}
 use Rattle.rds_model.specs.declared.entry.Target.{Target}
 use Rattle.rds_model.specs.declared.entry.TheConstants.{NO_SLOT}
 use Rattle.rds_model.specs.Log.{Log}
-use Rattle.rds_model.specs.Past.{accepted, open_stream, newest_stream, highest, last_passed}
-use Rattle.rds_model.specs.Alive.{alive_numbers, aims_at}
+use Rattle.rds_model.specs.Past.{accepted, datagram, open_stream, newest_stream, highest, last_passed}
+use Rattle.rds_model.specs.Alive.{alive_numbers, aims_at, covers}
 use Rattle.rds_model.specs.Legal.{IsLegal, IsWhole, IsLawful, IsLawfulAccept}
 use Rattle.rds_model.specs.Store.{Holds, alive_messages}
 use Rattle.rds_model.proofs.Numbers.{number_of_known}
-use Rattle.rds_msgs.specs.Held.{Held, bytes_of, takes, taken, left, cancelled}
+use Rattle.rds_msgs.specs.Held.{Held, bytes_of, takes, taken, left, cancelled, numbers}
 use Rattle.rds_conn.specs.declared.conn.Conn.TheInside.{Inside}
 use Rattle.rds_conn.specs.Freeing.{with_freed, left_bytes, Frees}
 use Rattle.rds_conn.specs.Keeping.{Keeps, HasRoom, IsCounted, IsLinked, IsReading, IsStored, IsFreed}
@@ -29,7 +29,7 @@ use Rattle.rds_conn.proofs.Bounds.{accepted_within}
 use Rattle.rds_conn.proofs.Rising.{Rises, rises_bounds}
 use Rattle.rds_conn.proofs.AliveSteps.{alive_rises}
 use Rattle.rds_conn.proofs.Messages.{messages_of, numbers_of, alive_known, messages_after_cancel}
-use Rattle.rds_conn.proofs.Held.{AllTell, messages_tell, holds_after_accept, holds_after_cancel}
+use Rattle.rds_conn.proofs.Held.{AllTell, messages_tell, numbers_sieved, holds_after_accept, holds_after_cancel}
 use Rattle.rds_conn.proofs.Totals.{total, total-cons, total_sieved, total_all, total_none}
 use Rattle.rds_conn.specs.Gone.{gone}
 use Rattle.rds_conn.proofs.GoneBytes.{gone_after_cancel}
@@ -319,3 +319,12 @@ takes_message c keeps ready =
       few = next.few;
       above = subst (λ n. All (λ (m : Msg). m.num < n) c.store.messages) (sym number) next.above;
     }
+
+-- the numbers that a cancellation would take
+pub numbers_taken : (slot : ℕ) (target : Target) (past : List Entry) (ms : List Msg) → ms ≡ alive_messages past →
+    numbers (taken slot target ms) ≡ filter (λ n. covers slot target (datagram past n)) (alive_numbers past)
+numbers_taken slot target past ms is =
+    numbers_sieved past (λ n. covers slot target (datagram past n)) (takes slot target)
+      (λ n d known. ap (covers slot target) known) ms (subst (AllTell past) (sym is) (messages_tell past (alive_numbers past)))
+    ∙ ap (filter (λ n. covers slot target (datagram past n)))
+        (ap (map (λ (m : Msg). m.num)) is ∙ numbers_of past (alive_numbers past) (alive_known past))

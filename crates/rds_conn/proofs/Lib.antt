@@ -18,3 +18,4 @@ pub mod Unasked
 pub mod Owing
 pub mod KeepsPulls
 pub mod Outcomes
+pub mod KeepsNothing

@@ -1,4 +1,4 @@
-ghost use Rattle.std.specs.Prelude.{◌≡◌, ◌≢◌, ℕ, ◌+◌, ◌<◌, ◌≤◌, ◌↔◌, [], false, None, IfOk, OnOk, OnErr, IfErr, IfSome, IfNone, IsNone, length, sum, replicate, filter, slice_index};
+ghost use Rattle.std.specs.Prelude.{◌≡◌, ◌≢◌, ℕ, ◌+◌, ◌<◌, ◌≤◌, ◌↔◌, [], false, None, IfOk, OnOk, OnErr, IfErr, IfSome, IfNone, IsNone, IsSome, length, sum, replicate, filter, slice_index};
 ghost use Rattle.rds_conn.specs.declared.conn.ConnError.TheVariants as errors;
 ghost use Rattle.rds_conn.specs.Readying.{unready_as};
 
@@ -171,11 +171,8 @@ impl Conn {
         if self.store.reserve(1).is_err() {
             return Err(ConnError::Memory);
         }
-        if self.pong.is_none() {
-            match Payload::copy_of(self.alloc, &[]) {
-                Ok(payload) => self.pong = Some(payload),
-                Err(_) => return Err(ConnError::Memory),
-            }
+        if keep_pong(self.alloc, &mut self.pong).is_err() {
+            return Err(ConnError::Memory);
         }
         self.spare = self.spare.max(2);
         self.store_spare = self.store_spare.max(1);
@@ -265,4 +262,16 @@ fn unready(error: JournalError) -> ConnError
         JournalError::Memory => ConnError::Memory,
         JournalError::Spent { entries } => ConnError::Spent { entries },
     }
+}
+
+// Makes the empty payload of a pong, if there is none yet.
+fn keep_pong(alloc: Global, pong: &mut Option<Payload>) -> Result<(), Memory>
+    ensures ok { OnOk result (IsSome pong.new) }
+    ensures err { OnErr result (pong.new ≡ pong.old) }
+    ensures empty { IfSome pong.old (λ bytes. bytes ≡ []) → IfSome pong.new (λ bytes. bytes ≡ []) }
+{
+    if pong.is_none() {
+        *pong = Some(Payload::copy_of(alloc, &[])?);
+    }
+    Ok(())
 }

@@ -63,7 +63,7 @@ impl FreedBytes {
         if self.total == 0 {
             return None;
         }
-        let slot = self.bytes.iter().position(|bytes| *bytes > 0)?;
+        let slot = first_with_any(&self.bytes);
         let bytes = self.bytes[slot].min(u64::from(MAX_LENGTH));
         self.bytes[slot] -= bytes;
         self.total -= bytes;
@@ -72,4 +72,18 @@ impl FreedBytes {
             bytes,
         })
     }
+}
+
+// The lowest slot that has bytes.
+fn first_with_any(bytes: &[u64]) -> usize
+    requires { 0 < sum bytes.now }
+    ensures slot { result < length bytes.now }
+    ensures any { 0 < slice_index bytes.now result }
+{
+    for (slot, bytes) in bytes.iter().enumerate() {
+        if *bytes > 0 {
+            return slot;
+        }
+    }
+    unreachable!()
 }
