@@ -38,24 +38,24 @@ frees_one : (store : Held) (freed : List ℕ) (m : Msg) (ms : List Msg) → stor
 frees_one store freed m ms is = record {
   slots = length-with_freed m.slot m.len freed;
   each = λ s within.
-    let before_is = ap (left_bytes s) is in
-    let cut = total-cons (λ (x : Msg). x.len) (λ x. x.slot == s) m ms in
-    elim (cases_eq m.slot s) [
-      inl same ↦
-      let here = cond-true (m.slot == s) m.len 0 (eq-eqb m.slot s same) in
-      let freed_here = ap (λ x. get_or (with_freed m.slot m.len freed) x 0) (sym same) ∙ freed_same m.slot m.len freed (subst (λ x. x < length freed) (sym same) within) in
-      let there = ap (λ x. get_or freed x 0) same in
-      omega (arith, before_is, cut, here, freed_here, there)
-    | inr other ↦
-      let here = cond-false (m.slot == s) m.len 0 (ne_eqb m.slot s other) in
-      let freed_here = freed_other m.slot s m.len freed (λ e. other (sym e)) in
-      omega (arith, before_is, cut, here, freed_here)
-    ];
+      let before_is = ap (left_bytes s) is in
+      let cut = total-cons (λ (x : Msg). x.len) (λ x. x.slot == s) m ms in
+      elim (cases_eq m.slot s) [
+        | inl same ↦
+            let here = cond-true (m.slot == s) m.len 0 (eq-eqb m.slot s same) in
+            let freed_here = ap (λ x. get_or (with_freed m.slot m.len freed) x 0) (sym same) ∙ freed_same m.slot m.len freed (subst (λ x. x < length freed) (sym same) within) in
+            let there = ap (λ x. get_or freed x 0) same in
+            omega (arith, before_is, cut, here, freed_here, there)
+        | inr other ↦
+            let here = cond-false (m.slot == s) m.len 0 (ne_eqb m.slot s other) in
+            let freed_here = freed_other m.slot s m.len freed (λ e. other (sym e)) in
+            omega (arith, before_is, cut, here, freed_here)
+      ];
   all =
-    let before_is = ap bytes_of is in
-    let cut = sum_by-cons (λ (x : Msg). x.len) m ms in
-    let more = sum-with_freed m.slot m.len freed in
-    omega (arith, before_is, cut, more);
+      let before_is = ap bytes_of is in
+      let cut = sum_by-cons (λ (x : Msg). x.len) m ms in
+      let more = sum-with_freed m.slot m.len freed in
+      omega (arith, before_is, cut, more);
 }
 
 -- a first message that is acknowledged doesn't matter
@@ -75,9 +75,9 @@ same_without : (upto : ℕ) (store : Held) (m : Msg) (ms : List Msg) → store.m
     acknowledged upto (record store { messages = ms; mark = store.mark - 1 }) ≡ acknowledged upto store
 same_without upto store m ms is acked =
     let kept : filter (λ (x : Msg). nat_lt upto x.num) ms ≡ filter (λ (x : Msg). nat_lt upto x.num) store.messages =
-        sym (ap (filter (λ (x : Msg). nat_lt upto x.num)) is ∙ left_first upto m ms acked) in
+    sym (ap (filter (λ (x : Msg). nat_lt upto x.num)) is ∙ left_first upto m ms acked) in
     let mark : length (filter (λ (x : Msg). nat_lt upto x.num) (take (store.mark - 1) ms)) ≡ length (filter (λ (x : Msg). nat_lt upto x.num) (take store.mark store.messages)) =
-        mark_first upto store.mark m ms acked ∙ sym (ap (λ (xs : List Msg). length (filter (λ (x : Msg). nat_lt upto x.num) (take store.mark xs))) is) in
+    mark_first upto store.mark m ms acked ∙ sym (ap (λ (xs : List Msg). length (filter (λ (x : Msg). nat_lt upto x.num) (take store.mark xs))) is) in
     ap (λ (xs : List Msg). record store { messages = xs; mark = length (filter (λ (x : Msg). nat_lt upto x.num) (take (store.mark - 1) ms)) }) kept
     ∙ ap (λ n. record store { messages = filter (λ (x : Msg). nat_lt upto x.num) store.messages; mark = n }) mark
 
@@ -86,7 +86,7 @@ pub acknowledging_more : (upto : ℕ) (store_first : Held) (freed_first : List �
     Acknowledging upto store_first freed_first later (with_freed m.slot m.len freed)
 acknowledging_more upto store_first freed_first store later freed m so_far is acked after =
     let after_is : later ≡ record store { messages = later.messages; mark = store.mark - 1 } =
-        after ∙ ap (λ (xs : List Msg). record store { messages = xs; mark = store.mark - 1 }) (sym (ap (λ (h : Held). h.messages) after)) in
+    after ∙ ap (λ (xs : List Msg). record store { messages = xs; mark = store.mark - 1 }) (sym (ap (λ (h : Held). h.messages) after)) in
     let marked = so_far.marked in
     let many = ap length is in
     let mark_is = ap (λ (h : Held). h.mark) after in
@@ -113,7 +113,7 @@ all_left : (upto : ℕ) (ms : List Msg) → All (λ (m : Msg). upto < m.num) ms 
 all_left upto [] above = refl
 all_left upto (m ∷ ms) above =
     cond-true (nat_lt upto m.num) (m ∷ filter (λ (x : Msg). nat_lt upto x.num) ms) (filter (λ (x : Msg). nat_lt upto x.num) ms)
-      (lt-ltb upto m.num (All-head (λ (x : Msg). upto < x.num) m ms above))
+    (lt-ltb upto m.num (All-head (λ (x : Msg). upto < x.num) m ms above))
     ∙ ap (λ (xs : List Msg). m ∷ xs) (all_left upto ms (All-tail (λ (x : Msg). upto < x.num) m ms above))
 
 pub acknowledging_all : (upto : ℕ) (store_first : Held) (freed_first : List ℕ) (store : Held) (freed : List ℕ) →
@@ -124,7 +124,7 @@ acknowledging_all upto store_first freed_first store freed so_far above =
     let front = all_left upto (take store.mark store.messages) (All-take (λ (m : Msg). upto < m.num) store.mark store.messages above) in
     let marked = so_far.marked in
     let mark : store.mark ≡ length (filter (λ (m : Msg). nat_lt upto m.num) (take store.mark store.messages)) =
-        (let many = length-take store.mark store.messages in let front_is = ap length front in omega (arith, many, front_is, marked)) in
+    (let many = length-take store.mark store.messages in let front_is = ap length front in omega (arith, many, front_is, marked)) in
     ap (λ (xs : List Msg). record store { messages = xs }) (sym kept)
     ∙ ap (λ n. record store { messages = filter (λ (m : Msg). nat_lt upto m.num) store.messages; mark = n }) mark
     ∙ so_far.same

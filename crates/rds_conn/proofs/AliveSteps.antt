@@ -48,9 +48,9 @@ uncancelled (_ ∷ past) n above = uncancelled past n above
 pub unpulled_on : (k : ℕ) (past : List Entry) → IsLegal past → (n : ℕ) → accepted past < n → pulled_on k past n ≡ false
 unpulled_on k past legal n above =
     false_from_ne_true (pulled_on k past n) (λ was.
-      let within = pulled-highest past n (pulled_on-pulled k past n was) in
-      let bound = highest_within past legal in
-      omega (arith, within, bound))
+    let within = pulled-highest past n (pulled_on-pulled k past n was) in
+    let bound = highest_within past legal in
+    omega (arith, within, bound))
 
 -- the newest number is alive, and the others stay what they were
 pub alive_newest : (slot sport dport : ℕ) (payload : List ℕ) (past : List Entry) → IsLegal past →
@@ -74,7 +74,7 @@ alive_after_accept slot sport dport payload past legal =
     let n : ℕ = suc (accepted past) in
     filter-append (is_alive (e ∷ past)) (up_to (accepted past)) (n ∷ [])
     ∙ ap (λ (xs : List ℕ). xs ++ filter (is_alive (e ∷ past)) (n ∷ []))
-        (filter_same_up_to (is_alive (e ∷ past)) (is_alive past) (accepted past) (alive_other slot sport dport payload past))
+    (filter_same_up_to (is_alive (e ∷ past)) (is_alive past) (accepted past) (alive_other slot sport dport payload past))
     ∙ ap (λ b. alive_numbers past ++ cond b (n ∷ []) []) (alive_newest slot sport dport payload past legal)
 
 pub due_after_accept : (k : ℕ) (slot sport dport : ℕ) (payload : List ℕ) (past : List Entry) → IsLegal past →
@@ -85,11 +85,11 @@ due_after_accept k slot sport dport payload past legal =
     let test : ℕ → Bool = λ m. is_alive (e ∷ past) m && not (pulled_on k past m) in
     filter-append test (up_to (accepted past)) (n ∷ [])
     ∙ ap (λ (xs : List ℕ). xs ++ filter test (n ∷ []))
-        (filter_same_up_to test (λ m. is_alive past m && not (pulled_on k past m)) (accepted past)
-          (λ m within. ap (λ b. b && not (pulled_on k past m)) (alive_other slot sport dport payload past m within)))
+    (filter_same_up_to test (λ m. is_alive past m && not (pulled_on k past m)) (accepted past)
+    (λ m within. ap (λ b. b && not (pulled_on k past m)) (alive_other slot sport dport payload past m within)))
     ∙ ap (λ b. due k past ++ cond b (n ∷ []) [])
-        (and_from (is_alive (e ∷ past) n) (not (pulled_on k past n)) (alive_newest slot sport dport payload past legal)
-          (not_from_false (pulled_on k past n) (unpulled_on k past legal n (omega arith))))
+    (and_from (is_alive (e ∷ past) n) (not (pulled_on k past n)) (alive_newest slot sport dport payload past legal)
+    (not_from_false (pulled_on k past n) (unpulled_on k past legal n (omega arith))))
 
 -- a cancellation leaves those that it doesn't cover
 abbrev pub is_spared : List Entry → ℕ → Target → ℕ → Bool
@@ -114,25 +114,25 @@ pub alive_after_cancel : (slot : ℕ) (target : Target) (past : List Entry) →
     alive_numbers (Cancel slot target ∷ past) ≡ filter (is_spared past slot target) (alive_numbers past)
 alive_after_cancel slot target past =
     filter_same_up_to (is_alive (Cancel slot target ∷ past)) (λ n. is_alive past n && is_spared past slot target n) (accepted past)
-      (λ n within. alive_cancel slot target past n)
+    (λ n within. alive_cancel slot target past n)
     ∙ sym (filter-filter (is_spared past slot target) (is_alive past) (up_to (accepted past)))
 
 pub due_after_cancel : (k slot : ℕ) (target : Target) (past : List Entry) →
     due k (Cancel slot target ∷ past) ≡ filter (is_spared past slot target) (due k past)
 due_after_cancel k slot target past =
     left_to_do (is_alive past) (is_alive (Cancel slot target ∷ past)) (pulled_on k past) (is_spared past slot target) (accepted past)
-      (λ n within. alive_cancel slot target past n)
+    (λ n within. alive_cancel slot target past n)
 
 -- a frame that is read leaves those above its acknowledgement
 above_both : (a b n : ℕ) → nat_lt (max a b) n ≡ nat_lt b n && nat_lt a n
 above_both a b n =
     elim (cases_lt b n) [
-      inl b_less ↦
-      elim (cases_lt a n) [
-        inl a_less ↦ lt-ltb (max a b) n (omega arith) ∙ sym (and_from (nat_lt b n) (nat_lt a n) (lt-ltb b n b_less) (lt-ltb a n a_less))
-      | inr a_not ↦ le-ltb (max a b) n (omega arith) ∙ sym (ap (λ x. nat_lt b n && x) (le-ltb a n a_not) ∙ and-false (nat_lt b n))
-      ]
-    | inr b_not ↦ le-ltb (max a b) n (omega arith) ∙ sym (ap (λ x. x && nat_lt a n) (le-ltb b n b_not))
+      | inl b_less ↦
+          elim (cases_lt a n) [
+            | inl a_less ↦ lt-ltb (max a b) n (omega arith) ∙ sym (and_from (nat_lt b n) (nat_lt a n) (lt-ltb b n b_less) (lt-ltb a n a_less))
+            | inr a_not ↦ le-ltb (max a b) n (omega arith) ∙ sym (ap (λ x. nat_lt b n && x) (le-ltb a n a_not) ∙ and-false (nat_lt b n))
+          ]
+      | inr b_not ↦ le-ltb (max a b) n (omega arith) ∙ sym (ap (λ x. x && nat_lt a n) (le-ltb b n b_not))
     ]
 
 alive_and_above : (known kept above more : Bool) → known && (kept && (above && more)) ≡ (known && (kept && above)) && more
@@ -151,22 +151,22 @@ pub alive_after_read : (k : ℕ) (f : Frame) (o : Outcome) (past : List Entry) �
     alive_numbers (Read k f o ∷ past) ≡ filter (nat_lt f.header.ack) (alive_numbers past)
 alive_after_read k f o past =
     filter_same_up_to (is_alive (Read k f o ∷ past)) (λ n. is_alive past n && nat_lt f.header.ack n) (accepted past)
-      (λ n within. alive_read k f o past n)
+    (λ n within. alive_read k f o past n)
     ∙ sym (filter-filter (nat_lt f.header.ack) (is_alive past) (up_to (accepted past)))
 
 pub due_after_read : (k stream : ℕ) (f : Frame) (o : Outcome) (past : List Entry) →
     due k (Read stream f o ∷ past) ≡ filter (nat_lt f.header.ack) (due k past)
 due_after_read k stream f o past =
     left_to_do (is_alive past) (is_alive (Read stream f o ∷ past)) (pulled_on k past) (nat_lt f.header.ack) (accepted past)
-      (λ n within. alive_read stream f o past n)
+    (λ n within. alive_read stream f o past n)
 
 -- a frame that is pulled is due no longer
 pub due_after_pull : (k : ℕ) (f : Frame) (past : List Entry) →
     due k (Pull k f ∷ past) ≡ filter (λ n. not (carries_number n f)) (due k past)
 due_after_pull k f past =
     filter_same_up_to (λ n. is_alive past n && not (k == k && carries_number n f || pulled_on k past n))
-      (λ n. is_alive past n && not (carries_number n f || pulled_on k past n)) (accepted past)
-      (λ n within. ap (λ b. is_alive past n && not (b && carries_number n f || pulled_on k past n)) (eq-eqb k k refl))
+    (λ n. is_alive past n && not (carries_number n f || pulled_on k past n)) (accepted past)
+    (λ n within. ap (λ b. is_alive past n && not (b && carries_number n f || pulled_on k past n)) (eq-eqb k k refl))
     ∙ done_more (is_alive past) (pulled_on k past) (λ n. carries_number n f) (accepted past)
 
 -- the numbers that are due, and those that are alive, rise
@@ -190,6 +190,7 @@ due_after_first k f past n rest data_is same first =
   where
     filter_test : (p : Bool → ℕ → Bool) {b c : Bool} → b ≡ c → filter (p b) (n ∷ rest) ≡ filter (p c) (n ∷ rest)
     filter_test p same = ap (λ b. filter (p b) (n ∷ rest)) same
+
     filter_number : {a b : ℕ} → a ≡ b → filter (λ m. not (true && (a == m))) (n ∷ rest) ≡ filter (λ m. not (b == m)) (n ∷ rest)
     filter_number same = ap (λ a. filter (λ m. not (a == m)) (n ∷ rest)) same
 

@@ -27,9 +27,9 @@ accepted_within (_ ∷ past) = omega (arith, accepted_within past)
 -- a header without a fault acknowledges no more than was pulled
 acknowledges : (wrong_sum long wrong_number : Bool) (h : Header) (highest : ℕ) →
     cond wrong_sum (Some (malformed.Sum h.csum (computed h)))
-      (cond long (Some (malformed.Length h.len))
-        (cond wrong_number (Some (malformed.Sequence h.sequence))
-          (cond (nat_lt highest h.ack) (Some (malformed.Ack h.ack highest)) None))) ≡ None →
+    (cond long (Some (malformed.Length h.len))
+    (cond wrong_number (Some (malformed.Sequence h.sequence))
+    (cond (nat_lt highest h.ack) (Some (malformed.Ack h.ack highest)) None))) ≡ None →
     nat_lt highest h.ack ≡ false
 acknowledges true long wrong_number h highest is = cc
 acknowledges false true wrong_number h highest is = cc
@@ -44,7 +44,7 @@ pub ack_of_sound : (h : Header) (highest : ℕ) → cause h highest ≡ None →
 unfolding cause
 ack_of_sound h highest sound =
     let within = acknowledges (not (h.csum == 0) && not (h.csum == computed h)) (nat_lt MAX_LENGTH h.len)
-        (is_data (kind_of h) && (h.sequence == 0 || nat_le (2 ^ 63) h.sequence)) h highest sound in
+    (is_data (kind_of h) && (h.sequence == 0 || nat_le (2 ^ 63) h.sequence)) h highest sound in
     ltb-false highest h.ack within
 
 -- no frame that was read acknowledges a number that wasn't pulled
@@ -61,12 +61,12 @@ highest_within [] legal = omega arith
 highest_within (Pull k f ∷ past) legal =
     let older = highest_within past legal.1 in
     cond_both (is_datagram f) (max (number f) (highest past)) (highest past) (λ x. x ≤ accepted past)
-      (λ is.
-        let pull = data_pull_of k past f (lawful_pull k f legal now) is in
-        let within = number_of_known past pull.n (ap is_some pull.known) in
-        let same = number_of_pull k past f pull in
-        omega (arith, within, same, older))
-      (λ _. older)
+    (λ is.
+    let pull = data_pull_of k past f (lawful_pull k f legal now) is in
+    let within = number_of_known past pull.n (ap is_some pull.known) in
+    let same = number_of_pull k past f pull in
+    omega (arith, within, same, older))
+    (λ _. older)
 highest_within (e ∷ past) legal = omega (arith, highest_within past legal.1, accepted_grows (before {e = e} {j = past} now))
 
 -- what was pulled on a stream was pulled
@@ -74,8 +74,8 @@ pub pulled_on-pulled : (k : ℕ) (past : List Entry) (n : ℕ) → pulled_on k p
 pulled_on-pulled k [] n on = on
 pulled_on-pulled k (Pull stream f ∷ past) n on =
     elim (or_cases (stream == k && carries_number n f) (pulled_on k past n) on) [
-      inl here ↦ or_left (carries_number n f) (was_pulled past n) (and_parts (stream == k) (carries_number n f) here).1
-    | inr there ↦ or_right (carries_number n f) (was_pulled past n) (pulled_on-pulled k past n there)
+      | inl here ↦ or_left (carries_number n f) (was_pulled past n) (and_parts (stream == k) (carries_number n f) here).1
+      | inr there ↦ or_right (carries_number n f) (was_pulled past n) (pulled_on-pulled k past n there)
     ]
 pulled_on-pulled k (_ ∷ past) n on = pulled_on-pulled k past n on
 
@@ -84,15 +84,15 @@ pub pulled-highest : (past : List Entry) (n : ℕ) → was_pulled past n ≡ tru
 pulled-highest [] n was = absurd (false≢true was)
 pulled-highest (Pull stream f ∷ past) n was =
     elim (or_cases (carries_number n f) (was_pulled past n) was) [
-      inl here ↦
-      let both = and_parts (is_datagram f) (number f == n) here in
-      let same = eqb-true (number f) n both.1 in
-      let value = cond-true (is_datagram f) (max (number f) (highest past)) (highest past) both.0 in
-      omega (arith, same, value)
-    | inr there ↦
-      let older = pulled-highest past n there in
-      let grows = highest_grows (before {e = Pull stream f} {j = past} now) in
-      omega (arith, older, grows)
+      | inl here ↦
+          let both = and_parts (is_datagram f) (number f == n) here in
+          let same = eqb-true (number f) n both.1 in
+          let value = cond-true (is_datagram f) (max (number f) (highest past)) (highest past) both.0 in
+          omega (arith, same, value)
+      | inr there ↦
+          let older = pulled-highest past n there in
+          let grows = highest_grows (before {e = Pull stream f} {j = past} now) in
+          omega (arith, older, grows)
     ]
 pulled-highest (_ ∷ past) n was = pulled-highest past n was
 
@@ -101,25 +101,25 @@ pub highest-pulled : (past : List Entry) → IsLegal past → (n : ℕ) → is_a
 highest-pulled [] legal n alive within = absurd (false≢true alive)
 highest-pulled (Pull k f ∷ past) legal n alive within =
     elim (cases_Bool (is_datagram f)) [
-      inl is ↦
-      let pull = data_pull_of k past f (lawful_pull k f legal now) is in
-      let same = number_of_pull k past f pull in
-      elim (cases_eq (number f) n) [
-        inl e ↦ or_left (carries_number n f) (was_pulled past n) (and_from (is_datagram f) (number f == n) is (eq-eqb _ _ e))
-      | inr ne ↦
-        elim (cases_lt n (number f)) [
-          inl lt ↦
-          or_right (carries_number n f) (was_pulled past n)
-            (pulled_on-pulled k past n (pull.least n (omega (arith, same, lt)) alive))
-        | inr ge ↦
-          let value = cond-true (is_datagram f) (max (number f) (highest past)) (highest past) is in
-          or_right (carries_number n f) (was_pulled past n)
-            (highest-pulled past legal.1 n alive (omega (arith, value, ge, ne)))
-        ]
-      ]
-    | inr not_is ↦
-      let value = cond-false (is_datagram f) (max (number f) (highest past)) (highest past) not_is in
-      or_right (carries_number n f) (was_pulled past n) (highest-pulled past legal.1 n alive (omega (arith, value)))
+      | inl is ↦
+          let pull = data_pull_of k past f (lawful_pull k f legal now) is in
+          let same = number_of_pull k past f pull in
+          elim (cases_eq (number f) n) [
+            | inl e ↦ or_left (carries_number n f) (was_pulled past n) (and_from (is_datagram f) (number f == n) is (eq-eqb _ _ e))
+            | inr ne ↦
+                elim (cases_lt n (number f)) [
+                  | inl lt ↦
+                      or_right (carries_number n f) (was_pulled past n)
+                      (pulled_on-pulled k past n (pull.least n (omega (arith, same, lt)) alive))
+                  | inr ge ↦
+                      let value = cond-true (is_datagram f) (max (number f) (highest past)) (highest past) is in
+                      or_right (carries_number n f) (was_pulled past n)
+                      (highest-pulled past legal.1 n alive (omega (arith, value, ge, ne)))
+                ]
+          ]
+      | inr not_is ↦
+          let value = cond-false (is_datagram f) (max (number f) (highest past)) (highest past) not_is in
+          or_right (carries_number n f) (was_pulled past n) (highest-pulled past legal.1 n alive (omega (arith, value)))
     ]
 highest-pulled (Accept slot sport dport payload ∷ past) legal n alive within =
     let bound = highest_within past legal.1 in

@@ -19,8 +19,8 @@ pub filter-filter : {X : Type 0} (p q : X → Bool) (xs : List X) → filter p (
 filter-filter p q [] = refl
 filter-filter p q (x ∷ xs) =
     elim (q x) as (λ b. filter p (cond b (x ∷ filter q xs) (filter q xs)) ≡ cond (b && p x) (x ∷ filter (λ y. q y && p y) xs) (filter (λ y. q y && p y) xs)) [
-      true ↦ ap (λ (ys : List _). cond (p x) (x ∷ ys) ys) (filter-filter p q xs)
-    | false ↦ filter-filter p q xs
+      | true ↦ ap (λ (ys : List _). cond (p x) (x ∷ ys) ys) (filter-filter p q xs)
+      | false ↦ filter-filter p q xs
     ]
 
 -- What remains of those that are left to do, where fewer are alive.
@@ -28,7 +28,7 @@ pub left_to_do : (alive alive' done keep : ℕ → Bool) (m : ℕ) → ((n : ℕ
     filter (λ n. alive' n && not (done n)) (up_to m) ≡ filter keep (filter (λ n. alive n && not (done n)) (up_to m))
 left_to_do alive alive' done keep m same =
     filter_same_up_to (λ n. alive' n && not (done n)) (λ n. alive n && not (done n) && keep n) m
-      (λ n within. ap (λ b. b && not (done n)) (same n within) ∙ swapped (alive n) (keep n) (not (done n)))
+    (λ n within. ap (λ b. b && not (done n)) (same n within) ∙ swapped (alive n) (keep n) (not (done n)))
     ∙ sym (filter-filter keep (λ n. alive n && not (done n)) (up_to m))
   where
     swapped : (a b c : Bool) → (a && b) && c ≡ (a && c) && b
@@ -43,7 +43,7 @@ pub done_more : (alive done more : ℕ → Bool) (m : ℕ) →
     filter (λ n. alive n && not (more n || done n)) (up_to m) ≡ filter (λ n. not (more n)) (filter (λ n. alive n && not (done n)) (up_to m))
 done_more alive done more m =
     filter_same_up_to (λ n. alive n && not (more n || done n)) (λ n. alive n && not (done n) && not (more n)) m
-      (λ n within. apart (alive n) (more n) (done n))
+    (λ n within. apart (alive n) (more n) (done n))
     ∙ sym (filter-filter (λ n. not (more n)) (λ n. alive n && not (done n)) (up_to m))
   where
     apart : (a b c : Bool) → a && not (b || c) ≡ (a && not c) && not b

@@ -50,8 +50,8 @@ pub gone_or_left : (slot : ℕ) (past : List Entry) →
     gone slot past + left_bytes slot (alive_messages past) ≡ total (size_of past) (from_slot slot past) (up_to (accepted past))
 gone_or_left slot past =
     ap (λ t. gone slot past + t)
-        (sym (sizes_of slot past (alive_numbers past) (alive_known past))
-        ∙ ap (sum_by (size_of past)) (filter-filter (from_slot slot past) (is_alive past) (up_to (accepted past))))
+    (sym (sizes_of slot past (alive_numbers past) (alive_known past))
+    ∙ ap (sum_by (size_of past)) (filter-filter (from_slot slot past) (is_alive past) (up_to (accepted past))))
     ∙ total_split (size_of past) (from_slot slot past) (is_alive past) (up_to (accepted past))
 
 -- a cancellation and a reading change what is gone by what is left
@@ -73,13 +73,15 @@ gone_after_accept s slot sport dport payload past legal =
     let n : ℕ = suc (accepted past) in
     total-append (size_of (e ∷ past)) (is_gone s (e ∷ past)) (up_to (accepted past)) (n ∷ [])
     ∙ ap (λ t. t + total (size_of (e ∷ past)) (is_gone s (e ∷ past)) (n ∷ []))
-        (total_same_up_to (size_of (e ∷ past)) (size_of past) (is_gone s (e ∷ past)) (is_gone s past) (accepted past)
-          (λ m within.
-            let same = datagram_other slot sport dport payload past m within in
-            (ap size same, ap (λ o. is_from s o && not (is_alive (e ∷ past) m)) same
-              ∙ ap (λ b. is_from s (datagram past m) && not b) (alive_other slot sport dport payload past m within))))
+    (total_same_up_to (size_of (e ∷ past)) (size_of past) (is_gone s (e ∷ past)) (is_gone s past) (accepted past)
+    (λ m within.
+    let same = datagram_other slot sport dport payload past m within in (
+      ap size same,
+      ap (λ o. is_from s o && not (is_alive (e ∷ past) m)) same
+          ∙ ap (λ b. is_from s (datagram past m) && not b) (alive_other slot sport dport payload past m within),
+    )))
     ∙ ap (λ t. gone s past + t)
-        (total-cons (size_of (e ∷ past)) (is_gone s (e ∷ past)) n []
-        ∙ ap (λ b. cond (is_from s (datagram (e ∷ past) n) && not b) (size_of (e ∷ past) n) 0 + 0) (alive_newest slot sport dport payload past legal)
-        ∙ ap (λ b. cond b (size_of (e ∷ past) n) 0 + 0) (and-false (is_from s (datagram (e ∷ past) n))))
+    (total-cons (size_of (e ∷ past)) (is_gone s (e ∷ past)) n []
+    ∙ ap (λ b. cond (is_from s (datagram (e ∷ past) n) && not b) (size_of (e ∷ past) n) 0 + 0) (alive_newest slot sport dport payload past legal)
+    ∙ ap (λ b. cond b (size_of (e ∷ past) n) 0 + 0) (and-false (is_from s (datagram (e ∷ past) n))))
     ∙ add-zero (gone s past)

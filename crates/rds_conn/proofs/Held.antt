@@ -26,10 +26,9 @@ drop_filter p zero xs = refl
 drop_filter p (suc m) [] = refl
 drop_filter p (suc m) (x ∷ xs) =
     elim (p x) as (λ b. drop (length (cond b (x ∷ filter p (take m xs)) (filter p (take m xs)))) (cond b (x ∷ filter p xs) (filter p xs)) ≡ filter p (drop m xs)) [
-      true ↦ drop_filter p m xs
-    | false ↦ drop_filter p m xs
+      | true ↦ drop_filter p m xs
+      | false ↦ drop_filter p m xs
     ]
-
 
 abbrev pub AllTell : List Entry → List Msg → Type 0
 AllTell past [] = Unit {0}
@@ -43,7 +42,7 @@ messages_tell past (n ∷ ns) = go (datagram past n) refl (messages_tell past ns
     go None none rest = subst (λ o. AllTell past (cons_option (option_map (message n) o) (messages_of past ns))) (sym none) rest
     go (Some d) some rest =
         subst (λ o. AllTell past (cons_option (option_map (message n) o) (messages_of past ns))) (sym some)
-          (record { d = d; known = some; is = refl }, rest)
+        (record { d = d; known = some; is = refl }, rest)
 
 pub tell_drop : (past : List Entry) (mark : ℕ) (ms : List Msg) → AllTell past ms → AllTell past (drop mark ms)
 tell_drop past zero ms tell = tell
@@ -60,14 +59,14 @@ numbers_sieved past keep keep_message same (m ∷ ms) tell =
     let rest = numbers_sieved past keep keep_message same ms tell.1 in
     let agree : keep_message m ≡ keep m.num = ap keep_message tell.0.is ∙ sym (same m.num tell.0.d tell.0.known) in
     elim (cases_Bool (keep m.num)) [
-      inl kept ↦
-      ap (λ b. map (λ (x : Msg). x.num) (cond b (m ∷ filter keep_message ms) (filter keep_message ms))) (agree ∙ kept)
-      ∙ ap (λ (xs : List ℕ). m.num ∷ xs) rest
-      ∙ sym (cond-true (keep m.num) (m.num ∷ filter keep (map (λ (x : Msg). x.num) ms)) (filter keep (map (λ (x : Msg). x.num) ms)) kept)
-    | inr left ↦
-      ap (λ b. map (λ (x : Msg). x.num) (cond b (m ∷ filter keep_message ms) (filter keep_message ms))) (agree ∙ left)
-      ∙ rest
-      ∙ sym (cond-false (keep m.num) (m.num ∷ filter keep (map (λ (x : Msg). x.num) ms)) (filter keep (map (λ (x : Msg). x.num) ms)) left)
+      | inl kept ↦
+          ap (λ b. map (λ (x : Msg). x.num) (cond b (m ∷ filter keep_message ms) (filter keep_message ms))) (agree ∙ kept)
+          ∙ ap (λ (xs : List ℕ). m.num ∷ xs) rest
+          ∙ sym (cond-true (keep m.num) (m.num ∷ filter keep (map (λ (x : Msg). x.num) ms)) (filter keep (map (λ (x : Msg). x.num) ms)) kept)
+      | inr left ↦
+          ap (λ b. map (λ (x : Msg). x.num) (cond b (m ∷ filter keep_message ms) (filter keep_message ms))) (agree ∙ left)
+          ∙ rest
+          ∙ sym (cond-false (keep m.num) (m.num ∷ filter keep (map (λ (x : Msg). x.num) ms)) (filter keep (map (λ (x : Msg). x.num) ms)) left)
     ]
 
 -- a store that is sieved with its journal
@@ -81,10 +80,10 @@ sieved past later keep keep_message ms mark same alive due holds =
     record {
       alive = ap (filter keep_message) holds.alive ∙ sym alive;
       unpulled =
-        ap (map (λ (m : Msg). m.num)) (drop_filter keep_message mark ms)
-        ∙ numbers_sieved past keep keep_message same (drop mark ms) (tell_drop past mark ms tell)
-        ∙ ap (filter keep) holds.unpulled
-        ∙ sym due;
+          ap (map (λ (m : Msg). m.num)) (drop_filter keep_message mark ms)
+          ∙ numbers_sieved past keep keep_message same (drop mark ms) (tell_drop past mark ms tell)
+          ∙ ap (filter keep) holds.unpulled
+          ∙ sym due;
     }
 
 due_on_cancel : (o : Option ℕ) (slot : ℕ) (target : Target) (past : List Entry) →
@@ -94,11 +93,11 @@ due_on_cancel (Some k) slot target past = due_after_cancel k slot target past
 
 pub holds_after_cancel : (slot : ℕ) (target : Target) (past : List Entry) (ms : List Msg) (mark : ℕ) → Holds ms mark past →
     Holds (filter (λ (m : Msg). not (slot == m.slot && aims_at target m.dport)) ms)
-      (length (filter (λ (m : Msg). not (slot == m.slot && aims_at target m.dport)) (take mark ms))) (Cancel slot target ∷ past)
+    (length (filter (λ (m : Msg). not (slot == m.slot && aims_at target m.dport)) (take mark ms))) (Cancel slot target ∷ past)
 holds_after_cancel slot target past ms mark holds =
     sieved past (Cancel slot target ∷ past) (is_spared past slot target) (λ (m : Msg). not (slot == m.slot && aims_at target m.dport)) ms mark
-      (λ n d is. ap (λ o. not (covers slot target o)) is) (messages_after_cancel slot target past)
-      (due_on_cancel (open_stream past) slot target past) holds
+    (λ n d is. ap (λ o. not (covers slot target o)) is) (messages_after_cancel slot target past)
+    (due_on_cancel (open_stream past) slot target past) holds
 
 due_on_read : (o : Option ℕ) (k : ℕ) (f : Frame) (came : Outcome) (past : List Entry) →
     due_on o (Read k f came ∷ past) ≡ filter (nat_lt f.header.ack) (due_on o past)
@@ -107,10 +106,10 @@ due_on_read (Some stream) k f came past = due_after_read stream k f came past
 
 pub holds_after_read : (k : ℕ) (f : Frame) (o : Outcome) (past : List Entry) (ms : List Msg) (mark : ℕ) → Holds ms mark past →
     Holds (filter (λ (m : Msg). nat_lt f.header.ack m.num) ms)
-      (length (filter (λ (m : Msg). nat_lt f.header.ack m.num) (take mark ms))) (Read k f o ∷ past)
+    (length (filter (λ (m : Msg). nat_lt f.header.ack m.num) (take mark ms))) (Read k f o ∷ past)
 holds_after_read k f o past ms mark holds =
     sieved past (Read k f o ∷ past) (nat_lt f.header.ack) (λ (m : Msg). nat_lt f.header.ack m.num) ms mark
-      (λ n d is. refl) (messages_after_read k f o past) (due_on_read (open_stream past) k f o past) holds
+    (λ n d is. refl) (messages_after_read k f o past) (due_on_read (open_stream past) k f o past) holds
 
 -- an accepted datagram is a message behind all others
 due_on_accept : (o : Option ℕ) (slot sport dport : ℕ) (payload : List ℕ) (past : List Entry) → IsLegal past →
@@ -126,16 +125,16 @@ drop_push (suc mark) (y ∷ ys) x within = drop_push mark ys x (omega (arith, wi
 pub holds_after_accept : (slot sport dport : ℕ) (payload : List ℕ) (past : List Entry) (ms : List Msg) (mark : ℕ) → IsLegal past →
     mark ≤ length ms → Holds ms mark past →
     Holds (ms ++ record { num = suc (accepted past); place = length past; slot = slot; dport = dport; len = length payload } ∷ []) mark
-      (Accept slot sport dport payload ∷ past)
+    (Accept slot sport dport payload ∷ past)
 holds_after_accept slot sport dport payload past ms mark legal within holds =
     let m : Msg = record { num = suc (accepted past); place = length past; slot = slot; dport = dport; len = length payload } in
     record {
       alive = ap (λ (xs : List Msg). xs ++ m ∷ []) holds.alive ∙ sym (messages_after_accept slot sport dport payload past legal);
       unpulled =
-        ap (map (λ (x : Msg). x.num)) (drop_push mark ms m within)
-        ∙ map-append (λ (x : Msg). x.num) (drop mark ms) (m ∷ [])
-        ∙ ap (λ (xs : List ℕ). xs ++ suc (accepted past) ∷ []) holds.unpulled
-        ∙ sym (due_on_accept (open_stream past) slot sport dport payload past legal);
+          ap (map (λ (x : Msg). x.num)) (drop_push mark ms m within)
+          ∙ map-append (λ (x : Msg). x.num) (drop mark ms) (m ∷ [])
+          ∙ ap (λ (xs : List ℕ). xs ++ suc (accepted past) ∷ []) holds.unpulled
+          ∙ sym (due_on_accept (open_stream past) slot sport dport payload past legal);
     }
 
 -- where a stream is opened, or comes to its end, all messages are unpulled
@@ -164,13 +163,13 @@ pub holds_after_data : (k : ℕ) (f : Frame) (past : List Entry) (ms : List Msg)
     Holds ms mark past → Holds ms (mark + 1) (Pull k f ∷ past)
 holds_after_data k f past ms mark m rest on data_is same next holds =
     let first : due k past ≡ m.num ∷ map (λ (x : Msg). x.num) rest =
-        sym (ap (λ o. due_on o past) on) ∙ sym holds.unpulled ∙ ap (map (λ (x : Msg). x.num)) next in
+    sym (ap (λ o. due_on o past) on) ∙ sym holds.unpulled ∙ ap (map (λ (x : Msg). x.num)) next in
     record {
       alive = holds.alive;
       unpulled =
-        ap (map (λ (x : Msg). x.num)) (drop_more mark ms m rest next)
-        ∙ sym (due_after_first k f past m.num (map (λ (x : Msg). x.num) rest) data_is same first)
-        ∙ sym (ap (λ o. due_on o (Pull k f ∷ past)) on);
+          ap (map (λ (x : Msg). x.num)) (drop_more mark ms m rest next)
+          ∙ sym (due_after_first k f past m.num (map (λ (x : Msg). x.num) rest) data_is same first)
+          ∙ sym (ap (λ o. due_on o (Pull k f ∷ past)) on);
     }
 
 pub holds_after_other : (k : ℕ) (f : Frame) (past : List Entry) (ms : List Msg) (mark : ℕ) →
@@ -179,10 +178,10 @@ holds_after_other k f past ms mark on not_data holds =
     record {
       alive = holds.alive;
       unpulled =
-        holds.unpulled
-        ∙ ap (λ o. due_on o past) on
-        ∙ sym (due_after_other k f past not_data)
-        ∙ sym (ap (λ o. due_on o (Pull k f ∷ past)) on);
+          holds.unpulled
+          ∙ ap (λ o. due_on o past) on
+          ∙ sym (due_after_other k f past not_data)
+          ∙ sym (ap (λ o. due_on o (Pull k f ∷ past)) on);
     }
 
 -- the first message behind the mark is due next
@@ -195,8 +194,8 @@ pub next_of_held : (k : ℕ) (past : List Entry) (ms : List Msg) (mark : ℕ) �
     IsNextDue k past (slice_get ms mark)
 next_of_held k past ms mark on holds =
     subst (IsNextDue k past) (sym (get_behind mark ms))
-      (go (drop mark ms) (tell_drop past mark ms (subst (AllTell past) (sym holds.alive) (messages_tell past (alive_numbers past))))
-        (sym (ap (λ o. due_on o past) on) ∙ sym holds.unpulled))
+    (go (drop mark ms) (tell_drop past mark ms (subst (AllTell past) (sym holds.alive) (messages_tell past (alive_numbers past))))
+    (sym (ap (λ o. due_on o past) on) ∙ sym holds.unpulled))
   where
     go : (behind : List Msg) → AllTell past behind → due k past ≡ map (λ (m : Msg). m.num) behind → IsNextDue k past (slice_get behind 0)
     go [] tell is = is
@@ -204,7 +203,7 @@ next_of_held k past ms mark on holds =
 
 -- the next message is behind the mark
 pub behind_mark : (mark : ℕ) (ms : List Msg) (m : Msg) → slice_get ms mark ≡ Some m → (rest : List Msg) × (drop mark ms ≡ m ∷ rest)
-behind_mark mark ms m is = go (drop mark ms) (sym (get_behind mark ms) ∙ is) 
+behind_mark mark ms m is = go (drop mark ms) (sym (get_behind mark ms) ∙ is)
   where
     go : (behind : List Msg) → slice_get behind 0 ≡ Some m → (rest : List Msg) × (behind ≡ m ∷ rest)
     go [] is = cc

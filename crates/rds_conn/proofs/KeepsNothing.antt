@@ -24,14 +24,14 @@ pub keeps_nothing : (c : Inside) (limit : ℕ) → IsNew c limit → c.slots ≤
     Keeps (record c { spare = 0; store_spare = 0; pong = None; stream = None; accepted = 0; highest = 0; last = 0 })
 keeps_nothing c limit new few most =
     rw (new.journal, new.store, new.splitter, new.freed)
-      (record {
-        whole = record { legal = tt; settled = refl };
-        room = record { entries = omega arith; within = omega arith; most = most; messages = omega arith };
-        pong = tt;
-        stream = refl;
-        counted = record { accepted_is = refl; highest_is = refl; last_is = refl };
-        linked = tt;
-        reading = reading_nothing None 0;
-        stored = record { holds = record { alive = refl; unpulled = refl }; marked = omega arith; slots_are = refl; few = few };
-        freed = record { slots_are = length-replicate {A = ℕ} c.slots 0; bounded = (let none = sum_none c.slots in omega (arith, none)) };
-      })
+    (record {
+      whole = record { legal = tt; settled = refl };
+      room = record { entries = omega arith; within = omega arith; most = most; messages = omega arith };
+      pong = tt;
+      stream = refl;
+      counted = record { accepted_is = refl; highest_is = refl; last_is = refl };
+      linked = tt;
+      reading = reading_nothing None 0;
+      stored = record { holds = record { alive = refl; unpulled = refl }; marked = omega arith; slots_are = refl; few = few };
+      freed = record { slots_are = length-replicate {A = ℕ} c.slots 0; bounded = (let none = sum_none c.slots in omega (arith, none)) };
+    })

@@ -40,8 +40,8 @@ pub messages_below : (past : List Entry) (ms : List Msg) → AllTell past ms →
 messages_below past [] tell = All-nil (λ (m : Msg). m.num < suc (accepted past))
 messages_below past (m ∷ ms) tell =
     All-cons (λ (x : Msg). x.num < suc (accepted past)) m ms
-      (let within = number_of_known past m.num (ap is_some tell.0.known) in omega (arith, within.1))
-      (messages_below past ms tell.1)
+    (let within = number_of_known past m.num (ap is_some tell.0.known) in omega (arith, within.1))
+    (messages_below past ms tell.1)
 
 -- there are no more numbers that rise than their bound
 length_of_rises : (low : ℕ) (xs : List ℕ) (high : ℕ) → Rises low xs high → low + length xs ≤ high
@@ -98,9 +98,9 @@ freed_after_accept slot sport dport payload past store freed slots short is =
     record {
       slots_are = is.slots_are;
       bounded =
-        let more = sum_by-append (λ (x : Msg). x.len) store.messages (m ∷ []) in
-        let one = sum_by-cons (λ (x : Msg). x.len) m [] in
-        omega (arith, more, one, short, is.bounded);
+          let more = sum_by-append (λ (x : Msg). x.len) store.messages (m ∷ []) in
+          let one = sum_by-cons (λ (x : Msg). x.len) m [] in
+          omega (arith, more, one, short, is.bounded);
     }
 
 pub keeps_send : (c : Inside) (slot sport dport : ℕ) (payload : List ℕ) → Keeps c → 1 ≤ c.spare → 1 ≤ c.store_spare →
@@ -136,9 +136,9 @@ keeps_send c slot sport dport payload keeps some store_some lawful =
       linked = linked_after c.stream keeps.linked;
       reading = keeps.reading;
       stored = subst (λ n. IsStored (Accept slot sport dport payload ∷ past) (store_with n) c.slots) (sym number)
-        (stored_after_accept slot sport dport payload past c.store c.slots keeps.whole.legal keeps.stored);
+          (stored_after_accept slot sport dport payload past c.store c.slots keeps.whole.legal keeps.stored);
       freed = subst (λ n. IsFreed (Accept slot sport dport payload ∷ past) (store_with n) c.freed c.slots) (sym number)
-        (freed_after_accept slot sport dport payload past c.store c.freed c.slots lawful.payload_fits keeps.freed);
+          (freed_after_accept slot sport dport payload past c.store c.freed c.slots lawful.payload_fits keeps.freed);
     }
   where
     linked_after : (o : Option ℕ) → IfSome o (λ k. IsLinked k c.journal.past c.mapped c.map c.asking) →
@@ -155,8 +155,8 @@ marked_after keep zero ms = omega arith
 marked_after keep (suc mark) [] = omega arith
 marked_after keep (suc mark) (m ∷ ms) =
     elim (keep m) as (λ b. length (cond b (m ∷ filter keep (take mark ms)) (filter keep (take mark ms))) ≤ length (cond b (m ∷ filter keep ms) (filter keep ms))) [
-      true ↦ omega (arith, marked_after keep mark ms)
-    | false ↦ marked_after keep mark ms
+      | true ↦ omega (arith, marked_after keep mark ms)
+      | false ↦ marked_after keep mark ms
     ]
 
 -- freed bytes of a slot, and of the others
@@ -172,8 +172,8 @@ length-with_freed slot bytes freed = length-set freed slot (get_or freed slot 0 
 pub sum-with_freed : (slot bytes : ℕ) (freed : List ℕ) → sum (with_freed slot bytes freed) ≤ sum freed + bytes
 sum-with_freed slot bytes freed =
     elim (cases_lt slot (length freed)) [
-      inl within ↦ (let more = sum_by-set (λ x. x) freed slot (get_or freed slot 0 + bytes) 0 within in omega (arith, more))
-    | inr past ↦ (let same = ap sum (set_past freed slot (get_or freed slot 0 + bytes) past) in omega (arith, same))
+      | inl within ↦ (let more = sum_by-set (λ x. x) freed slot (get_or freed slot 0 + bytes) 0 within in omega (arith, more))
+      | inr past ↦ (let same = ap sum (set_past freed slot (get_or freed slot 0 + bytes) past) in omega (arith, same))
     ]
 
 -- the bytes of a slot's messages that a cancellation takes are freed
@@ -183,19 +183,19 @@ pub freed_and_left : (slot s : ℕ) (target : Target) (freed : List ℕ) (ms : L
 freed_and_left slot s target freed ms within =
     let cut = total_sieved (λ (m : Msg). m.len) (λ m. m.slot == s) (λ m. not (takes slot target m)) ms in
     let taken_is : left_bytes s (filter (λ m. not (not (takes slot target m))) ms) ≡ left_bytes s (taken slot target ms) =
-        ap (left_bytes s) (filter_double (takes slot target) ms) in
+    ap (left_bytes s) (filter_double (takes slot target) ms) in
     elim (cases_eq s slot) [
-      inl same ↦
-      let all = total_all (λ (m : Msg). m.len) (λ m. m.slot == s) (takes slot target) ms
+      | inl same ↦
+          let all = total_all (λ (m : Msg). m.len) (λ m. m.slot == s) (takes slot target) ms
           (λ m take. eq-eqb m.slot s (sym (eqb-true slot m.slot (and_parts (slot == m.slot) (aims_at target m.dport) take).0) ∙ sym same)) in
-      let here = ap (λ x. get_or (with_freed slot (bytes_of (taken slot target ms)) freed) x 0) same ∙ freed_same slot (bytes_of (taken slot target ms)) freed (subst (λ x. x < length freed) same within) in
-      let there = ap (λ x. get_or freed x 0) same in
-      omega (arith, cut, taken_is, all, here, there)
-    | inr other ↦
-      let none = total_none (λ (m : Msg). m.len) (λ m. m.slot == s) (takes slot target) ms
+          let here = ap (λ x. get_or (with_freed slot (bytes_of (taken slot target ms)) freed) x 0) same ∙ freed_same slot (bytes_of (taken slot target ms)) freed (subst (λ x. x < length freed) same within) in
+          let there = ap (λ x. get_or freed x 0) same in
+          omega (arith, cut, taken_is, all, here, there)
+      | inr other ↦
+          let none = total_none (λ (m : Msg). m.len) (λ m. m.slot == s) (takes slot target) ms
           (λ m take. ne_eqb m.slot s (λ e. other (sym e ∙ sym (eqb-true slot m.slot (and_parts (slot == m.slot) (aims_at target m.dport) take).0)))) in
-      let here = freed_other slot s (bytes_of (taken slot target ms)) freed other in
-      omega (arith, cut, taken_is, none, here)
+          let here = freed_other slot s (bytes_of (taken slot target ms)) freed other in
+          omega (arith, cut, taken_is, none, here)
     ]
   where
     filter_double : (p : Msg → Bool) (ms : List Msg) → filter (λ m. not (not (p m))) ms ≡ filter p ms
@@ -210,9 +210,9 @@ frees_cancelled slot target store freed =
       slots = length-with_freed slot (bytes_of (taken slot target ms)) freed;
       each = λ s within. freed_and_left slot s target freed ms within;
       all =
-        let both = sum_by-filter_both (takes slot target) (λ m. not (takes slot target m)) (λ m. refl) (λ (m : Msg). m.len) ms in
-        let more = sum-with_freed slot (bytes_of (taken slot target ms)) freed in
-        omega (arith, both, more);
+          let both = sum_by-filter_both (takes slot target) (λ m. not (takes slot target m)) (λ m. refl) (λ (m : Msg). m.len) ms in
+          let more = sum-with_freed slot (bytes_of (taken slot target ms)) freed in
+          omega (arith, both, more);
     }
 
 -- as long as no more is accepted, what is freed and what is left stays bounded
@@ -283,10 +283,10 @@ pub frees_cancel : (c : Inside) (slot : ℕ) (target : Target) (s : ℕ) → Kee
 frees_cancel c slot target s keeps within =
     let past : List Entry = c.journal.past in
     frees_gone past (Cancel slot target ∷ past) c.store (cancelled slot target c.store) c.freed
-      (with_freed slot (bytes_of (taken slot target c.store.messages)) c.freed) s keeps.stored.holds.alive
-      (ap (left slot target) keeps.stored.holds.alive ∙ sym (messages_after_cancel slot target past))
-      (gone_after_cancel slot s target past) (let slots = keeps.freed.slots_are in omega (arith, slots, within))
-      (frees_cancelled slot target c.store c.freed)
+    (with_freed slot (bytes_of (taken slot target c.store.messages)) c.freed) s keeps.stored.holds.alive
+    (ap (left slot target) keeps.stored.holds.alive ∙ sym (messages_after_cancel slot target past))
+    (gone_after_cancel slot s target past) (let slots = keeps.freed.slots_are in omega (arith, slots, within))
+    (frees_cancelled slot target c.store c.freed)
 
 -- the bytes of a cancellation are within 64 bits
 pub freed_fits : (past : List Entry) (store : Held) (freed : List ℕ) (slots : ℕ) → length past < 4294967296 → IsFreed past store freed slots →
@@ -325,6 +325,6 @@ pub numbers_taken : (slot : ℕ) (target : Target) (past : List Entry) (ms : Lis
     numbers (taken slot target ms) ≡ filter (λ n. covers slot target (datagram past n)) (alive_numbers past)
 numbers_taken slot target past ms is =
     numbers_sieved past (λ n. covers slot target (datagram past n)) (takes slot target)
-      (λ n d known. ap (covers slot target) known) ms (subst (AllTell past) (sym is) (messages_tell past (alive_numbers past)))
+    (λ n d known. ap (covers slot target) known) ms (subst (AllTell past) (sym is) (messages_tell past (alive_numbers past)))
     ∙ ap (filter (λ n. covers slot target (datagram past n)))
-        (ap (map (λ (m : Msg). m.num)) is ∙ numbers_of past (alive_numbers past) (alive_known past))
+    (ap (map (λ (m : Msg). m.num)) is ∙ numbers_of past (alive_numbers past) (alive_known past))

@@ -117,7 +117,7 @@ after_read c k f o store freed keeps on acked = record {
       (stored_after_read k f o c.journal.past c.store c.slots keeps.stored);
   freed_is = freed_after c.journal.past (Read k f o ∷ c.journal.past) c.store store c.freed freed c.slots refl acked.frees keeps.freed;
   linked =
-    subst (λ s. IfSome s (λ n. IsLinked n (Read k f o ∷ c.journal.past) c.mapped c.map (asking_after c.asking f.header))) (sym on)
+      subst (λ s. IfSome s (λ n. IsLinked n (Read k f o ∷ c.journal.past) c.mapped c.map (asking_after c.asking f.header))) (sym on)
       (linked_after_read k f o c.journal.past c.mapped c.map c.asking (subst (λ s. IfSome s (λ n. IsLinked n c.journal.past c.mapped c.map c.asking)) on keeps.linked));
   counted = record {
     accepted_is = keeps.counted.accepted_is;
@@ -163,9 +163,9 @@ pub frees_passed : (c : Inside) (k : ℕ) (f : Frame) (o : Outcome) (store : Hel
     get_or freed s 0 + gone s c.journal.past ≡ get_or c.freed s 0 + gone s (Read k f o ∷ c.journal.past)
 frees_passed c k f o store freed s keeps within acked =
     frees_gone c.journal.past (Read k f o ∷ c.journal.past) c.store store c.freed freed s keeps.stored.holds.alive
-      (ap (λ (h : Held). h.messages) acked.store_is ∙ ap (filter (λ (m : Msg). nat_lt f.header.ack m.num)) keeps.stored.holds.alive
-        ∙ sym (messages_after_read k f o c.journal.past))
-      (gone_after_read k s f o c.journal.past) (let slots = keeps.freed.slots_are in omega (arith, slots, within)) acked.frees
+    (ap (λ (h : Held). h.messages) acked.store_is ∙ ap (filter (λ (m : Msg). nat_lt f.header.ack m.num)) keeps.stored.holds.alive
+    ∙ sym (messages_after_read k f o c.journal.past))
+    (gone_after_read k s f o c.journal.past) (let slots = keeps.freed.slots_are in omega (arith, slots, within)) acked.frees
 
 pub passed_fits : (c : Inside) → Keeps c → sum c.freed + bytes_of c.store.messages < 2 ^ 64
 passed_fits c keeps =
@@ -180,8 +180,11 @@ answers : (c : Inside) (k : ℕ) (f : Frame) (store : Held) (freed : List ℕ) �
     c.splitter.waiting ≡ Some f → verdict_of c.journal.past f.header ≡ verdict.Ping → IsAcknowledged c f store freed →
     Answers c k f store freed
 answers c k f store freed keeps on is ping acked = record {
-  legal = (settled_continues c.journal.past (Read k f outcome.Ping) keeps.whole.settled
-      (lawful_read_now c k f outcome.Ping keeps on is (subst (λ v. Obeys v outcome.Ping) (sym ping) refl)), keeps.whole.legal);
+  legal = (
+    settled_continues c.journal.past (Read k f outcome.Ping) keeps.whole.settled
+        (lawful_read_now c k f outcome.Ping keeps on is (subst (λ v. Obeys v outcome.Ping) (sym ping) refl)),
+    keeps.whole.legal,
+  );
   after = after_read c k f outcome.Ping store freed keeps on acked;
 }
 
@@ -254,7 +257,7 @@ pub frees_answered : (c : Inside) (k : ℕ) (f : Frame) (store : Held) (freed : 
 frees_answered c k f store freed s keeps within on is ping acked =
     frees_passed c k f outcome.Ping store freed s keeps within acked
     ∙ ap (λ n. get_or c.freed s 0 + n)
-        (sym (gone_after_accept s NO_SLOT 0 f.header.sport [] (Read k f outcome.Ping ∷ c.journal.past) (answers c k f store freed keeps on is ping acked).legal))
+    (sym (gone_after_accept s NO_SLOT 0 f.header.sport [] (Read k f outcome.Ping ∷ c.journal.past) (answers c k f store freed keeps on is ping acked).legal))
 
 -- what the store needs for the pong
 pub answer_next : (c : Inside) (k : ℕ) (f : Frame) (store : Held) (freed : List ℕ) → Keeps c → 2 ≤ c.spare → c.stream ≡ Some k →
@@ -262,4 +265,4 @@ pub answer_next : (c : Inside) (k : ℕ) (f : Frame) (store : Held) (freed : Lis
     IsNext (Read k f outcome.Ping ∷ c.journal.past) store c.slots NO_SLOT
 answer_next c k f store freed keeps some on is ping acked =
     next_message (Read k f outcome.Ping ∷ c.journal.past) store c.slots NO_SLOT (answers c k f store freed keeps on is ping acked).after.stored
-      (omega (arith, some, keeps.room.entries, keeps.room.within, keeps.room.most)) (inr refl)
+    (omega (arith, some, keeps.room.entries, keeps.room.within, keeps.room.most)) (inr refl)

@@ -97,13 +97,13 @@ keeps_map c k map keeps some on long new =
     let no_data : is_datagram f ≡ false = ap is_data (kind_of_map_frame past map) in
     let linked = linked_of c k keeps on in
     keeps_pulled c k f c.store.mark c.highest true map (record c.asking { is_asked = false }) keeps some on
-      (owed_is_lawful k past map f keeps.whole.legal (on_of c k keeps on) long (owed_map k past map new))
-      (holds_after_other k f past c.store.messages c.store.mark (on_of c k keeps on) no_data keeps.stored.holds) keeps.stored.marked
-      (keeps.counted.highest_is ∙ sym (highest_other k f past no_data))
-      (record {
-        map_is = map_pull k f past ∙ cond-true (is_map f) (Some f.payload) (last_map k past) (ap is_map_kind (kind_of_map_frame past map));
-        asked = asking_after_other k f past c.asking (map_asks_not past map) no_data linked.asked;
-      })
+    (owed_is_lawful k past map f keeps.whole.legal (on_of c k keeps on) long (owed_map k past map new))
+    (holds_after_other k f past c.store.messages c.store.mark (on_of c k keeps on) no_data keeps.stored.holds) keeps.stored.marked
+    (keeps.counted.highest_is ∙ sym (highest_other k f past no_data))
+    (record {
+      map_is = map_pull k f past ∙ cond-true (is_map f) (Some f.payload) (last_map k past) (ap is_map_kind (kind_of_map_frame past map));
+      asked = asking_after_other k f past c.asking (map_asks_not past map) no_data linked.asked;
+    })
 
 -- behind a map, the one that the fields tell of is the last
 map_behind : (c : Inside) (k : ℕ) → Keeps c → c.stream ≡ Some k → IsSome (last_map k c.journal.past) → last_map k c.journal.past ≡ Some c.map
@@ -132,20 +132,20 @@ keeps_ack c k keeps some on long behind none asked =
     let f : Frame = ack_frame past c.asking.must_ask in
     let f_is : f ≡ ack_frame past (must_ask k past) = ap (ack_frame past) is.must in
     let asked_there : (is_asked k past || must_ask k past) ≡ true =
-        sym (ap (λ b. b || c.asking.must_ask) is.asked ∙ ap (λ b. is_asked k past || b) is.must) ∙ asked in
+    sym (ap (λ b. b || c.asking.must_ask) is.asked ∙ ap (λ b. is_asked k past || b) is.must) ∙ asked in
     let owed_is : owed k past c.map ≡ Some f =
-        owed_last k past c.map (last_of_pulled (last_map k past) c.map (map_behind c k keeps on behind)) none ∙ owed_ack k past asked_there
-        ∙ ap (λ (g : Frame). Some g) (sym f_is) in
+    owed_last k past c.map (last_of_pulled (last_map k past) c.map (map_behind c k keeps on behind)) none ∙ owed_ack k past asked_there
+    ∙ ap (λ (g : Frame). Some g) (sym f_is) in
     let kind_is = kind_of_ack_frame past c.asking.must_ask in
     let no_data : is_datagram f ≡ false = ap is_data kind_is in
     keeps_pulled c k f c.store.mark c.highest c.mapped c.map (cond c.asking.must_ask nothing_asked (record c.asking { is_asked = false })) keeps some on
-      (owed_is_lawful k past c.map f keeps.whole.legal (on_of c k keeps on) long owed_is)
-      (holds_after_other k f past c.store.messages c.store.mark (on_of c k keeps on) no_data keeps.stored.holds) keeps.stored.marked
-      (keeps.counted.highest_is ∙ sym (highest_other k f past no_data))
-      (record {
-        map_is = map_stays c k f keeps on (ap is_map_kind kind_is);
-        asked = go c.asking.must_ask (ack_asks past c.asking.must_ask) no_data is;
-      })
+    (owed_is_lawful k past c.map f keeps.whole.legal (on_of c k keeps on) long owed_is)
+    (holds_after_other k f past c.store.messages c.store.mark (on_of c k keeps on) no_data keeps.stored.holds) keeps.stored.marked
+    (keeps.counted.highest_is ∙ sym (highest_other k f past no_data))
+    (record {
+      map_is = map_stays c k f keeps on (ap is_map_kind kind_is);
+      asked = go c.asking.must_ask (ack_asks past c.asking.must_ask) no_data is;
+    })
   where
     go : (b : Bool) → asks (ack_frame c.journal.past c.asking.must_ask) ≡ b → is_datagram (ack_frame c.journal.past c.asking.must_ask) ≡ false →
         IsAsking k c.journal.past c.asking →
@@ -164,7 +164,7 @@ pub record IsBehind (c : Inside) (n : ℕ) (rest : List ℕ) : Type 0 where
 pub behind_of : (c : Inside) (k n : ℕ) (rest : List ℕ) → Keeps c → c.stream ≡ Some k → due k c.journal.past ≡ n ∷ rest → IsBehind c n rest
 behind_of c k n rest keeps on first =
     go (drop c.store.mark c.store.messages) refl
-      (sym (keeps.stored.holds.unpulled ∙ ap (λ o. due_on o c.journal.past) (on_of c k keeps on) ∙ first))
+    (sym (keeps.stored.holds.unpulled ∙ ap (λ o. due_on o c.journal.past) (on_of c k keeps on) ∙ first))
   where
     go : (ms : List Msg) → drop c.store.mark c.store.messages ≡ ms → n ∷ rest ≡ map (λ (x : Msg). x.num) (drop c.store.mark c.store.messages) → IsBehind c n rest
     go [] is nums = absurd (let never : n ∷ rest ≡ [] = nums ∙ ap (map (λ (x : Msg). x.num)) is in cc)
@@ -202,32 +202,33 @@ keeps_data c k m d keeps some on long behind first known =
     let fits = mark_before c m.num first.rest back in
     let top = cond-true (is_datagram f) (max (number f) (highest past)) (highest past) data_is in
     keeps_pulled c k f (c.store.mark + 1) (max c.highest m.num) c.mapped c.map
-      (cond (asks_with k past m.num d) nothing_asked (record { unasked = c.asking.unasked + 1; bytes = c.asking.bytes + m.len; is_asked = false; must_ask = true }))
-      keeps some on
-      (owed_is_lawful k past c.map f keeps.whole.legal (on_of c k keeps on) long
-        (owed_data k past c.map m.num first.rest d (last_of_pulled (last_map k past) c.map (map_behind c k keeps on behind)) first.first known))
-      (holds_after_data k f past c.store.messages c.store.mark back.m back.others (on_of c k keeps on) data_is (number_is ∙ back.num) back.drop_is keeps.stored.holds)
-      (omega (arith, fits))
-      (omega (arith, top, number_is, keeps.counted.highest_is))
-      (record {
-        map_is = map_stays c k f keeps on (ap is_map_kind kind_is);
-        asked = go (asks_with k past m.num d) (data_asks k past m.num d) data_is (len_of m d first known);
-      })
+    (cond (asks_with k past m.num d) nothing_asked (record { unasked = c.asking.unasked + 1; bytes = c.asking.bytes + m.len; is_asked = false; must_ask = true }))
+    keeps some on
+    (owed_is_lawful k past c.map f keeps.whole.legal (on_of c k keeps on) long
+    (owed_data k past c.map m.num first.rest d (last_of_pulled (last_map k past) c.map (map_behind c k keeps on behind)) first.first known))
+    (holds_after_data k f past c.store.messages c.store.mark back.m back.others (on_of c k keeps on) data_is (number_is ∙ back.num) back.drop_is keeps.stored.holds)
+    (omega (arith, fits))
+    (omega (arith, top, number_is, keeps.counted.highest_is))
+    (record {
+      map_is = map_stays c k f keeps on (ap is_map_kind kind_is);
+      asked = go (asks_with k past m.num d) (data_asks k past m.num d) data_is (len_of m d first known);
+    })
   where
     len_of : (m : Msg) (d : Accepted) (first : IsFirstDue k c.journal.past m) → datagram c.journal.past m.num ≡ Some d → m.len ≡ length d.payload
     len_of m d first known =
         let both : Some first.tells.d ≡ Some d = sym first.tells.known ∙ known in
         let one : first.tells.d ≡ d = cc in
         ap (λ (x : Msg). x.len) (subst (λ (x : Accepted). m ≡ message m.num x) one first.tells.is)
+
     go : (b : Bool) → asks (data_frame k c.journal.past m.num d) ≡ b → is_datagram (data_frame k c.journal.past m.num d) ≡ true → m.len ≡ length d.payload →
         IsAsking k (Pull k (data_frame k c.journal.past m.num d) ∷ c.journal.past)
-          (cond b nothing_asked (record { unasked = c.asking.unasked + 1; bytes = c.asking.bytes + m.len; is_asked = false; must_ask = true }))
+        (cond b nothing_asked (record { unasked = c.asking.unasked + 1; bytes = c.asking.bytes + m.len; is_asked = false; must_ask = true }))
     go true asking data_is len = asking_after_asking k (data_frame k c.journal.past m.num d) c.journal.past asking
     go false asking data_is len =
         subst (λ n. IsAsking k (Pull k (data_frame k c.journal.past m.num d) ∷ c.journal.past)
-            (record { unasked = c.asking.unasked + 1; bytes = c.asking.bytes + n; is_asked = false; must_ask = true }))
-          (len_of_data k c.journal.past m.num d ∙ sym len)
-          (asking_after_data k (data_frame k c.journal.past m.num d) c.journal.past c.asking asking data_is (asking_of c k keeps on))
+        (record { unasked = c.asking.unasked + 1; bytes = c.asking.bytes + n; is_asked = false; must_ask = true }))
+        (len_of_data k c.journal.past m.num d ∙ sym len)
+        (asking_after_data k (data_frame k c.journal.past m.num d) c.journal.past c.asking asking data_is (asking_of c k keeps on))
 
 -- the counts of what wasn't asked fit
 pub record Counts (c : Inside) : Type 0 where
@@ -261,7 +262,7 @@ pub asks_here : (c : Inside) (k : ℕ) (m : Msg) (d : Accepted) (last : Bool) �
     ≡ asks_with k c.journal.past m.num d
 asks_here c k m d last keeps on first known test =
     ap (λ b. was_pulled c.journal.past m.num || ((nat_le MAX_UNASKED c.asking.unasked || nat_lt MAX_UNASKED_BYTES (c.asking.bytes + m.len)) || b))
-      (last_is c m.num first.rest last (behind_of c k m.num first.rest keeps on first.first) test)
+    (last_is c m.num first.rest last (behind_of c k m.num first.rest keeps on first.first) test)
     ∙ asks_is k c.journal.past m c.asking d first known (asking_of c k keeps on)
 
 -- the frame of a datagram, with the flags that the rules give
@@ -271,6 +272,6 @@ pub framed_data : (k : ℕ) (past : List Entry) (n : ℕ) (d : Accepted) (f : Fr
     f ≡ data_frame k past n d
 framed_data k past n d f again asks_too flags f_is flags_are again_is asks_are =
     let all : flags ≡ data_flags k past n d =
-        flags_are ∙ ap (λ b. flag_if b RETRANSMITTED + flag_if asks_too ACK_REQUIRED) again_is
-        ∙ ap (λ b. flag_if (was_pulled past n) RETRANSMITTED + flag_if b ACK_REQUIRED) asks_are in
+    flags_are ∙ ap (λ b. flag_if b RETRANSMITTED + flag_if asks_too ACK_REQUIRED) again_is
+    ∙ ap (λ b. flag_if (was_pulled past n) RETRANSMITTED + flag_if b ACK_REQUIRED) asks_are in
     f_is ∙ ap (λ x. frame_of (header_of past n (length d.payload) d.sport d.dport x) d.payload) all

@@ -69,7 +69,7 @@ pub refused_bytes : (c : Inside) (k : ℕ) (piece : List ℕ) (fault : Malformed
 refused_bytes c k piece fault splitter keeps on refused new is =
     let have : ℕ = length (held_bytes c.splitter) in
     let whole : have + length (take (48 - have) piece) ≡ 48 =
-        sym (length-append (held_bytes c.splitter) (take (48 - have) piece)) ∙ ap length (sym refused.bytes) ∙ length-header_bytes refused.header refused.fits in
+    sym (length-append (held_bytes c.splitter) (take (48 - have) piece)) ∙ ap length (sym refused.bytes) ∙ length-header_bytes refused.header refused.fits in
     record {
       k = k;
       header = refused.header;

@@ -103,7 +103,7 @@ keeps_end c e keeps some lawful settled ended holds counted same =
     record {
       whole = whole_with e c.journal.past keeps.whole lawful settled;
       room = room_once e c.journal c.spare (record c.store { mark = 0 }) c.store_spare some
-        (record { entries = keeps.room.entries; within = keeps.room.within; most = keeps.room.most; messages = keeps.room.messages });
+          (record { entries = keeps.room.entries; within = keeps.room.within; most = keeps.room.most; messages = keeps.room.messages });
       pong = keeps.pong;
       stream = sym ended;
       counted = counted;
@@ -128,8 +128,8 @@ pub keeps_shut : (c : Inside) (k : ℕ) → Keeps c → 1 ≤ c.spare → open_s
     })
 keeps_shut c k keeps some on =
     keeps_end c (Shut k) keeps some on refl refl
-      (λ store holds. holds_all (Shut k ∷ c.journal.past) store.messages holds.alive refl)
-      (record { accepted_is = keeps.counted.accepted_is; highest_is = keeps.counted.highest_is; last_is = keeps.counted.last_is }) refl
+    (λ store holds. holds_all (Shut k ∷ c.journal.past) store.messages holds.alive refl)
+    (record { accepted_is = keeps.counted.accepted_is; highest_is = keeps.counted.highest_is; last_is = keeps.counted.last_is }) refl
 
 pub keeps_bad : (c : Inside) (k : ℕ) (h : Header) (fault : Malformed) → Keeps c → 1 ≤ c.spare → IsLawfulBad k c.journal.past h fault →
     Keeps (record c {
@@ -141,5 +141,5 @@ pub keeps_bad : (c : Inside) (k : ℕ) (h : Header) (fault : Malformed) → Keep
     })
 keeps_bad c k h fault keeps some lawful =
     keeps_end c (Bad k h fault) keeps some lawful refl refl
-      (λ store holds. holds_all (Bad k h fault ∷ c.journal.past) store.messages holds.alive refl)
-      (record { accepted_is = keeps.counted.accepted_is; highest_is = keeps.counted.highest_is; last_is = keeps.counted.last_is }) refl
+    (λ store holds. holds_all (Bad k h fault ∷ c.journal.past) store.messages holds.alive refl)
+    (record { accepted_is = keeps.counted.accepted_is; highest_is = keeps.counted.highest_is; last_is = keeps.counted.last_is }) refl

@@ -35,8 +35,8 @@ known_filter : (past : List Entry) (ns : List ℕ) → AllKnown past (filter (is
 known_filter past [] = tt
 known_filter past (n ∷ ns) =
     cond_both (is_alive past n) (n ∷ filter (is_alive past) ns) (filter (is_alive past) ns) (AllKnown past)
-      (λ alive. ((alive_parts past n alive).known, known_filter past ns))
-      (λ _. known_filter past ns)
+    (λ alive. ((alive_parts past n alive).known, known_filter past ns))
+    (λ _. known_filter past ns)
 
 pub alive_known : (past : List Entry) → AllKnown past (alive_numbers past)
 alive_known past = known_filter past (up_to (accepted past))
@@ -57,17 +57,17 @@ messages_sieved past keep keep_message same (n ∷ ns) known =
         let shown : message_of past n ≡ Some (message n d) = ap (option_map (message n)) some in
         let right = ap (λ o. filter keep_message (cons_option o (messages_of past ns))) shown in
         elim (cases_Bool (keep n)) [
-          inl kept ↦
-          ap (λ b. messages_of past (cond b (n ∷ filter keep ns) (filter keep ns))) kept
-          ∙ ap (λ o. cons_option o (messages_of past (filter keep ns))) shown
-          ∙ ap (λ (ms : List Msg). message n d ∷ ms) rest
-          ∙ sym (cond-true (keep_message (message n d)) (message n d ∷ filter keep_message (messages_of past ns)) (filter keep_message (messages_of past ns)) (sym (same n d some) ∙ kept))
-          ∙ sym right
-        | inr left ↦
-          ap (λ b. messages_of past (cond b (n ∷ filter keep ns) (filter keep ns))) left
-          ∙ rest
-          ∙ sym (cond-false (keep_message (message n d)) (message n d ∷ filter keep_message (messages_of past ns)) (filter keep_message (messages_of past ns)) (sym (same n d some) ∙ left))
-          ∙ sym right
+          | inl kept ↦
+              ap (λ b. messages_of past (cond b (n ∷ filter keep ns) (filter keep ns))) kept
+              ∙ ap (λ o. cons_option o (messages_of past (filter keep ns))) shown
+              ∙ ap (λ (ms : List Msg). message n d ∷ ms) rest
+              ∙ sym (cond-true (keep_message (message n d)) (message n d ∷ filter keep_message (messages_of past ns)) (filter keep_message (messages_of past ns)) (sym (same n d some) ∙ kept))
+              ∙ sym right
+          | inr left ↦
+              ap (λ b. messages_of past (cond b (n ∷ filter keep ns) (filter keep ns))) left
+              ∙ rest
+              ∙ sym (cond-false (keep_message (message n d)) (message n d ∷ filter keep_message (messages_of past ns)) (filter keep_message (messages_of past ns)) (sym (same n d some) ∙ left))
+              ∙ sym right
         ]
 
 -- the messages have the numbers
@@ -109,8 +109,8 @@ messages_after_accept slot sport dport payload past legal =
     ap (messages_of (e ∷ past)) (alive_after_accept slot sport dport payload past legal)
     ∙ filter_map-append (message_of (e ∷ past)) (alive_numbers past) (n ∷ [])
     ∙ ap (λ (ms : List Msg). ms ++ messages_of (e ∷ past) (n ∷ []))
-        (messages_same past (e ∷ past) (accepted past) (datagram_other slot sport dport payload past)
-          (alive_numbers past) (below_of_rises 0 (alive_numbers past) (accepted past) (alive_rises past)))
+    (messages_same past (e ∷ past) (accepted past) (datagram_other slot sport dport payload past)
+    (alive_numbers past) (below_of_rises 0 (alive_numbers past) (accepted past) (alive_rises past)))
     ∙ ap (λ o. alive_messages past ++ cons_option (option_map (message n) o) []) (datagram_newest slot sport dport payload past)
 
 pub messages_after_cancel : (slot : ℕ) (target : Target) (past : List Entry) →
@@ -119,11 +119,11 @@ pub messages_after_cancel : (slot : ℕ) (target : Target) (past : List Entry) �
 messages_after_cancel slot target past =
     ap (messages_of past) (alive_after_cancel slot target past)
     ∙ messages_sieved past (is_spared past slot target) (λ (m : Msg). not (slot == m.slot && aims_at target m.dport))
-        (λ n d is. ap (λ o. not (covers slot target o)) is) (alive_numbers past) (alive_known past)
+    (λ n d is. ap (λ o. not (covers slot target o)) is) (alive_numbers past) (alive_known past)
 
 pub messages_after_read : (k : ℕ) (f : Frame) (o : Outcome) (past : List Entry) →
     alive_messages (Read k f o ∷ past) ≡ filter (λ (m : Msg). nat_lt f.header.ack m.num) (alive_messages past)
 messages_after_read k f o past =
     ap (messages_of past) (alive_after_read k f o past)
     ∙ messages_sieved past (nat_lt f.header.ack) (λ (m : Msg). nat_lt f.header.ack m.num)
-        (λ n d is. refl) (alive_numbers past) (alive_known past)
+    (λ n d is. refl) (alive_numbers past) (alive_known past)

@@ -54,10 +54,10 @@ owed_nothing k past quiet = cond-false (is_asked k past || must_ask k past) (Som
 pub again_is : (past : List Entry) (n : ℕ) → IsLegal past → is_alive past n ≡ true → nat_le n (highest past) ≡ was_pulled past n
 again_is past n legal alive =
     elim (cases_Bool (was_pulled past n)) [
-      inl was ↦ le-leb n (highest past) (pulled-highest past n was) ∙ sym was
-    | inr not_was ↦
-      false_from_ne_true (nat_le n (highest past)) (λ within. both_ways (was_pulled past n) not_was (highest-pulled past legal n alive (leb-true n (highest past) within)))
-      ∙ sym not_was
+      | inl was ↦ le-leb n (highest past) (pulled-highest past n was) ∙ sym was
+      | inr not_was ↦
+          false_from_ne_true (nat_le n (highest past)) (λ within. both_ways (was_pulled past n) not_was (highest-pulled past legal n alive (leb-true n (highest past) within)))
+          ∙ sym not_was
     ]
 
 -- the rules by which a datagram asks
@@ -71,7 +71,7 @@ asks_is k past m a d first known is =
     let len : m.len ≡ length d.payload = ap (λ (x : Msg). x.len) (subst (λ (x : Accepted). m ≡ message m.num x) one first.tells.is) in
     let rising = subst (λ (xs : List ℕ). Rises 0 xs (accepted past)) first.first (due_rises k past) in
     let alone : list_all (λ n. n == m.num) (due k past) ≡ (length first.rest == 0) =
-        ap (list_all (λ n. n == m.num)) first.first ∙ all_first m.num first.rest (accepted past) rising.1 in
+    ap (list_all (λ n. n == m.num)) first.first ∙ all_first m.num first.rest (accepted past) rising.1 in
     ap (λ b. was_pulled past m.num || b) (regroup (nat_le MAX_UNASKED a.unasked) (nat_lt MAX_UNASKED_BYTES (a.bytes + m.len)) (length first.rest == 0))
     ∙ ap (λ n. was_pulled past m.num || (nat_le MAX_UNASKED n || (nat_lt MAX_UNASKED_BYTES (a.bytes + m.len) || (length first.rest == 0)))) is.count
     ∙ ap (λ n. was_pulled past m.num || (nat_le MAX_UNASKED (length (unasked k past)) || (nat_lt MAX_UNASKED_BYTES (n + m.len) || (length first.rest == 0)))) is.bytes

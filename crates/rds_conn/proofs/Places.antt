@@ -41,12 +41,12 @@ at_place (Accept slot sport dport payload ∷ past) n d known =
     let e : Entry = Accept slot sport dport payload in
     let this : Accepted = record { place = length past; slot = slot; sport = sport; dport = dport; payload = payload } in
     elim (cases_Bool (n == suc (accepted past))) [
-      inl newest ↦
-      let same : this ≡ d = (let is : Some this ≡ Some d = sym (cond-true (n == suc (accepted past)) (Some this) (datagram past n) newest) ∙ known in cc) in
-      subst (λ (x : Accepted). slice_get (reverse (e ∷ past)) x.place ≡ Some (entry_of x)) same (get_newest e past)
-    | inr older ↦
-      get_older e past d.place (entry_of d)
-        (at_place past n d (sym (cond-false (n == suc (accepted past)) (Some this) (datagram past n) older) ∙ known))
+      | inl newest ↦
+          let same : this ≡ d = (let is : Some this ≡ Some d = sym (cond-true (n == suc (accepted past)) (Some this) (datagram past n) newest) ∙ known in cc) in
+          subst (λ (x : Accepted). slice_get (reverse (e ∷ past)) x.place ≡ Some (entry_of x)) same (get_newest e past)
+      | inr older ↦
+          get_older e past d.place (entry_of d)
+          (at_place past n d (sym (cond-false (n == suc (accepted past)) (Some this) (datagram past n) older) ∙ known))
     ]
 at_place (e ∷ past) n d known = get_older e past d.place (entry_of d) (at_place past n d known)
 
@@ -68,8 +68,8 @@ framed past m h bytes slot sport dport flags d header_is is entry_is =
     let dport_is : dport ≡ d.dport = cc in
     let bytes_are : bytes ≡ d.payload = cc in
     let made : h ≡ header_of past m.num (length d.payload) d.sport d.dport flags =
-        header_is ∙ ap (λ n. header_of past m.num n sport dport flags) len
-        ∙ ap (λ n. header_of past m.num (length d.payload) n dport flags) sport_is
-        ∙ ap (λ n. header_of past m.num (length d.payload) d.sport n flags) dport_is in
+    header_is ∙ ap (λ n. header_of past m.num n sport dport flags) len
+    ∙ ap (λ n. header_of past m.num (length d.payload) n dport flags) sport_is
+    ∙ ap (λ n. header_of past m.num (length d.payload) d.sport n flags) dport_is in
     ap (λ (x : Header). frame_of x bytes) made
     ∙ ap (frame_of (header_of past m.num (length d.payload) d.sport d.dport flags)) bytes_are

@@ -36,8 +36,8 @@ pub clear_after : (top : ℕ) (old new : Held) (taken : List ℕ) → held_bytes
     (length (held_bytes old) < 48 → IsClear top (held_bytes new)) → IsClear top (held_bytes old) → IsClear top (held_bytes new)
 clear_after top old new taken grown early clear =
     elim (cases_lt (length (held_bytes old)) 48) [
-      inl short ↦ early short
-    | inr long ↦ subst (IsClear top) (sym grown) (clear_longer top (held_bytes old) taken long clear)
+      | inl short ↦ early short
+      | inr long ↦ subst (IsClear top) (sym grown) (clear_longer top (held_bytes old) taken long clear)
     ]
 
 -- a frame that waits is sound
@@ -50,13 +50,13 @@ waiting_sound top f rest is clear = record {
 -- a header that is sound stays so as more is pulled
 sound_of : (wrong_sum long wrong_number : Bool) (h : Header) (low high : ℕ) → nat_lt high h.ack ≡ false →
     cond wrong_sum (Some (malformed.Sum h.csum (computed h)))
-      (cond long (Some (malformed.Length h.len))
-        (cond wrong_number (Some (malformed.Sequence h.sequence))
-          (cond (nat_lt low h.ack) (Some (malformed.Ack h.ack low)) None))) ≡ None →
+    (cond long (Some (malformed.Length h.len))
+    (cond wrong_number (Some (malformed.Sequence h.sequence))
+    (cond (nat_lt low h.ack) (Some (malformed.Ack h.ack low)) None))) ≡ None →
     cond wrong_sum (Some (malformed.Sum h.csum (computed h)))
-      (cond long (Some (malformed.Length h.len))
-        (cond wrong_number (Some (malformed.Sequence h.sequence))
-          (cond (nat_lt high h.ack) (Some (malformed.Ack h.ack high)) None))) ≡ None
+    (cond long (Some (malformed.Length h.len))
+    (cond wrong_number (Some (malformed.Sequence h.sequence))
+    (cond (nat_lt high h.ack) (Some (malformed.Ack h.ack high)) None))) ≡ None
 sound_of true long wrong_number h low high within is = cc
 sound_of false true wrong_number h low high within is = cc
 sound_of false false true h low high within is = cc
@@ -66,8 +66,8 @@ pub sound_higher : (h : Header) (low high : ℕ) → low ≤ high → cause h lo
 unfolding cause
 sound_higher h low high above sound =
     sound_of (not (h.csum == 0) && not (h.csum == computed h)) (nat_lt MAX_LENGTH h.len)
-      (is_data (kind_of h) && (h.sequence == 0 || nat_le (2 ^ 63) h.sequence)) h low high
-      (let within = ack_of_sound h low sound in le-ltb high h.ack (omega (arith, within, above))) sound
+    (is_data (kind_of h) && (h.sequence == 0 || nat_le (2 ^ 63) h.sequence)) h low high
+    (let within = ack_of_sound h low sound in le-ltb high h.ack (omega (arith, within, above))) sound
 
 pub clear_higher : (low high : ℕ) (bytes : List ℕ) → low ≤ high → IsClear low bytes → IsClear high bytes
 clear_higher low high bytes above clear h more fits is = sound_higher h low high above (clear h more fits is)

@@ -21,8 +21,8 @@ pub rises_filter : (p : ℕ → Bool) (low : ℕ) (xs : List ℕ) (high : ℕ) �
 rises_filter p low [] high rises = rises
 rises_filter p low (x ∷ xs) high rises =
     cond_both (p x) (x ∷ filter p xs) (filter p xs) (λ ys. Rises low ys high)
-      (λ _. (rises.0, rises_filter p x xs high rises.1))
-      (λ _. rises_lower x low (filter p xs) high (omega (arith, rises.0)) (rises_filter p x xs high rises.1))
+    (λ _. (rises.0, rises_filter p x xs high rises.1))
+    (λ _. rises_lower x low (filter p xs) high (omega (arith, rises.0)) (rises_filter p x xs high rises.1))
 
 pub rises_up_to : (m : ℕ) → Rises 0 (up_to m) m
 rises_up_to zero = omega arith

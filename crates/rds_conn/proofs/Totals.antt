@@ -12,8 +12,8 @@ total f p xs = sum_by f (filter p xs)
 pub total-cons : {X : Type 0} (f : X → ℕ) (p : X → Bool) (x : X) (xs : List X) → total f p (x ∷ xs) ≡ cond (p x) (f x) 0 + total f p xs
 total-cons f p x xs =
     elim (p x) as (λ b. sum_by f (cond b (x ∷ filter p xs) (filter p xs)) ≡ cond b (f x) 0 + total f p xs) [
-      true ↦ sum_by-cons f x (filter p xs)
-    | false ↦ omega arith
+      | true ↦ sum_by-cons f x (filter p xs)
+      | false ↦ omega arith
     ]
 
 pub total-append : {X : Type 0} (f : X → ℕ) (p : X → Bool) (xs ys : List X) → total f p (xs ++ ys) ≡ total f p xs + total f p ys
@@ -29,7 +29,7 @@ total_same_up_to f g p q (suc m) same =
     total-append f p (up_to m) (suc m ∷ [])
     ∙ ap (λ t. t + total f p (suc m ∷ [])) rest
     ∙ ap (λ t. total g q (up_to m) + t)
-        (total-cons f p (suc m) [] ∙ ap (λ b. cond b (f (suc m)) 0 + 0) last.1 ∙ ap (λ x. cond (q (suc m)) x 0 + 0) last.0 ∙ sym (total-cons g q (suc m) []))
+    (total-cons f p (suc m) [] ∙ ap (λ b. cond b (f (suc m)) 0 + 0) last.1 ∙ ap (λ x. cond (q (suc m)) x 0 + 0) last.0 ∙ sym (total-cons g q (suc m) []))
     ∙ sym (total-append g q (up_to m) (suc m ∷ []))
 
 -- a test cut in two by another
@@ -58,16 +58,16 @@ total_sieved f p keep (x ∷ xs) =
     let rest = total_sieved f p keep xs in
     let whole = total-cons f p x xs in
     elim (cases_Bool (keep x)) [
-      inl kept ↦
-      let kept_are = ap (total f p) (cond-true (keep x) (x ∷ filter keep xs) (filter keep xs) kept) in
-      let left_are = ap (λ b. total f p (cond (not b) (x ∷ filter (λ y. not (keep y)) xs) (filter (λ y. not (keep y)) xs))) kept in
-      let first = total-cons f p x (filter keep xs) in
-      omega (arith, rest, whole, kept_are, left_are, first)
-    | inr left ↦
-      let kept_are = ap (total f p) (cond-false (keep x) (x ∷ filter keep xs) (filter keep xs) left) in
-      let left_are = ap (λ b. total f p (cond (not b) (x ∷ filter (λ y. not (keep y)) xs) (filter (λ y. not (keep y)) xs))) left in
-      let first = total-cons f p x (filter (λ y. not (keep y)) xs) in
-      omega (arith, rest, whole, kept_are, left_are, first)
+      | inl kept ↦
+          let kept_are = ap (total f p) (cond-true (keep x) (x ∷ filter keep xs) (filter keep xs) kept) in
+          let left_are = ap (λ b. total f p (cond (not b) (x ∷ filter (λ y. not (keep y)) xs) (filter (λ y. not (keep y)) xs))) kept in
+          let first = total-cons f p x (filter keep xs) in
+          omega (arith, rest, whole, kept_are, left_are, first)
+      | inr left ↦
+          let kept_are = ap (total f p) (cond-false (keep x) (x ∷ filter keep xs) (filter keep xs) left) in
+          let left_are = ap (λ b. total f p (cond (not b) (x ∷ filter (λ y. not (keep y)) xs) (filter (λ y. not (keep y)) xs))) left in
+          let first = total-cons f p x (filter (λ y. not (keep y)) xs) in
+          omega (arith, rest, whole, kept_are, left_are, first)
     ]
 
 -- a total over those of which all pass, and of which none does
@@ -76,13 +76,13 @@ pub total_all : {X : Type 0} (f : X → ℕ) (p keep : X → Bool) (xs : List X)
 total_all f p keep [] pass = refl
 total_all f p keep (x ∷ xs) pass =
     elim (cases_Bool (keep x)) [
-      inl kept ↦
-      let is = cond-true (keep x) (x ∷ filter keep xs) (filter keep xs) kept in
-      ap (total f p) is ∙ total-cons f p x (filter keep xs) ∙ ap (λ b. cond b (f x) 0 + total f p (filter keep xs)) (pass x kept)
-      ∙ ap (λ t. f x + t) (total_all f p keep xs pass) ∙ sym (sum_by-cons f x (filter keep xs)) ∙ sym (ap (sum_by f) is)
-    | inr left ↦
-      let is = cond-false (keep x) (x ∷ filter keep xs) (filter keep xs) left in
-      ap (total f p) is ∙ total_all f p keep xs pass ∙ sym (ap (sum_by f) is)
+      | inl kept ↦
+          let is = cond-true (keep x) (x ∷ filter keep xs) (filter keep xs) kept in
+          ap (total f p) is ∙ total-cons f p x (filter keep xs) ∙ ap (λ b. cond b (f x) 0 + total f p (filter keep xs)) (pass x kept)
+          ∙ ap (λ t. f x + t) (total_all f p keep xs pass) ∙ sym (sum_by-cons f x (filter keep xs)) ∙ sym (ap (sum_by f) is)
+      | inr left ↦
+          let is = cond-false (keep x) (x ∷ filter keep xs) (filter keep xs) left in
+          ap (total f p) is ∙ total_all f p keep xs pass ∙ sym (ap (sum_by f) is)
     ]
 
 pub total_none : {X : Type 0} (f : X → ℕ) (p keep : X → Bool) (xs : List X) → ((x : X) → keep x ≡ true → p x ≡ false) →
@@ -90,8 +90,8 @@ pub total_none : {X : Type 0} (f : X → ℕ) (p keep : X → Bool) (xs : List X
 total_none f p keep [] fail = refl
 total_none f p keep (x ∷ xs) fail =
     elim (cases_Bool (keep x)) [
-      inl kept ↦
-      ap (total f p) (cond-true (keep x) (x ∷ filter keep xs) (filter keep xs) kept) ∙ total-cons f p x (filter keep xs)
-      ∙ ap (λ b. cond b (f x) 0 + total f p (filter keep xs)) (fail x kept) ∙ ap (λ t. 0 + t) (total_none f p keep xs fail)
-    | inr left ↦ ap (total f p) (cond-false (keep x) (x ∷ filter keep xs) (filter keep xs) left) ∙ total_none f p keep xs fail
+      | inl kept ↦
+          ap (total f p) (cond-true (keep x) (x ∷ filter keep xs) (filter keep xs) kept) ∙ total-cons f p x (filter keep xs)
+          ∙ ap (λ b. cond b (f x) 0 + total f p (filter keep xs)) (fail x kept) ∙ ap (λ t. 0 + t) (total_none f p keep xs fail)
+      | inr left ↦ ap (total f p) (cond-false (keep x) (x ∷ filter keep xs) (filter keep xs) left) ∙ total_none f p keep xs fail
     ]

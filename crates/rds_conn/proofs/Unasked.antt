@@ -23,11 +23,11 @@ unasked_few k [] = omega arith
 unasked_few k (Pull stream f ∷ past) =
     let older = unasked_few k past in
     cond_both (not (stream == k)) (unasked k past) (cond (asks f) [] (cond (is_datagram f) (f ∷ unasked k past) (unasked k past)))
-      (λ (fs : List Frame). length fs ≤ suc (length past)) (λ _. omega (arith, older))
-      (λ _. cond_both (asks f) [] (cond (is_datagram f) (f ∷ unasked k past) (unasked k past)) (λ (fs : List Frame). length fs ≤ suc (length past))
-        (λ _. omega arith)
-        (λ _. cond_both (is_datagram f) (f ∷ unasked k past) (unasked k past) (λ (fs : List Frame). length fs ≤ suc (length past))
-          (λ _. omega (arith, older)) (λ _. omega (arith, older))))
+    (λ (fs : List Frame). length fs ≤ suc (length past)) (λ _. omega (arith, older))
+    (λ _. cond_both (asks f) [] (cond (is_datagram f) (f ∷ unasked k past) (unasked k past)) (λ (fs : List Frame). length fs ≤ suc (length past))
+    (λ _. omega arith)
+    (λ _. cond_both (is_datagram f) (f ∷ unasked k past) (unasked k past) (λ (fs : List Frame). length fs ≤ suc (length past))
+    (λ _. omega (arith, older)) (λ _. omega (arith, older))))
 unasked_few k (e ∷ past) = omega (arith, unasked_few k past)
 
 -- the length that a datagram's header says
@@ -48,12 +48,12 @@ unasked_bytes k [] legal = omega arith
 unasked_bytes k (Pull stream f ∷ past) legal =
     let older = unasked_bytes k past legal.1 in
     cond_both (not (stream == k)) (unasked k past) (cond (asks f) [] (cond (is_datagram f) (f ∷ unasked k past) (unasked k past)))
-      (λ (fs : List Frame). sum_by (λ (g : Frame). g.header.len) fs ≤ MAX_LENGTH * suc (length past)) (λ _. omega (arith, older))
-      (λ _. cond_both (asks f) [] (cond (is_datagram f) (f ∷ unasked k past) (unasked k past)) (λ (fs : List Frame). sum_by (λ (g : Frame). g.header.len) fs ≤ MAX_LENGTH * suc (length past))
-        (λ _. omega arith)
-        (λ _. cond_both (is_datagram f) (f ∷ unasked k past) (unasked k past) (λ (fs : List Frame). sum_by (λ (g : Frame). g.header.len) fs ≤ MAX_LENGTH * suc (length past))
-          (λ is. (let more = sum_by-cons (λ (g : Frame). g.header.len) f (unasked k past) in let short = pulled_short stream f past legal is in omega (arith, older, more, short)))
-          (λ _. omega (arith, older))))
+    (λ (fs : List Frame). sum_by (λ (g : Frame). g.header.len) fs ≤ MAX_LENGTH * suc (length past)) (λ _. omega (arith, older))
+    (λ _. cond_both (asks f) [] (cond (is_datagram f) (f ∷ unasked k past) (unasked k past)) (λ (fs : List Frame). sum_by (λ (g : Frame). g.header.len) fs ≤ MAX_LENGTH * suc (length past))
+    (λ _. omega arith)
+    (λ _. cond_both (is_datagram f) (f ∷ unasked k past) (unasked k past) (λ (fs : List Frame). sum_by (λ (g : Frame). g.header.len) fs ≤ MAX_LENGTH * suc (length past))
+    (λ is. (let more = sum_by-cons (λ (g : Frame). g.header.len) f (unasked k past) in let short = pulled_short stream f past legal is in omega (arith, older, more, short)))
+    (λ _. omega (arith, older))))
 unasked_bytes k (e ∷ past) legal = omega (arith, unasked_bytes k past legal.1)
 
 -- what a pull on the stream itself changes
@@ -90,8 +90,8 @@ pub asking_after_other : (k : ℕ) (f : Frame) (past : List Entry) (a : Asking) 
     IsAsking k (Pull k f ∷ past) (record a { is_asked = false })
 asking_after_other k f past a asking datagram_is is =
     let same : unasked k (Pull k f ∷ past) ≡ unasked k past =
-        unasked_pull k f past ∙ cond-false (asks f) [] (cond (is_datagram f) (f ∷ unasked k past) (unasked k past)) asking
-        ∙ cond-false (is_datagram f) (f ∷ unasked k past) (unasked k past) datagram_is in
+    unasked_pull k f past ∙ cond-false (asks f) [] (cond (is_datagram f) (f ∷ unasked k past) (unasked k past)) asking
+    ∙ cond-false (is_datagram f) (f ∷ unasked k past) (unasked k past) datagram_is in
     record {
       count = is.count ∙ sym (ap length same);
       bytes = is.bytes ∙ sym (ap (sum_by (λ (g : Frame). g.header.len)) same);
@@ -104,8 +104,8 @@ pub asking_after_data : (k : ℕ) (f : Frame) (past : List Entry) (a : Asking) �
     IsAsking k (Pull k f ∷ past) (record { unasked = a.unasked + 1; bytes = a.bytes + f.header.len; is_asked = false; must_ask = true })
 asking_after_data k f past a asking datagram_is is =
     let more : unasked k (Pull k f ∷ past) ≡ f ∷ unasked k past =
-        unasked_pull k f past ∙ cond-false (asks f) [] (cond (is_datagram f) (f ∷ unasked k past) (unasked k past)) asking
-        ∙ cond-true (is_datagram f) (f ∷ unasked k past) (unasked k past) datagram_is in
+    unasked_pull k f past ∙ cond-false (asks f) [] (cond (is_datagram f) (f ∷ unasked k past) (unasked k past)) asking
+    ∙ cond-true (is_datagram f) (f ∷ unasked k past) (unasked k past) datagram_is in
     let count = ap length more in
     let bytes = ap (sum_by (λ (g : Frame). g.header.len)) more in
     let cut = sum_by-cons (λ (g : Frame). g.header.len) f (unasked k past) in

@@ -127,9 +127,15 @@ impl Conn {
         requires least { MIN_ENTRIES ≤ limit }
         requires most { limit ≤ MAX_ENTRIES }
         ensures empty { IfOk result (λ c. c ≡ record {
-            me = me; peer = peer; slots = slots;
-            log = record { past = []; spare = 0; limit = limit };
-            store_spare = 0; has_pong = false; waiting = None; rest = []; freed = replicate slots 0;
+          me = me;
+          peer = peer;
+          slots = slots;
+          log = record { past = []; spare = 0; limit = limit };
+          store_spare = 0;
+          has_pong = false;
+          waiting = None;
+          rest = [];
+          freed = replicate slots 0;
         }) }
     {
         Ok(Conn {

@@ -5,12 +5,21 @@ ghost use Rattle.rds_model.specs.Past.{last_passed};
 ghost use Rattle.rds_model.specs.Owed.{header_of as owed_header, map_frame as owed_map, ack_frame as owed_ack, flag_if as flag};
 
 use rds_cong::PortMap;
-use rds_wire::{ACK_REQUIRED, CONG_BITMAP, Frame, Header, MAP_LENGTH, Memory, Payload, RETRANSMITTED, sealed};
+use rds_wire::{
+    ACK_REQUIRED, CONG_BITMAP, Frame, Header, MAP_LENGTH, Memory, Payload, RETRANSMITTED, sealed,
+};
 use std::alloc::Global;
 
 /// A header that acknowledges the last passed number.
 #[tactic(auto, unfolding(rds_model::specs::Owed::header_of))]
-pub(crate) fn header_of(last: u64, number: u64, len: u32, sport: u16, dport: u16, flags: u8) -> Header
+pub(crate) fn header_of(
+    last: u64,
+    number: u64,
+    len: u32,
+    sport: u16,
+    dport: u16,
+    flags: u8,
+) -> Header
     ensures { (past : List Entry) → last ≡ last_passed past → result ≡ owed_header past number len sport dport flags }
 {
     sealed(Header {

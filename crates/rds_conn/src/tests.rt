@@ -19,7 +19,12 @@ struct Wire {
 }
 
 // Moves all that one end owes to the other, which delivers to slot 0. Answers how many frames were pulled.
-fn move_all<L: Ledger>(from: &mut Conn, wire: &mut Wire, to: &mut Conn, steps: &mut Steps<L>) -> Result<u32, Fail> {
+fn move_all<L: Ledger>(
+    from: &mut Conn,
+    wire: &mut Wire,
+    to: &mut Conn,
+    steps: &mut Steps<L>,
+) -> Result<u32, Fail> {
     let mut frames = 0;
     for _ in 0..1000 {
         from.reserve().map_err(|_| "reserve")?;
@@ -56,10 +61,24 @@ fn scenario<L: Ledger>(rt: &impl Abort, alloc: Global, blank: Blank) -> Result<(
     let mut steps: Steps<L> = Steps::new(blank);
     let mut a = Conn::new(alloc, 1, 2, 4, 1000)?;
     let mut b = Conn::new(alloc, 2, 1, 4, 1000)?;
-    let mut ab = Wire { out: Out::new(alloc)?, map: PortMap::new(alloc)? };
-    let mut ba = Wire { out: Out::new(alloc)?, map: PortMap::new(alloc)? };
+    let mut ab = Wire {
+        out: Out::new(alloc)?,
+        map: PortMap::new(alloc)?,
+    };
+    let mut ba = Wire {
+        out: Out::new(alloc)?,
+        map: PortMap::new(alloc)?,
+    };
     a.reserve().map_err(|_| "reserve")?;
-    a.order(Order::Send { slot: 0, sport: 4000, dport: 4001, payload: Payload::copy_of(alloc, b"hello")? }, &mut steps);
+    a.order(
+        Order::Send {
+            slot: 0,
+            sport: 4000,
+            dport: 4001,
+            payload: Payload::copy_of(alloc, b"hello")?,
+        },
+        &mut steps,
+    );
     a.reserve().map_err(|_| "reserve")?;
     a.open(1);
     b.reserve().map_err(|_| "reserve")?;
@@ -74,9 +93,20 @@ fn scenario<L: Ledger>(rt: &impl Abort, alloc: Global, blank: Blank) -> Result<(
     assert!(rt; a.take_freed().is_none());
     // A cut: b sends, a's stream goes away before the bytes arrive.
     b.reserve().map_err(|_| "reserve")?;
-    b.order(Order::Send { slot: 1, sport: 4001, dport: 4000, payload: Payload::copy_of(alloc, b"again")? }, &mut steps);
+    b.order(
+        Order::Send {
+            slot: 1,
+            sport: 4001,
+            dport: 4000,
+            payload: Payload::copy_of(alloc, b"again")?,
+        },
+        &mut steps,
+    );
     b.reserve().map_err(|_| "reserve")?;
-    assert_eq!(rt; b.pull(&ba.map, &mut ba.out).map_err(|_| "pull")?, Pulled::Data);
+    assert_eq!(rt;
+        b.pull(&ba.map, &mut ba.out).map_err(|_| "pull")?,
+        Pulled::Data
+    );
     ba.out.wipe();
     a.reserve().map_err(|_| "reserve")?;
     a.shut();
@@ -92,7 +122,15 @@ fn scenario<L: Ledger>(rt: &impl Abort, alloc: Global, blank: Blank) -> Result<(
     assert_eq!(rt; b.unacked(), 0);
     // A ping from b, and its pong.
     b.reserve().map_err(|_| "reserve")?;
-    b.order(Order::Send { slot: 1, sport: 4001, dport: 0, payload: Payload::copy_of(alloc, b"")? }, &mut steps);
+    b.order(
+        Order::Send {
+            slot: 1,
+            sport: 4001,
+            dport: 0,
+            payload: Payload::copy_of(alloc, b"")?,
+        },
+        &mut steps,
+    );
     assert_eq!(rt; move_all(&mut b, &mut ba, &mut a, &mut steps)?, 1);
     assert_eq!(rt; a.unacked(), 1);
     assert_eq!(rt; move_all(&mut a, &mut ab, &mut b, &mut steps)?, 1);
@@ -101,7 +139,15 @@ fn scenario<L: Ledger>(rt: &impl Abort, alloc: Global, blank: Blank) -> Result<(
     assert_eq!(rt; a.unacked(), 0);
     // A cancellation.
     a.reserve().map_err(|_| "reserve")?;
-    a.order(Order::Send { slot: 2, sport: 4000, dport: 9, payload: Payload::copy_of(alloc, b"xyz")? }, &mut steps);
+    a.order(
+        Order::Send {
+            slot: 2,
+            sport: 4000,
+            dport: 9,
+            payload: Payload::copy_of(alloc, b"xyz")?,
+        },
+        &mut steps,
+    );
     a.reserve().map_err(|_| "reserve")?;
     a.order(Order::Cancel { slot: 2, dport: 9 }, &mut steps);
     assert_eq!(rt; a.unacked(), 0);

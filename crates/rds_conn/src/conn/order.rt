@@ -45,7 +45,15 @@ impl Conn {
         ensures gone { (s : ℕ) → gone s self.new.log.past ≡ gone s self.old.log.past }
     {
         self.accepted += 1;
-        accept(&mut self.journal, &mut self.store, self.accepted, slot, sport, dport, payload);
+        accept(
+            &mut self.journal,
+            &mut self.store,
+            self.accepted,
+            slot,
+            sport,
+            dport,
+            payload,
+        );
         self.spare -= 1;
         self.store_spare -= 1;
     }
@@ -99,10 +107,13 @@ pub(super) fn accept(
     requires above { All (λ (m : Msg). m.num < num) store.old.messages }
     requires owned { (slot < store.old.slots) ⊎ (slot ≡ NO_SLOT) }
     ensures entry { journal.new ≡ record journal.old {
-        past = entry.Accept slot sport dport payload ∷ journal.old.past; spare = journal.old.spare - 1 } }
+      past = entry.Accept slot sport dport payload ∷ journal.old.past;
+      spare = journal.old.spare - 1;
+    } }
     ensures message { store.new ≡ record store.old {
-        messages = store.old.messages ++ record { num = num; place = length journal.old.past; slot = slot; dport = dport; len = length payload } ∷ [];
-        spare = store.old.spare - 1 } }
+      messages = store.old.messages ++ record { num = num; place = length journal.old.past; slot = slot; dport = dport; len = length payload } ∷ [];
+      spare = store.old.spare - 1;
+    } }
 {
     store.append(Msg {
         num,

@@ -138,7 +138,9 @@ impl Conn {
     fn data_frame(&self, msg: Msg, flags: u8) -> Result<Frame, Memory>
         requires { IsMessage self.now.log.past msg }
         ensures { IfOk result (λ f. (d : Accepted) → datagram self.now.log.past msg.num ≡ Some d → f ≡ record {
-            header = owed_header self.now.log.past msg.num (length d.payload) d.sport d.dport flags; payload = d.payload }) }
+          header = owed_header self.now.log.past msg.num (length d.payload) d.sport d.dport flags;
+          payload = d.payload;
+        }) }
     {
         let Some(entry) = self.journal.at(msg.place) else {
             unreachable!()

@@ -46,7 +46,7 @@ impl Conn {
         requires found { IfSome self.old.waiting (λ f. Matches self.old.slots (verdict_after self.old.log.past f.header) found) }
         ensures entry { (k : ℕ) (f : Frame) → stream_of self.old ≡ Some k → self.old.waiting ≡ Some f →
             self.new ≡ record (logged (read_entries k f (outcome_after (verdict_after self.old.log.past f.header) found)) self.old)
-                { waiting = None; store_spare = self.new.store_spare; has_pong = self.new.has_pong; freed = self.new.freed } }
+            { waiting = None; store_spare = self.new.store_spare; has_pong = self.new.has_pong; freed = self.new.freed } }
         ensures freed { (slot : ℕ) → slot < self.old.slots →
             held slot self.new + gone slot self.old.log.past ≡ held slot self.old + gone slot self.new.log.past }
         ensures on { IsSome (stream_of self.old) }
@@ -96,7 +96,7 @@ impl Conn {
         requires one { IsSome self.old.waiting }
         ensures entry { (k : ℕ) (f : Frame) → stream_of self.old ≡ Some k → self.old.waiting ≡ Some f →
             self.new ≡ record (logged (read_entries k f outcomes.Ping) self.old)
-                { waiting = None; store_spare = self.old.store_spare - 1; has_pong = false; freed = self.new.freed } }
+            { waiting = None; store_spare = self.old.store_spare - 1; has_pong = false; freed = self.new.freed } }
         ensures freed { (slot : ℕ) → slot < self.old.slots →
             held slot self.new + gone slot self.old.log.past ≡ held slot self.old + gone slot self.new.log.past }
         ensures on { IsSome (stream_of self.old) }
@@ -120,14 +120,27 @@ impl Conn {
         self.asking = self.asking.after_read(&header);
         acknowledge(&mut self.store, &mut self.freed, header.ack, steps);
         self.accepted += 1;
-        accept(&mut self.journal, &mut self.store, self.accepted, NO_SLOT, 0, header.sport, pong);
+        accept(
+            &mut self.journal,
+            &mut self.store,
+            self.accepted,
+            NO_SLOT,
+            0,
+            header.sport,
+            pong,
+        );
         self.spare -= 2;
         self.store_spare -= 1;
     }
 }
 
 // Frees the messages up to an acknowledged number.
-fn acknowledge<L: Ledger>(store: &mut Store, freed: &mut FreedBytes, upto: u64, steps: &mut Steps<L>)
+fn acknowledge<L: Ledger>(
+    store: &mut Store,
+    freed: &mut FreedBytes,
+    upto: u64,
+    steps: &mut Steps<L>,
+)
     requires marked { store.old.mark ≤ length store.old.messages }
     requires fits { sum freed.old + bytes_of store.old.messages < 2 ^ 64 }
     ensures store { store.new ≡ acknowledged upto store.old }

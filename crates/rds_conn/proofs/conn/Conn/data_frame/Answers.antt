@@ -32,5 +32,5 @@ returns c = λ d known.
     let entry_is : c.in-Some.entry.now ≡ entry_of d = cc in
     let bytes_are = c.in_ok-payload-in-Accept.ensures in
     rw (← c.self.view_is, bytes_are)
-      (framed c.self.inside.journal.past c.args.msg c.header_of-header.result c.in-Accept.payload c.in-Accept.slot c.in-Accept.sport c.in-Accept.dport c.args.flags d
-        (c.header_of-header.ensures c.self.inside.journal.past c.self.invariant.counted.last_is) message_is (sym c.in-Accept.is ∙ entry_is))
+    (framed c.self.inside.journal.past c.args.msg c.header_of-header.result c.in-Accept.payload c.in-Accept.slot c.in-Accept.sport c.in-Accept.dport c.args.flags d
+    (c.header_of-header.ensures c.self.inside.journal.past c.self.invariant.counted.last_is) message_is (sym c.in-Accept.is ∙ entry_is))

@@ -21,11 +21,11 @@ returns-else-is_due c =
     let on = c.self.invariant.stream ∙ ap stream_of c.self.view_is ∙ c.requires.on in
     let due = subst (λ (v : Connection). IsFirstDue c.args.stream v.log.past c.args.msg) (sym c.self.view_is) c.requires.due in
     let first_time : was_pulled c.self.inside.journal.past c.args.msg.num ≡ false =
-        ap (λ (v : Connection). was_pulled v.log.past c.args.msg.num) c.self.view_is ∙ sym c.was_pulled.ensures ∙ c.if-was_pulled.false in
+    ap (λ (v : Connection). was_pulled v.log.past c.args.msg.num) c.self.view_is ∙ sym c.was_pulled.ensures ∙ c.if-was_pulled.false in
     let few : (nat_le MAX_UNASKED c.self.inside.asking.unasked || nat_lt MAX_UNASKED_BYTES (c.self.inside.asking.bytes + c.args.msg.len)) ≡ false =
-        sym c.is_due.ensures ∙ c.if-is_due.false in
+    sym c.is_due.ensures ∙ c.if-is_due.false in
     rw (← c.self.view_is)
-      (λ d known.
-        sym (ap (λ b. b || ((nat_le MAX_UNASKED c.self.inside.asking.unasked || nat_lt MAX_UNASKED_BYTES (c.self.inside.asking.bytes + c.args.msg.len)) || c.is_last.result)) first_time
-          ∙ ap (λ b. b || c.is_last.result) few)
-        ∙ asks_here c.self.inside c.args.stream c.args.msg d c.is_last.result c.self.invariant on due known c.is_last.ensures)
+    (λ d known.
+    sym (ap (λ b. b || ((nat_le MAX_UNASKED c.self.inside.asking.unasked || nat_lt MAX_UNASKED_BYTES (c.self.inside.asking.bytes + c.args.msg.len)) || c.is_last.result)) first_time
+    ∙ ap (λ b. b || c.is_last.result) few)
+    ∙ asks_here c.self.inside c.args.stream c.args.msg d c.is_last.result c.self.invariant on due known c.is_last.ensures)

@@ -8,5 +8,5 @@ pub invariant_of-self : goal.invariant_of-self
 invariant_of-self c =
     let view = c.self.view_is in
     rw (c.push.ensures, c.new-self-inside.ensures)
-      (keeps_open c.self.inside c.args.stream c.self.invariant (let spare = ap (λ (v : Connection). v.log.spare) view in omega (arith, spare, c.requires.ready.entries)) (ap stream_of view ∙ c.requires.closed)
-        (let newest = ap (λ (v : Connection). newest_stream v.log.past) view in omega (arith, newest, c.requires.newer)))
+    (keeps_open c.self.inside c.args.stream c.self.invariant (let spare = ap (λ (v : Connection). v.log.spare) view in omega (arith, spare, c.requires.ready.entries)) (ap stream_of view ∙ c.requires.closed)
+    (let newest = ap (λ (v : Connection). newest_stream v.log.past) view in omega (arith, newest, c.requires.newer)))

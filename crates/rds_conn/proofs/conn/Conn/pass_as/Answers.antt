@@ -14,13 +14,13 @@ invariant_of-self g c =
     let lawful = subst (λ (v : Connection). IfSome v.waiting (λ (f : Frame). Obeys (verdict_of v.log.past f.header) c.args.outcome)) (sym c.self.view_is) c.requires.lawful in
     let spare = ap (λ (v : Connection). v.log.spare) c.self.view_is in
     rw (c.push.ensures, c.done.ensures.after, c.passed_after-self-inside.ensures, c.after_read-self-inside.ensures)
-      (keeps_passed c.self.inside c.in-Some.stream c.in-Some-done.frame c.args.outcome c.acknowledge.new.store c.acknowledge.new.freed
-        c.self.invariant (omega (arith, spare, c.requires.ready.entries)) c.in-Some.is waiting
-        (of_some (λ (f : Frame). Obeys (verdict_of c.self.inside.journal.past f.header) c.args.outcome) c.self.inside.splitter.waiting c.in-Some-done.frame waiting lawful)
-        c.requires.no_pong (record { store_is = c.acknowledge.ensures.store; frees = c.acknowledge.ensures.freed }))
+    (keeps_passed c.self.inside c.in-Some.stream c.in-Some-done.frame c.args.outcome c.acknowledge.new.store c.acknowledge.new.freed
+    c.self.invariant (omega (arith, spare, c.requires.ready.entries)) c.in-Some.is waiting
+    (of_some (λ (f : Frame). Obeys (verdict_of c.self.inside.journal.past f.header) c.args.outcome) c.self.inside.splitter.waiting c.in-Some-done.frame waiting lawful)
+    c.requires.no_pong (record { store_is = c.acknowledge.ensures.store; frees = c.acknowledge.ensures.freed }))
 
 pub returns-clause-freed : goal.returns-clause-freed
 returns-clause-freed g c =
     rw (← c.self.view_is, c.push.ensures)
-      (λ s within. frees_passed c.self.inside c.in-Some.stream c.in-Some-done.frame c.args.outcome c.acknowledge.new.store c.acknowledge.new.freed s
-        c.self.invariant within (record { store_is = c.acknowledge.ensures.store; frees = c.acknowledge.ensures.freed }))
+    (λ s within. frees_passed c.self.inside c.in-Some.stream c.in-Some-done.frame c.args.outcome c.acknowledge.new.store c.acknowledge.new.freed s
+    c.self.invariant within (record { store_is = c.acknowledge.ensures.store; frees = c.acknowledge.ensures.freed }))

@@ -25,9 +25,9 @@ accept-requires-clause-few g c =
     let ping = subst (λ (v : Connection). IfSome v.waiting (λ (f : Frame). verdict_of v.log.past f.header ≡ verdict.Ping)) (sym c.self.view_is) c.requires.waiting in
     let spare = ap (λ (v : Connection). v.log.spare) c.self.view_is in
     (answer_next c.self.inside c.in-Some.stream c.in-Some-done.frame c.acknowledge.new.store c.acknowledge.new.freed c.self.invariant
-      (omega (arith, spare, c.requires.ready.entries)) c.in-Some.is waiting
-      (of_some (λ (f : Frame). verdict_of c.self.inside.journal.past f.header ≡ verdict.Ping) c.self.inside.splitter.waiting c.in-Some-done.frame waiting ping)
-      (record { store_is = c.acknowledge.ensures.store; frees = c.acknowledge.ensures.freed })).few
+    (omega (arith, spare, c.requires.ready.entries)) c.in-Some.is waiting
+    (of_some (λ (f : Frame). verdict_of c.self.inside.journal.past f.header ≡ verdict.Ping) c.self.inside.splitter.waiting c.in-Some-done.frame waiting ping)
+    (record { store_is = c.acknowledge.ensures.store; frees = c.acknowledge.ensures.freed })).few
 
 pub accept-requires-clause-above : goal.accept-requires-clause-above
 accept-requires-clause-above g c =
@@ -36,10 +36,10 @@ accept-requires-clause-above g c =
     let spare = ap (λ (v : Connection). v.log.spare) c.self.view_is in
     let number : c.self.inside.accepted + 1 ≡ suc (accepted c.self.inside.journal.past) = omega (arith, c.self.invariant.counted.accepted_is) in
     subst (λ n. All (λ (m : Msg). m.num < n) c.acknowledge.new.store.messages) (sym number)
-      (answer_next c.self.inside c.in-Some.stream c.in-Some-done.frame c.acknowledge.new.store c.acknowledge.new.freed c.self.invariant
-        (omega (arith, spare, c.requires.ready.entries)) c.in-Some.is waiting
-        (of_some (λ (f : Frame). verdict_of c.self.inside.journal.past f.header ≡ verdict.Ping) c.self.inside.splitter.waiting c.in-Some-done.frame waiting ping)
-        (record { store_is = c.acknowledge.ensures.store; frees = c.acknowledge.ensures.freed })).above
+    (answer_next c.self.inside c.in-Some.stream c.in-Some-done.frame c.acknowledge.new.store c.acknowledge.new.freed c.self.invariant
+    (omega (arith, spare, c.requires.ready.entries)) c.in-Some.is waiting
+    (of_some (λ (f : Frame). verdict_of c.self.inside.journal.past f.header ≡ verdict.Ping) c.self.inside.splitter.waiting c.in-Some-done.frame waiting ping)
+    (record { store_is = c.acknowledge.ensures.store; frees = c.acknowledge.ensures.freed })).above
 
 pub invariant_of-self : goal.invariant_of-self
 invariant_of-self g c =
@@ -48,21 +48,21 @@ invariant_of-self g c =
     let spare = ap (λ (v : Connection). v.log.spare) c.self.view_is in
     let store_spare = ap (λ (v : Connection). v.store_spare) c.self.view_is in
     let empty : c.in-Some-take.pong ≡ [] =
-        of_some (λ (bytes : List ℕ). bytes ≡ []) c.self.inside.pong c.in-Some-take.pong (sym c.take.ensures.value ∙ c.in-Some-take.is) c.self.invariant.pong in
+    of_some (λ (bytes : List ℕ). bytes ≡ []) c.self.inside.pong c.in-Some-take.pong (sym c.take.ensures.value ∙ c.in-Some-take.is) c.self.invariant.pong in
     rw (c.accept.ensures.entry, c.accept.ensures.message, c.push.ensures, empty, c.done.ensures.after, c.take.ensures.after, c.after_read-self-inside.ensures)
-      (keeps_answered c.self.inside c.in-Some.stream c.in-Some-done.frame c.acknowledge.new.store c.acknowledge.new.freed
-        c.self.invariant (omega (arith, spare, c.requires.ready.entries)) (omega (arith, store_spare, c.requires.ready.messages)) c.in-Some.is waiting
-        (of_some (λ (f : Frame). verdict_of c.self.inside.journal.past f.header ≡ verdict.Ping) c.self.inside.splitter.waiting c.in-Some-done.frame waiting ping)
-        (record { store_is = c.acknowledge.ensures.store; frees = c.acknowledge.ensures.freed }))
+    (keeps_answered c.self.inside c.in-Some.stream c.in-Some-done.frame c.acknowledge.new.store c.acknowledge.new.freed
+    c.self.invariant (omega (arith, spare, c.requires.ready.entries)) (omega (arith, store_spare, c.requires.ready.messages)) c.in-Some.is waiting
+    (of_some (λ (f : Frame). verdict_of c.self.inside.journal.past f.header ≡ verdict.Ping) c.self.inside.splitter.waiting c.in-Some-done.frame waiting ping)
+    (record { store_is = c.acknowledge.ensures.store; frees = c.acknowledge.ensures.freed }))
 
 pub returns-clause-freed : goal.returns-clause-freed
 returns-clause-freed g c =
     let waiting : c.self.inside.splitter.waiting ≡ Some c.in-Some-done.frame = sym c.done.ensures.frame ∙ c.in-Some-done.is in
     let ping = subst (λ (v : Connection). IfSome v.waiting (λ (f : Frame). verdict_of v.log.past f.header ≡ verdict.Ping)) (sym c.self.view_is) c.requires.waiting in
     let empty : c.in-Some-take.pong ≡ [] =
-        of_some (λ (bytes : List ℕ). bytes ≡ []) c.self.inside.pong c.in-Some-take.pong (sym c.take.ensures.value ∙ c.in-Some-take.is) c.self.invariant.pong in
+    of_some (λ (bytes : List ℕ). bytes ≡ []) c.self.inside.pong c.in-Some-take.pong (sym c.take.ensures.value ∙ c.in-Some-take.is) c.self.invariant.pong in
     rw (← c.self.view_is, c.accept.ensures.entry, c.push.ensures, empty)
-      (λ s within. frees_answered c.self.inside c.in-Some.stream c.in-Some-done.frame c.acknowledge.new.store c.acknowledge.new.freed s
-        c.self.invariant within c.in-Some.is waiting
-        (of_some (λ (f : Frame). verdict_of c.self.inside.journal.past f.header ≡ verdict.Ping) c.self.inside.splitter.waiting c.in-Some-done.frame waiting ping)
-        (record { store_is = c.acknowledge.ensures.store; frees = c.acknowledge.ensures.freed }))
+    (λ s within. frees_answered c.self.inside c.in-Some.stream c.in-Some-done.frame c.acknowledge.new.store c.acknowledge.new.freed s
+    c.self.invariant within c.in-Some.is waiting
+    (of_some (λ (f : Frame). verdict_of c.self.inside.journal.past f.header ≡ verdict.Ping) c.self.inside.splitter.waiting c.in-Some-done.frame waiting ping)
+    (record { store_is = c.acknowledge.ensures.store; frees = c.acknowledge.ensures.freed }))

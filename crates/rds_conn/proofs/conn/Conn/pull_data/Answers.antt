@@ -37,18 +37,18 @@ invariant_of-self c =
     let d : Accepted = c.requires.due.tells.d in
     let asks = c.has_to_ask-asks.ensures d c.requires.due.tells.known in
     let frame_is = subst (λ (p : List Entry). c.in_ok-frame.frame ≡ data_frame c.args.stream p c.args.msg.num d) (sym past)
-        (framed_data c.args.stream c.args.self.now.log.past c.args.msg.num d c.in_ok-frame.frame c.was_pulled.result c.has_to_ask-asks.result c.data_flags.result
-          (c.in_ok-frame.ensures d c.requires.due.tells.known) c.data_flags.ensures c.was_pulled.ensures asks) in
+    (framed_data c.args.stream c.args.self.now.log.past c.args.msg.num d c.in_ok-frame.frame c.was_pulled.result c.has_to_ask-asks.result c.data_flags.result
+    (c.in_ok-frame.ensures d c.requires.due.tells.known) c.data_flags.ensures c.was_pulled.ensures asks) in
     let asks_here = subst (λ (p : List Entry). c.has_to_ask-asks.result ≡ asks_with c.args.stream p c.args.msg.num d) (sym past) asks in
     let known = subst (λ (p : List Entry). datagram p c.args.msg.num ≡ Some d) (sym past) c.requires.due.tells.known in
     rw (c.push.ensures, frame_is, c.mark_pulled.ensures, c.max-self-inside.ensures, c.after_datagram-self-inside.ensures, asks_here)
-      (keeps_data c.self.inside c.args.stream c.args.msg d c.self.invariant (omega (arith, spare, c.requires.ready.entries)) on c.known.ensures.size behind due known)
+    (keeps_data c.self.inside c.args.stream c.args.msg d c.self.invariant (omega (arith, spare, c.requires.ready.entries)) on c.known.ensures.size behind due known)
 
 pub returns-clause-owed : goal.returns-clause-owed
 returns-clause-owed c = λ d known.
     let asks = c.has_to_ask-asks.ensures d known in
     let frame_is = framed_data c.args.stream c.args.self.now.log.past c.args.msg.num d c.in_ok-frame.frame c.was_pulled.result c.has_to_ask-asks.result c.data_flags.result
-        (c.in_ok-frame.ensures d known) c.data_flags.ensures c.was_pulled.ensures asks in
+    (c.in_ok-frame.ensures d known) c.data_flags.ensures c.was_pulled.ensures asks in
     let above = (number_of_known c.args.self.now.log.past c.args.msg.num (ap is_some known)).0 in
     record {
       entry = rw (c.push.ensures, frame_is, ← c.self.view_is) refl;

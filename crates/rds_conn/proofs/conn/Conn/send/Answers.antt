@@ -28,17 +28,17 @@ invariant_of-self c =
     let few = c.self.invariant.stored.few in
     let takes = takes_message c.self.inside c.self.invariant (omega (arith, spare, c.requires.ready.entries)) in
     rw (c.accept.ensures.entry, c.accept.ensures.message)
-      (keeps_send c.self.inside c.args.slot c.args.sport c.args.dport c.args.payload c.self.invariant
-        (omega (arith, spare, c.requires.ready.entries)) (omega (arith, store_spare, c.requires.ready.messages))
-        (record {
-          socket = λ e. omega (arith, e, slots, few, c.requires.slot);
-          sport_fits = omega arith;
-          dport_fits = omega arith;
-          payload_fits = c.requires.fits;
-          number_fits = takes.number;
-        }))
+    (keeps_send c.self.inside c.args.slot c.args.sport c.args.dport c.args.payload c.self.invariant
+    (omega (arith, spare, c.requires.ready.entries)) (omega (arith, store_spare, c.requires.ready.messages))
+    (record {
+      socket = λ e. omega (arith, e, slots, few, c.requires.slot);
+      sport_fits = omega arith;
+      dport_fits = omega arith;
+      payload_fits = c.requires.fits;
+      number_fits = takes.number;
+    }))
 
 pub returns-clause-gone : goal.returns-clause-gone
 returns-clause-gone c =
     rw (← c.self.view_is, c.accept.ensures.entry)
-      (λ s. gone_after_accept s c.args.slot c.args.sport c.args.dport c.args.payload c.self.inside.journal.past c.self.invariant.whole.legal)
+    (λ s. gone_after_accept s c.args.slot c.args.sport c.args.dport c.args.payload c.self.inside.journal.past c.self.invariant.whole.legal)

@@ -8,6 +8,6 @@ use Rattle.rds_conn.proofs.conn.Conn.was_pulled.Goals as goal
 pub returns : goal.returns
 returns c =
     rw (← c.self.view_is)
-      (ap (nat_le c.args.msg.num) c.self.invariant.counted.highest_is
-        ∙ again_is c.self.inside.journal.past c.args.msg.num c.self.invariant.whole.legal
-            (ap (λ (v : Connection). is_alive v.log.past c.args.msg.num) c.self.view_is ∙ c.requires))
+    (ap (nat_le c.args.msg.num) c.self.invariant.counted.highest_is
+    ∙ again_is c.self.inside.journal.past c.args.msg.num c.self.invariant.whole.legal
+    (ap (λ (v : Connection). is_alive v.log.past c.args.msg.num) c.self.view_is ∙ c.requires))
