@@ -1,4 +1,4 @@
-ghost use Rattle.std.specs.Prelude.{◌≡◌, ◌⊎◌, ◌≤◌, ◌<◌, ◌+◌, ◌-◌, ◌==◌, max, [], ◌∷◌, ◌++◌, length, slice_get, IfOk, OnOk, OnErr, IfSome, OnSome, IfNone, option_copied, All};
+ghost use Rattle.std.specs.Prelude.{◌≡◌, ◌⊎◌, ◌≤◌, ◌<◌, ◌+◌, ◌-◌, ◌==◌, max, [], ◌∷◌, ◌++◌, length, slice_get, IfOk, OnOk, OnErr, IfSome, OnSome, IfNone, IsTrue, ◌↔◌, option_copied, All};
 ghost use Rattle.rds_model.specs.declared.entry.Target.TheVariants.{Port, All as Every};
 ghost use Rattle.rds_msgs.specs.Held.{IsAscending, numbers, bytes_of, taken, cancelled, without_first};
 
@@ -99,6 +99,13 @@ impl Store {
         ensures { option_copied result ≡ slice_get self.now.messages self.now.mark }
     {
         self.messages.get(self.mark)
+    }
+
+    /// Whether exactly one message isn't pulled.
+    pub fn is_last(&self) -> bool
+        ensures { IsTrue result ↔ (self.now.mark + 1 ≡ length self.now.messages) }
+    {
+        self.mark + 1 == self.messages.len()
     }
 
     /// Counts the least message that isn't pulled as pulled.

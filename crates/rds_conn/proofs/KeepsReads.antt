@@ -1,0 +1,93 @@
+-- What a connection keeps where bytes are taken of the stream.
+use Rattle.std.proofs.Common.{◌≡◌, ◌⊎◌, inl, inr, ℕ, ◌+◌, ◌-◌, ◌<◌, ◌≤◌, Bool, true, false, cond, Option, Some, None, IfSome, IsSome, List, [], ◌∷◌, ◌++◌, length, take, refl, sym, ◌∙◌, ap, subst, arith, length-append, length-take, rules}
+use Rattle.rds_wire.specs.declared.header.Header.{Header}
+use Rattle.rds_wire.specs.declared.kind.Malformed.{Malformed}
+use Rattle.rds_wire.specs.Bytes.{header_bytes, IsHeader}
+use Rattle.rds_wire.specs.Kinds.{cause}
+use Rattle.rds_wire.proofs.Headers.{length-header_bytes}
+use Rattle.rds_frame.specs.declared.took.Took.{Took}
+use Rattle.rds_frame.specs.Holding.{Held as Frames, IsHeld, held_bytes, refusing}
+use Rattle.rds_frame.specs.Taking.{Takes, Refuses as RefusesHeader}
+use Rattle.rds_model.specs.declared.entry.Entry.TheVariants.{Bad}
+use Rattle.rds_model.specs.Log.{Log}
+use Rattle.rds_model.specs.Past.{open_stream, highest}
+use Rattle.rds_model.specs.Legal.{IsLawfulBad}
+use Rattle.rds_conn.specs.declared.conn.Conn.TheInside.{Inside}
+use Rattle.rds_conn.specs.declared.conn.Fed.{Fed}
+use Rattle.rds_conn.specs.Connection.{Connection, logged, taken_bytes}
+use Rattle.rds_conn.specs.Feeding.{Feeds, Refuses}
+use Rattle.rds_conn.specs.Keeping.{Keeps, IsReading, seen}
+use Rattle.rds_conn.proofs.Reading.{clear_after}
+
+pub keeps_fed : (c : Inside) (k : ℕ) (piece : List ℕ) (took : Took) (splitter : Frames) → Keeps c → c.stream ≡ Some k →
+    Takes c.highest c.splitter piece took splitter → IsHeld splitter → Keeps (record c { splitter = splitter })
+keeps_fed c k piece took splitter keeps on takes held = record {
+  whole = keeps.whole;
+  room = keeps.room;
+  pong = keeps.pong;
+  stream = keeps.stream;
+  counted = keeps.counted;
+  linked = keeps.linked;
+  reading = record {
+    held = held;
+    clear = clear_after c.highest c.splitter splitter (take took.used piece) takes.bytes takes.clear keeps.reading.clear;
+    still_open = takes.still_open;
+    idle = λ none. let never : Some k ≡ None = sym on ∙ none in cc;
+  };
+  stored = keeps.stored;
+  freed = keeps.freed;
+}
+
+pub fed_bytes : (c : Inside) (piece : List ℕ) (took : Took) (splitter : Frames) → Takes c.highest c.splitter piece took splitter →
+    Feeds piece (seen c) (seen (record c { splitter = splitter })) (record { used = took.used; waiting = took.ready })
+fed_bytes c piece took splitter takes = record {
+  used = takes.used;
+  bytes = takes.bytes;
+  rest_same = refl;
+  waiting = takes.ready;
+  all = takes.all;
+  progress = takes.progress;
+}
+
+-- a header that the splitter refused is a lawful end of the stream
+pub lawful_refusal : (c : Inside) (k : ℕ) (piece : List ℕ) (fault : Malformed) (splitter : Frames) → Keeps c → c.stream ≡ Some k →
+    (refused : RefusesHeader c.highest c.splitter piece fault splitter) → IsLawfulBad k c.journal.past refused.header fault
+lawful_refusal c k piece fault splitter keeps on refused = record {
+  on = sym keeps.stream ∙ on;
+  header = refused.fits;
+  malformed = sym (ap (cause refused.header) keeps.counted.highest_is) ∙ refused.cause;
+}
+
+-- as much of a list as was taken was there
+taken_within : (n : ℕ) (xs : List ℕ) (have : ℕ) → have + length (take n xs) ≡ 48 → n ≡ 48 - have → have < 48 → n ≤ length xs
+taken_within n xs have whole rest short = let len = length-take n xs in omega (arith, len, whole, rest, short)
+
+pub refused_bytes : (c : Inside) (k : ℕ) (piece : List ℕ) (fault : Malformed) (splitter : Frames) → Keeps c → c.stream ≡ Some k →
+    (refused : RefusesHeader c.highest c.splitter piece fault splitter) →
+    (new : Connection) → new ≡ record (logged (Bad k refused.header fault ∷ []) (seen c)) { waiting = None; rest = [] } →
+    Refuses piece fault (seen c) new
+refused_bytes c k piece fault splitter keeps on refused new is =
+    let have : ℕ = length (held_bytes c.splitter) in
+    let whole : have + length (take (48 - have) piece) ≡ 48 =
+    sym (length-append (held_bytes c.splitter) (take (48 - have) piece)) ∙ ap length (sym refused.bytes) ∙ length-header_bytes refused.header refused.fits in
+    record {
+      k = k;
+      header = refused.header;
+      used = 48 - have;
+      on = sym keeps.stream ∙ on;
+      fits = refused.fits;
+      fault_is = sym (ap (cause refused.header) keeps.counted.highest_is) ∙ refused.cause;
+      within = taken_within (48 - have) piece have whole refl refused.short;
+      bytes = refused.bytes;
+      entry = is;
+    }
+
+-- the entry of the header that was refused
+pub recorded : (splitter : Frames) (header : Header) (journal later : Log) (k : ℕ) (fault : Malformed) → splitter ≡ refusing header →
+    IfSome splitter.refused (λ h. later ≡ record journal { past = Bad k h fault ∷ journal.past; spare = journal.spare - 1 }) →
+    later ≡ record journal { past = Bad k header fault ∷ journal.past; spare = journal.spare - 1 }
+recorded splitter header journal later k fault after entry =
+    subst (λ (s : Frames). IfSome s.refused (λ h. later ≡ record journal { past = Bad k h fault ∷ journal.past; spare = journal.spare - 1 })) after entry
+
+pub is_refused : (splitter : Frames) (header : Header) → splitter ≡ refusing header → IsSome splitter.refused
+is_refused splitter header after = subst (λ (s : Frames). IsSome s.refused) (sym after) (search rules)

@@ -1,0 +1,145 @@
+-- What a connection keeps where a stream is opened, or comes to its end.
+use Rattle.std.proofs.Common.{◌≡◌, ◌⊎◌, inl, inr, ℕ, zero, suc, ◌+◌, ◌-◌, ◌*◌, ◌<◌, ◌≤◌, ◌^◌, Bool, true, false, cond, Option, Some, None, List, [], ◌∷◌, ◌++◌, length, sum, sum_by, refl, sym, ◌∙◌, ap, subst, arith, length-append}
+use Rattle.std.specs.Option.{MatchOption}
+use Rattle.rds_wire.specs.declared.frame.Frame.{Frame}
+use Rattle.rds_wire.specs.declared.header.Header.{Header}
+use Rattle.rds_wire.specs.declared.kind.Malformed.{Malformed}
+use Rattle.rds_wire.specs.declared.kind.TheConstants.{MAX_LENGTH}
+use Rattle.rds_wire.specs.Bytes.{header_bytes, IsHeader}
+use Rattle.rds_wire.proofs.Headers.{length-header_bytes}
+use Rattle.rds_frame.specs.Holding.{Held as Frames, IsHeld, held_bytes, nothing_held}
+use Rattle.rds_frame.specs.Splitting.{IsClear}
+use Rattle.rds_model.specs.declared.entry.Entry.{Entry}
+use Rattle.rds_model.specs.declared.entry.Entry.TheVariants.{Accept, Cancel, Open, Pull, Read, Shut, Bad}
+use Rattle.rds_model.specs.Log.{Log}
+use Rattle.rds_model.specs.Past.{accepted, open_stream, newest_stream}
+use Rattle.rds_model.specs.Alive.{alive_numbers}
+use Rattle.rds_model.specs.Legal.{IsLegal, IsWhole, IsLawful, IsLawfulBad, IsPong, Continues, pong_to}
+use Rattle.rds_model.specs.Store.{Holds, due_on}
+use Rattle.rds_msgs.specs.Held.{Held, bytes_of}
+use Rattle.rds_conn.specs.declared.conn.Conn.TheInside.{Inside}
+use Rattle.rds_conn.specs.Keeping.{Keeps, HasRoom, IsCounted, IsLinked, IsReading, IsStored, IsFreed}
+use Rattle.rds_conn.proofs.Held.{holds_all, due_after_open}
+use Rattle.rds_conn.proofs.Untouched.{untouched}
+
+-- a lawful entry makes a whole journal longer
+pub whole_with : (e : Entry) (past : List Entry) → IsWhole past → IsLawful past e → pong_to (e ∷ past) ≡ None → IsWhole (e ∷ past)
+whole_with e past whole lawful settled =
+    record {
+      legal = (subst (λ o. MatchOption o (IsLawful past e) (λ port. IsPong past port e)) (sym whole.settled) lawful, whole.legal);
+      settled = settled;
+    }
+
+-- one entry more takes one of the room
+pub room_once : (e : Entry) (log : Log) (spare : ℕ) (store : Held) (store_spare : ℕ) → 1 ≤ spare → HasRoom log spare store store_spare →
+    HasRoom (record log { past = e ∷ log.past; spare = log.spare - 1 }) (spare - 1) store store_spare
+room_once e log spare store store_spare some room = record {
+  entries = omega (arith, room.entries);
+  within = omega (arith, room.entries, room.within);
+  most = room.most;
+  messages = room.messages;
+}
+
+-- where nothing was taken, no header is faulty
+nothing_clear : (top : ℕ) → IsClear top []
+nothing_clear top h more fits is =
+    absurd (let len = ap length is in let whole = length-header_bytes h fits in omega (arith, len, whole, length-append (header_bytes h) more))
+
+pub reading_nothing : (stream : Option ℕ) (top : ℕ) → IsReading stream top nothing_held
+reading_nothing stream top = record {
+  held = record { waiting = tt; refused = tt; partial = λ _ _. inl (omega arith) };
+  clear = nothing_clear top;
+  still_open = refl;
+  idle = λ _. refl;
+}
+
+pub keeps_open : (c : Inside) (k : ℕ) → Keeps c → 1 ≤ c.spare → open_stream c.journal.past ≡ None → newest_stream c.journal.past < k →
+    Keeps (record c {
+      journal = record c.journal { past = Open k ∷ c.journal.past; spare = c.journal.spare - 1 };
+      spare = c.spare - 1;
+      stream = Some k;
+      mapped = false;
+      asking = record { unasked = 0; bytes = 0; is_asked = false; must_ask = false };
+    })
+keeps_open c k keeps some closed newer =
+    let past : List Entry = c.journal.past in
+    let new = untouched past keeps.whole.legal k newer in
+    record {
+      whole = whole_with (Open k) past keeps.whole (closed, newer) refl;
+      room = room_once (Open k) c.journal c.spare c.store c.store_spare some keeps.room;
+      pong = keeps.pong;
+      stream = refl;
+      counted = record { accepted_is = keeps.counted.accepted_is; highest_is = keeps.counted.highest_is; last_is = keeps.counted.last_is };
+      linked = record {
+        map_is = new.map;
+        asked = record { count = sym (ap length new.unasked); bytes = sym (ap (sum_by (λ (f : Frame). f.header.len)) new.unasked); asked = sym new.asked; must = sym new.must };
+      };
+      reading = record { held = keeps.reading.held; clear = keeps.reading.clear; still_open = keeps.reading.still_open; idle = λ e. cc };
+      stored = record {
+        holds = record {
+          alive = keeps.stored.holds.alive;
+          unpulled = keeps.stored.holds.unpulled ∙ ap (λ o. due_on o past) closed ∙ sym (due_after_open k past new);
+        };
+        marked = keeps.stored.marked;
+        slots_are = keeps.stored.slots_are;
+        few = keeps.stored.few;
+      };
+      freed = record { slots_are = keeps.freed.slots_are; bounded = keeps.freed.bounded };
+    }
+
+-- the end of the open stream, by this entry
+pub keeps_end : (c : Inside) (e : Entry) → Keeps c → 1 ≤ c.spare →
+    IsLawful c.journal.past e → pong_to (e ∷ c.journal.past) ≡ None → open_stream (e ∷ c.journal.past) ≡ None →
+    ((store : Held) → Holds store.messages store.mark c.journal.past → Holds store.messages 0 (e ∷ c.journal.past)) →
+    IsCounted (e ∷ c.journal.past) c.accepted c.highest c.last → accepted (e ∷ c.journal.past) ≡ accepted c.journal.past →
+    Keeps (record c {
+      journal = record c.journal { past = e ∷ c.journal.past; spare = c.journal.spare - 1 };
+      spare = c.spare - 1;
+      stream = None;
+      splitter = nothing_held;
+      store = record c.store { mark = 0 };
+    })
+keeps_end c e keeps some lawful settled ended holds counted same =
+    record {
+      whole = whole_with e c.journal.past keeps.whole lawful settled;
+      room = room_once e c.journal c.spare (record c.store { mark = 0 }) c.store_spare some
+          (record { entries = keeps.room.entries; within = keeps.room.within; most = keeps.room.most; messages = keeps.room.messages });
+      pong = keeps.pong;
+      stream = sym ended;
+      counted = counted;
+      linked = tt;
+      reading = reading_nothing None c.highest;
+      stored = record {
+        holds = holds c.store keeps.stored.holds;
+        marked = omega arith;
+        slots_are = keeps.stored.slots_are;
+        few = keeps.stored.few;
+      };
+      freed = record { slots_are = keeps.freed.slots_are; bounded = subst (λ n. sum c.freed + bytes_of c.store.messages ≤ MAX_LENGTH * n) (sym same) keeps.freed.bounded };
+    }
+
+pub keeps_shut : (c : Inside) (k : ℕ) → Keeps c → 1 ≤ c.spare → open_stream c.journal.past ≡ Some k →
+    Keeps (record c {
+      journal = record c.journal { past = Shut k ∷ c.journal.past; spare = c.journal.spare - 1 };
+      spare = c.spare - 1;
+      stream = None;
+      splitter = nothing_held;
+      store = record c.store { mark = 0 };
+    })
+keeps_shut c k keeps some on =
+    keeps_end c (Shut k) keeps some on refl refl
+    (λ store holds. holds_all (Shut k ∷ c.journal.past) store.messages holds.alive refl)
+    (record { accepted_is = keeps.counted.accepted_is; highest_is = keeps.counted.highest_is; last_is = keeps.counted.last_is }) refl
+
+pub keeps_bad : (c : Inside) (k : ℕ) (h : Header) (fault : Malformed) → Keeps c → 1 ≤ c.spare → IsLawfulBad k c.journal.past h fault →
+    Keeps (record c {
+      journal = record c.journal { past = Bad k h fault ∷ c.journal.past; spare = c.journal.spare - 1 };
+      spare = c.spare - 1;
+      stream = None;
+      splitter = nothing_held;
+      store = record c.store { mark = 0 };
+    })
+keeps_bad c k h fault keeps some lawful =
+    keeps_end c (Bad k h fault) keeps some lawful refl refl
+    (λ store holds. holds_all (Bad k h fault ∷ c.journal.past) store.messages holds.alive refl)
+    (record { accepted_is = keeps.counted.accepted_is; highest_is = keeps.counted.highest_is; last_is = keeps.counted.last_is }) refl

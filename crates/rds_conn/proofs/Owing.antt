@@ -1,0 +1,83 @@
+-- Which frame is owed, in each of its cases.
+use Rattle.std.proofs.Common.{◌≡◌, ◌≢◌, ◌⊎◌, inl, inr, ℕ, zero, suc, ◌+◌, ◌<◌, ◌≤◌, ◌&&◌, ◌||◌, ◌==◌, nat_le, nat_lt, Bool, true, false, cond, Option, Some, None, IsSome, is_some, List, [], ◌∷◌, length, map, drop, sum_by, refl, sym, ◌∙◌, ap, subst, arith}
+use Rattle.std.specs.List.{list_all}
+use Rattle.std.specs.Cmp.Lexicographic.{same_text, other_text}
+use Rattle.std.proofs.lemmas.Bool.{cases_Bool, cond-true, cond-false, false≢true, true_from_ne_false, false_from_ne_true, both_ways, le-leb, leb-true}
+use Rattle.rds_wire.specs.declared.frame.Frame.{Frame}
+use Rattle.rds_model.specs.declared.entry.Entry.{Entry}
+use Rattle.rds_model.specs.declared.entry.Msg.{Msg}
+use Rattle.rds_model.specs.declared.owed.TheConstants.{MAX_UNASKED, MAX_UNASKED_BYTES}
+use Rattle.rds_model.specs.Past.{Accepted, accepted, datagram, highest}
+use Rattle.rds_model.specs.Streams.{was_pulled}
+use Rattle.rds_model.specs.Alive.{is_alive, due}
+use Rattle.rds_model.specs.Owed.{last_map, is_last_map, unasked, is_asked, must_ask, asks_with, map_frame, ack_frame, data_frame, data_owed, owed_behind, owed}
+use Rattle.rds_model.specs.Legal.{IsLegal}
+use Rattle.rds_model.specs.Store.{message}
+use Rattle.rds_conn.specs.declared.asking.Asking.{Asking}
+use Rattle.rds_conn.specs.Asking.{IsAsking}
+use Rattle.rds_conn.specs.Choosing.{IsFirstDue}
+use Rattle.rds_conn.proofs.Bounds.{pulled-highest, highest-pulled}
+use Rattle.rds_conn.proofs.Rising.{Rises, all_first}
+use Rattle.rds_conn.proofs.AliveSteps.{due_rises}
+
+-- a map is the last one exactly where it is the one that was pulled
+pub last_of_pulled : (o : Option (List ℕ)) (map : List ℕ) → o ≡ Some map → is_last_map o map ≡ true
+last_of_pulled None map same = cc
+last_of_pulled (Some last) map same =
+    true_from_ne_false (is_last_map (Some last) map) (λ other. let same_map : last ≡ map = cc in other_text last map (sym other) same_map)
+
+-- a new map is owed
+pub owed_map : (k : ℕ) (past : List Entry) (map : List ℕ) → is_last_map (last_map k past) map ≡ false → owed k past map ≡ Some (map_frame past map)
+owed_map k past map new = cond-false (is_last_map (last_map k past) map) (owed_behind k past (due k past)) (Some (map_frame past map)) new
+
+-- behind the map, the datagram of the least number that is due
+pub owed_data : (k : ℕ) (past : List Entry) (map : List ℕ) (n : ℕ) (rest : List ℕ) (d : Accepted) → is_last_map (last_map k past) map ≡ true →
+    due k past ≡ n ∷ rest → datagram past n ≡ Some d → owed k past map ≡ Some (data_frame k past n d)
+owed_data k past map n rest d last first known =
+    cond-true (is_last_map (last_map k past) map) (owed_behind k past (due k past)) (Some (map_frame past map)) last
+    ∙ ap (owed_behind k past) first ∙ ap (data_owed k past n) known
+
+-- and where none is due, an acknowledgement that is asked for or asks
+pub owed_last : (k : ℕ) (past : List Entry) (map : List ℕ) → is_last_map (last_map k past) map ≡ true → due k past ≡ [] →
+    owed k past map ≡ owed_behind k past []
+owed_last k past map last none =
+    cond-true (is_last_map (last_map k past) map) (owed_behind k past (due k past)) (Some (map_frame past map)) last
+    ∙ ap (owed_behind k past) none
+
+pub owed_ack : (k : ℕ) (past : List Entry) → (is_asked k past || must_ask k past) ≡ true → owed_behind k past [] ≡ Some (ack_frame past (must_ask k past))
+owed_ack k past asked = cond-true (is_asked k past || must_ask k past) (Some (ack_frame past (must_ask k past))) None asked
+
+pub owed_nothing : (k : ℕ) (past : List Entry) → (is_asked k past || must_ask k past) ≡ false → owed_behind k past [] ≡ None
+owed_nothing k past quiet = cond-false (is_asked k past || must_ask k past) (Some (ack_frame past (must_ask k past))) None quiet
+
+-- a number that is alive was pulled before exactly where it isn't above the highest
+pub again_is : (past : List Entry) (n : ℕ) → IsLegal past → is_alive past n ≡ true → nat_le n (highest past) ≡ was_pulled past n
+again_is past n legal alive =
+    elim (cases_Bool (was_pulled past n)) [
+      | inl was ↦ le-leb n (highest past) (pulled-highest past n was) ∙ sym was
+      | inr not_was ↦
+          false_from_ne_true (nat_le n (highest past)) (λ within. both_ways (was_pulled past n) not_was (highest-pulled past legal n alive (leb-true n (highest past) within)))
+          ∙ sym not_was
+    ]
+
+-- the rules by which a datagram asks
+pub asks_is : (k : ℕ) (past : List Entry) (m : Msg) (a : Asking) (d : Accepted) (first : IsFirstDue k past m) → datagram past m.num ≡ Some d →
+    IsAsking k past a →
+    (was_pulled past m.num || ((nat_le MAX_UNASKED a.unasked || nat_lt MAX_UNASKED_BYTES (a.bytes + m.len)) || (length first.rest == 0)))
+    ≡ asks_with k past m.num d
+asks_is k past m a d first known is =
+    let both : Some first.tells.d ≡ Some d = sym first.tells.known ∙ known in
+    let one : first.tells.d ≡ d = cc in
+    let len : m.len ≡ length d.payload = ap (λ (x : Msg). x.len) (subst (λ (x : Accepted). m ≡ message m.num x) one first.tells.is) in
+    let rising = subst (λ (xs : List ℕ). Rises 0 xs (accepted past)) first.first (due_rises k past) in
+    let alone : list_all (λ n. n == m.num) (due k past) ≡ (length first.rest == 0) =
+    ap (list_all (λ n. n == m.num)) first.first ∙ all_first m.num first.rest (accepted past) rising.1 in
+    ap (λ b. was_pulled past m.num || b) (regroup (nat_le MAX_UNASKED a.unasked) (nat_lt MAX_UNASKED_BYTES (a.bytes + m.len)) (length first.rest == 0))
+    ∙ ap (λ n. was_pulled past m.num || (nat_le MAX_UNASKED n || (nat_lt MAX_UNASKED_BYTES (a.bytes + m.len) || (length first.rest == 0)))) is.count
+    ∙ ap (λ n. was_pulled past m.num || (nat_le MAX_UNASKED (length (unasked k past)) || (nat_lt MAX_UNASKED_BYTES (n + m.len) || (length first.rest == 0)))) is.bytes
+    ∙ ap (λ n. was_pulled past m.num || (nat_le MAX_UNASKED (length (unasked k past)) || (nat_lt MAX_UNASKED_BYTES (sum_by (λ (f : Frame). f.header.len) (unasked k past) + n) || (length first.rest == 0)))) len
+    ∙ ap (λ b. was_pulled past m.num || (nat_le MAX_UNASKED (length (unasked k past)) || (nat_lt MAX_UNASKED_BYTES (sum_by (λ (f : Frame). f.header.len) (unasked k past) + length d.payload) || b))) (sym alone)
+  where
+    regroup : (a b c : Bool) → (a || b) || c ≡ a || (b || c)
+    regroup true b c = refl
+    regroup false b c = refl

@@ -1,0 +1,44 @@
+use Rattle.std.proofs.Common.{◌≤◌, ◌<◌, ap, ◌∙◌, sym, arith}
+use Rattle.rds_conn.specs.Connection.{Connection}
+use Rattle.rds_conn.proofs.KeepsOrders.{keeps_send, takes_message}
+use Rattle.rds_conn.proofs.GoneBytes.{gone_after_accept}
+use Rattle.rds_conn.proofs.conn.Conn.send.Goals as goal
+
+pub overflow_add-self : goal.overflow_add-self
+overflow_add-self c =
+    let spare = ap (λ (v : Connection). v.log.spare) c.self.view_is in
+    let takes = takes_message c.self.inside c.self.invariant (omega (arith, spare, c.requires.ready.entries)) in
+    omega (arith, takes.fits)
+
+pub accept-requires-clause-few : goal.accept-requires-clause-few
+accept-requires-clause-few c =
+    let spare = ap (λ (v : Connection). v.log.spare) c.self.view_is in
+    (takes_message c.self.inside c.self.invariant (omega (arith, spare, c.requires.ready.entries))).few
+
+pub accept-requires-clause-above : goal.accept-requires-clause-above
+accept-requires-clause-above c =
+    let spare = ap (λ (v : Connection). v.log.spare) c.self.view_is in
+    (takes_message c.self.inside c.self.invariant (omega (arith, spare, c.requires.ready.entries))).above
+
+pub invariant_of-self : goal.invariant_of-self
+invariant_of-self c =
+    let spare = ap (λ (v : Connection). v.log.spare) c.self.view_is in
+    let store_spare = ap (λ (v : Connection). v.store_spare) c.self.view_is in
+    let slots = ap (λ (v : Connection). v.slots) c.self.view_is in
+    let few = c.self.invariant.stored.few in
+    let takes = takes_message c.self.inside c.self.invariant (omega (arith, spare, c.requires.ready.entries)) in
+    rw (c.accept.ensures.entry, c.accept.ensures.message)
+    (keeps_send c.self.inside c.args.slot c.args.sport c.args.dport c.args.payload c.self.invariant
+    (omega (arith, spare, c.requires.ready.entries)) (omega (arith, store_spare, c.requires.ready.messages))
+    (record {
+      socket = λ e. omega (arith, e, slots, few, c.requires.slot);
+      sport_fits = omega arith;
+      dport_fits = omega arith;
+      payload_fits = c.requires.fits;
+      number_fits = takes.number;
+    }))
+
+pub returns-clause-gone : goal.returns-clause-gone
+returns-clause-gone c =
+    rw (← c.self.view_is, c.accept.ensures.entry)
+    (λ s. gone_after_accept s c.args.slot c.args.sport c.args.dport c.args.payload c.self.inside.journal.past c.self.invariant.whole.legal)

@@ -1,0 +1,36 @@
+-- Freed bytes, counted for each slot until they are handed out. Source: this project's own.
+use Rattle.std.specs.Prelude.{◌≡◌, ℕ, ◌+◌, ◌-◌, ◌<◌, ◌≤◌, ◌==◌, nat_lt, List, length, take, filter, sum, sum_by, slice_index, slice_set}
+use Rattle.rds_wire.specs.declared.kind.TheConstants.{MAX_LENGTH}
+use Rattle.rds_model.specs.declared.entry.Msg.{Msg}
+use Rattle.rds_msgs.specs.Held.{Held, bytes_of}
+use Rattle.rds_conn.specs.declared.freed.Freed.{Freed}
+
+-- more bytes of a slot are freed; a slot past the last has none
+abbrev pub with_freed : ℕ → ℕ → List ℕ → List ℕ
+with_freed slot bytes freed = slice_set freed slot (slice_index freed slot + bytes)
+
+-- bytes of a slot are handed out, at most those of one datagram; those of the others stay
+pub record HandsOut (old new : List ℕ) (f : Freed) : Type 0 where
+  pub slot_is : f.slot < length old
+  pub some : 0 < f.bytes
+  pub one : f.bytes ≤ MAX_LENGTH
+  pub held : f.bytes ≤ slice_index old f.slot
+  pub rest : new ≡ slice_set old f.slot (slice_index old f.slot - f.bytes)
+
+-- the bytes of the messages of a slot
+abbrev pub left_bytes : ℕ → List Msg → ℕ
+left_bytes slot messages = sum_by (λ (m : Msg). m.len) (filter (λ (m : Msg). m.slot == slot) messages)
+
+-- the store without the messages up to an acknowledged number
+abbrev pub acknowledged : ℕ → Held → Held
+acknowledged upto h = record h {
+  messages = filter (λ (m : Msg). nat_lt upto m.num) h.messages;
+  mark = length (filter (λ (m : Msg). nat_lt upto m.num) (take h.mark h.messages));
+}
+
+-- what left the store is freed: for each slot its bytes, and no more in all
+pub record Frees (store_old store_new : Held) (freed_old freed_new : List ℕ) : Type 0 where
+  pub slots : length freed_new ≡ length freed_old
+  pub each : (slot : ℕ) → slot < length freed_old →
+      slice_index freed_new slot + left_bytes slot store_new.messages ≡ slice_index freed_old slot + left_bytes slot store_old.messages
+  pub all : sum freed_new + bytes_of store_new.messages ≤ sum freed_old + bytes_of store_old.messages

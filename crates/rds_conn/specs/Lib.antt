@@ -1,0 +1,11 @@
+pub mod Connection
+pub mod Orders
+pub mod Readying
+pub mod Freeing
+pub mod Gone
+pub mod Asking
+pub mod Choosing
+pub mod Pulling
+pub mod Feeding
+pub mod Passing
+pub mod Keeping

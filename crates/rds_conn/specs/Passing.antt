@@ -1,0 +1,54 @@
+-- What the passing of a frame does. Source: this project's own; port 0 as in rds(7).
+use Rattle.std.specs.Prelude.{◌≡◌, ℕ, ◌<◌, Option, Some, None, List, [], ◌∷◌, ◌++◌}
+use Rattle.rds_wire.specs.declared.frame.Frame.{Frame}
+use Rattle.rds_model.specs.declared.entry.Entry.{Entry}
+use Rattle.rds_model.specs.declared.entry.Entry.TheVariants.{Accept, Read}
+use Rattle.rds_model.specs.declared.entry.TheConstants.{NO_SLOT}
+use Rattle.rds_model.specs.declared.entry.Outcome.{Outcome}
+use Rattle.rds_model.specs.declared.entry.Outcome.TheVariants as outcome
+use Rattle.rds_model.specs.declared.entry.Verdict.{Verdict}
+use Rattle.rds_model.specs.declared.entry.Verdict.TheVariants as verdict
+use Rattle.rds_model.specs.Legal.{pong_for}
+use Rattle.rds_conn.specs.declared.conn.Found.{Found}
+use Rattle.rds_conn.specs.declared.conn.Found.TheVariants as found
+
+-- a datagram's port was looked up: the socket of a slot holds it, or none
+abbrev pub IsLookedUp : ℕ → Found → Type 0
+IsLookedUp slots (found.Slot slot) = slot < slots
+IsLookedUp slots found.NoSocket = Unit {0}
+IsLookedUp slots found.Unasked = ⊥
+
+-- the answer fits the verdict: the port is looked up exactly where the frame is to be delivered
+abbrev pub Matches : ℕ → Verdict → Found → Type 0
+Matches slots (verdict.Deliver dport) came = IsLookedUp slots came
+Matches slots verdict.Old came = came ≡ found.Unasked
+Matches slots verdict.Ping came = came ≡ found.Unasked
+Matches slots verdict.Void came = came ≡ found.Unasked
+Matches slots verdict.AckOnly came = came ≡ found.Unasked
+Matches slots verdict.Map came = came ≡ found.Unasked
+Matches slots verdict.OddMap came = came ≡ found.Unasked
+
+-- the outcome of a datagram's look-up
+abbrev pub delivery_of : Found → Outcome
+delivery_of (found.Slot slot) = outcome.Slot slot
+delivery_of found.NoSocket = outcome.NoSocket
+delivery_of found.Unasked = outcome.NoSocket
+
+-- what becomes of a frame with this verdict
+abbrev pub outcome_of : Verdict → Found → Outcome
+outcome_of (verdict.Deliver dport) came = delivery_of came
+outcome_of verdict.Old came = outcome.Old
+outcome_of verdict.Ping came = outcome.Ping
+outcome_of verdict.Void came = outcome.Void
+outcome_of verdict.AckOnly came = outcome.AckOnly
+outcome_of verdict.Map came = outcome.Map
+outcome_of verdict.OddMap came = outcome.OddMap
+
+-- the pong to a port, if one is owed
+abbrev pub pong : Option ℕ → List Entry
+pong None = []
+pong (Some port) = Accept NO_SLOT 0 port [] ∷ []
+
+-- the entries of a frame that is read, the newest first: the reading, and behind a ping its pong
+abbrev pub read_entries : ℕ → Frame → Outcome → List Entry
+read_entries k f came = pong (pong_for came f.header.sport) ++ Read k f came ∷ []

@@ -1,0 +1,283 @@
+ghost use Rattle.std.specs.Prelude.{◌≡◌, ◌≢◌, ℕ, ◌+◌, ◌<◌, ◌≤◌, ◌↔◌, [], false, None, IfOk, OnOk, OnErr, IfErr, IfSome, IfNone, IsNone, IsSome, length, sum, replicate, filter, slice_index};
+ghost use Rattle.rds_conn.specs.declared.conn.ConnError.TheVariants as errors;
+ghost use Rattle.rds_conn.specs.Readying.{unready_as};
+
+use crate::asking::Asking;
+use crate::freed::{Freed, FreedBytes};
+use rds_cong::PortMap;
+use rds_frame::Splitter;
+use rds_model::{Journal, JournalError, Target};
+use rds_msgs::Store;
+use rds_wire::{Malformed, Memory, Payload};
+use std::alloc::Global;
+use std::marker::Model;
+
+mod feed;
+mod order;
+mod pull;
+mod read;
+mod streams;
+
+/// Why a call on a connection did nothing, or ended its stream.
+#[derive(Clone, Copy, Debug, PartialEq, Eq)]
+pub enum ConnError {
+    Memory,
+    /// A malformed header came, which ended the stream.
+    Malformed(Malformed),
+    /// The journal has this many entries, and two more would pass its limit.
+    Spent { entries: u32 },
+    /// No stream is open.
+    Closed,
+}
+
+impl From<Memory> for ConnError {
+    ghost from_gives = { λ _ e. e ≡ errors.Memory };
+
+    fn from(_error: Memory) -> ConnError {
+        ConnError::Memory
+    }
+}
+
+/// Which frame was pulled, or why none was.
+#[derive(Clone, Copy, Debug, PartialEq, Eq)]
+pub enum Pulled {
+    Data,
+    Ack,
+    Map,
+    /// No frame is owed.
+    Nothing,
+    /// No stream is open.
+    Down,
+}
+
+/// What a connection took of a piece of the stream.
+#[derive(Clone, Copy, Debug, PartialEq, Eq)]
+pub struct Fed {
+    /// How many bytes, from the front.
+    pub used: usize,
+    /// Whether a whole frame waits.
+    pub waiting: bool,
+}
+
+/// What the port table says of a datagram's port.
+#[derive(Clone, Copy, Debug, PartialEq, Eq)]
+pub enum Found {
+    /// The socket of this slot holds it.
+    Slot(u16),
+    /// No socket holds it.
+    NoSocket,
+    /// The frame isn't to be delivered, so nothing was looked up.
+    Unasked,
+}
+
+/// A connection with a peer, as one host sees it. Contracts see its journal, what is ready for the next call, and what
+/// was taken of the open stream.
+#[derive(Drop)]
+pub struct Conn {
+    alloc: Global,
+    me: u32,
+    peer: u32,
+    slots: u16,
+    journal: Journal,
+    store: Store,
+    splitter: Splitter,
+    freed: FreedBytes,
+    // What `reserve` has made ready: room for entries and messages, and the payload of a pong.
+    spare: u32,
+    store_spare: u32,
+    pong: Option<Payload>,
+    // The open stream, whether a map was pulled on it and which was the last, and what was asked on it.
+    stream: Option<u32>,
+    mapped: bool,
+    map: PortMap,
+    asking: Asking,
+    // How many datagrams were accepted, the highest number pulled, and the last passed.
+    accepted: u64,
+    highest: u64,
+    last: u64,
+}
+
+impl Model for Conn {
+    ghost use Rattle.rds_conn.specs.Connection.{Connection};
+
+    ghost Value = { Connection };
+
+    ghost use Rattle.rds_conn.specs.Keeping.{Keeps, seen};
+
+    ghost view = { seen };
+
+    ghost invariant = { Keeps };
+}
+
+impl Conn {
+    ghost use Rattle.rds_model.specs.Alive.{alive_numbers, covers};
+    ghost use Rattle.rds_model.specs.Past.{datagram, highest, last_passed};
+    ghost use Rattle.rds_model.specs.Legal.{IsWhole};
+    ghost use Rattle.rds_frame.specs.Splitting.{IsSound};
+    ghost use Rattle.rds_wire.specs.declared.kind.Malformed.{Malformed};
+    ghost use Rattle.rds_model.specs.Reading.{max_slots};
+    ghost use Rattle.rds_model.specs.declared.journal.TheConstants.{MIN_ENTRIES, MAX_ENTRIES};
+    ghost use Rattle.rds_conn.specs.Connection.{readied, stream_of};
+    ghost use Rattle.rds_conn.specs.Freeing.{HandsOut};
+
+    /// A connection of the host `me` with `peer`, both IPv4 addresses: an empty journal of at most `limit` entries, and
+    /// no stream.
+    pub fn new(alloc: Global, me: u32, peer: u32, slots: u16, limit: u32) -> Result<Conn, Memory>
+        requires slots { slots ≤ max_slots }
+        requires least { MIN_ENTRIES ≤ limit }
+        requires most { limit ≤ MAX_ENTRIES }
+        ensures empty { IfOk result (λ c. c ≡ record {
+          me = me;
+          peer = peer;
+          slots = slots;
+          log = record { past = []; spare = 0; limit = limit };
+          store_spare = 0;
+          has_pong = false;
+          waiting = None;
+          rest = [];
+          freed = replicate slots 0;
+        }) }
+    {
+        Ok(Conn {
+            alloc,
+            me,
+            peer,
+            slots,
+            journal: Journal::new(alloc, limit)?,
+            store: Store::new(alloc, slots)?,
+            splitter: Splitter::new(alloc)?,
+            freed: FreedBytes::new(alloc, slots)?,
+            spare: 0,
+            store_spare: 0,
+            pong: None,
+            stream: None,
+            mapped: false,
+            map: PortMap::new(alloc)?,
+            asking: Asking::new(),
+            accepted: 0,
+            highest: 0,
+            last: 0,
+        })
+    }
+
+    /// Makes the connection ready for one more call: room for two entries and a message, and the payload of a pong.
+    pub fn reserve(&mut self) -> Result<(), ConnError>
+        ensures ok { OnOk result (self.new ≡ readied self.old) }
+        ensures err { OnErr result (self.new ≡ self.old) }
+        ensures spent { (entries : ℕ) → result ≡ Err (errors.Spent entries) →
+            (entries ≡ length self.old.log.past) × (self.old.log.limit < length self.old.log.past + 2) }
+        ensures full { self.old.log.limit < length self.old.log.past + 2 → result ≡ Err (errors.Spent (length self.old.log.past)) }
+        ensures closed { result ≢ Err errors.Closed }
+        ensures malformed { (fault : Malformed) → result ≢ Err (errors.Malformed fault) }
+    {
+        match self.journal.reserve(2) {
+            Ok(()) => {}
+            Err(error) => return Err(unready(error)),
+        }
+        if self.store.reserve(1).is_err() {
+            return Err(ConnError::Memory);
+        }
+        if keep_pong(self.alloc, &mut self.pong).is_err() {
+            return Err(ConnError::Memory);
+        }
+        self.spare = self.spare.max(2);
+        self.store_spare = self.store_spare.max(1);
+        Ok(())
+    }
+
+    /// What every connection keeps.
+    pub fn known(&self)
+        ensures whole { IsWhole self.now.log.past }
+        ensures room { length self.now.log.past + self.now.log.spare ≤ self.now.log.limit }
+        ensures limit { self.now.log.limit ≤ MAX_ENTRIES }
+        ensures slots { self.now.slots ≤ max_slots }
+        ensures freed { length self.now.freed ≡ self.now.slots }
+        ensures idle { stream_of self.now ≡ None → (self.now.waiting ≡ None) × (self.now.rest ≡ []) }
+        ensures sound { IfSome self.now.waiting (IsSound (highest self.now.log.past)) }
+        ensures alone { IfSome self.now.waiting (λ f. self.now.rest ≡ []) }
+    {
+        let _ = &self.slots;
+    }
+
+    /// The numbers that such a cancellation would take back now, ascending.
+    pub fn covered(&self, slot: u16, target: &Target, out: &mut Vec<u64>) -> Result<(), Memory>
+        ensures ok { OnOk result (out.new.items ≡
+            filter (λ n. covers slot target.now (datagram self.now.log.past n)) (alive_numbers self.now.log.past)) }
+        ensures err { OnErr result (out.new.items ≡ out.old.items) }
+    {
+        self.store.covered(slot, target, out)
+    }
+
+    /// Takes out freed bytes of one socket, at most those of one datagram.
+    pub fn take_freed(&mut self) -> Option<Freed>
+        ensures none { IsNone result ↔ (sum self.old.freed ≡ 0) }
+        ensures some { IfSome result (HandsOut self.old.freed self.new.freed) }
+        ensures same { IfNone result (self.new ≡ self.old) }
+        ensures rest { self.new ≡ record self.old { freed = self.new.freed } }
+    {
+        self.freed.take()
+    }
+
+    pub fn journal(&self) -> &Journal
+        ensures past { result.now.past ≡ self.now.log.past }
+        ensures limit { result.now.limit ≡ self.now.log.limit }
+    {
+        &self.journal
+    }
+
+    /// The open stream.
+    pub fn stream(&self) -> Option<u32>
+        ensures { result ≡ stream_of self.now }
+    {
+        self.stream
+    }
+
+    /// The highest number that was ever pulled, or 0.
+    pub fn highest(&self) -> u64
+        ensures { result ≡ highest self.now.log.past }
+    {
+        self.highest
+    }
+
+    /// The number of the last passed datagram, or 0.
+    pub fn last_passed(&self) -> u64
+        ensures { result ≡ last_passed self.now.log.past }
+    {
+        self.last
+    }
+
+    /// How many accepted datagrams are neither acknowledged nor taken back.
+    pub fn unacked(&self) -> u32
+        ensures { result ≡ length (alive_numbers self.now.log.past) }
+    {
+        self.store.len()
+    }
+
+    pub fn into_journal(self) -> Journal
+        ensures past { result.past ≡ self.log.past }
+        ensures limit { result.limit ≡ self.log.limit }
+    {
+        self.journal
+    }
+}
+
+fn unready(error: JournalError) -> ConnError
+    ensures { result ≡ unready_as error }
+{
+    match error {
+        JournalError::Memory => ConnError::Memory,
+        JournalError::Spent { entries } => ConnError::Spent { entries },
+    }
+}
+
+// Makes the empty payload of a pong, if there is none yet.
+fn keep_pong(alloc: Global, pong: &mut Option<Payload>) -> Result<(), Memory>
+    ensures ok { OnOk result (IsSome pong.new) }
+    ensures err { OnErr result (pong.new ≡ pong.old) }
+    ensures empty { IfSome pong.old (λ bytes. bytes ≡ []) → IfSome pong.new (λ bytes. bytes ≡ []) }
+{
+    if pong.is_none() {
+        *pong = Some(Payload::copy_of(alloc, &[])?);
+    }
+    Ok(())
+}

@@ -1,0 +1,152 @@
+ghost use Rattle.std.specs.Prelude.{◌≡◌, ◌≢◌, ℕ, ◌+◌, ◌-◌, ◌<◌, ◌≤◌, ◌^◌, None, Some, [], ◌∷◌, IsSome, IfSome, false, length, sum};
+ghost use Rattle.std.specs.Option.{option_map, option_copied};
+ghost use Rattle.rds_wire.specs.declared.frame.Frame.{Frame};
+ghost use Rattle.rds_model.specs.declared.entry.Entry.TheVariants as entry;
+ghost use Rattle.rds_model.specs.declared.entry.Outcome.TheVariants as outcomes;
+ghost use Rattle.rds_model.specs.declared.entry.Verdict.TheVariants as verdict;
+ghost use Rattle.rds_model.specs.Legal.{pong_for};
+ghost use Rattle.rds_model.specs.Reading.{verdict_of as verdict_after, Obeys};
+ghost use Rattle.rds_msgs.specs.Held.{bytes_of};
+ghost use Rattle.rds_conn.specs.Connection.{IsReady, held, logged, stream_of};
+ghost use Rattle.rds_conn.specs.Freeing.{Frees, acknowledged};
+ghost use Rattle.rds_conn.specs.Gone.{gone};
+ghost use Rattle.rds_conn.specs.Passing.{Matches, outcome_of as outcome_after, read_entries};
+
+use super::order::accept;
+use super::{Conn, Found};
+use crate::freed::FreedBytes;
+use crate::verdict::{outcome_of, passed_after, verdict_of};
+use rds_model::{Entry, NO_SLOT, Outcome, Verdict};
+use rds_msgs::{Steps, Store};
+use rds_wire::Frame;
+use std::sync::ledger::Ledger;
+
+impl Conn {
+    /// The whole frame that was read and isn't passed.
+    pub fn waiting(&self) -> Option<&Frame>
+        ensures { option_copied result ≡ self.now.waiting }
+    {
+        self.splitter.ready()
+    }
+
+    /// What has to become of the frame that waits.
+    pub fn verdict(&self) -> Option<Verdict>
+        ensures { result ≡ option_map (λ (f : Frame). verdict_after self.now.log.past f.header) self.now.waiting }
+    {
+        match self.splitter.ready() {
+            Some(frame) => Some(verdict_of(self.last, &frame.header)),
+            None => None,
+        }
+    }
+
+    /// Passes the frame that waits, with what the port table says of its port.
+    pub fn pass<L: Ledger>(&mut self, found: Found, steps: &mut Steps<L>)
+        requires ready { IsReady self.old }
+        requires waiting { IsSome self.old.waiting }
+        requires found { IfSome self.old.waiting (λ f. Matches self.old.slots (verdict_after self.old.log.past f.header) found) }
+        ensures entry { (k : ℕ) (f : Frame) → stream_of self.old ≡ Some k → self.old.waiting ≡ Some f →
+            self.new ≡ record (logged (read_entries k f (outcome_after (verdict_after self.old.log.past f.header) found)) self.old)
+            { waiting = None; store_spare = self.new.store_spare; has_pong = self.new.has_pong; freed = self.new.freed } }
+        ensures freed { (slot : ℕ) → slot < self.old.slots →
+            held slot self.new + gone slot self.old.log.past ≡ held slot self.old + gone slot self.new.log.past }
+        ensures on { IsSome (stream_of self.old) }
+    {
+        self.known();
+        let Some(verdict) = self.verdict() else {
+            unreachable!()
+        };
+        match verdict {
+            Verdict::Ping => self.pass_ping(steps),
+            _ => self.pass_as(outcome_of(verdict, found), steps),
+        }
+    }
+
+    fn pass_as<L: Ledger>(&mut self, outcome: Outcome, steps: &mut Steps<L>)
+        requires ready { IsReady self.old }
+        requires waiting { IsSome self.old.waiting }
+        requires lawful { IfSome self.old.waiting (λ f. Obeys (verdict_after self.old.log.past f.header) outcome) }
+        requires no_pong { (port : ℕ) → pong_for outcome port ≡ None }
+        ensures entry { (k : ℕ) (f : Frame) → stream_of self.old ≡ Some k → self.old.waiting ≡ Some f →
+            self.new ≡ record (logged (entry.Read k f outcome ∷ []) self.old) { waiting = None; freed = self.new.freed } }
+        ensures freed { (slot : ℕ) → slot < self.old.slots →
+            held slot self.new + gone slot self.old.log.past ≡ held slot self.old + gone slot self.new.log.past }
+        ensures on { IsSome (stream_of self.old) }
+    {
+        let Some(stream) = self.stream else {
+            unreachable!()
+        };
+        let Some(frame) = self.splitter.done() else {
+            unreachable!()
+        };
+        let header = frame.header;
+        self.journal.push(Entry::Read {
+            stream,
+            frame,
+            outcome,
+        });
+        self.spare -= 1;
+        self.last = passed_after(self.last, header.sequence, outcome);
+        self.asking = self.asking.after_read(&header);
+        acknowledge(&mut self.store, &mut self.freed, header.ack, steps);
+    }
+
+    fn pass_ping<L: Ledger>(&mut self, steps: &mut Steps<L>)
+        requires ready { IsReady self.old }
+        requires waiting { IfSome self.old.waiting (λ f. verdict_after self.old.log.past f.header ≡ verdict.Ping) }
+        requires one { IsSome self.old.waiting }
+        ensures entry { (k : ℕ) (f : Frame) → stream_of self.old ≡ Some k → self.old.waiting ≡ Some f →
+            self.new ≡ record (logged (read_entries k f outcomes.Ping) self.old)
+            { waiting = None; store_spare = self.old.store_spare - 1; has_pong = false; freed = self.new.freed } }
+        ensures freed { (slot : ℕ) → slot < self.old.slots →
+            held slot self.new + gone slot self.old.log.past ≡ held slot self.old + gone slot self.new.log.past }
+        ensures on { IsSome (stream_of self.old) }
+    {
+        let Some(stream) = self.stream else {
+            unreachable!()
+        };
+        let Some(frame) = self.splitter.done() else {
+            unreachable!()
+        };
+        let Some(pong) = self.pong.take() else {
+            unreachable!()
+        };
+        let header = frame.header;
+        self.journal.push(Entry::Read {
+            stream,
+            frame,
+            outcome: Outcome::Ping,
+        });
+        self.last = header.sequence;
+        self.asking = self.asking.after_read(&header);
+        acknowledge(&mut self.store, &mut self.freed, header.ack, steps);
+        self.accepted += 1;
+        accept(
+            &mut self.journal,
+            &mut self.store,
+            self.accepted,
+            NO_SLOT,
+            0,
+            header.sport,
+            pong,
+        );
+        self.spare -= 2;
+        self.store_spare -= 1;
+    }
+}
+
+// Frees the messages up to an acknowledged number.
+fn acknowledge<L: Ledger>(
+    store: &mut Store,
+    freed: &mut FreedBytes,
+    upto: u64,
+    steps: &mut Steps<L>,
+)
+    requires marked { store.old.mark ≤ length store.old.messages }
+    requires fits { sum freed.old + bytes_of store.old.messages < 2 ^ 64 }
+    ensures store { store.new ≡ acknowledged upto store.old }
+    ensures freed { Frees store.old store.new freed.old freed.new }
+{
+    while let Some(msg) = store.pop_acked(upto, steps) {
+        freed.add(msg.slot, u64::from(msg.len));
+    }
+}

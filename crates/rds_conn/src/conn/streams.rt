@@ -1,0 +1,41 @@
+ghost use Rattle.std.specs.Prelude.{◌≡◌, ◌<◌, [], ◌∷◌, None, IsSome, IfSome};
+ghost use Rattle.rds_model.specs.declared.entry.Entry.TheVariants as entry;
+ghost use Rattle.rds_model.specs.Past.{newest_stream};
+ghost use Rattle.rds_conn.specs.Connection.{IsReady, logged, stream_of};
+
+use super::Conn;
+use crate::asking::Asking;
+use rds_model::Entry;
+
+impl Conn {
+    /// A stream was opened. Its number is above those before it.
+    pub fn open(&mut self, stream: u32)
+        requires ready { IsReady self.old }
+        requires closed { stream_of self.old ≡ None }
+        requires newer { newest_stream self.old.log.past < stream }
+        ensures { self.new ≡ logged (entry.Open stream ∷ []) self.old }
+    {
+        self.journal.push(Entry::Open { stream });
+        self.spare -= 1;
+        self.stream = Some(stream);
+        self.mapped = false;
+        self.asking = Asking::new();
+    }
+
+    /// The open stream is shut. What was taken of it and isn't passed is given up.
+    pub fn shut(&mut self)
+        requires ready { IsReady self.old }
+        requires on { IsSome (stream_of self.old) }
+        ensures { IfSome (stream_of self.old) (λ k. self.new ≡
+            record (logged (entry.Shut k ∷ []) self.old) { waiting = None; rest = [] }) }
+    {
+        let Some(stream) = self.stream else {
+            return;
+        };
+        self.journal.push(Entry::Shut { stream });
+        self.spare -= 1;
+        self.stream = None;
+        self.splitter.wipe();
+        self.store.reset();
+    }
+}

@@ -1,0 +1,89 @@
+ghost use Rattle.std.specs.Prelude.{◌≡◌, ◌↔◌, ℕ, ◌+◌, ◌-◌, ◌<◌, ◌≤◌, ◌^◌, length, replicate, sum, slice_index, slice_set, IfOk, IfSome, IfNone, IsNone};
+ghost use Rattle.rds_wire.specs.declared.kind.TheConstants.{MAX_LENGTH as most};
+ghost use Rattle.rds_conn.specs.Freeing.{with_freed, HandsOut};
+
+use rds_wire::{MAX_LENGTH, Memory};
+use std::alloc::Global;
+use std::marker::Model;
+
+/// Bytes of one socket's datagrams that were acknowledged or taken back.
+#[derive(Clone, Copy, Debug, PartialEq, Eq)]
+pub struct Freed {
+    pub slot: u16,
+    /// 1 to 1,048,576.
+    pub bytes: u64,
+}
+
+/// For each slot the freed bytes that weren't handed out.
+#[derive(Drop)]
+pub(crate) struct FreedBytes {
+    bytes: Vec<u64>,
+    total: u64,
+}
+
+impl Model for FreedBytes {
+    ghost use Rattle.std.specs.Prelude.{◌≡◌, ◌≤◌, List, ℕ, length, sum};
+
+    ghost Value = { List ℕ };
+
+    ghost view = { λ f. f.bytes.items };
+
+    ghost invariant = { λ f. (f.total ≡ sum f.bytes.items) × (length f.bytes.items ≤ 65535) };
+}
+
+impl FreedBytes {
+    /// None, for slots below `slots`.
+    pub(crate) fn new(alloc: Global, slots: u16) -> Result<FreedBytes, Memory>
+        ensures { IfOk result (λ f. f ≡ replicate slots 0) }
+    {
+        Ok(FreedBytes {
+            bytes: vec![in alloc; 0; usize::from(slots)]?,
+            total: 0,
+        })
+    }
+
+    /// Adds bytes of a slot, where the slot is one of these.
+    pub(crate) fn add(&mut self, slot: u16, bytes: u64)
+        requires { sum self.old + bytes < 2 ^ 64 }
+        ensures { self.new ≡ with_freed slot bytes self.old }
+    {
+        let slot = usize::from(slot);
+        if slot < self.bytes.len() {
+            self.bytes[slot] += bytes;
+            self.total += bytes;
+        }
+    }
+
+    /// Takes out bytes of the lowest slot that has any, at most those of one datagram.
+    pub(crate) fn take(&mut self) -> Option<Freed>
+        ensures none { IsNone result ↔ (sum self.old ≡ 0) }
+        ensures some { IfSome result (HandsOut self.old self.new) }
+        ensures same { IfNone result (self.new ≡ self.old) }
+    {
+        if self.total == 0 {
+            return None;
+        }
+        let slot = first_with_any(&self.bytes);
+        let bytes = self.bytes[slot].min(u64::from(MAX_LENGTH));
+        self.bytes[slot] -= bytes;
+        self.total -= bytes;
+        Some(Freed {
+            slot: slot as u16,
+            bytes,
+        })
+    }
+}
+
+// The lowest slot that has bytes.
+fn first_with_any(bytes: &[u64]) -> usize
+    requires { 0 < sum bytes.now }
+    ensures slot { result < length bytes.now }
+    ensures any { 0 < slice_index bytes.now result }
+{
+    for (slot, bytes) in bytes.iter().enumerate() {
+        if *bytes > 0 {
+            return slot;
+        }
+    }
+    unreachable!()
+}
