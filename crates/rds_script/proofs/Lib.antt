@@ -1,3 +1,17 @@
 pub mod Words
 pub mod Lines
 pub mod Numbers
+pub mod Steps
+pub mod Binds
+pub mod WordLemmas
+pub mod PayloadLemmas
+pub mod Places
+pub mod NameLemmas
+pub mod Spelled
+pub mod Causes
+pub mod OneLine
+pub mod OneAnswer
+pub mod Keeping
+pub mod WholeText
+pub mod Ranges
+pub mod Answering

@@ -1,5 +1,5 @@
 -- What every script keeps. The ranges are this project's own.
-use Rattle.std.specs.Prelude.{◌≡◌, ◌≢◌, ℕ, [], ◌<◌, ◌≤◌, List, length, All, sum_by}
+use Rattle.std.specs.Prelude.{◌≢◌, ℕ, ◌<◌, ◌≤◌, List, length, All, sum_by}
 use Rattle.rds_script.specs.declared.script.Script.{Script}
 use Rattle.rds_script.specs.declared.script.Placed.{Placed}
 use Rattle.rds_script.specs.declared.script.Command.{Command}
@@ -70,13 +70,6 @@ payload_total commands = sum_by (λ p. payload_len p.command) commands
 -- how many cuts there are
 abbrev pub cut_total : List Placed → ℕ
 cut_total commands = sum_by (λ p. cut_count p.command) commands
-
--- the commands so far, in a script that has 0 hosts before its first
-pub record IsDraft (s : Script) : Type 0 where
-  pub empty : s.hosts ≡ 0 → s.commands.items ≡ []
-  pub low : s.hosts ≢ 0 → 2 ≤ s.hosts
-  pub high : s.hosts ≤ 8
-  pub all : All (λ p. IsCommand s.hosts p.command) s.commands.items
 
 -- a script is in range, all of it
 pub record IsScript (s : Script) : Type 0 where

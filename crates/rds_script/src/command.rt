@@ -1,7 +1,10 @@
 //! A command from the words of its line.
 
-ghost use Rattle.std.specs.Prelude.{◌<◌, ◌≤◌, IfOk};
-ghost use Rattle.rds_script.specs.Script.{IsSocket, IsPair, IsBinding, IsCommand};
+ghost use Rattle.std.specs.Prelude.{◌≡◌, [], ◌∷◌, false};
+ghost use Rattle.rds_script.specs.Text.{words};
+ghost use Rattle.rds_script.specs.Line.{first_of, the_number};
+ghost use Rattle.rds_script.specs.Reading.{Gives, GivesOrMemory, values_at, places_of, command_at, is_hosts};
+ghost use Rattle.rds_script.specs.declared.name.Name.TheVariants as name_;
 
 use crate::fault::Fault;
 use crate::name::Name;
@@ -10,21 +13,24 @@ use crate::place::{host_at, number_at, peer_at, port_at};
 use crate::{Cause, Command};
 use std::alloc::Global;
 
+/// The most bytes that a socket's buffer may have.
 const MAX_BUFFER: u32 = 16_777_216;
 
-/// The command of this name whose other words are these, as many as the name wants.
+/// The command of this name, from the other words of its line, which are as many as the name wants.
+#[tactic(auto, unfolding(crate::specs::Reading::command_at))]
 pub(crate) fn command_of(
     alloc: Global,
     hosts: u8,
     name: Name,
-    words: &[u8],
+    rest: &[u8],
 ) -> Result<Command, Fault>
-    ensures { IfOk result (IsCommand hosts) }
+    requires { is_hosts name ≡ false }
+    ensures { GivesOrMemory (λ c. c) result (command_at hosts name (words rest.now)) }
 {
     match name {
-        Name::Hosts => Err(Fault::Refused(Cause::Command)),
+        Name::Hosts => unreachable!(),
         Name::Bind => {
-            let (host, port, sndbuf, rcvbuf) = binding(hosts, words)?;
+            let (host, port, sndbuf, rcvbuf) = binding(hosts, rest)?;
             Ok(Command::Bind {
                 host,
                 port,
@@ -33,7 +39,7 @@ pub(crate) fn command_of(
             })
         }
         Name::BindAny => {
-            let (host, port, sndbuf, rcvbuf) = binding(hosts, words)?;
+            let (host, port, sndbuf, rcvbuf) = binding(hosts, rest)?;
             Ok(Command::BindAny {
                 host,
                 port,
@@ -41,36 +47,23 @@ pub(crate) fn command_of(
                 rcvbuf,
             })
         }
-        Name::Send => send(alloc, hosts, words),
+        Name::Send => send(alloc, hosts, rest),
         Name::Recv => {
-            let (host, port, _) = socket_at(hosts, words)?;
+            let (host, port) = socket(hosts, rest)?;
             Ok(Command::Recv { host, port })
         }
-        Name::Cancel => {
-            let (host, port, words) = socket_at(hosts, words)?;
-            let (to, dport, _) = socket_at(hosts, words)?;
-            Ok(Command::Cancel {
-                host,
-                port,
-                to,
-                dport,
-            })
-        }
+        Name::Cancel => Ok(cancel(hosts, rest)?),
         Name::Close => {
-            let (host, port, _) = socket_at(hosts, words)?;
+            let (host, port) = socket(hosts, rest)?;
             Ok(Command::Close { host, port })
         }
         Name::Open => {
-            let (host, to, _) = pair_at(hosts, words)?;
+            let (host, to) = pair(hosts, rest)?;
             Ok(Command::Open { host, to })
         }
-        Name::Move => {
-            let (host, to, words) = pair_at(hosts, words)?;
-            let (bytes, _) = number_at(1, u32::MAX, words)?;
-            Ok(Command::Move { host, to, bytes })
-        }
+        Name::Move => Ok(movement(hosts, rest)?),
         Name::Cut => {
-            let (host, to, _) = pair_at(hosts, words)?;
+            let (host, to) = pair(hosts, rest)?;
             Ok(Command::Cut { host, to })
         }
         Name::Drain => Ok(Command::Drain),
@@ -78,40 +71,75 @@ pub(crate) fn command_of(
 }
 
 /// A host and a port.
-fn socket_at(hosts: u8, words: &[u8]) -> Result<(u8, u16, &[u8]), Cause>
-    ensures { IfOk result (λ r. IsSocket hosts r.0 r.1) }
+fn socket(hosts: u8, rest: &[u8]) -> Result<(u8, u16), Cause>
+    ensures { Gives (λ r. the_number r.0 ∷ the_number r.1 ∷ []) result
+        (values_at hosts (first_of (words rest.now)) (places_of name_.Recv) (words rest.now)) }
 {
-    let (host, words) = host_at(hosts, words)?;
-    let (port, words) = port_at(words)?;
-    Ok((host, port, words))
+    let (host, rest) = host_at(hosts, rest)?;
+    let (port, _) = port_at(rest)?;
+    Ok((host, port))
 }
 
 /// A host and another host.
-fn pair_at(hosts: u8, words: &[u8]) -> Result<(u8, u8, &[u8]), Cause>
-    ensures { IfOk result (λ r. IsPair hosts r.0 r.1) }
+fn pair(hosts: u8, rest: &[u8]) -> Result<(u8, u8), Cause>
+    ensures { Gives (λ r. the_number r.0 ∷ the_number r.1 ∷ []) result
+        (values_at hosts (first_of (words rest.now)) (places_of name_.Open) (words rest.now)) }
 {
-    let (host, words) = host_at(hosts, words)?;
-    let (peer, words) = peer_at(hosts, host, words)?;
-    Ok((host, peer, words))
+    let (host, rest) = host_at(hosts, rest)?;
+    let (peer, _) = peer_at(hosts, host, rest)?;
+    Ok((host, peer))
 }
 
 /// A host, a port and the limits of the two buffers.
-fn binding(hosts: u8, words: &[u8]) -> Result<(u8, u16, u32, u32), Cause>
-    ensures { IfOk result (λ r. IsBinding hosts r.0 r.1 r.2 r.3) }
+fn binding(hosts: u8, rest: &[u8]) -> Result<(u8, u16, u32, u32), Cause>
+    ensures { Gives (λ r. the_number r.0 ∷ the_number r.1 ∷ the_number r.2 ∷ the_number r.3 ∷ []) result
+        (values_at hosts (first_of (words rest.now)) (places_of name_.Bind) (words rest.now)) }
 {
-    let (host, port, words) = socket_at(hosts, words)?;
-    let (sndbuf, words) = number_at(1, MAX_BUFFER, words)?;
-    let (rcvbuf, _) = number_at(2, MAX_BUFFER, words)?;
+    let (host, rest) = host_at(hosts, rest)?;
+    let (port, rest) = port_at(rest)?;
+    let (sndbuf, rest) = number_at(1, MAX_BUFFER, rest)?;
+    let (rcvbuf, _) = number_at(2, MAX_BUFFER, rest)?;
     Ok((host, port, sndbuf, rcvbuf))
 }
 
-/// A host and a port, another host and port, and a payload.
-fn send(alloc: Global, hosts: u8, words: &[u8]) -> Result<Command, Fault>
-    ensures { IfOk result (IsCommand hosts) }
+/// A host and a port, and another host and port.
+#[tactic(auto, unfolding(crate::specs::Reading::command_at))]
+fn cancel(hosts: u8, rest: &[u8]) -> Result<Command, Cause>
+    ensures { Gives (λ c. c) result (command_at hosts name_.Cancel (words rest.now)) }
 {
-    let (host, port, words) = socket_at(hosts, words)?;
-    let (to, dport, words) = socket_at(hosts, words)?;
-    let payload = payload_at(alloc, words)?;
+    let (host, rest) = host_at(hosts, rest)?;
+    let (port, rest) = port_at(rest)?;
+    let (to, rest) = host_at(hosts, rest)?;
+    let (dport, _) = port_at(rest)?;
+    Ok(Command::Cancel {
+        host,
+        port,
+        to,
+        dport,
+    })
+}
+
+/// A host, another host and a number of bytes.
+#[tactic(auto, unfolding(crate::specs::Reading::command_at))]
+fn movement(hosts: u8, rest: &[u8]) -> Result<Command, Cause>
+    ensures { Gives (λ c. c) result (command_at hosts name_.Move (words rest.now)) }
+{
+    let (host, rest) = host_at(hosts, rest)?;
+    let (to, rest) = peer_at(hosts, host, rest)?;
+    let (bytes, _) = number_at(1, u32::MAX, rest)?;
+    Ok(Command::Move { host, to, bytes })
+}
+
+/// A host and a port, another host and port, and a payload.
+#[tactic(auto, unfolding(crate::specs::Reading::command_at))]
+fn send(alloc: Global, hosts: u8, rest: &[u8]) -> Result<Command, Fault>
+    ensures { GivesOrMemory (λ c. c) result (command_at hosts name_.Send (words rest.now)) }
+{
+    let (host, rest) = host_at(hosts, rest)?;
+    let (port, rest) = port_at(rest)?;
+    let (to, rest) = host_at(hosts, rest)?;
+    let (dport, rest) = port_at(rest)?;
+    let payload = payload_at(alloc, rest)?;
     Ok(Command::Send {
         host,
         port,

@@ -1,9 +1,9 @@
-ghost use Rattle.std.specs.Prelude.{◌≡◌, ◌≤◌, ◌≢◌};
-ghost use Rattle.rds_script.specs.Script.{IsCommand, IsDraft, payload_len, cut_count, payload_total, cut_total};
+ghost use Rattle.std.specs.Prelude.{◌≡◌, ◌≤◌, ◌∷◌, Ok, MatchResult};
+ghost use Rattle.rds_script.specs.Script.{payload_len, cut_count, payload_total, cut_total};
 
 use crate::command::command_of;
 use crate::fault::Fault;
-use crate::line::{first_word, has_words, is_text_line};
+use crate::line::{first_word, has_words, is_named, is_text_line};
 use crate::name::Name;
 use crate::place::number_at;
 use crate::script::{MAX_CUTS, MAX_TOTAL};
@@ -25,8 +25,14 @@ pub(crate) struct Draft {
 }
 
 impl Draft {
+    ghost use Rattle.std.specs.Prelude.{◌≡◌, Ok, MatchResult, length};
+    ghost use Rattle.rds_script.specs.Text.{words};
+    ghost use Rattle.rds_script.specs.Grammar.{meaning, nothing};
+    ghost use Rattle.rds_script.specs.Reading as reading;
+    ghost use Rattle.rds_script.specs.Reading.{Fails, is_hosts, places_of};
+
     pub(crate) fn new(alloc: Global) -> Draft
-        ensures { IsDraft result.script }
+        ensures { meaning result.script ≡ nothing }
     {
         Draft {
             script: Script {
@@ -39,50 +45,85 @@ impl Draft {
         }
     }
 
-    /// Reads the next line, which has this number.
+    /// Reads the next line, which has this number. After a fault the draft is of no use.
+    #[tactic(auto, unfolding(crate::specs::Reading::line_at))]
     pub(crate) fn read_line(&mut self, alloc: Global, number: u32, line: &[u8]) -> Result<(), Fault>
-        requires { IsDraft self.old.script }
-        ensures { IsDraft self.new.script }
+        ensures { MatchResult result
+            (λ _. reading.line_at (meaning self.old.script) number line.now ≡ Ok (meaning self.new.script))
+            (λ f. Fails f (reading.line_at (meaning self.old.script) number line.now)) }
     {
         if !is_text_line(line) {
             return Err(Fault::Refused(Cause::Text));
         }
-        let (first, words) = first_word(line);
-        if first.is_empty() || first[0] == b'#' {
+        let (word, rest) = first_word(line);
+        if !is_named(word) {
             return Ok(());
         }
-        let Some(name) = Name::of(first) else {
+        let Some(name) = Name::of(word) else {
             return Err(Fault::Refused(Cause::Command));
         };
-        if (name == Name::Hosts) != (self.script.hosts == 0) {
+        self.read_command(alloc, number, name, rest)
+    }
+
+    /// Reads a line that begins with this name and has these other words.
+    #[tactic(auto, unfolding(crate::specs::Reading::counted))]
+    fn read_command(
+        &mut self,
+        alloc: Global,
+        number: u32,
+        name: Name,
+        rest: &[u8],
+    ) -> Result<(), Fault>
+        ensures { MatchResult result
+            (λ _. reading.counted (meaning self.old.script) number name (words rest.now) ≡ Ok (meaning self.new.script))
+            (λ f. Fails f (reading.counted (meaning self.old.script) number name (words rest.now))) }
+    {
+        if name.is_hosts() != (self.script.hosts == 0) {
             return Err(Fault::Refused(Cause::Command));
         }
-        if !has_words(words, name.places()) {
+        if !has_words(rest, name.places()) {
             return Err(Fault::Refused(Cause::Words));
         }
-        if name == Name::Hosts {
-            return Ok(self.read_hosts(number, words)?);
+        self.read_words(alloc, number, name, rest)
+    }
+
+    /// Reads a line with as many words as its name wants.
+    #[tactic(auto, unfolding(crate::specs::Reading::named))]
+    fn read_words(
+        &mut self,
+        alloc: Global,
+        number: u32,
+        name: Name,
+        rest: &[u8],
+    ) -> Result<(), Fault>
+        ensures { MatchResult result
+            (λ _. reading.named (meaning self.old.script) number name (words rest.now) ≡ Ok (meaning self.new.script))
+            (λ f. Fails f (reading.named (meaning self.old.script) number name (words rest.now))) }
+    {
+        if name.is_hosts() {
+            return Ok(self.read_hosts(number, rest)?);
         }
-        let command = command_of(alloc, self.script.hosts, name, words)?;
+        let command = command_of(alloc, self.script.hosts, name, rest)?;
         self.add(number, command)
     }
 
-    fn read_hosts(&mut self, number: u32, words: &[u8]) -> Result<(), Cause>
-        requires known { IsDraft self.old.script }
-        requires none { self.old.script.hosts ≡ 0 }
-        ensures { IsDraft self.new.script }
+    #[tactic(auto, unfolding(crate::specs::Reading::hosts_at))]
+    fn read_hosts(&mut self, number: u32, rest: &[u8]) -> Result<(), Cause>
+        ensures { MatchResult result
+            (λ _. reading.hosts_at (meaning self.old.script) number (words rest.now) ≡ Ok (meaning self.new.script))
+            (λ e. reading.hosts_at (meaning self.old.script) number (words rest.now) ≡ Err e) }
     {
-        let (hosts, _) = number_at(2, 8, words)?;
+        let (hosts, _) = number_at(2, 8, rest)?;
         self.script.hosts = hosts as u8;
         self.script.hosts_line = number;
         Ok(())
     }
 
+    #[tactic(auto, unfolding(crate::specs::Reading::added))]
     fn add(&mut self, number: u32, command: Command) -> Result<(), Fault>
-        requires known { IsDraft self.old.script }
-        requires some { self.old.script.hosts ≢ 0 }
-        requires fits { IsCommand self.old.script.hosts command }
-        ensures { IsDraft self.new.script }
+        ensures { MatchResult result
+            (λ _. reading.added (meaning self.old.script) number command ≡ Ok (meaning self.new.script))
+            (λ f. Fails f (reading.added (meaning self.old.script) number command)) }
     {
         let total = self.total + sent_len(&command);
         if total > MAX_TOTAL {
@@ -102,7 +143,7 @@ impl Draft {
     }
 }
 
-/// The payload bytes that a command sends.
+/// How many payload bytes a command sends.
 fn sent_len(command: &Command) -> u32
     ensures { result ≡ payload_len command.now }
 {
@@ -112,7 +153,7 @@ fn sent_len(command: &Command) -> u32
     }
 }
 
-/// How many cuts a command is.
+/// 1 for a cut, and 0 for any other command.
 fn cuts_of(command: &Command) -> u32
     ensures { result ≡ cut_count command.now }
 {

@@ -5,6 +5,7 @@ ghost use Rattle.std.specs.Prelude.{◌≡◌, ◌+◌, ◌<◌, ◌≤◌, ◌=
 ghost use Rattle.std.specs.List.{list_all, position_or_len, prefix_len, slice_index_or};
 ghost use Rattle.std.specs.Str.Lines.{lines, strip_carriage_return};
 ghost use Rattle.rds_script.specs.Text.{is_blank, is_end, is_text, words};
+ghost use Rattle.rds_script.specs.Line.{is_named as named};
 
 /// The first line of a text that isn't empty, and the text after it.
 pub(crate) fn first_line(text: &[u8]) -> (&[u8], &[u8])
@@ -73,6 +74,13 @@ pub(crate) fn first_word(line: &[u8]) -> (&[u8], &[u8])
 {
     let rest = &line[blanks(line)..];
     rest.split_at(word_end(rest))
+}
+
+/// Whether a first word is one: a line whose first word is empty or begins with # is skipped.
+pub(crate) fn is_named(word: &[u8]) -> bool
+    ensures { result ≡ named word.now }
+{
+    !word.is_empty() && word[0] != b'#'
 }
 
 /// Whether a line has so many words.

@@ -1,3 +1,5 @@
+ghost use Rattle.std.specs.Prelude.{◌≡◌, length};
+
 /// The first word of a line that has a command.
 #[derive(Clone, Copy, Debug, PartialEq, Eq)]
 pub(crate) enum Name {
@@ -15,8 +17,13 @@ pub(crate) enum Name {
 }
 
 impl Name {
+    ghost use Rattle.rds_script.specs.Reading.{name_of, is_hosts, places_of};
+
     /// The name that a word is, if any.
-    pub(crate) fn of(word: &[u8]) -> Option<Name> {
+    #[tactic(auto, unfolding(crate::specs::Reading::name_of))]
+    pub(crate) fn of(word: &[u8]) -> Option<Name>
+        ensures { result ≡ name_of word.now }
+    {
         match word {
             b"hosts" => Some(Name::Hosts),
             b"bind" => Some(Name::Bind),
@@ -33,8 +40,17 @@ impl Name {
         }
     }
 
+    /// Whether it says how many hosts there are.
+    pub(crate) fn is_hosts(self) -> bool
+        ensures { result ≡ is_hosts self }
+    {
+        matches!(self, Name::Hosts)
+    }
+
     /// How many words follow it.
-    pub(crate) fn places(self) -> usize {
+    pub(crate) fn places(self) -> usize
+        ensures { result ≡ length (places_of self) }
+    {
         match self {
             Name::Drain => 0,
             Name::Hosts => 1,

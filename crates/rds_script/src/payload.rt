@@ -1,6 +1,12 @@
 //! The three forms of a payload.
 
-ghost use Rattle.std.specs.Prelude.{◌≡◌, ◌≤◌, length, IfOk};
+ghost use Rattle.std.specs.Prelude.{◌≡◌, drop, Ok};
+ghost use Rattle.rds_script.specs.Text.{words};
+ghost use Rattle.rds_script.specs.Line.{the_bytes};
+ghost use Rattle.rds_script.specs.Reading as reading;
+ghost use Rattle.rds_script.specs.Reading.{GivesOrMemory};
+ghost use Rattle.std.specs.Option.{ok_or};
+ghost use Rattle.rds_script.specs.declared.cause.Cause.TheVariants as cause;
 
 use crate::Cause;
 use crate::fault::Fault;
@@ -8,25 +14,43 @@ use crate::line::first_word;
 use crate::place::number_of;
 use crate::script::MAX_PAYLOAD;
 use hex::FromHexError;
-use rds_wire::{Memory, Payload};
+use rds_wire::Payload;
 use std::alloc::Global;
 
 /// The payload that the first word of a line's rest stands for.
+#[tactic(auto, unfolding(crate::specs::Reading::payload_at))]
 pub(crate) fn payload_at(alloc: Global, line: &[u8]) -> Result<Payload, Fault>
-    ensures { IfOk result (λ p. length p ≤ 2097152) }
+    ensures { GivesOrMemory (λ p. (the_bytes p, drop 1 (words line.now))) result (reading.payload_at (words line.now)) }
 {
     let (word, _) = first_word(line);
+    payload_of(alloc, word)
+}
+
+#[tactic(auto, unfolding(crate::specs::Reading::payload_of))]
+fn payload_of(alloc: Global, word: &[u8]) -> Result<Payload, Fault>
+    ensures { GivesOrMemory (λ p. p) result (ok_or (reading.payload_of word.now) cause.Payload) }
+{
     match word {
-        [b't', b':', text @ ..] => plain(alloc, text),
-        [b'x', b':', digits @ ..] => from_hex(alloc, digits),
-        [b'f', b':', digits @ ..] => counting(alloc, digits),
+        [form, b':', rest @ ..] => formed(alloc, *form, rest),
+        _ => Err(Fault::Refused(Cause::Payload)),
+    }
+}
+
+#[tactic(auto, unfolding(crate::specs::Reading::formed))]
+fn formed(alloc: Global, form: u8, rest: &[u8]) -> Result<Payload, Fault>
+    ensures { GivesOrMemory (λ p. p) result (ok_or (reading.formed form rest.now) cause.Payload) }
+{
+    match form {
+        b't' => plain(alloc, rest),
+        b'x' => hexed(alloc, rest),
+        b'f' => filled(alloc, rest),
         _ => Err(Fault::Refused(Cause::Payload)),
     }
 }
 
 /// The bytes themselves.
 fn plain(alloc: Global, text: &[u8]) -> Result<Payload, Fault>
-    ensures { IfOk result (λ p. length p ≤ 2097152) }
+    ensures { GivesOrMemory (λ p. p) result (ok_or (reading.limited text.now) cause.Payload) }
 {
     if text.len() > MAX_PAYLOAD as usize {
         return Err(Fault::Refused(Cause::Payload));
@@ -35,8 +59,9 @@ fn plain(alloc: Global, text: &[u8]) -> Result<Payload, Fault>
 }
 
 /// A byte for each two hexadecimal digits.
-fn from_hex(alloc: Global, digits: &[u8]) -> Result<Payload, Fault>
-    ensures { IfOk result (λ p. length p ≤ 2097152) }
+#[tactic(auto, unfolding(crate::specs::Reading::hexed))]
+fn hexed(alloc: Global, digits: &[u8]) -> Result<Payload, Fault>
+    ensures { GivesOrMemory (λ p. p) result (ok_or (reading.hexed digits.now) cause.Payload) }
 {
     match hex::decode(alloc, digits) {
         Ok(bytes) => kept(bytes),
@@ -46,17 +71,18 @@ fn from_hex(alloc: Global, digits: &[u8]) -> Result<Payload, Fault>
 }
 
 /// As many bytes as the number says: 0, 1, and so on to 255, and again from 0.
-fn counting(alloc: Global, digits: &[u8]) -> Result<Payload, Fault>
-    ensures { IfOk result (λ p. length p ≤ 2097152) }
+#[tactic(auto, unfolding(crate::specs::Reading::filled))]
+fn filled(alloc: Global, digits: &[u8]) -> Result<Payload, Fault>
+    ensures { GivesOrMemory (λ p. p) result (ok_or (reading.filled digits.now) cause.Payload) }
 {
     match number_of(digits) {
-        Some(count) if count <= u64::from(MAX_PAYLOAD) => kept(counted(alloc, count as u32)?),
+        Some(count) if count <= u64::from(MAX_PAYLOAD) => kept(counting(alloc, count as u32)?),
         _ => Err(Fault::Refused(Cause::Payload)),
     }
 }
 
-fn counted(alloc: Global, count: u32) -> Result<Vec<u8>, Fault>
-    ensures { IfOk result (λ v. length v.items ≡ count) }
+fn counting(alloc: Global, count: u32) -> Result<Vec<u8>, Fault>
+    ensures { GivesOrMemory (λ v. v.items) result (Ok (reading.counting count)) }
 {
     let mut bytes = Vec::with_capacity(alloc, count as usize)?;
     for i in 0..count {
@@ -67,7 +93,7 @@ fn counted(alloc: Global, count: u32) -> Result<Vec<u8>, Fault>
 
 /// These bytes without a copy, if they aren't too many.
 fn kept(bytes: Vec<u8>) -> Result<Payload, Fault>
-    ensures { IfOk result (λ p. length p ≤ 2097152) }
+    ensures { GivesOrMemory (λ p. p) result (ok_or (reading.limited bytes.items) cause.Payload) }
 {
     if bytes.len() > MAX_PAYLOAD as usize {
         return Err(Fault::Refused(Cause::Payload));

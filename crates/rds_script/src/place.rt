@@ -1,30 +1,47 @@
 //! What the first word of a line's rest stands for, in the place of a host or a number, and the rest after it.
 
-ghost use Rattle.std.specs.Prelude.{◌≡◌, ◌<◌, ◌≤◌, ◌≢◌, IfOk, IsTrue, length};
+ghost use Rattle.std.specs.Prelude.{◌≡◌, ◌+◌, ◌≤◌, [], ◌∷◌, IfOk, IfSome, IsTrue, length};
 ghost use Rattle.std.specs.Bool.{OnTrue};
 ghost use Rattle.std.specs.List.{list_all};
 ghost use Rattle.std.specs.Char.{is_ascii_digit};
 ghost use Rattle.std.specs.Str.Parse.{digits_value};
-ghost use Rattle.rds_script.specs.Number.{is_numeral, number};
+ghost use Rattle.rds_script.specs.Text.{words};
+ghost use Rattle.rds_script.specs.Line.{first_of, the_number};
+ghost use Rattle.rds_script.specs.Reading as reading;
+ghost use Rattle.rds_script.specs.Reading.{Gives};
 
 use crate::Cause;
 use crate::line::first_word;
 
-/// A letter from A on, as many as there are hosts.
+/// The host that a word is: a letter from A on, as many as there are hosts.
+#[tactic(auto, unfolding(crate::specs::Reading::host_of))]
+fn host_of(hosts: u8, word: &[u8]) -> Option<u8>
+    ensures value { result ≡ reading.host_of hosts word.now }
+    ensures letter { IfSome result (λ n. word.now ≡ (65 + n) ∷ []) }
+{
+    match word {
+        [letter] if *letter >= b'A' && *letter - b'A' < hosts => Some(*letter - b'A'),
+        _ => None,
+    }
+}
+
+/// A host.
+#[tactic(auto, unfolding(crate::specs::Reading::host_at))]
 pub(crate) fn host_at(hosts: u8, line: &[u8]) -> Result<(u8, &[u8]), Cause>
-    ensures known { IfOk result (λ r. r.0 < hosts) }
+    ensures value { Gives (λ r. (the_number r.0, words r.1.now)) result (reading.host_at hosts (words line.now)) }
+    ensures letter { IfOk result (λ r. first_of (words line.now) ≡ (65 + r.0) ∷ []) }
 {
     let (word, rest) = first_word(line);
-    match word {
-        [letter] if *letter >= b'A' && *letter - b'A' < hosts => Ok((*letter - b'A', rest)),
-        _ => Err(Cause::Host),
+    match host_of(hosts, word) {
+        Some(host) => Ok((host, rest)),
+        None => Err(Cause::Host),
     }
 }
 
 /// A host other than this one.
+#[tactic(auto, unfolding(crate::specs::Reading::peer_at))]
 pub(crate) fn peer_at(hosts: u8, host: u8, line: &[u8]) -> Result<(u8, &[u8]), Cause>
-    ensures known { IfOk result (λ r. r.0 < hosts) }
-    ensures apart { IfOk result (λ r. r.0 ≢ host) }
+    ensures { Gives (λ r. (the_number r.0, words r.1.now)) result (reading.peer_at hosts ((65 + host) ∷ []) (words line.now)) }
 {
     let (peer, rest) = host_at(hosts, line)?;
     if peer == host {
@@ -34,9 +51,9 @@ pub(crate) fn peer_at(hosts: u8, host: u8, line: &[u8]) -> Result<(u8, &[u8]), C
 }
 
 /// The value of 1 to 10 decimal digits.
-#[tactic(auto, unfolding(crate::specs::Number::number))]
+#[tactic(auto, unfolding(crate::specs::Reading::number_of))]
 pub(crate) fn number_of(word: &[u8]) -> Option<u64>
-    ensures { result ≡ number word.now }
+    ensures { result ≡ reading.number_of word.now }
 {
     if !is_number(word) {
         return None;
@@ -46,7 +63,7 @@ pub(crate) fn number_of(word: &[u8]) -> Option<u64>
 
 /// Whether a word is 1 to 10 decimal digits.
 fn is_number(word: &[u8]) -> bool
-    ensures test { result ≡ is_numeral word.now }
+    ensures test { result ≡ reading.is_numeral word.now }
     ensures few { OnTrue result (length word.now ≤ 10) }
     ensures digits { OnTrue result (IsTrue (list_all is_ascii_digit word.now)) }
 {
@@ -73,22 +90,24 @@ fn value_of(digits: &[u8]) -> u64
 }
 
 /// A number from `low` to `high`.
+#[tactic(auto, unfolding(crate::specs::Reading::number_at))]
 pub(crate) fn number_at(low: u32, high: u32, line: &[u8]) -> Result<(u32, &[u8]), Cause>
-    ensures low { IfOk result (λ r. low ≤ r.0) }
-    ensures high { IfOk result (λ r. r.0 ≤ high) }
+    ensures value { Gives (λ r. (the_number r.0, words r.1.now)) result (reading.number_at low high (words line.now)) }
+    ensures within { IfOk result (λ r. r.0 ≤ high) }
 {
     let (word, rest) = first_word(line);
     match number_of(word) {
-        Some(value) if value >= u64::from(low) && value <= u64::from(high) => Ok((
-            value as u32,
-            rest,
-        )),
+        Some(value) if value >= u64::from(low) && value <= u64::from(high) => {
+            Ok((value as u32, rest))
+        }
         _ => Err(Cause::Number),
     }
 }
 
 /// A port.
-pub(crate) fn port_at(line: &[u8]) -> Result<(u16, &[u8]), Cause> {
+pub(crate) fn port_at(line: &[u8]) -> Result<(u16, &[u8]), Cause>
+    ensures { Gives (λ r. (the_number r.0, words r.1.now)) result (reading.number_at 0 65535 (words line.now)) }
+{
     let (port, rest) = number_at(0, 65_535, line)?;
     Ok((port as u16, rest))
 }

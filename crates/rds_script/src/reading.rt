@@ -1,33 +1,53 @@
-ghost use Rattle.std.specs.Prelude.{IfOk};
-ghost use Rattle.rds_script.specs.Script.{IsDraft, IsScript, payload_total, cut_total};
-ghost use Rattle.std.specs.Prelude.{◌≤◌};
+ghost use Rattle.std.specs.Prelude.{◌≡◌, ℕ, IfOk, Ok};
+ghost use Rattle.std.specs.Str.Lines.{lines};
+ghost use Rattle.rds_script.specs.declared.cause.Cause.{Cause as Why};
+ghost use Rattle.rds_script.specs.Script.{IsScript};
+ghost use Rattle.rds_script.specs.Grammar.{Meaning, meaning, nothing, Spells};
+ghost use Rattle.rds_script.specs.Refusal.{Refused};
+ghost use Rattle.rds_script.specs.Answer.{IsUnlessMemory, IfRefused, IsRefusedUnlessMemory};
+ghost use Rattle.rds_script.specs.Reading.{Reads, lines_at, text_at};
 
 use crate::draft::Draft;
-use crate::fault::Fault;
 use crate::line::first_line;
 use crate::script::{MAX_LINES, MAX_TEXT};
 use crate::{Cause, Script, ScriptError};
 use std::alloc::Global;
 
-/// The script that the text spells, or the first line at which it spells none and why.
+/// The script that the text spells, or the first line at which it is refused and why.
+///
+/// It takes time linear in the text, copies the bytes of a payload once, and keeps nothing of the text.
 pub fn read(alloc: Global, text: &[u8]) -> Result<Script, ScriptError>
+    // What is read is spelled by the text.
+    ensures found { IfOk result (λ s. Spells text.now (meaning s)) }
+    // A text that spells a script gives that script.
+    ensures only { (s : Meaning) → Spells text.now s → IsUnlessMemory result s }
+    // The text is refused there for that cause.
+    ensures refused { IfRefused result (Refused text.now) }
+    // A text that is refused gives that line and cause.
+    ensures refuses { (line : ℕ) (cause : Why) → Refused text.now line cause → IsRefusedUnlessMemory result line cause }
+    // Each host, port, buffer and payload is in range.
     ensures known { IfOk result IsScript }
 {
+    read_text(alloc, text)
+}
+
+#[tactic(auto, unfolding(crate::specs::Reading::text_at))]
+fn read_text(alloc: Global, text: &[u8]) -> Result<Script, ScriptError>
+    ensures { Reads meaning result (text_at text.now) }
+{
     if text.len() > MAX_TEXT {
-        return Err(Fault::Refused(Cause::TooLarge).at(0));
+        return Err(refused(0, Cause::TooLarge));
     }
     let script = read_lines(alloc, text)?;
     if script.hosts == 0 {
-        return Err(Fault::Refused(Cause::Empty).at(0));
+        return Err(refused(0, Cause::Empty));
     }
     Ok(script)
 }
 
 /// The script of all lines of the text; it has 0 hosts where there is no command.
 fn read_lines(alloc: Global, text: &[u8]) -> Result<Script, ScriptError>
-    ensures known { IfOk result IsDraft }
-    ensures total { IfOk result (λ s. payload_total s.commands.items ≤ 16777216) }
-    ensures cuts { IfOk result (λ s. cut_total s.commands.items ≤ 1024) }
+    ensures { Reads meaning result (lines_at nothing 0 (lines text.now)) }
 {
     let mut draft = Draft::new(alloc);
     let mut rest = text;
@@ -35,7 +55,7 @@ fn read_lines(alloc: Global, text: &[u8]) -> Result<Script, ScriptError>
     while !rest.is_empty() {
         let (line, after) = first_line(rest);
         if number == MAX_LINES {
-            return Err(Fault::Refused(Cause::Lines).at(MAX_LINES + 1));
+            return Err(refused(number + 1, Cause::Lines));
         }
         number += 1;
         if let Err(fault) = draft.read_line(alloc, number, line) {
@@ -44,4 +64,10 @@ fn read_lines(alloc: Global, text: &[u8]) -> Result<Script, ScriptError>
         rest = after;
     }
     Ok(draft.script)
+}
+
+fn refused(line: u32, cause: Cause) -> ScriptError
+    ensures { result ≡ ScriptError.BadLine line cause }
+{
+    ScriptError::BadLine { line, cause }
 }
