@@ -1,5 +1,5 @@
-use Rattle.std.proofs.Common.{◌≡◌, ◌+◌, ap, ◌∙◌, arith}
-use Rattle.rds_meter.specs.Places.{put_word, part}
+use Rattle.std.proofs.Common.{ap, ◌∙◌, arith}
+use Rattle.rds_meter.specs.Places.{part}
 use Rattle.rds_meter.specs.Seats.{Held}
 use Rattle.rds_meter.proofs.Parts.{part-after_add}
 use Rattle.rds_bench_tables.proofs.adds.adds.Goals as goal
