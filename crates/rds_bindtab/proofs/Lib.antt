@@ -1,0 +1,10 @@
+pub mod Facts
+pub mod Seated
+pub mod Words
+pub mod Draws
+pub mod Claims
+pub mod Looks
+pub mod Notes
+pub mod Joins
+pub mod Opening
+pub mod Told

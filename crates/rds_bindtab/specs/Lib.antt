@@ -1,0 +1,4 @@
+pub mod Seats
+pub mod Shared
+pub mod Plays
+pub mod Answers

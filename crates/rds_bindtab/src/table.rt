@@ -1,0 +1,52 @@
+ghost use Rattle.std.specs.Prelude.{◌≡◌, ◌≤◌, IfOk};
+
+use crate::rule::PortRule;
+use crate::seat::BindSeat;
+use crate::view::View;
+use atomic_table::Table;
+use rds_wire::Memory;
+use std::alloc::Global;
+use std::marker::Model;
+
+/// The word that numbers slots stands behind the words of the ports.
+pub(crate) const DRAW_WORD: usize = 65536;
+
+/// One word for each port, which is 0 or 1 plus the slot of the socket that holds it, and one word that numbers slots.
+/// Contracts see which table it is.
+#[derive(Drop)]
+pub struct BindTable {
+    pub(crate) table: Table<(), View, u16, PortRule, Global>,
+    pub(crate) slots: u16,
+}
+
+impl Model for BindTable {
+    ghost use Rattle.std.specs.Prelude.{◌≡◌, ◌≤◌};
+    ghost use Rattle.rds_words.specs.Views.{Table};
+
+    ghost Value = { Table };
+
+    ghost view = { λ t. record { id = t.table.shared.table_id; slots = t.slots } };
+
+    ghost invariant = { λ t. (t.table.shared.key ≡ t.slots) × (t.table.shared.table_id.words ≡ 65537) × (t.table.shared.table_id.slots ≡ 0) × (t.slots ≤ 1024) };
+}
+
+impl BindTable {
+    ghost use Rattle.rds_bindtab.specs.Seats.{first_view};
+
+    /// A table with 1 to 1,024 slots, and its first seat. All words are 0.
+    pub fn new(alloc: Global, slots: u16) -> Result<(BindTable, BindSeat), Memory>
+        requires { (1 ≤ slots) × (slots ≤ 1024) }
+        ensures slots { IfOk result (λ r. r.0.slots ≡ slots) }
+        ensures seat { IfOk result (λ r. (r.1.table ≡ r.0) × (r.1.view ≡ first_view slots)) }
+    {
+        let words = vec![in alloc; 0u64; DRAW_WORD + 1]?;
+        let (table, seat) = Table::of_words(alloc, words.as_slice(), &slots)?;
+        let table = BindTable { table, slots };
+        let seat = BindSeat {
+            seat,
+            slot: None,
+            port: None,
+        };
+        Ok((table, seat))
+    }
+}

@@ -1,0 +1,10 @@
+pub mod Facts
+pub mod Parts
+pub mod Steps
+pub mod Seated
+pub mod Adding
+pub mod Loading
+pub mod Bits
+pub mod Joins
+pub mod Opening
+pub mod Checks

@@ -1,0 +1,10 @@
+use Rattle.std.proofs.Common.{arith}
+use Rattle.rds_meter.proofs.Seated.{same_table}
+use Rattle.rds_meter.proofs.Loading.{loads}
+use Rattle.rds_meter.proofs.meter.Meter.load.Goals as goal
+
+pub load-requires : goal.load-requires
+load-requires c =
+    let of = same_table _ _ _ _ _ _ _ c.seat.view_is c.self.view_is c.requires.table in
+    let low = c.requires.word in
+    (of, (let w = c.self.invariant.0 in omega arith), loads _ _ c.args.word c.seat.inside.seat.me c.seat.invariant.0)

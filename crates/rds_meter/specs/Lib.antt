@@ -1,0 +1,4 @@
+pub mod Places
+pub mod Seats
+pub mod Shared
+pub mod Plays
