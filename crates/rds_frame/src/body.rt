@@ -16,7 +16,8 @@ pub(crate) fn advance(
     requires limit { len ≤ 1048576 }
     ensures part { IfOk result (λ whole. MatchOption whole
         ((body.new.items ≡ body.old.items ++ data.now) × (length body.old.items + length data.now < len))
-        (λ p. (body.new.items ≡ []) × (p ≡ body.old.items ++ take (len - length body.old.items) data.now) × (len ≤ length body.old.items + length data.now))) }
+        (λ p. (body.new.items ≡ []) × (p ≡ body.old.items ++ take (len - length body.old.items) data.now)
+        × (len ≤ length body.old.items + length data.now))) }
     ensures err { OnErr result (body.new.items ≡ body.old.items) }
 {
     let missing = len - body.len();

@@ -12,9 +12,11 @@ use std::alloc::Global;
 /// with no state between pieces.
 pub fn frames_in(alloc: Global, bytes: &[u8], highest: u64) -> Result<Vec<Frame>, FrameError>
     ensures split { IfOk result (λ frames. (rest : List ℕ) × Splits bytes.now frames.items rest) }
-    ensures only { IfOk result (λ frames. (others : List Frame) (rest : List ℕ) → Splits bytes.now others rest → frames.items ≡ others) }
+    ensures only { IfOk result (λ frames. (others : List Frame) (rest : List ℕ) →
+        Splits bytes.now others rest → frames.items ≡ others) }
     ensures sound { IfOk result (λ frames. All (IsSound highest) frames.items) }
-    ensures malformed { (fault : Malformed) → result ≡ Err (FrameError.Malformed fault) → IsMalformed highest bytes.now fault }
+    ensures malformed { (fault : Malformed) → result ≡ Err (FrameError.Malformed fault)
+        → IsMalformed highest bytes.now fault }
     ensures never_closed { IsErrOf result FrameError.Closed → ⊥ }
 {
     let mut frames = Vec::new(alloc);
@@ -28,8 +30,10 @@ pub fn frames_in(alloc: Global, bytes: &[u8], highest: u64) -> Result<Vec<Frame>
 
 fn first_frame(alloc: Global, bytes: &[u8], highest: u64) -> Result<Option<Frame>, FrameError>
     ensures found { IfOk result (λ found. MatchOption found (IsPartial bytes.now)
-        (λ f. IsSound highest f × (48 + length f.payload ≤ length bytes.now) × (bytes.now ≡ frame_bytes f ++ drop (48 + length f.payload) bytes.now))) }
-    ensures malformed { (fault : Malformed) → result ≡ Err (FrameError.Malformed fault) → BeginsMalformed highest bytes.now fault }
+        (λ f. IsSound highest f × (48 + length f.payload ≤ length bytes.now)
+        × (bytes.now ≡ frame_bytes f ++ drop (48 + length f.payload) bytes.now))) }
+    ensures malformed { (fault : Malformed) → result ≡ Err (FrameError.Malformed fault)
+        → BeginsMalformed highest bytes.now fault }
     ensures never_closed { IsErrOf result FrameError.Closed → ⊥ }
 {
     let Some((head, body)) = bytes.split_first_chunk::<48>() else {

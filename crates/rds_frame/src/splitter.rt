@@ -29,7 +29,11 @@ impl Model for Splitter {
 
     ghost use Rattle.rds_frame.specs.Fields.{IsSplitter};
 
-    ghost view = { λ s. record { rest = take s.came s.head ++ s.body.items; waiting = s.waiting; refused = s.refused } };
+    ghost view = { λ s. record {
+      rest = take s.came s.head ++ s.body.items;
+      waiting = s.waiting;
+      refused = s.refused;
+    } };
 
     ghost invariant = { λ s. IsSplitter s.head s.came s.body.items s.waiting s.refused };
 }
@@ -65,7 +69,8 @@ impl Splitter {
         ensures ok { IfOk result (λ took. Takes highest self.old piece.now took self.new) }
         ensures waiting { IsSome self.old.waiting → OnOk result (self.new ≡ self.old) }
 
-        ensures malformed { (fault : Malformed) → result ≡ Err (FrameError.Malformed fault) → Refuses highest self.old piece.now fault self.new }
+        ensures malformed { (fault : Malformed) → result ≡ Err (FrameError.Malformed fault)
+            → Refuses highest self.old piece.now fault self.new }
         ensures closed { IsErrOf result FrameError.Closed ↔ IsSome self.old.refused }
         ensures closed_still { IsSome self.old.refused → self.new ≡ self.old }
         ensures memory { IsErrOf result FrameError.Memory → self.new ≡ self.old }
@@ -88,7 +93,8 @@ impl Splitter {
         requires not_closed { self.old.refused ≡ None }
         requires none_waits { self.old.waiting ≡ None }
         ensures ok { IfOk result (λ took. Takes highest self.old piece.now took self.new) }
-        ensures malformed { (fault : Malformed) → result ≡ Err (FrameError.Malformed fault) → Refuses highest self.old piece.now fault self.new }
+        ensures malformed { (fault : Malformed) → result ≡ Err (FrameError.Malformed fault)
+            → Refuses highest self.old piece.now fault self.new }
         ensures not_closed { IsErrOf result FrameError.Closed → ⊥ }
         ensures memory { IsErrOf result FrameError.Memory → self.new ≡ self.old }
         ensures held { IsHeld self.new }

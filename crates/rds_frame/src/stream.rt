@@ -12,7 +12,8 @@ use std::alloc::Global;
 /// The frames of a stream that comes in these pieces, where the reader has pulled no number above `highest`.
 pub fn frames_of(alloc: Global, pieces: &[Vec<u8>], highest: u64) -> Result<Vec<Frame>, FrameError>
     // Up to less than a whole frame, the stream is these frames.
-    ensures split { IfOk result (λ frames. (rest : List ℕ) × Splits (flat_map (λ piece. piece.items) pieces.now) frames.items rest) }
+    ensures split { IfOk result (λ frames. (rest : List ℕ) ×
+        Splits (flat_map (λ piece. piece.items) pieces.now) frames.items rest) }
     // It is no others, so it doesn't matter how the stream was cut.
     ensures only { IfOk result (λ frames. (others : List Frame) (rest : List ℕ) →
         Splits (flat_map (λ piece. piece.items) pieces.now) others rest → frames.items ≡ others) }
@@ -40,7 +41,8 @@ fn feed(
     requires fed { IsFed highest bytes frames.old.items splitter.old }
     ensures none_waits { OnOk result (splitter.new.waiting ≡ None) }
     ensures fed { OnOk result (IsFed highest (bytes ++ piece.now) frames.new.items splitter.new) }
-    ensures malformed { (fault : Malformed) → result ≡ Err (FrameError.Malformed fault) → IsMalformed highest (bytes ++ piece.now) fault }
+    ensures malformed { (fault : Malformed) → result ≡ Err (FrameError.Malformed fault)
+        → IsMalformed highest (bytes ++ piece.now) fault }
     ensures not_closed { IsErrOf result FrameError.Closed → ⊥ }
 {
     let mut left = piece;
