@@ -1,5 +1,6 @@
 -- All lines of a text: what reading gives is what they spell, or where they are refused.
 use Rattle.std.proofs.Common.{◌≡◌, ◌≢◌, ℕ, suc, ◌+◌, ◌≤◌, Bool, true, false, cond, eqb, ltb, List, [], ◌∷◌, ◌++◌, length, Result, Ok, Err, refl, sym, ap, subst, ◌∙◌, arith, inl, inr, add-zero, zero-add}
+use Rattle.std.specs.Prelude.{◌⊎◌}
 use Rattle.std.specs.Str.Lines.{lines}
 use Rattle.std.proofs.lemmas.Bool.{eqb-true, eqb-false, ne_eqb, ltb-true, ltb-false, lt-ltb, le-ltb}
 use Rattle.std.proofs.lemmas.List.{append_assoc, append-nil}
@@ -216,3 +217,16 @@ text_refuses text n cause.TooLarge r =
 text_refuses text n cause.Empty r =
     rw (le-ltb 16777216 (length text) r.1, kept_again (lines text) nothing r.2) (ap (λ (i : ℕ). Err (i, cause.Empty)) (sym r.0))
 text_refuses text n c r = rw (le-ltb 16777216 (length text) r.0, refused_again (lines text) n c r.1) refl
+
+pub spelled_or_refused : (text : List ℕ) → ((s : Meaning) × Spells text s) ⊎ ((n : ℕ) × (c : Cause) × Refused text n c)
+spelled_or_refused text = go (text_at text) refl
+  where
+    go : (r : Answer) → text_at text ≡ r → ((s : Meaning) × Spells text s) ⊎ ((n : ℕ) × (c : Cause) × Refused text n c)
+    go (Ok s) e = inl (s, text_spells text s e)
+    go (Err x) e = inr (x.0, x.1, text_refused text x.0 x.1 e)
+
+pub never_both : (text : List ℕ) (s : Meaning) (n : ℕ) (c : Cause) → Spells text s → Refused text n c → ⊥
+never_both text s n c h g = no_error (sym (text_spelled text s h) ∙ text_refuses text n c g)
+  where
+    no_error : ◌≡◌ {A = Answer} (Ok s) (Err (n, c)) → ⊥
+    no_error e = cc

@@ -1,3 +1,5 @@
+pub mod Answer
+pub mod Cause
 pub mod Grammar
 pub mod Line
 pub mod Reading
@@ -5,4 +7,3 @@ pub mod Refusal
 pub mod Script
 pub mod Text
 pub mod Word
-pub mod Answer

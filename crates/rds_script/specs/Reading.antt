@@ -43,6 +43,11 @@ abbrev pub GivesOrMemory : {X Y : Type 0} → (X → Y) → Result X Fault → R
 GivesOrMemory view (Ok x) read = read ≡ Ok (view x)
 GivesOrMemory view (Err e) read = Fails e read
 
+-- the script so far became what reading gives, unless memory ran out
+abbrev pub Becomes : {X : Type 0} → Result X Fault → Result Meaning Cause → Meaning → Type 0
+Becomes (Ok x) read new = read ≡ Ok new
+Becomes (Err e) read new = Fails e read
+
 -- ---- words
 
 -- the word is 1 to 10 decimal digits

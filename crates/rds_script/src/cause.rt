@@ -1,3 +1,6 @@
+ghost use Rattle.std.specs.Prelude.{Some};
+ghost use Rattle.rds_script.specs.Cause.{cause_text};
+
 use std::fmt;
 
 /// Why a text is refused.
@@ -32,6 +35,8 @@ pub enum Cause {
 }
 
 impl fmt::Display for Cause {
+    ghost output = { λ c. Some (cause_text c) };
+
     fn fmt<W: fmt::Write>(&self, f: &mut fmt::Formatter<W>) -> fmt::Result {
         f.write_str(match self {
             Cause::TooLarge => "too large",

@@ -4,7 +4,7 @@ ghost use Rattle.std.specs.Prelude.{◌≡◌, [], ◌∷◌, false};
 ghost use Rattle.rds_script.specs.Text.{words};
 ghost use Rattle.rds_script.specs.Line.{first_of, the_number};
 ghost use Rattle.rds_script.specs.Reading.{Gives, GivesOrMemory, values_at, places_of, command_at, is_hosts};
-ghost use Rattle.rds_script.specs.declared.name.Name.TheVariants as name_;
+ghost use Rattle.rds_script.specs.declared.name.Name.TheVariants as names;
 
 use crate::fault::Fault;
 use crate::name::Name;
@@ -73,7 +73,7 @@ pub(crate) fn command_of(
 /// A host and a port.
 fn socket(hosts: u8, rest: &[u8]) -> Result<(u8, u16), Cause>
     ensures { Gives (λ r. the_number r.0 ∷ the_number r.1 ∷ []) result
-        (values_at hosts (first_of (words rest.now)) (places_of name_.Recv) (words rest.now)) }
+        (values_at hosts (first_of (words rest.now)) (places_of names.Recv) (words rest.now)) }
 {
     let (host, rest) = host_at(hosts, rest)?;
     let (port, _) = port_at(rest)?;
@@ -83,7 +83,7 @@ fn socket(hosts: u8, rest: &[u8]) -> Result<(u8, u16), Cause>
 /// A host and another host.
 fn pair(hosts: u8, rest: &[u8]) -> Result<(u8, u8), Cause>
     ensures { Gives (λ r. the_number r.0 ∷ the_number r.1 ∷ []) result
-        (values_at hosts (first_of (words rest.now)) (places_of name_.Open) (words rest.now)) }
+        (values_at hosts (first_of (words rest.now)) (places_of names.Open) (words rest.now)) }
 {
     let (host, rest) = host_at(hosts, rest)?;
     let (peer, _) = peer_at(hosts, host, rest)?;
@@ -92,8 +92,8 @@ fn pair(hosts: u8, rest: &[u8]) -> Result<(u8, u8), Cause>
 
 /// A host, a port and the limits of the two buffers.
 fn binding(hosts: u8, rest: &[u8]) -> Result<(u8, u16, u32, u32), Cause>
-    ensures { Gives (λ r. the_number r.0 ∷ the_number r.1 ∷ the_number r.2 ∷ the_number r.3 ∷ []) result
-        (values_at hosts (first_of (words rest.now)) (places_of name_.Bind) (words rest.now)) }
+    ensures { Gives (λ r. the_number r.0 ∷ the_number r.1 ∷ the_number r.2 ∷ the_number r.3 ∷ [])
+        result (values_at hosts (first_of (words rest.now)) (places_of names.Bind) (words rest.now)) }
 {
     let (host, rest) = host_at(hosts, rest)?;
     let (port, rest) = port_at(rest)?;
@@ -105,7 +105,7 @@ fn binding(hosts: u8, rest: &[u8]) -> Result<(u8, u16, u32, u32), Cause>
 /// A host and a port, and another host and port.
 #[tactic(auto, unfolding(crate::specs::Reading::command_at))]
 fn cancel(hosts: u8, rest: &[u8]) -> Result<Command, Cause>
-    ensures { Gives (λ c. c) result (command_at hosts name_.Cancel (words rest.now)) }
+    ensures { Gives (λ c. c) result (command_at hosts names.Cancel (words rest.now)) }
 {
     let (host, rest) = host_at(hosts, rest)?;
     let (port, rest) = port_at(rest)?;
@@ -122,7 +122,7 @@ fn cancel(hosts: u8, rest: &[u8]) -> Result<Command, Cause>
 /// A host, another host and a number of bytes.
 #[tactic(auto, unfolding(crate::specs::Reading::command_at))]
 fn movement(hosts: u8, rest: &[u8]) -> Result<Command, Cause>
-    ensures { Gives (λ c. c) result (command_at hosts name_.Move (words rest.now)) }
+    ensures { Gives (λ c. c) result (command_at hosts names.Move (words rest.now)) }
 {
     let (host, rest) = host_at(hosts, rest)?;
     let (to, rest) = peer_at(hosts, host, rest)?;
@@ -133,7 +133,7 @@ fn movement(hosts: u8, rest: &[u8]) -> Result<Command, Cause>
 /// A host and a port, another host and port, and a payload.
 #[tactic(auto, unfolding(crate::specs::Reading::command_at))]
 fn send(alloc: Global, hosts: u8, rest: &[u8]) -> Result<Command, Fault>
-    ensures { GivesOrMemory (λ c. c) result (command_at hosts name_.Send (words rest.now)) }
+    ensures { GivesOrMemory (λ c. c) result (command_at hosts names.Send (words rest.now)) }
 {
     let (host, rest) = host_at(hosts, rest)?;
     let (port, rest) = port_at(rest)?;

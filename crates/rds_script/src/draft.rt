@@ -1,4 +1,4 @@
-ghost use Rattle.std.specs.Prelude.{◌≡◌, ◌≤◌, ◌∷◌, Ok, MatchResult};
+ghost use Rattle.std.specs.Prelude.{◌≡◌, ◌≤◌};
 ghost use Rattle.rds_script.specs.Script.{payload_len, cut_count, payload_total, cut_total};
 
 use crate::command::command_of;
@@ -25,11 +25,11 @@ pub(crate) struct Draft {
 }
 
 impl Draft {
-    ghost use Rattle.std.specs.Prelude.{◌≡◌, Ok, MatchResult, length};
+    ghost use Rattle.std.specs.Prelude.{◌≡◌};
     ghost use Rattle.rds_script.specs.Text.{words};
     ghost use Rattle.rds_script.specs.Grammar.{meaning, nothing};
     ghost use Rattle.rds_script.specs.Reading as reading;
-    ghost use Rattle.rds_script.specs.Reading.{Fails, is_hosts, places_of};
+    ghost use Rattle.rds_script.specs.Reading.{Becomes};
 
     pub(crate) fn new(alloc: Global) -> Draft
         ensures { meaning result.script ≡ nothing }
@@ -48,9 +48,8 @@ impl Draft {
     /// Reads the next line, which has this number. After a fault the draft is of no use.
     #[tactic(auto, unfolding(crate::specs::Reading::line_at))]
     pub(crate) fn read_line(&mut self, alloc: Global, number: u32, line: &[u8]) -> Result<(), Fault>
-        ensures { MatchResult result
-            (λ _. reading.line_at (meaning self.old.script) number line.now ≡ Ok (meaning self.new.script))
-            (λ f. Fails f (reading.line_at (meaning self.old.script) number line.now)) }
+        ensures { Becomes result (reading.line_at (meaning self.old.script) number line.now)
+            (meaning self.new.script) }
     {
         if !is_text_line(line) {
             return Err(Fault::Refused(Cause::Text));
@@ -74,9 +73,8 @@ impl Draft {
         name: Name,
         rest: &[u8],
     ) -> Result<(), Fault>
-        ensures { MatchResult result
-            (λ _. reading.counted (meaning self.old.script) number name (words rest.now) ≡ Ok (meaning self.new.script))
-            (λ f. Fails f (reading.counted (meaning self.old.script) number name (words rest.now))) }
+        ensures { Becomes result (reading.counted (meaning self.old.script) number name (words rest.now))
+            (meaning self.new.script) }
     {
         if name.is_hosts() != (self.script.hosts == 0) {
             return Err(Fault::Refused(Cause::Command));
@@ -96,22 +94,20 @@ impl Draft {
         name: Name,
         rest: &[u8],
     ) -> Result<(), Fault>
-        ensures { MatchResult result
-            (λ _. reading.named (meaning self.old.script) number name (words rest.now) ≡ Ok (meaning self.new.script))
-            (λ f. Fails f (reading.named (meaning self.old.script) number name (words rest.now))) }
+        ensures { Becomes result (reading.named (meaning self.old.script) number name (words rest.now))
+            (meaning self.new.script) }
     {
         if name.is_hosts() {
-            return Ok(self.read_hosts(number, rest)?);
+            return self.read_hosts(number, rest);
         }
         let command = command_of(alloc, self.script.hosts, name, rest)?;
         self.add(number, command)
     }
 
     #[tactic(auto, unfolding(crate::specs::Reading::hosts_at))]
-    fn read_hosts(&mut self, number: u32, rest: &[u8]) -> Result<(), Cause>
-        ensures { MatchResult result
-            (λ _. reading.hosts_at (meaning self.old.script) number (words rest.now) ≡ Ok (meaning self.new.script))
-            (λ e. reading.hosts_at (meaning self.old.script) number (words rest.now) ≡ Err e) }
+    fn read_hosts(&mut self, number: u32, rest: &[u8]) -> Result<(), Fault>
+        ensures { Becomes result (reading.hosts_at (meaning self.old.script) number (words rest.now))
+            (meaning self.new.script) }
     {
         let (hosts, _) = number_at(2, 8, rest)?;
         self.script.hosts = hosts as u8;
@@ -121,9 +117,8 @@ impl Draft {
 
     #[tactic(auto, unfolding(crate::specs::Reading::added))]
     fn add(&mut self, number: u32, command: Command) -> Result<(), Fault>
-        ensures { MatchResult result
-            (λ _. reading.added (meaning self.old.script) number command ≡ Ok (meaning self.new.script))
-            (λ f. Fails f (reading.added (meaning self.old.script) number command)) }
+        ensures { Becomes result (reading.added (meaning self.old.script) number command)
+            (meaning self.new.script) }
     {
         let total = self.total + sent_len(&command);
         if total > MAX_TOTAL {

@@ -5,6 +5,7 @@ mod cause;
 mod command;
 mod draft;
 mod fault;
+pub mod laws;
 mod line;
 mod name;
 mod payload;

@@ -20,7 +20,8 @@ use std::alloc::Global;
 /// The payload that the first word of a line's rest stands for.
 #[tactic(auto, unfolding(crate::specs::Reading::payload_at))]
 pub(crate) fn payload_at(alloc: Global, line: &[u8]) -> Result<Payload, Fault>
-    ensures { GivesOrMemory (λ p. (the_bytes p, drop 1 (words line.now))) result (reading.payload_at (words line.now)) }
+    ensures { GivesOrMemory (λ p. (the_bytes p, drop 1 (words line.now))) result
+        (reading.payload_at (words line.now)) }
 {
     let (word, _) = first_word(line);
     payload_of(alloc, word)

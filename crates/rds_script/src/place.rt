@@ -28,7 +28,8 @@ fn host_of(hosts: u8, word: &[u8]) -> Option<u8>
 /// A host.
 #[tactic(auto, unfolding(crate::specs::Reading::host_at))]
 pub(crate) fn host_at(hosts: u8, line: &[u8]) -> Result<(u8, &[u8]), Cause>
-    ensures value { Gives (λ r. (the_number r.0, words r.1.now)) result (reading.host_at hosts (words line.now)) }
+    ensures value { Gives (λ r. (the_number r.0, words r.1.now)) result
+        (reading.host_at hosts (words line.now)) }
     ensures letter { IfOk result (λ r. first_of (words line.now) ≡ (65 + r.0) ∷ []) }
 {
     let (word, rest) = first_word(line);
@@ -41,7 +42,8 @@ pub(crate) fn host_at(hosts: u8, line: &[u8]) -> Result<(u8, &[u8]), Cause>
 /// A host other than this one.
 #[tactic(auto, unfolding(crate::specs::Reading::peer_at))]
 pub(crate) fn peer_at(hosts: u8, host: u8, line: &[u8]) -> Result<(u8, &[u8]), Cause>
-    ensures { Gives (λ r. (the_number r.0, words r.1.now)) result (reading.peer_at hosts ((65 + host) ∷ []) (words line.now)) }
+    ensures { Gives (λ r. (the_number r.0, words r.1.now)) result
+        (reading.peer_at hosts ((65 + host) ∷ []) (words line.now)) }
 {
     let (peer, rest) = host_at(hosts, line)?;
     if peer == host {
@@ -92,7 +94,8 @@ fn value_of(digits: &[u8]) -> u64
 /// A number from `low` to `high`.
 #[tactic(auto, unfolding(crate::specs::Reading::number_at))]
 pub(crate) fn number_at(low: u32, high: u32, line: &[u8]) -> Result<(u32, &[u8]), Cause>
-    ensures value { Gives (λ r. (the_number r.0, words r.1.now)) result (reading.number_at low high (words line.now)) }
+    ensures value { Gives (λ r. (the_number r.0, words r.1.now)) result
+        (reading.number_at low high (words line.now)) }
     ensures within { IfOk result (λ r. r.0 ≤ high) }
 {
     let (word, rest) = first_word(line);
@@ -106,7 +109,8 @@ pub(crate) fn number_at(low: u32, high: u32, line: &[u8]) -> Result<(u32, &[u8])
 
 /// A port.
 pub(crate) fn port_at(line: &[u8]) -> Result<(u16, &[u8]), Cause>
-    ensures { Gives (λ r. (the_number r.0, words r.1.now)) result (reading.number_at 0 65535 (words line.now)) }
+    ensures { Gives (λ r. (the_number r.0, words r.1.now)) result
+        (reading.number_at 0 65535 (words line.now)) }
 {
     let (port, rest) = number_at(0, 65_535, line)?;
     Ok((port as u16, rest))

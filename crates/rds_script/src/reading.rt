@@ -24,7 +24,8 @@ pub fn read(alloc: Global, text: &[u8]) -> Result<Script, ScriptError>
     // The text is refused there for that cause.
     ensures refused { IfRefused result (Refused text.now) }
     // A text that is refused gives that line and cause.
-    ensures refuses { (line : ℕ) (cause : Why) → Refused text.now line cause → IsRefusedUnlessMemory result line cause }
+    ensures refuses { (line : ℕ) (cause : Why) → Refused text.now line cause
+        → IsRefusedUnlessMemory result line cause }
     // Each host, port, buffer and payload is in range.
     ensures known { IfOk result IsScript }
 {
