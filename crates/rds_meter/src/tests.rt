@@ -45,6 +45,8 @@ fn a_bit_is_raised_and_lowered(rt: HostRuntime) -> Result<(), Fail> {
     assert!(rt; mark.is_below_half());
     meter.lower(&mut socket, &mark);
     assert_eq!(rt; meter.word(&mut socket, 62), 0);
+    meter.lower_changed(&mut socket, 4001);
+    assert_eq!(rt; meter.put(&mut socket, 0), 11);
     assert_eq!(rt;
         (meter.change(&mut socket), meter.bump(&mut socket)),
         (0, 1)
