@@ -1,0 +1,30 @@
+//! Reliable Datagram Sockets: the program `rds`.
+#![tactic(auto)]
+
+use rds_link::{StdSink, StdSource};
+use rds_run::rds_main;
+use std::alloc::AllocError;
+use std::env;
+use std::io;
+use std::process::ExitCode;
+use std::rt::Env;
+
+/// The status where memory runs out before the words are read.
+const MEMORY: u8 = 6;
+
+fn main(rt: HostRuntime) -> ExitCode {
+    let Ok(words) = words(&rt) else {
+        return ExitCode::from(MEMORY);
+    };
+    let mut source = StdSource::new(rt.reader());
+    let mut sink = StdSink::new(io::writer(&rt));
+    ExitCode::from(rds_main(rt.alloc(), &words, &mut source, &mut sink))
+}
+
+// The words behind the program's name, or none where one of them isn't UTF-8: no command has none.
+fn words<R: Env + AllocGlobal>(rt: &R) -> Result<Vec<String>, AllocError> {
+    match env::args(rt) {
+        Ok(words) => words.skip(1).collect(rt.alloc()),
+        Err(_) => Ok(Vec::new(rt.alloc())),
+    }
+}

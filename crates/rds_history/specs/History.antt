@@ -1,0 +1,74 @@
+-- The one history of a script, and the text that is printed of it. Source: this project's own.
+use Rattle.std.specs.Prelude.{ℕ, ◌==◌, not, if◌then◌else◌, Ok, Err, List, [], ◌∷◌, ◌++◌, filter, map}
+use Rattle.rds_script.specs.declared.script.Script.{Script}
+use Rattle.rds_script.specs.declared.script.Placed.{Placed}
+use Rattle.rds_script.specs.declared.script.Command.{Command}
+use Rattle.rds_script.specs.declared.script.Command.TheVariants as command
+use Rattle.rds_text.specs.Ports.{below}
+use Rattle.rds_history.specs.Events.{Event, Bound}
+use Rattle.rds_history.specs.Hosts.{address_of}
+use Rattle.rds_history.specs.Journals.{journal}
+use Rattle.rds_history.specs.Sockets.{received, queue}
+use Rattle.rds_history.specs.Courses.{Course, Full, and_then}
+use Rattle.rds_history.specs.Bind.{bind, bind_any}
+use Rattle.rds_history.specs.Send.{send}
+use Rattle.rds_history.specs.Recv.{recv}
+use Rattle.rds_history.specs.Cancel.{cancel, close}
+use Rattle.rds_history.specs.Open.{open_pair, cut}
+use Rattle.rds_history.specs.Move.{move}
+use Rattle.rds_history.specs.Drain.{drain}
+use Rattle.rds_history.specs.Lines.{spent_line}
+use Rattle.rds_history.specs.Transcript.{lines}
+use Rattle.rds_history.specs.Ends.{Socket, Side, End}
+use Rattle.rds_history.specs.Report.{report}
+
+-- what a command comes to
+abbrev pub after : (limit hosts : ℕ) → Command → List Event → Course
+after limit hosts (command.Bind host port sndbuf rcvbuf) past = bind host port sndbuf rcvbuf past
+after limit hosts (command.BindAny host port sndbuf rcvbuf) past = bind_any host port sndbuf rcvbuf past
+after limit hosts (command.Send host port to dport payload) past = send limit hosts host port to dport payload past
+after limit hosts (command.Recv host port) past = recv host port past
+after limit hosts (command.Cancel host port to dport) past = cancel limit host port to dport past
+after limit hosts (command.Close host port) past = close limit hosts host port past
+after limit hosts (command.Open host to) past = open_pair limit host to past
+after limit hosts (command.Move host to bytes) past = move limit host to bytes past
+after limit hosts (command.Cut host to) past = cut limit host to past
+after limit hosts command.Drain past = drain limit hosts past
+
+-- what commands come to, one after another
+abbrev pub history : (limit hosts : ℕ) → List Placed → List Event → Course
+history limit hosts [] past = Ok past
+history limit hosts (placed ∷ commands) past = and_then (after limit hosts placed.command past) (history limit hosts commands)
+
+-- the sockets of host h by slot
+abbrev pub sockets : ℕ → List Event → List Event → List Socket
+sockets h past [] = []
+sockets h past (Bound host port slot sndbuf rcvbuf ∷ earlier) =
+    if host == h then sockets h past earlier ++ record {
+      slot = slot;
+      port = port;
+      got = received h slot past;
+      unread = queue h slot past;
+    } ∷ [] else sockets h past earlier
+sockets h past (_ ∷ earlier) = sockets h past earlier
+
+-- what host h has in the end
+abbrev pub end_of : (hosts h : ℕ) → List Event → End
+end_of hosts h past = record {
+  addr = address_of h;
+  sides = map (λ k. record { peer = address_of k; past = journal h k past }) (filter (λ k. not (k == h)) (below hosts));
+  sockets = sockets h past past;
+}
+
+-- what the hosts have in the end
+abbrev pub ends : ℕ → List Event → List End
+ends hosts past = map (λ h. end_of hosts h past) (below hosts)
+
+-- the text of a course: its transcript and its report, or the line of the journal that was full
+abbrev pub text_of : ℕ → Course → List ℕ
+text_of hosts (Ok past) = lines past ++ report (ends hosts past)
+text_of hosts (Err full) = spent_line full.host full.peer full.entries
+
+-- the text of a script, where no journal may have more than `limit` entries
+abbrev pub text : Script → ℕ → List ℕ
+text script limit = text_of script.hosts (history limit script.hosts script.commands.items [])

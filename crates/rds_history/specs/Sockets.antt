@@ -1,0 +1,78 @@
+-- What a past says of the sockets. Source: this project's own.
+use Rattle.std.specs.Prelude.{ℕ, suc, ◌==◌, ◌&&◌, if◌then◌else◌, Option, Some, None, List, [], ◌∷◌, ◌++◌, length, drop, filter, sum_by}
+use Rattle.rds_wire.specs.declared.frame.Frame.{Frame}
+use Rattle.rds_model.specs.declared.order.Datagram.{Datagram}
+use Rattle.rds_model.specs.declared.entry.Entry.{Entry}
+use Rattle.rds_model.specs.declared.entry.Entry.TheVariants.{Read}
+use Rattle.rds_model.specs.declared.entry.Outcome.{Outcome}
+use Rattle.rds_model.specs.declared.entry.Outcome.TheVariants as outcome
+use Rattle.rds_model.specs.declared.entry.Msg.{Msg}
+use Rattle.rds_model.specs.Store.{alive_messages}
+use Rattle.rds_text.specs.Ports.{below}
+use Rattle.rds_history.specs.Events.{Event, Entered, Bound, Closed, Received, Marked, Fed, Said}
+use Rattle.rds_history.specs.Hosts.{address_of}
+use Rattle.rds_history.specs.Journals.{journal}
+
+-- how many sockets host h has bound: the slot of its next one
+abbrev pub binds : ℕ → List Event → ℕ
+binds h [] = 0
+binds h (Bound host port slot sndbuf rcvbuf ∷ past) = if host == h then suc (binds h past) else binds h past
+binds h (_ ∷ past) = binds h past
+
+-- the slot of the socket that holds a port of host h, if one does
+abbrev pub holder : (h port : ℕ) → List Event → Option ℕ
+holder h port [] = None
+holder h port (Bound host at slot sndbuf rcvbuf ∷ past) = if host == h && (at == port) then Some slot else holder h port past
+holder h port (Closed host at slot unread ∷ past) = if host == h && (at == port) then None else holder h port past
+holder h port (_ ∷ past) = holder h port past
+
+-- the bytes of a slot's send buffer
+abbrev pub send_buffer : (h slot : ℕ) → List Event → ℕ
+send_buffer h slot [] = 0
+send_buffer h slot (Bound host port at sndbuf rcvbuf ∷ past) = if host == h && (at == slot) then sndbuf else send_buffer h slot past
+send_buffer h slot (_ ∷ past) = send_buffer h slot past
+
+-- the bytes of a slot's receive buffer
+abbrev pub receive_buffer : (h slot : ℕ) → List Event → ℕ
+receive_buffer h slot [] = 0
+receive_buffer h slot (Bound host port at sndbuf rcvbuf ∷ past) = if host == h && (at == slot) then rcvbuf else receive_buffer h slot past
+receive_buffer h slot (_ ∷ past) = receive_buffer h slot past
+
+-- a frame as the datagram that a socket receives from host k
+abbrev pub datagram_from : ℕ → Frame → Datagram
+datagram_from k f = record { from = address_of k; sport = f.header.sport; dport = f.header.dport; payload = f.payload }
+
+-- the datagram, where the outcome is this slot
+abbrev pub delivery : (slot k : ℕ) → Frame → Outcome → List Datagram
+delivery slot k f (outcome.Slot to) = if to == slot then datagram_from k f ∷ [] else []
+delivery slot k f _ = []
+
+-- the datagrams that were delivered to a slot of host h, the first one first
+abbrev pub delivered : (h slot : ℕ) → List Event → List Datagram
+delivered h slot [] = []
+delivered h slot (Entered host k (Read stream f outcome) ∷ past) =
+    if host == h then delivered h slot past ++ delivery slot k f outcome else delivered h slot past
+delivered h slot (_ ∷ past) = delivered h slot past
+
+-- the datagrams that the socket of a slot handed out, the first one first
+abbrev pub received : (h slot : ℕ) → List Event → List Datagram
+received h slot [] = []
+received h slot (Received host port at d ∷ past) =
+    if host == h && (at == slot) then received h slot past ++ d ∷ [] else received h slot past
+received h slot (_ ∷ past) = received h slot past
+
+-- the datagrams that wait at a slot: those delivered and not handed out
+abbrev pub queue : (h slot : ℕ) → List Event → List Datagram
+queue h slot past = drop (length (received h slot past)) (delivered h slot past)
+
+-- how many bytes wait at a slot
+abbrev pub queued : (h slot : ℕ) → List Event → ℕ
+queued h slot past = sum_by (λ (d : Datagram). length d.payload) (queue h slot past)
+
+-- the bytes of a slot's datagrams that are alive in a journal
+abbrev pub alive_bytes : ℕ → List Entry → ℕ
+alive_bytes slot past = sum_by (λ (m : Msg). m.len) (filter (λ (m : Msg). m.slot == slot) (alive_messages past))
+
+-- the same over all peers
+abbrev pub unacknowledged : (hosts h slot : ℕ) → List Event → ℕ
+unacknowledged hosts h slot past = sum_by (λ k. alive_bytes slot (journal h k past)) (below hosts)

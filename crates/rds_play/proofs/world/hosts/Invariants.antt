@@ -1,0 +1,5 @@
+use Rattle.std.proofs.Common.{◌≡◌, vec_len}
+use Rattle.rds_play.proofs.world.hosts.Given as goal
+
+abbrev pub invariant-loop : goal.invariant-loop
+invariant-loop l = vec_len l.hosts ≡ l.counter

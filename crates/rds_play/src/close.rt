@@ -1,0 +1,70 @@
+ghost use Rattle.std.specs.Prelude.{◌<◌};
+
+use crate::refusal::{Refusal, mark_line, socket_refused_line};
+use crate::stop::Stop;
+use crate::world::World;
+use rds_model::{Order, Target};
+use rds_msgs::Steps;
+use rds_text::HostName;
+use rds_wire::Memory;
+use std::sync::ledger::Ledger;
+
+impl World {
+    /// Closes the socket at a port of a host: what it sent is taken back, and the port is free again.
+    pub fn close<L: Ledger>(
+        &mut self,
+        host: u8,
+        port: u16,
+        steps: &mut Steps<L>,
+    ) -> Result<(), Stop>
+        requires { host < 8 }
+    {
+        let Some(slot) = self.hosts[usize::from(host)].holder(port) else {
+            socket_refused_line(
+                &mut self.text,
+                "close",
+                HostName::new(host),
+                port,
+                Refusal::NoSocket,
+            )?;
+            return Ok(());
+        };
+        for peer in 0..self.count {
+            if peer != host {
+                let slot = slot as u16;
+                self.take_back(
+                    host,
+                    peer,
+                    slot,
+                    Target::All,
+                    Order::CloseSocket { slot },
+                    steps,
+                )?;
+            }
+        }
+        self.unbind(host, port, slot)?;
+        Ok(())
+    }
+
+    // Frees the port, and says what is left unread.
+    fn unbind(&mut self, host: u8, port: u16, slot: usize) -> Result<(), Memory>
+        requires { host < 8 }
+    {
+        let name = HostName::new(host);
+        let at = &mut self.hosts[usize::from(host)];
+        at.holders.remove(&port);
+        let Some(socket) = at.sockets.get(slot) else {
+            return Ok(());
+        };
+        if at.map.has(port) {
+            at.map.clear(port);
+            mark_line(&mut self.text, name, port, false, 0, socket.rcvbuf)?;
+        }
+        let unread = socket.queue.len();
+        write!(
+            self.text,
+            "close {name} {port} slot {slot} unread {unread}\n"
+        )?;
+        Ok(())
+    }
+}

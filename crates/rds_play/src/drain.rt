@@ -1,0 +1,76 @@
+ghost use Rattle.std.specs.Prelude.{◌<◌, ◌≤◌};
+
+use crate::stop::Stop;
+use crate::world::{World, place};
+use rds_history::drained_line;
+use rds_msgs::Steps;
+use std::sync::ledger::Ledger;
+
+impl World {
+    /// Opens all pairs, and moves bytes both ways between all until none is left to move.
+    pub fn drain<L: Ledger>(&mut self, steps: &mut Steps<L>) -> Result<(), Stop> {
+        for low in 0..self.count {
+            self.open_above(low)?;
+        }
+        for _ in 0..=u64::from(self.limit) {
+            if !self.round(steps)? {
+                break;
+            }
+        }
+        drained_line(&mut self.text)?;
+        Ok(())
+    }
+
+    // Opens the closed pairs of a host with those above it.
+    fn open_above(&mut self, low: u8) -> Result<(), Stop>
+        requires { low < 8 }
+    {
+        for high in low + 1..self.count {
+            if !self.links[place(low, high)].is_open() {
+                self.open_pair(low, high)?;
+            }
+        }
+        Ok(())
+    }
+
+    /// Opens a stream between two hosts that have none, first at one end and then at the other.
+    pub fn open_pair(&mut self, host: u8, peer: u8) -> Result<(), Stop>
+        requires host { host < 8 }
+        requires peer { peer < 8 }
+    {
+        self.open_end(host, peer)?;
+        self.open_end(peer, host)
+    }
+
+    fn open_end(&mut self, host: u8, peer: u8) -> Result<(), Stop>
+        requires host { host < 8 }
+        requires peer { peer < 8 }
+    {
+        let link = &mut self.links[place(host, peer)];
+        let first = link.conn.journal().len();
+        link.open()?;
+        self.print_from(host, peer, first)?;
+        Ok(())
+    }
+
+    // One round over all pairs. Answers whether a byte moved.
+    fn round<L: Ledger>(&mut self, steps: &mut Steps<L>) -> Result<bool, Stop> {
+        let mut moved = false;
+        for low in 0..self.count {
+            moved |= self.round_above(low, steps)?;
+        }
+        Ok(moved)
+    }
+
+    // The part of a round between a host and those above it.
+    fn round_above<L: Ledger>(&mut self, low: u8, steps: &mut Steps<L>) -> Result<bool, Stop>
+        requires { low < 8 }
+    {
+        let mut moved = false;
+        for high in low + 1..self.count {
+            moved |= self.carry(low, high, u64::MAX, steps)? > 0;
+            moved |= self.carry(high, low, u64::MAX, steps)? > 0;
+        }
+        Ok(moved)
+    }
+}

@@ -1,0 +1,20 @@
+//! The one history of a script: what its commands do, the transcript and the report.
+#![tactic(auto)]
+
+mod bind;
+mod cancel;
+mod carry;
+mod close;
+mod drain;
+mod ending;
+mod host;
+mod link;
+mod pairs;
+mod playing;
+mod recv;
+mod refusal;
+mod send;
+mod stop;
+mod world;
+
+pub use playing::{PlayEnd, play};

@@ -1,0 +1,213 @@
+ghost use Rattle.std.specs.Prelude.{◌≡◌, ◌≤◌, ◌<◌, ◌+◌, ℕ, Err, is_some, IsSome, IfOk, IfSome, OnOk, length};
+ghost use Rattle.rds_model.specs.Past.{newest_stream};
+ghost use Rattle.rds_model.specs.Reading.{max_slots, verdict_of};
+ghost use Rattle.rds_model.specs.declared.journal.TheConstants.{MIN_ENTRIES, MAX_ENTRIES};
+ghost use Rattle.rds_conn.specs.Connection.{IsReady, stream_of};
+ghost use Rattle.rds_conn.specs.Orders.{IsOrderFor};
+ghost use Rattle.rds_conn.specs.Passing.{Matches};
+ghost use Rattle.rds_play.specs.Growth.{Grows};
+
+use crate::host::{Arrived, Host};
+use crate::stop::{Full, Stop};
+use rds_cong::PortMap;
+use rds_conn::{Conn, ConnError, Found, Out, Pulled, Verdict};
+use rds_history::address;
+use rds_model::{Datagram, Order};
+use rds_msgs::Steps;
+use rds_wire::{Frame, Memory};
+use std::alloc::Global;
+use std::sync::ledger::Ledger;
+
+/// One end of a connection, with the peer's congestion map as it was read last.
+#[derive(Drop)]
+pub struct Link {
+    pub host: u8,
+    pub peer: u8,
+    pub conn: Conn,
+    /// How many streams were opened, and how many datagrams were accepted.
+    pub streams: u32,
+    pub accepted: u64,
+    /// The peer's map, and how many maps were read.
+    pub map: PortMap,
+    pub version: u64,
+    ghost home: { host < 8 },
+    ghost near: { peer < 8 },
+    ghost wide: { conn.slots ≡ max_slots },
+    ghost newest: { newest_stream conn.log.past ≤ streams },
+    ghost counted: { streams ≤ length conn.log.past },
+}
+
+impl Link {
+    /// The end of `host` to `peer`, of which nothing has happened. Its journal may have `limit` entries.
+    pub fn new(alloc: Global, host: u8, peer: u8, limit: u32) -> Result<Link, Memory>
+        requires host { host < 8 }
+        requires peer { peer < 8 }
+        requires least { MIN_ENTRIES ≤ limit }
+        requires most { limit ≤ MAX_ENTRIES }
+        ensures limit { IfOk result (λ link. link.conn.log.limit ≡ limit) }
+    {
+        Ok(Link {
+            host,
+            peer,
+            conn: Conn::new(
+                alloc,
+                address(host),
+                address(peer),
+                crate::host::SLOTS,
+                limit,
+            )?,
+            streams: 0,
+            accepted: 0,
+            map: PortMap::new(alloc)?,
+            version: 0,
+        })
+    }
+
+    /// Makes the connection ready for its next entries.
+    pub fn ready(&mut self) -> Result<(), Stop>
+        ensures ready { OnOk result (IsReady self.new.conn) }
+        ensures past { self.new.conn.log.past ≡ self.old.conn.log.past }
+        ensures waiting { self.new.conn.waiting ≡ self.old.conn.waiting }
+        ensures limit { self.new.conn.log.limit ≡ self.old.conn.log.limit }
+        ensures streams { self.new.streams ≡ self.old.streams }
+    {
+        match self.conn.reserve() {
+            Ok(()) => Ok(()),
+            Err(ConnError::Spent { entries }) => Err(Stop::Spent(Full {
+                host: self.host,
+                peer: self.peer,
+                entries,
+            })),
+            Err(_) => Err(Stop::Memory),
+        }
+    }
+
+    /// Whether a stream is open.
+    pub fn is_open(&self) -> bool
+        ensures { result ≡ is_some (stream_of self.now.conn) }
+    {
+        self.conn.stream().is_some()
+    }
+
+    /// Opens the next stream, where none is open.
+    pub fn open(&mut self) -> Result<(), Stop> {
+        self.ready()?;
+        if self.is_open() {
+            return Ok(());
+        }
+        self.conn.known();
+        self.streams += 1;
+        self.conn.open(self.streams);
+        Ok(())
+    }
+
+    /// Shuts the stream, where one is open.
+    pub fn shut(&mut self) -> Result<(), Stop> {
+        self.ready()?;
+        if self.is_open() {
+            self.conn.shut();
+        }
+        Ok(())
+    }
+
+    /// Gives an order to the connection.
+    pub fn order<L: Ledger>(&mut self, order: Order, steps: &mut Steps<L>) -> Result<(), Stop>
+        requires { IsOrderFor max_slots order }
+    {
+        self.ready()?;
+        self.conn.order(order, steps);
+        Ok(())
+    }
+
+    /// Pulls the frame that is owed. Answers whether there was one.
+    pub fn pull(&mut self, map: &PortMap, out: &mut Out) -> Result<bool, Stop> {
+        self.ready()?;
+        match self.conn.pull(map, out) {
+            Ok(Pulled::Nothing) | Ok(Pulled::Down) => Ok(false),
+            Ok(_) => Ok(true),
+            Err(_) => Err(Stop::Memory),
+        }
+    }
+
+    /// Takes a piece of the stream. Answers how many bytes it took, from the front.
+    pub fn feed(&mut self, piece: &[u8]) -> Result<usize, Stop>
+        ensures { IfOk result (λ used. used ≤ length piece.now) }
+    {
+        self.ready()?;
+        feed(&mut self.conn, piece)
+    }
+
+    /// Passes the frame that waits, if one does: a datagram is queued at the socket of `host` that holds its port, and a
+    /// congestion map is kept. Answers what was found.
+    pub fn pass<L: Ledger>(
+        &mut self,
+        host: &mut Host,
+        steps: &mut Steps<L>,
+    ) -> Result<Option<Found>, Stop> {
+        self.ready()?;
+        let (Some(frame), Some(verdict)) = (self.conn.waiting(), self.conn.verdict()) else {
+            return Ok(None);
+        };
+        let found = found(host, self.peer, frame, verdict)?;
+        self.version = keep_map(&mut self.map, self.version, frame, verdict);
+        pass(&mut self.conn, found, steps);
+        Ok(Some(found))
+    }
+}
+
+// Gives a piece of the stream to a connection. Answers how many bytes it took.
+fn feed(conn: &mut Conn, piece: &[u8]) -> Result<usize, Stop>
+    requires { IsReady conn.old }
+    ensures used { IfOk result (λ used. used ≤ length piece.now) }
+    ensures grows { Grows conn.old conn.new }
+{
+    match conn.feed(piece) {
+        Ok(fed) => Ok(fed.used),
+        Err(ConnError::Memory) => Err(Stop::Memory),
+        Err(_) => Ok(0),
+    }
+}
+
+// Passes the frame that waits at a connection.
+fn pass<L: Ledger>(conn: &mut Conn, found: Found, steps: &mut Steps<L>)
+    requires ready { IsReady conn.old }
+    requires waiting { IsSome conn.old.waiting }
+    requires found { IfSome conn.old.waiting (λ f. Matches conn.old.slots (verdict_of conn.old.log.past f.header) found) }
+    ensures grows { Grows conn.old conn.new }
+{
+    conn.pass(found, steps);
+}
+
+// Where a frame from a peer goes: a datagram is queued at the socket that holds its port.
+fn found(host: &mut Host, from: u8, frame: &Frame, verdict: Verdict) -> Result<Found, Memory>
+    requires { from < 8 }
+    ensures { IfOk result (Matches max_slots verdict) }
+{
+    let Verdict::Deliver { dport } = verdict else {
+        return Ok(Found::Unasked);
+    };
+    let Some(slot) = host.holder(dport) else {
+        return Ok(Found::NoSocket);
+    };
+    let datagram = Datagram {
+        from: address(from),
+        sport: frame.header.sport,
+        dport,
+        payload: frame.payload.share()?,
+    };
+    let socket = &mut host.sockets[slot];
+    socket.queue.push_back(Arrived { from, datagram })?;
+    socket.queued = socket.queued.saturating_add(u64::from(frame.payload.len()));
+    Ok(Found::Slot(slot as u16))
+}
+
+// Keeps the congestion map of a frame, where it is one. Answers how many maps were read, where it was so many before.
+fn keep_map(map: &mut PortMap, version: u64, frame: &Frame, verdict: Verdict) -> u64 {
+    if verdict != Verdict::Map {
+        return version;
+    }
+    if let Some(bytes) = frame.payload.as_slice().first_chunk::<8192>() {
+        map.of_bytes(bytes);
+    }
+    version.saturating_add(1)
+}

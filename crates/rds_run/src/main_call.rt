@@ -1,0 +1,111 @@
+ghost use Rattle.std.specs.Prelude.{◌≡◌, ◌≢◌, ◌⊎◌, ◌≤◌, ◌+◌, ◌<◌, ◌++◌, ℕ, List, OnOk, OnErr};
+ghost use Rattle.rds_link.specs.Told.{HasRisen, Takes};
+ghost use Rattle.rds_script.specs.Script.{IsScript};
+ghost use Rattle.rds_history.specs.Lines.{end_line, spent_line};
+ghost use Rattle.rds_run.specs.Texts.{ArePlay, usage_line, read_fault_line, bad_line};
+ghost use Rattle.rds_run.specs.Ends.{Ends, Plays, Refuses, IsReadWhole};
+ghost use Rattle.rds_run.specs.declared.status.Status.TheVariants as ended;
+
+use crate::later::first_later;
+use crate::status::Status;
+use crate::words::is_play;
+use rds_link::{ReadError, Sink, Source, read_all, write_all};
+use rds_model::MAX_ENTRIES;
+use rds_play::{PlayEnd, play};
+use rds_script::{Cause, MAX_TEXT, Script, ScriptError, read};
+use std::alloc::Global;
+
+const USAGE: &str = "usage: rds play | rds run [--wire memory|tcp] | rds gen N SEED\n";
+
+const READ_FAULT: &str = "read fault\n";
+
+/// Runs the program on the words behind its name, and answers its status. It knows the one word `play`, which reads a
+/// script from the source and writes its transcript and its report to the sink.
+pub fn rds_main<S: Source, K: Sink>(
+    alloc: Global,
+    words: &[String],
+    source: &mut S,
+    sink: &mut K,
+) -> u8
+    ensures usage { (ArePlay words.now → ⊥) → (result ≡ 2) ⊎ (result ≡ 4) }
+    ensures usage_only { result ≡ 2 → ArePlay words.now → ⊥ }
+    ensures usage_text { result ≡ 2 → Takes (K.held sink.old) (K.held sink.new) usage_line }
+
+    ensures read_fault { result ≡ 3 → HasRisen (S.faults source.old) (S.faults source.new) }
+    ensures read_fault_text { result ≡ 3 → Takes (K.held sink.old) (K.held sink.new) read_fault_line }
+    ensures write_fault { result ≡ 4 → HasRisen (K.faults sink.old) (K.faults sink.new) }
+
+    // A script is refused by one line, which names a line of the script and a cause.
+    ensures refused { result ≡ 1 → (line : ℕ) × (cause : List ℕ) × Takes (K.held sink.old) (K.held sink.new) (bad_line line cause) }
+    // A text was read to its end, and the whole answer was written.
+    ensures read { result ≡ 0 → IsReadWhole (S.left source.old) }
+    ensures written { result ≡ 0 → (text : List ℕ) × Takes (K.held sink.old) (K.held sink.new) (text ++ end_line) }
+    ensures spent { result ≡ 7 → (host : ℕ) × (peer : ℕ) × (entries : ℕ)
+        × Takes (K.held sink.old) (K.held sink.new) (spent_line host peer entries) }
+
+    ensures known { (result ≤ 4) ⊎ ((result ≡ 6) ⊎ (result ≡ 7)) }
+{
+    let status = if is_play(words) {
+        play_text(alloc, source, sink)
+    } else {
+        say(sink, USAGE, Status::Usage)
+    };
+    status as u8
+}
+
+// Writes a line that is the whole text, and answers the status that goes with it, unless the sink fails.
+fn say<K: Sink>(sink: &mut K, line: &str, status: Status) -> Status
+    ensures said { (result ≡ status × Takes (K.held sink.old) (K.held sink.new) line.now)
+        ⊎ (result ≡ ended.WriteFault × HasRisen (K.faults sink.old) (K.faults sink.new)) }
+{
+    match write_all(sink, line.as_bytes()) {
+        Ok(()) => status,
+        Err(_) => Status::WriteFault,
+    }
+}
+
+// Reads a script and plays it.
+fn play_text<S: Source, K: Sink>(alloc: Global, source: &mut S, sink: &mut K) -> Status
+    ensures ends { Ends (S.left source.old) (S.faults source.old) (S.faults source.new)
+        (K.held sink.old) (K.held sink.new) (K.faults sink.old) (K.faults sink.new) result }
+    ensures play { result ≢ ended.Usage }
+{
+    let text = match read_all(alloc, source, MAX_TEXT + 1) {
+        Ok(text) => text,
+        Err(ReadError::Failed) => return say(sink, READ_FAULT, Status::ReadFault),
+        Err(ReadError::Memory) => return Status::Memory,
+    };
+    match read(alloc, &text) {
+        Ok(script) => play_script(alloc, &script, sink),
+        Err(ScriptError::BadLine { line, cause }) => refuse(alloc, line, cause, sink),
+        Err(ScriptError::Memory) => Status::Memory,
+    }
+}
+
+// Plays a script, where all of it is known.
+fn play_script<K: Sink>(alloc: Global, script: &Script, sink: &mut K) -> Status
+    requires { IsScript script.now }
+    ensures { Plays (K.held sink.old) (K.held sink.new) (K.faults sink.old) (K.faults sink.new) result }
+{
+    match first_later(alloc, script) {
+        Ok(None) => {}
+        Ok(Some(line)) => return refuse(alloc, line, Cause::Later, sink),
+        Err(_) => return Status::Memory,
+    }
+    match play(alloc, script, MAX_ENTRIES, sink) {
+        PlayEnd::Ok => Status::Written,
+        PlayEnd::Spent { .. } => Status::Spent,
+        PlayEnd::WriteFault => Status::WriteFault,
+        PlayEnd::Memory => Status::Memory,
+    }
+}
+
+// Says which line is refused, and why.
+fn refuse<K: Sink>(alloc: Global, line: u32, cause: Cause, sink: &mut K) -> Status
+    ensures { Refuses (K.held sink.old) (K.held sink.new) (K.faults sink.old) (K.faults sink.new) result }
+{
+    match format!(in alloc; "bad line {line}: {cause}\n") {
+        Ok(text) => say(sink, text.as_str(), Status::Refused),
+        Err(_) => Status::Memory,
+    }
+}

@@ -1,0 +1,18 @@
+/// How the program ended: the status that it exits with.
+#[derive(Clone, Copy, Debug, PartialEq, Eq)]
+pub enum Status {
+    /// The whole text was written.
+    Written = 0,
+    /// The script is refused.
+    Refused = 1,
+    /// The words are none of a command.
+    Usage = 2,
+    /// The source failed.
+    ReadFault = 3,
+    /// The sink failed.
+    WriteFault = 4,
+    /// Memory ran out.
+    Memory = 6,
+    /// A journal is full.
+    Spent = 7,
+}
