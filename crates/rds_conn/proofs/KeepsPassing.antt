@@ -205,7 +205,7 @@ pub keeps_answered : (c : Inside) (k : ℕ) (f : Frame) (store : Held) (freed : 
       store = with_pong (c.accepted + 1) (suc (length c.journal.past)) f.header.sport store;
       splitter = record c.splitter { waiting = None };
       freed = freed;
-      spare = c.spare - 2;
+      spare = c.spare - 1 - 1;
       store_spare = c.store_spare - 1;
       pong = None;
       asking = asking_after c.asking f.header;

@@ -38,17 +38,6 @@ keeps_fed c k piece took splitter keeps on takes held = record {
   freed = keeps.freed;
 }
 
-pub fed_bytes : (c : Inside) (piece : List ℕ) (took : Took) (splitter : Frames) → Takes c.highest c.splitter piece took splitter →
-    Feeds piece (seen c) (seen (record c { splitter = splitter })) (record { used = took.used; waiting = took.ready })
-fed_bytes c piece took splitter takes = record {
-  used = takes.used;
-  bytes = takes.bytes;
-  rest_same = refl;
-  waiting = takes.ready;
-  all = takes.all;
-  progress = takes.progress;
-}
-
 -- a header that the splitter refused is a lawful end of the stream
 pub lawful_refusal : (c : Inside) (k : ℕ) (piece : List ℕ) (fault : Malformed) (splitter : Frames) → Keeps c → c.stream ≡ Some k →
     (refused : RefusesHeader c.highest c.splitter piece fault splitter) → IsLawfulBad k c.journal.past refused.header fault

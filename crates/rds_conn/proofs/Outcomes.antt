@@ -12,9 +12,7 @@ use Rattle.rds_model.specs.Reading.{verdict_of}
 use Rattle.rds_model.specs.Legal.{pong_for}
 use Rattle.rds_conn.specs.declared.conn.Found.{Found}
 use Rattle.rds_conn.specs.declared.conn.Found.TheVariants as found
-use Rattle.rds_model.specs.Log.{Log}
-use Rattle.rds_conn.specs.Connection.{Connection}
-use Rattle.rds_conn.specs.Passing.{delivery_of, outcome_of, pong, read_entries}
+use Rattle.rds_conn.specs.Passing.{delivery_of, outcome_of}
 
 -- only a ping is answered
 no_pong_delivered : (came : Found) (port : ℕ) → pong_for (delivery_of came) port ≡ None
@@ -36,10 +34,3 @@ pub verdict_there : (past : List Entry) (o : Option Frame) (v : Verdict) (f : Fr
     o ≡ Some f → v ≡ verdict_of past f.header
 verdict_there past o v f is there =
     let both : Some v ≡ Some (verdict_of past f.header) = is ∙ ap (option_map (λ (g : Frame). verdict_of past g.header)) there in cc
-
--- what stays as it was may be named by the new value
-pub renamed : (new old : Connection) (log : Log) → new ≡ record old { log = log; waiting = None; freed = new.freed } →
-    new ≡ record old { log = log; store_spare = new.store_spare; has_pong = new.has_pong; waiting = None; freed = new.freed }
-renamed new old log is =
-    is ∙ ap (λ n. record old { log = log; store_spare = n; waiting = None; freed = new.freed }) (sym (ap (λ (c : Connection). c.store_spare) is))
-    ∙ ap (λ b. record old { log = log; store_spare = new.store_spare; has_pong = b; waiting = None; freed = new.freed }) (sym (ap (λ (c : Connection). c.has_pong) is))

@@ -1,5 +1,5 @@
 -- What a piece of the open stream does. Source: this project's own.
-use Rattle.std.specs.Prelude.{◌≡◌, ℕ, ◌<◌, ◌≤◌, false, Option, Some, None, is_some, List, [], ◌∷◌, ◌++◌, length, take}
+use Rattle.std.specs.Prelude.{◌≡◌, ℕ, ◌<◌, ◌≤◌, false, true, Option, Some, None, is_some, List, [], ◌∷◌, ◌++◌, length, take}
 use Rattle.rds_wire.specs.declared.header.Header.{Header}
 use Rattle.rds_wire.specs.declared.kind.Malformed.{Malformed}
 use Rattle.rds_wire.specs.Bytes.{header_bytes, IsHeader}
@@ -16,7 +16,7 @@ pub record Feeds (piece : List ℕ) (old new : Connection) (fed : Fed) : Type 0 
   pub rest_same : new ≡ record old { waiting = new.waiting; rest = new.rest }
   pub waiting : fed.waiting ≡ is_some new.waiting
   pub all : fed.waiting ≡ false → fed.used ≡ length piece
-  pub progress : old.waiting ≡ None → 0 < length piece → 0 < fed.used
+  pub progress : old.waiting ≡ None → fed.waiting ≡ true → 0 < fed.used
 
 -- with the front of the piece a header became whole that has this fault, which ended the stream
 pub record Refuses (piece : List ℕ) (fault : Malformed) (old new : Connection) : Type 0 where

@@ -1,7 +1,6 @@
 -- What the passing of a frame does. Source: this project's own; port 0 as in rds(7).
-use Rattle.std.specs.Prelude.{◌≡◌, ℕ, ◌<◌, Option, Some, None, List, [], ◌∷◌, ◌++◌}
+use Rattle.std.specs.Prelude.{◌≡◌, ℕ, ◌-◌, ◌<◌, false, Option, Some, None, [], ◌∷◌}
 use Rattle.rds_wire.specs.declared.frame.Frame.{Frame}
-use Rattle.rds_model.specs.declared.entry.Entry.{Entry}
 use Rattle.rds_model.specs.declared.entry.Entry.TheVariants.{Accept, Read}
 use Rattle.rds_model.specs.declared.entry.TheConstants.{NO_SLOT}
 use Rattle.rds_model.specs.declared.entry.Outcome.{Outcome}
@@ -11,6 +10,7 @@ use Rattle.rds_model.specs.declared.entry.Verdict.TheVariants as verdict
 use Rattle.rds_model.specs.Legal.{pong_for}
 use Rattle.rds_conn.specs.declared.conn.Found.{Found}
 use Rattle.rds_conn.specs.declared.conn.Found.TheVariants as found
+use Rattle.rds_conn.specs.Connection.{Connection, logged}
 
 -- a datagram's port was looked up: the socket of a slot holds it, or none
 abbrev pub IsLookedUp : ℕ → Found → Type 0
@@ -44,11 +44,12 @@ outcome_of verdict.AckOnly came = outcome.AckOnly
 outcome_of verdict.Map came = outcome.Map
 outcome_of verdict.OddMap came = outcome.OddMap
 
--- the pong to a port, if one is owed
-abbrev pub pong : Option ℕ → List Entry
-pong None = []
-pong (Some port) = Accept NO_SLOT 0 port [] ∷ []
+-- the connection with the acceptance of a pong, if one is owed to a port
+abbrev pub answering : Option ℕ → Connection → Connection
+answering None c = c
+answering (Some port) c =
+    record (logged (Accept NO_SLOT 0 port [] ∷ []) c) { store_spare = c.store_spare - 1; has_pong = false }
 
--- the entries of a frame that is read, the newest first: the reading, and behind a ping its pong
-abbrev pub read_entries : ℕ → Frame → Outcome → List Entry
-read_entries k f came = pong (pong_for came f.header.sport) ++ Read k f came ∷ []
+-- the connection with the entry of a frame that was read on stream k, and directly behind a ping its pong
+abbrev pub passed : ℕ → Frame → Outcome → Connection → Connection
+passed k f came c = answering (pong_for came f.header.sport) (record (logged (Read k f came ∷ []) c) { waiting = None })

@@ -185,6 +185,20 @@ impl Conn {
         Ok(())
     }
 
+    /// The address of this host.
+    pub fn me(&self) -> u32
+        ensures { result ≡ self.now.me }
+    {
+        self.me
+    }
+
+    /// The address of the other host.
+    pub fn peer(&self) -> u32
+        ensures { result ≡ self.now.peer }
+    {
+        self.peer
+    }
+
     /// What every connection keeps.
     pub fn known(&self)
         ensures whole { IsWhole self.now.log.past }

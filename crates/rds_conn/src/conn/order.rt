@@ -5,7 +5,7 @@ ghost use Rattle.rds_model.specs.declared.entry.Target.TheVariants as target;
 ghost use Rattle.rds_model.specs.declared.entry.Msg.{Msg};
 ghost use Rattle.rds_conn.specs.Connection.{IsReady, held, logged};
 ghost use Rattle.rds_conn.specs.Gone.{gone};
-ghost use Rattle.rds_conn.specs.Orders.{IsOrderFor, entries_of};
+ghost use Rattle.rds_conn.specs.Orders.{IsOrderFor, ordered};
 
 use super::Conn;
 use rds_model::{Entry, Journal, Msg, NO_SLOT, Order, Target};
@@ -18,8 +18,7 @@ impl Conn {
     pub fn order<L: Ledger>(&mut self, order: Order, steps: &mut Steps<L>)
         requires ready { IsReady self.old }
         requires allowed { IsOrderFor self.old.slots order }
-        ensures entry { self.new ≡
-            record (logged (entries_of order) self.old) { store_spare = self.new.store_spare; freed = self.new.freed } }
+        ensures entry { self.new ≡ record (ordered order self.old) { freed = self.new.freed } }
         ensures freed { (slot : ℕ) → slot < self.old.slots →
             held slot self.new + gone slot self.old.log.past ≡ held slot self.old + gone slot self.new.log.past }
     {

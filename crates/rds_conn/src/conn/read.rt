@@ -10,7 +10,7 @@ ghost use Rattle.rds_msgs.specs.Held.{bytes_of};
 ghost use Rattle.rds_conn.specs.Connection.{IsReady, held, logged, stream_of};
 ghost use Rattle.rds_conn.specs.Freeing.{Frees, acknowledged};
 ghost use Rattle.rds_conn.specs.Gone.{gone};
-ghost use Rattle.rds_conn.specs.Passing.{Matches, outcome_of as outcome_after, read_entries};
+ghost use Rattle.rds_conn.specs.Passing.{Matches, outcome_of as outcome_after, passed};
 
 use super::order::accept;
 use super::{Conn, Found};
@@ -45,8 +45,8 @@ impl Conn {
         requires waiting { IsSome self.old.waiting }
         requires found { IfSome self.old.waiting (λ f. Matches self.old.slots (verdict_after self.old.log.past f.header) found) }
         ensures entry { (k : ℕ) (f : Frame) → stream_of self.old ≡ Some k → self.old.waiting ≡ Some f →
-            self.new ≡ record (logged (read_entries k f (outcome_after (verdict_after self.old.log.past f.header) found)) self.old)
-            { waiting = None; store_spare = self.new.store_spare; has_pong = self.new.has_pong; freed = self.new.freed } }
+            self.new ≡ record (passed k f (outcome_after (verdict_after self.old.log.past f.header) found) self.old)
+            { freed = self.new.freed } }
         ensures freed { (slot : ℕ) → slot < self.old.slots →
             held slot self.new + gone slot self.old.log.past ≡ held slot self.old + gone slot self.new.log.past }
         ensures on { IsSome (stream_of self.old) }
@@ -67,7 +67,7 @@ impl Conn {
         requires lawful { IfSome self.old.waiting (λ f. Obeys (verdict_after self.old.log.past f.header) outcome) }
         requires no_pong { (port : ℕ) → pong_for outcome port ≡ None }
         ensures entry { (k : ℕ) (f : Frame) → stream_of self.old ≡ Some k → self.old.waiting ≡ Some f →
-            self.new ≡ record (logged (entry.Read k f outcome ∷ []) self.old) { waiting = None; freed = self.new.freed } }
+            self.new ≡ record (passed k f outcome self.old) { freed = self.new.freed } }
         ensures freed { (slot : ℕ) → slot < self.old.slots →
             held slot self.new + gone slot self.old.log.past ≡ held slot self.old + gone slot self.new.log.past }
         ensures on { IsSome (stream_of self.old) }
@@ -95,8 +95,7 @@ impl Conn {
         requires waiting { IfSome self.old.waiting (λ f. verdict_after self.old.log.past f.header ≡ verdict.Ping) }
         requires one { IsSome self.old.waiting }
         ensures entry { (k : ℕ) (f : Frame) → stream_of self.old ≡ Some k → self.old.waiting ≡ Some f →
-            self.new ≡ record (logged (read_entries k f outcomes.Ping) self.old)
-            { waiting = None; store_spare = self.old.store_spare - 1; has_pong = false; freed = self.new.freed } }
+            self.new ≡ record (passed k f outcomes.Ping self.old) { freed = self.new.freed } }
         ensures freed { (slot : ℕ) → slot < self.old.slots →
             held slot self.new + gone slot self.old.log.past ≡ held slot self.old + gone slot self.new.log.past }
         ensures on { IsSome (stream_of self.old) }
@@ -116,6 +115,7 @@ impl Conn {
             frame,
             outcome: Outcome::Ping,
         });
+        self.spare -= 1;
         self.last = header.sequence;
         self.asking = self.asking.after_read(&header);
         acknowledge(&mut self.store, &mut self.freed, header.ack, steps);
@@ -129,7 +129,7 @@ impl Conn {
             header.sport,
             pong,
         );
-        self.spare -= 2;
+        self.spare -= 1;
         self.store_spare -= 1;
     }
 }

@@ -1,10 +1,8 @@
-use Rattle.std.proofs.Common.{◌≡◌, None, ap, ◌∙◌, sym}
-use Rattle.rds_model.specs.declared.entry.Outcome.{Outcome}
+use Rattle.std.proofs.Common.{◌≡◌, ap, ◌∙◌, sym}
 use Rattle.rds_model.specs.declared.entry.Verdict.{Verdict}
 use Rattle.rds_model.specs.Reading.{verdict_of}
-use Rattle.rds_model.specs.Legal.{pong_for}
 use Rattle.rds_conn.specs.Passing.{outcome_of}
-use Rattle.rds_conn.proofs.Outcomes.{no_pong, renamed, verdict_there}
+use Rattle.rds_conn.proofs.Outcomes.{no_pong, verdict_there}
 use Rattle.rds_conn.proofs.conn.Conn.pass.Goals as goal
 
 pub returns-in_default-verdict-clause-entry : goal.returns-in_default-verdict-clause-entry
@@ -12,7 +10,4 @@ returns-in_default-verdict-clause-entry g c = λ k f on waiting.
     let verdict_is = verdict_there c.args.self.now.log.past c.args.self.now.waiting c.in-Some.verdict f c.in-Some.ensures waiting in
     let outcome_is : c.outcome_of.result ≡ outcome_of (verdict_of c.args.self.now.log.past f.header) c.args.found =
     c.outcome_of.ensures ∙ ap (λ (v : Verdict). outcome_of v c.args.found) verdict_is in
-    let none : pong_for c.outcome_of.result f.header.sport ≡ None =
-    ap (λ (o : Outcome). pong_for o f.header.sport) c.outcome_of.ensures
-    ∙ no_pong c.in-Some.verdict c.args.found c.in_default-verdict.not-Ping f.header.sport in
-    rw (sym outcome_is, none) (renamed c.pass_as.new.self c.args.self.now _ (c.pass_as.ensures.entry k f on waiting))
+    rw (sym outcome_is) (c.pass_as.ensures.entry k f on waiting)

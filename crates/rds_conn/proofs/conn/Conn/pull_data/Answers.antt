@@ -6,7 +6,7 @@ use Rattle.rds_model.specs.declared.entry.Entry.{Entry}
 use Rattle.rds_model.specs.Past.{Accepted, datagram}
 use Rattle.rds_model.specs.Streams.{was_pulled}
 use Rattle.rds_model.specs.Owed.{data_frame, last_map, header_of, flag_if, asks_with}
-use Rattle.rds_model.proofs.Owing.{least_due}
+use Rattle.rds_model.proofs.Due.{least_due}
 use Rattle.rds_model.proofs.Numbers.{number_of_known}
 use Rattle.rds_model.proofs.LawfulFrames.{kind_of_data_frame}
 use Rattle.rds_conn.specs.Choosing.{IsFirstDue}
