@@ -4,10 +4,9 @@
 use rds_link::{StdSink, StdSource};
 use rds_run::rds_main;
 use std::alloc::AllocError;
-use std::env;
-use std::io;
 use std::process::ExitCode;
 use std::rt::Env;
+use std::{env, io};
 
 /// The status where memory runs out before the words are read.
 const MEMORY: u8 = 6;

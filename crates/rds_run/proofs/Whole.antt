@@ -16,7 +16,7 @@ read_whole (Some all) text handed within =
 
 -- what a played script leaves is how a call may end, where its text was read whole
 pub ends_of_played : (left : Option (List ℕ)) (read_then read_now : ℕ) (held new : Option (List ℕ)) (write_then write_now : ℕ) (s : Status) →
-  IsReadWhole left → Plays held new write_then write_now s → Ends left read_then read_now held new write_then write_now s
+    IsReadWhole left → Plays held new write_then write_now s → Ends left read_then read_now held new write_then write_now s
 ends_of_played left read_then read_now held new write_then write_now ended.Written whole played = (whole, played)
 ends_of_played left read_then read_now held new write_then write_now ended.Refused whole played = played
 ends_of_played left read_then read_now held new write_then write_now ended.Usage whole played = absurd played

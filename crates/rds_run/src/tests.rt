@@ -47,7 +47,10 @@ fn refused_scripts(rt: HostRuntime) -> Result<(), Fail> {
         ("", "bad line 0: empty\n"),
         ("hosts 2\nbind A 70000 1 2\n", "bad line 2: number\n"),
         ("hosts 3\n", "bad line 1: later\n"),
-        ("hosts 2\nbind A 4000 9 9\nbind A 4000 9 9\n", "bad line 3: later\n"),
+        (
+            "hosts 2\nbind A 4000 9 9\nbind A 4000 9 9\n",
+            "bad line 3: later\n",
+        ),
         ("hosts 2\n\ncut A B\n", "bad line 3: later\n"),
     ];
     for (script, line) in refused {

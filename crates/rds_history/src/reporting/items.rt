@@ -15,30 +15,43 @@ pub fn sent<'a>(
     for (peer, journal) in &host.journals {
         let taken = taken_back(alloc, journal)?;
         let came = arrived(alloc, journal_of(hosts, *peer, host.addr), taken.len())?;
-        let mut n = 0usize;
-        for i in 0..journal.len() {
-            if let Some(Entry::Accept { sport, dport, .. }) = journal.at(i) {
-                let group = Group {
-                    to: *peer,
-                    dport: *dport,
-                    from: host.addr,
-                    sport: *sport,
-                };
-                items.push(Item {
-                    group,
-                    what: What::Accepted,
-                })?;
-                if taken[n] && !came[n] {
-                    items.push(Item {
-                        group,
-                        what: What::Cancelled,
-                    })?;
-                }
-                n += 1;
+        sent_to(items, host.addr, *peer, journal, &taken, &came)?;
+    }
+    Ok(())
+}
+
+// The acceptances of a journal, and those of them that were taken back and didn't come, by their numbers from 0.
+fn sent_to(
+    items: &mut Vec<Item<'_>>,
+    from: u32,
+    to: u32,
+    journal: &Journal,
+    taken: &[bool],
+    came: &[bool],
+) -> Result<(), Memory> {
+    let mut n = 0usize;
+    for i in 0..journal.len() {
+        if let Some(Entry::Accept { sport, dport, .. }) = journal.at(i) {
+            let group = Group {
+                to,
+                dport: *dport,
+                from,
+                sport: *sport,
+            };
+            let what = What::Accepted;
+            items.push(Item { group, what })?;
+            if is_set(taken, n) && !is_set(came, n) {
+                let what = What::Cancelled;
+                items.push(Item { group, what })?;
             }
+            n = n.saturating_add(1);
         }
     }
     Ok(())
+}
+
+fn is_set(flags: &[bool], n: usize) -> bool {
+    flags.get(n).copied().unwrap_or(false)
 }
 
 /// The journal that a host keeps of its connection with a peer.
