@@ -61,6 +61,7 @@ spent A B 7
 
 fn accept(journal: &mut Journal, alloc: Global, dport: u16) -> Result<(), Fail> {
     let payload = Payload::copy_of(alloc, b"hello")?;
+    journal.reserve(1)?;
     journal.push(Entry::Accept {
         slot: 0,
         sport: 4000,
@@ -74,7 +75,6 @@ fn accept(journal: &mut Journal, alloc: Global, dport: u16) -> Result<(), Fail> 
 fn a_report(rt: HostRuntime) -> Result<(), Fail> {
     let mut text = String::new(rt.alloc());
     let mut there = Journal::new(rt.alloc(), 100)?;
-    there.reserve(10)?;
     accept(&mut there, rt.alloc(), 4001)?;
     accept(&mut there, rt.alloc(), 4001)?;
     accept(&mut there, rt.alloc(), 4002)?;
@@ -83,7 +83,7 @@ fn a_report(rt: HostRuntime) -> Result<(), Fail> {
         payload: Payload::copy_of(rt.alloc(), b"hello")?,
     };
     let mut back = Journal::new(rt.alloc(), 100)?;
-    back.reserve(10)?;
+    back.reserve(1)?;
     back.push(Entry::Read {
         stream: 1,
         frame: data,
