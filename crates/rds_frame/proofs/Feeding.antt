@@ -1,19 +1,17 @@
 -- A stream, piece by piece, for whoever hands the pieces to a splitter.
-use Rattle.std.proofs.Common.{◌≡◌, ℕ, ◌+◌, ◌-◌, ◌<◌, ◌≤◌, List, [], ◌∷◌, ◌++◌, length, take, drop, get_or, Option, Some, None, IfSome, is_some, refl, sym, ap, ◌∙◌, subst, arith, inl, inr, append_assoc, length-append, length-drop}
+use Rattle.std.proofs.Common.{◌≡◌, ℕ, ◌+◌, ◌-◌, ◌<◌, ◌≤◌, List, [], ◌∷◌, ◌++◌, length, take, drop, get_or, Option, Some, None, IfSome, is_some, refl, sym, ap, ◌∙◌, subst, arith, inl, inr, append_assoc, length-append}
 use Rattle.std.proofs.lemmas.Bool.{cases_lt}
-use Rattle.std.proofs.lemmas.List.{append-nil, drop_more, take_all, take_at, take-append-drop, take-append-le, length-take-le}
+use Rattle.std.proofs.lemmas.List.{append-nil, drop_more, take_all, take_at, take-append-drop, take-append-le}
 use Rattle.std.proofs.lemmas.List.Concat.{flat_map-append}
 use Rattle.std.proofs.lemmas.List.Elements.{All-nil, All-push, All-weaker}
 use Rattle.std.specs.List.{All, flat_map}
-use Rattle.rds_wire.specs.declared.header.Header.{Header}
 use Rattle.rds_wire.specs.declared.frame.Frame.{Frame}
 use Rattle.rds_wire.specs.declared.kind.Malformed.{Malformed}
-use Rattle.rds_wire.specs.Bytes.{frame_bytes, header_bytes, IsHeader}
-use Rattle.rds_wire.specs.Kinds.{cause}
+use Rattle.rds_wire.specs.Bytes.{frame_bytes, header_bytes}
 use Rattle.rds_wire.proofs.Causes.{cause-rises}
 use Rattle.rds_wire.proofs.Headers.{length-header_bytes}
 use Rattle.rds_frame.specs.declared.took.Took.{Took}
-use Rattle.rds_frame.specs.Splitting.{BeginsMalformed, frames_bytes, IsClear, IsFrame, IsMalformed, IsPartial, IsSound, Splits}
+use Rattle.rds_frame.specs.Splitting.{frames_bytes, IsClear, IsFrame, IsMalformed, IsPartial, IsSound, Splits}
 use Rattle.rds_frame.specs.Holding.{Held, held_bytes, IsFed, IsHeld, nothing_held}
 use Rattle.rds_frame.specs.Taking.{Refuses, Takes}
 use Rattle.rds_frame.proofs.OneSplit.{Splits-only}

@@ -1,13 +1,12 @@
 -- A list of bytes that begins with a whole header.
-use Rattle.std.proofs.Common.{◌≡◌, ℕ, ◌+◌, ◌<◌, ◌≤◌, List, ◌++◌, length, take, drop, None, Some, refl, sym, ap, ◌∙◌, arith, inr, append_assoc, length-append}
+use Rattle.std.proofs.Common.{◌≡◌, ℕ, ◌+◌, ◌<◌, ◌≤◌, List, ◌++◌, length, take, drop, None, Some, sym, ap, ◌∙◌, arith, inr, append_assoc, length-append}
 use Rattle.std.proofs.lemmas.List.{drop-drop, length-take-le, take-append-drop}
 use Rattle.rds_wire.specs.declared.header.Header.{Header}
-use Rattle.rds_wire.specs.declared.frame.Frame.{Frame}
 use Rattle.rds_wire.specs.declared.kind.Malformed.{Malformed}
 use Rattle.rds_wire.specs.Bytes.{frame_bytes, header_bytes, IsHeader}
 use Rattle.rds_wire.specs.Kinds.{cause}
 use Rattle.rds_wire.proofs.Headers.{length-header_bytes}
-use Rattle.rds_frame.specs.Splitting.{BeginsMalformed, IsFrame, IsPartial, IsSound}
+use Rattle.rds_frame.specs.Splitting.{BeginsMalformed, IsPartial, IsSound}
 
 -- the first 48 bytes are those of this header, and the others follow
 pub record IsFront (bytes head body : List ℕ) (d : Header) : Type 0 where

@@ -1,5 +1,5 @@
 -- What is held, by the fields.
-use Rattle.std.proofs.Common.{◌≡◌, ℕ, ◌+◌, ◌<◌, ◌≤◌, List, [], ◌++◌, length, take, Option, Some, None, refl, sym, ap, ◌∙◌, subst, arith, inl, inr, IfSome}
+use Rattle.std.proofs.Common.{◌≡◌, ℕ, List, [], ◌++◌, length, take, Option, Some, None, sym, ap, ◌∙◌, arith, inl, inr, IfSome}
 use Rattle.std.proofs.lemmas.Bool.{cases_lt}
 use Rattle.std.proofs.lemmas.List.{append-nil, length-take-le, take_all}
 use Rattle.rds_wire.specs.declared.header.Header.{Header}
@@ -7,7 +7,7 @@ use Rattle.rds_wire.specs.declared.frame.Frame.{Frame}
 use Rattle.rds_wire.specs.Bytes.{header_bytes, IsHeader}
 use Rattle.rds_frame.specs.Splitting.{IsFrame, IsPartial}
 use Rattle.rds_frame.specs.Holding.{Held, IsHeld, refusing}
-use Rattle.rds_frame.specs.Fields.{Announces, IsSplitter}
+use Rattle.rds_frame.specs.Fields.{IsSplitter}
 
 -- what a splitter with these fields holds
 abbrev pub held_of : List ℕ → ℕ → List ℕ → Option Frame → Option Header → Held

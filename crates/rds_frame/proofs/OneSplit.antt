@@ -1,12 +1,12 @@
 -- Each list of bytes has one split into frames and a rest.
-use Rattle.std.proofs.Common.{◌≡◌, ℕ, zero, suc, ◌+◌, ◌-◌, ◌<◌, ◌≤◌, List, [], ◌∷◌, ◌++◌, length, take, drop, refl, sym, ap, ◌∙◌, arith, inl, inr, append_assoc, length-append, length-drop}
+use Rattle.std.proofs.Common.{◌≡◌, ℕ, zero, suc, ◌<◌, ◌≤◌, List, [], ◌∷◌, ◌++◌, length, take, drop, refl, sym, ap, ◌∙◌, arith, inl, inr, append_assoc, length-append, length-drop}
 use Rattle.std.proofs.lemmas.Bool.{cases_lt}
 use Rattle.std.proofs.lemmas.List.{take_at, drop_at, take-append-drop, length-take-le}
 use Rattle.std.proofs.lemmas.List.Elements.{All-nil, All-cons, All-head, All-tail, All-take, All-drop}
 use Rattle.std.specs.List.{All}
 use Rattle.rds_wire.specs.declared.header.Header.{Header}
 use Rattle.rds_wire.specs.declared.frame.Frame.{Frame}
-use Rattle.rds_wire.specs.Bytes.{frame_bytes, header_bytes, IsBytes, IsHeader}
+use Rattle.rds_wire.specs.Bytes.{frame_bytes, header_bytes, IsBytes}
 use Rattle.rds_wire.proofs.Headers.{header_bytes-append, length-header_bytes}
 use Rattle.rds_wire.proofs.Decoding.{header_of, header_bytes-header_of, IsHeader-header_of}
 use Rattle.rds_frame.specs.Splitting.{frames_bytes, IsFrame, IsPartial, Splits}

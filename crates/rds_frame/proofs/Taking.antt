@@ -11,8 +11,8 @@ use Rattle.rds_wire.specs.Kinds.{cause}
 use Rattle.rds_wire.proofs.Headers.{header_bytes-append, header_bytes-injective, length-header_bytes}
 use Rattle.rds_wire.proofs.Causes.{len-cause}
 use Rattle.rds_frame.specs.Splitting.{IsClear, IsFrame}
-use Rattle.rds_frame.specs.Holding.{Held, held_bytes, IsHeld, refusing}
-use Rattle.rds_frame.specs.Fields.{Announces, IsLastFrame, IsLastHeader, IsSplitter}
+use Rattle.rds_frame.specs.Holding.{Held, held_bytes, IsHeld}
+use Rattle.rds_frame.specs.Fields.{IsLastFrame, IsLastHeader, IsSplitter}
 use Rattle.rds_frame.specs.Taking.{Refuses, Takes}
 use Rattle.rds_frame.proofs.Keeping.{held_of}
 

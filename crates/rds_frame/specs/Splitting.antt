@@ -1,6 +1,6 @@
 -- Which frames a list of bytes is. Whole lists alone are spoken of here, and no pieces. The rule of what a header may
 -- not have, and where it is refused, is this project's own.
-use Rattle.std.specs.Prelude.{◌≡◌, ℕ, ◌<◌, ◌⊎◌, List, ◌++◌, length, All, Option, Some, None}
+use Rattle.std.specs.Prelude.{◌≡◌, ℕ, ◌<◌, ◌⊎◌, List, ◌++◌, length, All, Some, None}
 use Rattle.std.specs.List.{flat_map}
 use Rattle.rds_wire.specs.declared.header.Header.{Header}
 use Rattle.rds_wire.specs.declared.frame.Frame.{Frame}

@@ -1,10 +1,10 @@
 -- What is known of a header that has no fault, or has one.
-use Rattle.std.proofs.Common.{◌≡◌, ℕ, ◌+◌, ◌<◌, ◌≤◌, ◌^◌, Option, Some, None, Result, Ok, Err, true, false, refl, sym, ap, ◌∙◌, arith}
+use Rattle.std.proofs.Common.{◌≡◌, ℕ, ◌≤◌, Option, Some, None, Ok, Err, refl, arith}
 use Rattle.std.proofs.lemmas.Bool.Decides.{nat_tests}
 use Rattle.rds_wire.specs.declared.header.Header.{Header}
 use Rattle.rds_wire.specs.declared.kind.Kind.{Kind}
 use Rattle.rds_wire.specs.declared.kind.Malformed.{Malformed}
-use Rattle.rds_wire.specs.Kinds.{cause, answered, checked}
+use Rattle.rds_wire.specs.Kinds.{cause, answered}
 
 -- an answer is Ok exactly where there is no fault
 pub answered-ok : (kind k : Kind) (fault : Option Malformed) → answered kind fault ≡ Ok k → fault ≡ None

@@ -1,6 +1,6 @@
 -- Extensions of a header: a byte with the type, then the data of that type, one extension after another. Types and
 -- sizes are this project's profile after rds.h.
-use Rattle.std.specs.Prelude.{◌≡◌, ℕ, ◌+◌, ◌-◌, ◌≤◌, ◌<◌, ◌^◌, List, [], ◌∷◌, ◌++◌, length, take, drop, replicate}
+use Rattle.std.specs.Prelude.{◌≡◌, ℕ, ◌+◌, ◌≤◌, ◌<◌, ◌^◌, List, ◌∷◌, ◌++◌, length, take, drop}
 use Rattle.byteorder.specs.Endian.{big_bytes}
 use Rattle.rds_wire.specs.declared.ext.Ext.{Ext}
 use Rattle.rds_wire.specs.declared.ext.Ext.TheVariants.{Version, RdmaKey, RdmaDest, Paths, Generation}

@@ -6,7 +6,7 @@ use Rattle.rds_wire.specs.declared.kind.Kind.{Kind}
 use Rattle.rds_wire.specs.declared.kind.Kind.TheVariants.{Data, Ack, Map, OddMap}
 use Rattle.rds_wire.specs.declared.kind.Malformed.{Malformed}
 use Rattle.rds_wire.specs.declared.kind.Malformed.TheVariants as malformed
-use Rattle.rds_wire.specs.declared.header.TheConstants.{CONG_BITMAP, ACK_REQUIRED, RETRANSMITTED}
+use Rattle.rds_wire.specs.declared.header.TheConstants.{CONG_BITMAP}
 use Rattle.rds_wire.specs.declared.kind.TheConstants.{MAP_LENGTH, MAX_LENGTH}
 use Rattle.rds_wire.specs.Bytes.{computed}
 

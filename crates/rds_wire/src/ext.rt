@@ -64,16 +64,16 @@ fn first_ext(bytes: &[u8]) -> Option<Ext>
     ensures found { IfSome result (BeginsWith bytes.now) }
     ensures none { IfNone result ((e : Ext) → BeginsWith bytes.now e → ⊥) }
 {
-    let (kind, data) = bytes.split_first()?;
+    let (kind, rest) = bytes.split_first()?;
     match *kind {
-        1 => Some(Ext::Version(number(data)?)),
-        2 => Some(Ext::RdmaKey(number(data)?)),
+        1 => Some(Ext::Version(number(rest)?)),
+        2 => Some(Ext::RdmaKey(number(rest)?)),
         3 => Some(Ext::RdmaDest {
-            key: number(data)?,
-            offset: number(data.get(4..)?)?,
+            key: number(rest)?,
+            offset: number(rest.get(4..)?)?,
         }),
-        5 => Some(Ext::Paths(short(data)?)),
-        6 => Some(Ext::Generation(number(data)?)),
+        5 => Some(Ext::Paths(short(rest)?)),
+        6 => Some(Ext::Generation(number(rest)?)),
         _ => None,
     }
 }
@@ -88,22 +88,22 @@ fn ext_len(e: Ext) -> usize
     }
 }
 
-fn number(data: &[u8]) -> Option<u32>
-    ensures found { IfSome result (λ n. (4 ≤ length data.now) × (take 4 data.now ≡ big_bytes 4 n)) }
-    ensures none { IfNone result (length data.now < 4) }
+fn number(bytes: &[u8]) -> Option<u32>
+    ensures found { IfSome result (λ n. (4 ≤ length bytes.now) × (take 4 bytes.now ≡ big_bytes 4 n)) }
+    ensures none { IfNone result (length bytes.now < 4) }
 {
-    if data.len() < 4 {
+    if bytes.len() < 4 {
         return None;
     }
-    Some(BigEndian::read_u32(data))
+    Some(BigEndian::read_u32(bytes))
 }
 
-fn short(data: &[u8]) -> Option<u16>
-    ensures found { IfSome result (λ n. (2 ≤ length data.now) × (take 2 data.now ≡ big_bytes 2 n)) }
-    ensures none { IfNone result (length data.now < 2) }
+fn short(bytes: &[u8]) -> Option<u16>
+    ensures found { IfSome result (λ n. (2 ≤ length bytes.now) × (take 2 bytes.now ≡ big_bytes 2 n)) }
+    ensures none { IfNone result (length bytes.now < 2) }
 {
-    if data.len() < 2 {
+    if bytes.len() < 2 {
         return None;
     }
-    Some(BigEndian::read_u16(data))
+    Some(BigEndian::read_u16(bytes))
 }

@@ -1,4 +1,4 @@
-use Rattle.std.proofs.Common.{◌≡◌, ◌∙◌, ◌+◌, ap, sym, drop, length}
+use Rattle.std.proofs.Common.{◌≡◌, ◌∙◌, ◌+◌, ap, drop, length}
 use Rattle.std.proofs.lemmas.List.{take_rest}
 use Rattle.rds_frame.proofs.Feeding.{frames_bytes-more, Splits-sound_only}
 use Rattle.rds_frame.proofs.plain.frames_in.Goals as goal

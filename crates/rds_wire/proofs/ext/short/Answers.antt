@@ -3,4 +3,4 @@ use Rattle.rds_wire.proofs.Decoding.{take-number_2}
 use Rattle.rds_wire.proofs.ext.short.Goals as goal
 
 pub returns-clause-found : goal.returns-clause-found
-returns-clause-found c = (omega arith, take-number_2 c.args.data.now c.read_u16.result (omega arith) (λ i. omega (arith, c.type_inv.data i)) c.read_u16.ensures)
+returns-clause-found c = (omega arith, take-number_2 c.args.bytes.now c.read_u16.result (omega arith) (λ i. omega (arith, c.type_inv.bytes i)) c.read_u16.ensures)

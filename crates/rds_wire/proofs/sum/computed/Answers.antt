@@ -1,4 +1,4 @@
-use Rattle.std.proofs.Common.{◌≡◌, ◌-◌, ◌∙◌, ap, sym, arith, ◌<◌}
+use Rattle.std.proofs.Common.{◌≡◌, ◌-◌, ◌∙◌, ap, sym, arith}
 use Rattle.rds_wire.specs.Bytes.{computed, folded}
 use Rattle.rds_wire.proofs.Folding.{folded-carry, folded-small}
 use Rattle.rds_wire.proofs.sum.computed.Goals as goal

@@ -1,4 +1,4 @@
-use Rattle.std.proofs.Common.{◌≡◌, ◌∙◌, ap, sym, subst, is_some}
+use Rattle.std.proofs.Common.{◌∙◌, ap, sym, subst, is_some}
 use Rattle.rds_frame.specs.Holding.{Held, IsHeld}
 use Rattle.rds_frame.proofs.Keeping.{IsHeld-fields}
 use Rattle.rds_frame.proofs.Taking.{Takes-nothing}
