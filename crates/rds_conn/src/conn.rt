@@ -113,11 +113,11 @@ impl Conn {
     ghost use Rattle.rds_model.specs.Alive.{alive_numbers, covers};
     ghost use Rattle.rds_model.specs.Past.{datagram, highest, last_passed};
     ghost use Rattle.rds_model.specs.Legal.{IsWhole};
-    ghost use Rattle.rds_frame.specs.Splitting.{IsSound};
+    ghost use Rattle.rds_frame.specs.Splitting.{IsClear, IsPartial, IsSound};
     ghost use Rattle.rds_wire.specs.declared.kind.Malformed.{Malformed};
     ghost use Rattle.rds_model.specs.Reading.{max_slots};
     ghost use Rattle.rds_model.specs.declared.journal.TheConstants.{MIN_ENTRIES, MAX_ENTRIES};
-    ghost use Rattle.rds_conn.specs.Connection.{readied, stream_of};
+    ghost use Rattle.rds_conn.specs.Connection.{readied, stream_of, taken_bytes};
     ghost use Rattle.rds_conn.specs.Freeing.{HandsOut};
 
     /// A connection of the host `me` with `peer`, both IPv4 addresses: an empty journal of at most `limit` entries, and
@@ -209,6 +209,8 @@ impl Conn {
         ensures idle { stream_of self.now ≡ None → (self.now.waiting ≡ None) × (self.now.rest ≡ []) }
         ensures sound { IfSome self.now.waiting (IsSound (highest self.now.log.past)) }
         ensures alone { IfSome self.now.waiting (λ f. self.now.rest ≡ []) }
+        ensures partial { self.now.waiting ≡ None → IsPartial self.now.rest }
+        ensures clear { IsClear (highest self.now.log.past) (taken_bytes self.now) }
     {
         let _ = &self.slots;
     }
