@@ -1,4 +1,4 @@
-ghost use Rattle.std.specs.Prelude.{◌≡◌, ◌≢◌, ℕ, ◌+◌, ◌<◌, ◌≤◌, ◌↔◌, [], false, None, IfOk, OnOk, OnErr, IfErr, IfSome, IfNone, IsNone, IsSome, length, sum, replicate, filter, slice_index};
+ghost use Rattle.std.specs.Prelude.{◌≡◌, ℕ, ◌+◌, ◌≤◌, ◌↔◌, nat_le, [], true, None, IfOk, OnOk, OnErr, IfErr, IfSome, IfNone, IsNone, IsSome, length, sum, replicate, filter, slice_index};
 ghost use Rattle.rds_conn.specs.declared.conn.ConnError.TheVariants as errors;
 
 use crate::asking::Asking;
@@ -110,13 +110,14 @@ impl Model for Conn {
 }
 
 impl Conn {
-    ghost use Rattle.rds_model.specs.Alive.{alive_numbers, covers};
+    ghost use Rattle.rds_model.specs.Alive.{alive_numbers, covers, is_alive};
     ghost use Rattle.rds_model.specs.Past.{datagram, highest, last_passed};
+    ghost use Rattle.rds_model.specs.Streams.{was_pulled};
     ghost use Rattle.rds_model.specs.Legal.{IsWhole};
-    ghost use Rattle.rds_frame.specs.Splitting.{IsSound};
+    ghost use Rattle.rds_frame.specs.Splitting.{IsClear, IsPartial, IsSound};
     ghost use Rattle.rds_model.specs.Reading.{max_slots};
     ghost use Rattle.rds_model.specs.declared.journal.TheConstants.{MIN_ENTRIES, MAX_ENTRIES};
-    ghost use Rattle.rds_conn.specs.Connection.{stream_of};
+    ghost use Rattle.rds_conn.specs.Connection.{stream_of, taken_bytes};
     ghost use Rattle.rds_conn.specs.Freeing.{HandsOut};
 
     /// A connection of the host `me` with `peer`, both IPv4 addresses: an empty journal of at most `limit` entries, and
@@ -190,6 +191,11 @@ impl Conn {
         ensures idle { stream_of self.now ≡ None → (self.now.waiting ≡ None) × (self.now.rest ≡ []) }
         ensures sound { IfSome self.now.waiting (IsSound (highest self.now.log.past)) }
         ensures alone { IfSome self.now.waiting (λ f. self.now.rest ≡ []) }
+        ensures partial { self.now.waiting ≡ None → IsPartial self.now.rest }
+        ensures clear { IsClear (highest self.now.log.past) (taken_bytes self.now) }
+        // A number that is alive was pulled exactly where it is at most the highest one that was pulled.
+        ensures pulled { (n : ℕ) → is_alive self.now.log.past n ≡ true →
+            was_pulled self.now.log.past n ≡ nat_le n (highest self.now.log.past) }
     {
         let _ = &self.slots;
     }
