@@ -1,0 +1,4 @@
+pub mod Steps
+pub mod Flags
+pub mod Walked
+pub mod Gathered

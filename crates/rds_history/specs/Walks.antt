@@ -1,5 +1,5 @@
 -- A walk over a journal, from its oldest entry on. Source: this project's own.
-use Rattle.std.specs.Prelude.{◌≡◌, ℕ, ◌==◌, ◌&&◌, nat_lt, Bool, false, Option, Some, None, List, reverse, take}
+use Rattle.std.specs.Prelude.{◌≡◌, ℕ, ◌==◌, ◌&&◌, nat_lt, Bool, false, Option, Some, None, List, ◌-◌, length, drop}
 use Rattle.std.specs.List.{list_any}
 use Rattle.rds_model.specs.declared.entry.Entry.{Entry}
 use Rattle.rds_model.specs.declared.entry.Target.{Target}
@@ -10,7 +10,7 @@ use Rattle.rds_history.specs.Items.{flags}
 
 -- the past after the first i entries
 abbrev pub before : ℕ → List Entry → List Entry
-before i past = reverse (take i (reverse past))
+before i past = drop (length past - i) past
 
 -- a cancellation covers a datagram that isn't acknowledged
 abbrev pub takes : (acked slot : ℕ) → Target → Uncovered → Bool

@@ -1,4 +1,5 @@
 mod collect;
+mod counts;
 mod flags;
 mod item;
 mod lost;

@@ -7,6 +7,7 @@ ghost use Rattle.rds_history.specs.Ends.{past_of, past_with};
 ghost use Rattle.rds_history.specs.Seen.{ends_of, end_of, side_of, socket_of};
 ghost use Rattle.rds_history.specs.Items.{flags, item, items as items_of, end_items, side_items, sent_items, accepted_items, came_items, read_items, arrival_items, socket_items, past_in};
 
+use super::flags::flag;
 use super::item::{Group, Item, What};
 use super::lost::lost;
 use crate::{HostEnd, Kept};
@@ -78,7 +79,7 @@ fn add_sent(
     ensures { (test : ℕ → Bool) → lost.now ≡ flags test (accepted journal.now.past) →
         OnOk result (items.new.items ≡ items.old.items ++ sent_items from to test journal.now.past) }
 {
-    let mut n = 0usize;
+    let mut n = 0u32;
     for i in 0..journal.len() {
         let Some(entry) = journal.at(i) else {
             unreachable!()
@@ -90,7 +91,7 @@ fn add_sent(
                 from,
                 sport: *sport,
             };
-            add_accepted(items, group, lost[n])?;
+            add_accepted(items, group, flag(lost, n))?;
             n += 1;
         }
     }

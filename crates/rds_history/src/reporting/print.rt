@@ -1,12 +1,13 @@
-ghost use Rattle.std.specs.Prelude.{◌≡◌, ◌++◌, ◌-◌, ◌+◌, OnOk, string_bytes};
+ghost use Rattle.std.specs.Prelude.{◌≡◌, ◌++◌, OnOk, string_bytes};
 ghost use Rattle.std.specs.List.{flat_map};
 ghost use Rattle.rds_history.specs.declared.reporting.item.Item.{Item as Piece};
 ghost use Rattle.rds_history.specs.Hosts.{IsAddress};
 ghost use Rattle.rds_history.specs.Report.{pair_text, counts_line};
 ghost use Rattle.rds_history.specs.Items.{seen};
-ghost use Rattle.rds_history.specs.Tally.{AreKnown, IsUp, groups_text, chunk_lines, data_lines, number_of, tally, is_accepted, is_received, is_unread, is_dropped, is_port0, is_cancelled, IsOne};
+ghost use Rattle.rds_history.specs.Tally.{AreKnown, IsUp, groups_text, chunk_lines, data_lines, IsOne};
 
 use super::item::{Group, Item, What};
+use super::counts::Counts;
 use crate::host_of;
 use rds_text::{Hex, HostName};
 use rds_wire::Memory;
@@ -72,67 +73,6 @@ fn print_data(text: &mut String, what: &What) -> Result<(), Memory>
         writeln!(text, " data={bytes}")?;
     }
     Ok(())
-}
-
-// How many of a group's items are of each kind.
-#[derive(Clone, Copy)]
-struct Counts {
-    accepted: u64,
-    received: u64,
-    unread: u64,
-    dropped: u64,
-    port0: u64,
-    cancelled: u64,
-}
-
-impl Counts {
-    fn of(items: &[Item]) -> Counts
-        ensures accepted { result.accepted ≡ number_of is_accepted items.now }
-        ensures received { result.received ≡ number_of is_received items.now }
-        ensures unread { result.unread ≡ number_of is_unread items.now }
-        ensures dropped { result.dropped ≡ number_of is_dropped items.now }
-        ensures port0 { result.port0 ≡ number_of is_port0 items.now }
-        ensures cancelled { result.cancelled ≡ number_of is_cancelled items.now }
-    {
-        Counts {
-            accepted: items
-                .iter()
-                .filter(|item| matches!(item.what, What::Accepted))
-                .count() as u64,
-            received: items
-                .iter()
-                .filter(|item| matches!(item.what, What::Received(_)))
-                .count() as u64,
-            unread: items
-                .iter()
-                .filter(|item| matches!(item.what, What::Unread))
-                .count() as u64,
-            dropped: items
-                .iter()
-                .filter(|item| matches!(item.what, What::Dropped))
-                .count() as u64,
-            port0: items
-                .iter()
-                .filter(|item| matches!(item.what, What::Port0))
-                .count() as u64,
-            cancelled: items
-                .iter()
-                .filter(|item| matches!(item.what, What::Cancelled))
-                .count() as u64,
-        }
-    }
-
-    // The accepted datagrams that are in none of the other counts.
-    fn pending(&self) -> u64
-        ensures { result ≡ self.now.accepted - (self.now.received + self.now.unread + self.now.dropped + self.now.port0 + self.now.cancelled) }
-    {
-        self.accepted
-            .saturating_sub(self.received)
-            .saturating_sub(self.unread)
-            .saturating_sub(self.dropped)
-            .saturating_sub(self.port0)
-            .saturating_sub(self.cancelled)
-    }
 }
 
 fn print_counts(text: &mut String, counts: Counts) -> Result<(), Memory>

@@ -119,9 +119,17 @@ fn mark_covered(
         taken.new ≡ flags (λ n. test n || list_any (stands acked n (takes_it acked slot target)) uncovered.now) m }
 {
     for datagram in uncovered {
-        if takes(acked, slot, target, datagram) {
-            set_flag(taken, datagram.number, true);
-        }
+        mark(taken, acked, slot, target, datagram);
+    }
+}
+
+// Marks a datagram, where a cancellation takes it back.
+fn mark(taken: &mut [bool], acked: u64, slot: u16, target: Target, datagram: &Uncovered)
+    ensures { (test : ℕ → Bool) (m : ℕ) → taken.old ≡ flags test m →
+        taken.new ≡ flags (λ n. test n || stands acked n (takes_it acked slot target) datagram.now) m }
+{
+    if takes(acked, slot, target, datagram) {
+        set_flag(taken, datagram.number, true);
     }
 }
 
