@@ -2,3 +2,4 @@ pub mod Steps
 pub mod Flags
 pub mod Walked
 pub mod Gathered
+pub mod Orders
