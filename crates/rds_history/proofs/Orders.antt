@@ -1,5 +1,6 @@
 -- The order of port pairs is total, and a list that rises by it is known by its members.
-use Rattle.std.proofs.Common.{◌≡◌, ◌<◌, ◌≤◌, ⊤, tt, inl, inr, ℕ, Bool, true, false, not, ◌&&◌, ◌||◌, ◌==◌, nat_lt, if◌then◌else◌, cond, List, [], ◌∷◌, ◌++◌, arith, refl, sym, ap, ◌∙◌, subst}
+use Rattle.std.proofs.Common.{◌≡◌, ◌<◌, ◌≤◌, inl, inr, ℕ, Bool, true, false, not, ◌&&◌, ◌||◌, ◌==◌, nat_lt, if◌then◌else◌, cond, List, [], ◌∷◌, ◌++◌, arith, refl, sym, ap, ◌∙◌, subst}
+use Rattle.std.specs.Bool.{⊤}
 use Rattle.std.specs.List.{list_any}
 use Rattle.std.proofs.lemmas.Bool.{true≢false, cases_Bool, cases_order, lt-ltb, le-ltb, ltb-true, ltb-false, ne_eqb, eq-eqb, eqb-true, and_parts}
 use Rattle.rds_history.specs.Report.{Group, is_before, with_group, ascending}
@@ -92,7 +93,7 @@ before_itself a =
     lex_itself a.to _ (lex_itself a.dport _ (lex_itself a.from _ (le-ltb a.sport a.sport (omega arith))))
 
 -- a pair
-pair : (to dport from sport : ℕ) → Group
+abbrev pair : (to dport from sport : ℕ) → Group
 pair to dport from sport = record { to = to; dport = dport; from = from; sport = sport }
 
 -- two that are one
@@ -126,3 +127,104 @@ same_sym a b = sym (ties_same a b) ∙ swap (not (is_before a b)) (not (is_befor
     swap true false = refl
     swap false true = refl
     swap false false = refl
+
+-- the groups of a list rise
+
+abbrev pub Above : Group → List Group → Type 0
+Above a [] = ⊤
+Above a (b ∷ l) = (is_before a b ≡ true) × Above a l
+
+abbrev pub Rising : List Group → Type 0
+Rising [] = ⊤
+Rising (a ∷ l) = Above a l × Rising l
+
+pub above_all : (a b : Group) (l : List Group) → is_before a b ≡ true → Above b l → Above a l
+above_all a b [] less h = h
+above_all a b (c ∷ l) less h = (before_trans a b c less h.0, above_all a b l less h.1)
+
+-- a group that is in a list
+abbrev pub has : Group → List Group → Bool
+has g l = list_any (is_same g) l
+
+pub above_lacks : (a : Group) (l : List Group) → Above a l → has a l ≡ false
+above_lacks a [] h = refl
+above_lacks a (b ∷ l) h = ap (λ (x : Bool). x || has a l) (before_differs a b h.0) ∙ above_lacks a l h.1
+
+or_swap : (x y z : Bool) → (x || (y || z)) ≡ (y || (x || z))
+or_swap true true z = refl
+or_swap true false z = refl
+or_swap false true z = refl
+or_swap false false z = refl
+
+-- one more group in its place
+pub has_with : (g a : Group) (l : List Group) → has g (with_group a l) ≡ (is_same g a || has g l)
+has_with g a [] = refl
+has_with g a (b ∷ l) = go (is_before a b) (is_before b a) refl refl (has_with g a l)
+  where
+    go : (x y : Bool) → is_before a b ≡ x → is_before b a ≡ y → has g (with_group a l) ≡ (is_same g a || has g l) →
+        has g (with_group a (b ∷ l)) ≡ (is_same g a || (is_same g b || has g l))
+    go true y is is' ih = ap (λ (x : Bool). has g (if x then a ∷ b ∷ l else (if is_before b a then b ∷ with_group a l else b ∷ l))) is
+    go false true is is' ih =
+        ap (λ (x : Bool). has g (if x then a ∷ b ∷ l else (if is_before b a then b ∷ with_group a l else b ∷ l))) is
+        ∙ ap (λ (x : Bool). has g (if x then b ∷ with_group a l else b ∷ l)) is'
+        ∙ ap (λ (x : Bool). is_same g b || x) ih ∙ or_swap (is_same g b) (is_same g a) (has g l)
+    go false false is is' ih =
+        let one : a ≡ b = same_is a b (before_either a b is is') in
+        ap (λ (x : Bool). has g (if x then a ∷ b ∷ l else (if is_before b a then b ∷ with_group a l else b ∷ l))) is
+        ∙ ap (λ (x : Bool). has g (if x then b ∷ with_group a l else b ∷ l)) is'
+        ∙ twice (is_same g b) (has g l) ∙ ap (λ (c : Group). is_same g c || (is_same g b || has g l)) (sym one)
+      where
+        twice : (x z : Bool) → (x || z) ≡ (x || (x || z))
+        twice true z = refl
+        twice false z = refl
+
+above_with : (c a : Group) (l : List Group) → is_before c a ≡ true → Above c l → Above c (with_group a l)
+above_with c a [] less h = (less, h)
+above_with c a (b ∷ l) less h = go (is_before a b) (is_before b a) refl refl (above_with c a l less h.1)
+  where
+    go : (x y : Bool) → is_before a b ≡ x → is_before b a ≡ y → Above c (with_group a l) → Above c (with_group a (b ∷ l))
+    go true y is is' ih = subst (λ (x : Bool). Above c (if x then a ∷ b ∷ l else (if is_before b a then b ∷ with_group a l else b ∷ l))) (sym is) (less, h)
+    go false true is is' ih =
+        subst (λ (x : Bool). Above c (if x then a ∷ b ∷ l else (if is_before b a then b ∷ with_group a l else b ∷ l))) (sym is)
+        (subst (λ (x : Bool). Above c (if x then b ∷ with_group a l else b ∷ l)) (sym is') (h.0, ih))
+    go false false is is' ih =
+        subst (λ (x : Bool). Above c (if x then a ∷ b ∷ l else (if is_before b a then b ∷ with_group a l else b ∷ l))) (sym is)
+        (subst (λ (x : Bool). Above c (if x then b ∷ with_group a l else b ∷ l)) (sym is') h)
+
+pub rising_with : (a : Group) (l : List Group) → Rising l → Rising (with_group a l)
+rising_with a [] h = (h, h)
+rising_with a (b ∷ l) h = go (is_before a b) (is_before b a) refl refl (rising_with a l h.1)
+  where
+    go : (x y : Bool) → is_before a b ≡ x → is_before b a ≡ y → Rising (with_group a l) → Rising (with_group a (b ∷ l))
+    go true y is is' ih =
+        subst (λ (x : Bool). Rising (if x then a ∷ b ∷ l else (if is_before b a then b ∷ with_group a l else b ∷ l))) (sym is)
+        ((is, above_all a b l is h.0), h)
+    go false true is is' ih =
+        subst (λ (x : Bool). Rising (if x then a ∷ b ∷ l else (if is_before b a then b ∷ with_group a l else b ∷ l))) (sym is)
+        (subst (λ (x : Bool). Rising (if x then b ∷ with_group a l else b ∷ l)) (sym is') (above_with b a l is' h.0, ih))
+    go false false is is' ih =
+        subst (λ (x : Bool). Rising (if x then a ∷ b ∷ l else (if is_before b a then b ∷ with_group a l else b ∷ l))) (sym is)
+        (subst (λ (x : Bool). Rising (if x then b ∷ with_group a l else b ∷ l)) (sym is') h)
+
+pub rising_ascending : (l : List Group) → Rising (ascending l)
+rising_ascending [] = tt
+rising_ascending (a ∷ l) = rising_with a (ascending l) (rising_ascending l)
+
+pub has_ascending : (g : Group) (l : List Group) → has g (ascending l) ≡ has g l
+has_ascending g [] = refl
+has_ascending g (a ∷ l) = has_with g a (ascending l) ∙ ap (λ (x : Bool). is_same g a || x) (has_ascending g l)
+
+-- lists that rise and have the same members are one
+pub rising_one : (l m : List Group) → Rising l → Rising m → ((g : Group) → has g l ≡ has g m) → l ≡ m
+rising_one [] [] r s h = refl
+rising_one [] (b ∷ m) r s h = absurd (true≢false (sym (h b ∙ ap (λ (x : Bool). x || has b m) (same_itself b))))
+rising_one (a ∷ l) [] r s h = absurd (true≢false (sym (ap (λ (x : Bool). x || has a l) (same_itself a)) ∙ h a))
+rising_one (a ∷ l) (b ∷ m) r s h =
+    go (is_before a b) (is_before b a) refl refl
+  where
+    lacks : (c d : Group) (k : List Group) → is_before c d ≡ true → Above d k → has c (d ∷ k) ≡ false
+    lacks c d k less up = above_lacks c (d ∷ k) (less, above_all c d k less up)
+    go : (x y : Bool) → is_before a b ≡ x → is_before b a ≡ y → a ∷ l ≡ b ∷ m
+    go true y is is' = absurd (true≢false (sym (ap (λ (x : Bool). x || has a l) (same_itself a)) ∙ h a ∙ lacks a b m is s.0))
+    go false true is is' = absurd (true≢false (sym (ap (λ (x : Bool). x || has b m) (same_itself b)) ∙ sym (h b) ∙ lacks b a l is' r.0))
+    go false false is is' = ?

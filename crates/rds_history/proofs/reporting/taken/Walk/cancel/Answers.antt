@@ -22,7 +22,7 @@ returns c = λ past w.
     let m : length c.mark_covered.new.taken ≡ accepted past = ap length marked ∙ length-flags _ (accepted past) in
     let n : length c.args.self.now.taken.items ≡ accepted past = ap length w.numbers ∙ length-flags test (accepted past) in
     let whole = kept_whole c.args.self.now.taken.len c.mark_covered.new.taken c.args.self.now.taken.items (omega (arith, m, n, c.args.self.now.taken.ok)) in
-    subst (λ (l : List Bool). IsWalk l _ ack (Cancel c.args.slot c.args.target ∷ past)) (sym whole)
+    subst (λ (l : List Bool). IsWalk l c.in_ok-self.field-0.items ack (Cancel c.args.slot c.args.target ∷ past)) (sym whole)
     (walk_cancel _ _ _ past w c.args.slot c.args.target _ c.in_ok-self.field-0.items
     (marked ∙ ap (λ (us : List Uncovered). flags (λ n. was_taken_back past n || list_any (stands ack n (takes ack c.args.slot c.args.target)) us) (accepted past)) c.deref.ensures.value)
     (rw c.deref-2.ensures.value at c.in_ok-self.ensures))
