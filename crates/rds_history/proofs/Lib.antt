@@ -3,3 +3,4 @@ pub mod Flags
 pub mod Walked
 pub mod Gathered
 pub mod Orders
+pub mod Chunks

@@ -1,6 +1,9 @@
 -- The order of port pairs is total, and a list that rises by it is known by its members.
 use Rattle.std.proofs.Common.{◌≡◌, ◌<◌, ◌≤◌, inl, inr, ℕ, Bool, true, false, not, ◌&&◌, ◌||◌, ◌==◌, nat_lt, if◌then◌else◌, cond, List, [], ◌∷◌, ◌++◌, arith, refl, sym, ap, ◌∙◌, subst}
 use Rattle.std.specs.Bool.{⊤}
+use Rattle.std.specs.Ordering.{is_lt, ordering_then, nat_cmp}
+use Rattle.std.specs.declared.cmp.Ordering.{Ordering}
+use Rattle.std.specs.declared.cmp.Ordering.TheVariants.{Less, Equal, Greater}
 use Rattle.std.specs.List.{list_any}
 use Rattle.std.proofs.lemmas.Bool.{true≢false, cases_Bool, cases_order, lt-ltb, le-ltb, ltb-true, ltb-false, ne_eqb, eq-eqb, eqb-true, and_parts}
 use Rattle.rds_history.specs.Report.{Group, is_before, with_group, ascending}
@@ -220,11 +223,76 @@ rising_one [] [] r s h = refl
 rising_one [] (b ∷ m) r s h = absurd (true≢false (sym (h b ∙ ap (λ (x : Bool). x || has b m) (same_itself b))))
 rising_one (a ∷ l) [] r s h = absurd (true≢false (sym (ap (λ (x : Bool). x || has a l) (same_itself a)) ∙ h a))
 rising_one (a ∷ l) (b ∷ m) r s h =
-    go (is_before a b) (is_before b a) refl refl
+    go (is_before a b) (is_before b a) refl refl (rising_one l m r.1 s.1)
   where
     lacks : (c d : Group) (k : List Group) → is_before c d ≡ true → Above d k → has c (d ∷ k) ≡ false
     lacks c d k less up = above_lacks c (d ∷ k) (less, above_all c d k less up)
-    go : (x y : Bool) → is_before a b ≡ x → is_before b a ≡ y → a ∷ l ≡ b ∷ m
-    go true y is is' = absurd (true≢false (sym (ap (λ (x : Bool). x || has a l) (same_itself a)) ∙ h a ∙ lacks a b m is s.0))
-    go false true is is' = absurd (true≢false (sym (ap (λ (x : Bool). x || has b m) (same_itself b)) ∙ sym (h b) ∙ lacks b a l is' r.0))
-    go false false is is' = ?
+    rest : a ≡ b → (g : Group) → (x : Bool) → is_same g a ≡ x → has g l ≡ has g m
+    rest one g true is =
+        let this : g ≡ a = same_is g a is in
+        ap (λ (c : Group). has c l) this ∙ above_lacks a l r.0 ∙ sym (above_lacks b m s.0) ∙ ap (λ (c : Group). has c m) (sym (this ∙ one))
+    rest one g false is =
+        ap (λ (x : Bool). x || has g l) (sym is) ∙ h g
+        ∙ ap (λ (x : Bool). x || has g m) (ap (is_same g) (sym one) ∙ is)
+    go : (x y : Bool) → is_before a b ≡ x → is_before b a ≡ y → (((g : Group) → has g l ≡ has g m) → l ≡ m) → a ∷ l ≡ b ∷ m
+    go true y is is' ih = absurd (true≢false (sym (ap (λ (x : Bool). x || has a l) (same_itself a)) ∙ h a ∙ lacks a b m is s.0))
+    go false true is is' ih = absurd (true≢false (sym (ap (λ (x : Bool). x || has b m) (same_itself b)) ∙ sym (h b) ∙ lacks b a l is' r.0))
+    go false false is is' ih =
+        let one : a ≡ b = same_is a b (before_either a b is is') in
+        ap (λ (c : Group). c ∷ l) one ∙ ap (λ (k : List Group). b ∷ k) (ih (λ g. rest one g (is_same g a) refl))
+
+-- what the derived order of the program's groups says
+cmp_lex : (x y : ℕ) (o : Ordering) (p : Bool) → is_lt o ≡ p → is_lt (ordering_then (nat_cmp x y) o) ≡ lex x y p
+cmp_lex x y o p h =
+    elim (cases_order x y) [
+      | inl same ↦
+          ap (λ (b : Bool). is_lt (ordering_then (cond b Less (cond (x == y) Equal Greater)) o)) (le-ltb x y (omega (arith, same)))
+          ∙ ap (λ (b : Bool). is_lt (ordering_then (cond b Equal Greater) o)) (eq-eqb x y same) ∙ h ∙ sym (lex_same x y p same)
+      | inr (inl less) ↦
+          ap (λ (b : Bool). is_lt (ordering_then (cond b Less (cond (x == y) Equal Greater)) o)) (lt-ltb x y less) ∙ sym (lex_less x y p less)
+      | inr (inr more) ↦
+          ap (λ (b : Bool). is_lt (ordering_then (cond b Less (cond (x == y) Equal Greater)) o)) (le-ltb x y (omega arith))
+          ∙ ap (λ (b : Bool). is_lt (ordering_then (cond b Equal Greater) o)) (ne_eqb x y (λ e. omega arith)) ∙ sym (lex_more x y p more)
+    ]
+
+cmp_less : (x y : ℕ) → is_lt (nat_cmp x y) ≡ nat_lt x y
+cmp_less x y =
+    elim (cases_order x y) [
+      | inl same ↦
+          ap (λ (b : Bool). is_lt (cond b Less (cond (x == y) Equal Greater))) (le-ltb x y (omega (arith, same)))
+          ∙ ap (λ (b : Bool). is_lt (cond b Equal Greater)) (eq-eqb x y same) ∙ sym (le-ltb x y (omega (arith, same)))
+      | inr (inl less) ↦
+          ap (λ (b : Bool). is_lt (cond b Less (cond (x == y) Equal Greater))) (lt-ltb x y less) ∙ sym (lt-ltb x y less)
+      | inr (inr more) ↦
+          ap (λ (b : Bool). is_lt (cond b Less (cond (x == y) Equal Greater))) (le-ltb x y (omega arith))
+          ∙ ap (λ (b : Bool). is_lt (cond b Equal Greater)) (ne_eqb x y (λ e. omega arith)) ∙ sym (le-ltb x y (omega arith))
+    ]
+
+abbrev pub less_by : Group → Group → Bool
+less_by a b =
+    is_lt (ordering_then (nat_cmp a.to b.to) (ordering_then (nat_cmp a.dport b.dport) (ordering_then (nat_cmp a.from b.from) (nat_cmp a.sport b.sport))))
+
+pub cmp_before : (a b : Group) → less_by a b ≡ is_before a b
+cmp_before a b = cmp_lex a.to b.to _ _ (cmp_lex a.dport b.dport _ _ (cmp_lex a.from b.from _ _ (cmp_less a.sport b.sport)))
+
+pub ties_by : (a b : Group) → (not (less_by a b) && not (less_by b a)) ≡ is_same a b
+ties_by a b =
+    ap (λ (x : Bool). not x && not (less_by b a)) (cmp_before a b)
+    ∙ ap (λ (x : Bool). not (is_before a b) && not x) (cmp_before b a) ∙ ties_same a b
+
+-- what doesn't stand before b, which doesn't stand before a, doesn't stand before a
+pub not_before_trans : (a b c : Group) → is_before b a ≡ false → is_before c b ≡ false → is_before c a ≡ false
+not_before_trans a b c one two = go (is_before c a) (is_before a b) refl refl
+  where
+    go : (x y : Bool) → is_before c a ≡ x → is_before a b ≡ y → is_before c a ≡ false
+    go false y is is' = is
+    go true true is is' = absurd (true≢false (sym (before_trans c a b is is') ∙ two))
+    go true false is is' = absurd (true≢false (sym is ∙ ap (is_before c) (same_is a b (before_either a b is' one)) ∙ two))
+
+-- and what stands before b stands before c
+pub before_then_not : (a b c : Group) → is_before a b ≡ true → is_before c b ≡ false → is_before a c ≡ true
+before_then_not a b c less two = go (is_before b c) refl
+  where
+    go : (x : Bool) → is_before b c ≡ x → is_before a c ≡ true
+    go true is = before_trans a b c less is
+    go false is = ap (is_before a) (sym (same_is b c (before_either b c is two))) ∙ less

@@ -1,6 +1,6 @@
 -- The report of items. Source: this project's own.
-use Rattle.std.specs.Prelude.{◌≡◌, ⊤, ℕ, ◌<◌, ◌==◌, if◌then◌else◌, ◌&&◌, Bool, true, false, List, [], ◌∷◌, ◌++◌, length, filter, map, codes}
-use Rattle.std.specs.List.{flat_map, All, AllPairs}
+use Rattle.std.specs.Prelude.{◌≡◌, ℕ, ⊤, ◌==◌, if◌then◌else◌, ◌&&◌, Bool, true, false, List, [], ◌∷◌, ◌++◌, length, filter, map, codes}
+use Rattle.std.specs.List.{flat_map, list_any}
 use Rattle.rds_text.specs.Words.{hex}
 use Rattle.rds_history.specs.declared.reporting.item.Group.{Group as Key}
 use Rattle.rds_history.specs.declared.reporting.item.What.{What}
@@ -79,21 +79,20 @@ of_pair g items = filter (is_of g) items
 abbrev pub groups_text : List Item → List ℕ
 groups_text items = flat_map (λ g. pair_lines g (of_pair g items)) (ascending (accepted_pairs items))
 
--- the lines of items of one pair, unless none of them was accepted
-abbrev pub chunk_lines : List Item → List ℕ
-chunk_lines [] = []
-chunk_lines (i ∷ items) =
-    if number_of is_accepted (i ∷ items) == 0 then [] else pair_lines (seen i.group) (i ∷ items)
+-- the lines of the items of a pair, unless none of them was accepted
+abbrev pub lines_of : Group → List Item → List ℕ
+lines_of g items = if number_of is_accepted items == 0 then [] else pair_lines g items
 
--- items are of one pair
-abbrev pub IsOne : List Item → Type 0
-IsOne items = AllPairs (λ (i j : Item). i.group ≡ j.group) items
-
--- the accepted items are of hosts
+-- the pairs of the accepted items are of hosts
 abbrev pub AreKnown : List Item → Type 0
-AreKnown items = All (λ (i : Item). is_accepted i.what ≡ true → IsAddress i.group.to × IsAddress i.group.from) items
+AreKnown items = (g : Group) → list_any (is_same g) (accepted_pairs items) ≡ true → IsAddress g.to × IsAddress g.from
+
+-- no item is of a pair before this one
+abbrev pub AreNotBefore : Group → List Item → Type 0
+AreNotBefore g [] = ⊤
+AreNotBefore g (i ∷ items) = (is_before (seen i.group) g ≡ false) × AreNotBefore g items
 
 -- no item is of a pair before that of an item ahead of it
 abbrev pub IsUp : List Item → Type 0
 IsUp [] = ⊤
-IsUp (i ∷ items) = All (λ (j : Item). is_before (seen j.group) (seen i.group) ≡ false) items × IsUp items
+IsUp (i ∷ items) = AreNotBefore (seen i.group) items × IsUp items

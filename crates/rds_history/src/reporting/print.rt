@@ -1,10 +1,10 @@
-ghost use Rattle.std.specs.Prelude.{◌≡◌, ◌++◌, OnOk, string_bytes};
-ghost use Rattle.std.specs.List.{flat_map};
+ghost use Rattle.std.specs.Prelude.{◌≡◌, ◌++◌, ◌==◌, false, OnOk, string_bytes};
+ghost use Rattle.std.specs.List.{flat_map, prefix_len};
 ghost use Rattle.rds_history.specs.declared.reporting.item.Item.{Item as Piece};
 ghost use Rattle.rds_history.specs.Hosts.{IsAddress};
 ghost use Rattle.rds_history.specs.Report.{pair_text, counts_line};
 ghost use Rattle.rds_history.specs.Items.{seen};
-ghost use Rattle.rds_history.specs.Tally.{AreKnown, IsUp, groups_text, chunk_lines, data_lines, IsOne};
+ghost use Rattle.rds_history.specs.Tally.{AreKnown, IsUp, groups_text, lines_of, data_lines, number_of, is_accepted, is_of};
 
 use super::item::{Group, Item, What};
 use super::counts::Counts;
@@ -18,26 +18,45 @@ pub fn print_groups(text: &mut String, items: &[Item]) -> Result<(), Memory>
     requires known { AreKnown items.now }
     ensures { OnOk result (string_bytes text.new ≡ string_bytes text.old ++ groups_text items.now) }
 {
-    for group in items.chunk_by(|a: &Item, b: &Item| a.group == b.group) {
-        print_group(text, group)?;
+    let mut rest = items;
+    while !rest.is_empty() {
+        let group = rest[0].group;
+        let (run, others) = rest.split_at(run_length(rest, group));
+        print_group(text, group, run)?;
+        rest = others;
     }
     Ok(())
 }
 
-// Prints the items of one group, unless none was accepted.
-fn print_group(text: &mut String, items: &[Item]) -> Result<(), Memory>
-    requires one { IsOne items.now }
-    requires known { AreKnown items.now }
-    ensures { OnOk result (string_bytes text.new ≡ string_bytes text.old ++ chunk_lines items.now) }
+// How many items of a group stand in front.
+fn run_length(items: &[Item], group: Group) -> usize
+    ensures { result ≡ prefix_len (is_of (seen group)) items.now }
 {
-    let Some(first) = items.first() else {
-        return Ok(());
-    };
+    for i in 0..items.len() {
+        if !is_in(group, &items[i]) {
+            return i;
+        }
+    }
+    items.len()
+}
+
+// Whether an item is of a group.
+fn is_in(group: Group, item: &Item) -> bool
+    ensures { result ≡ is_of (seen group) item.now }
+{
+    group == item.group
+}
+
+// Prints the items of a group, unless none was accepted.
+fn print_group(text: &mut String, group: Group, items: &[Item]) -> Result<(), Memory>
+    requires known { (number_of is_accepted items.now == 0) ≡ false → IsAddress group.to × IsAddress group.from }
+    ensures { OnOk result (string_bytes text.new ≡ string_bytes text.old ++ lines_of (seen group) items.now) }
+{
     let counts = Counts::of(items);
     if counts.accepted == 0 {
         return Ok(());
     }
-    print_pair(text, first.group)?;
+    print_pair(text, group)?;
     print_counts(text, counts)?;
     print_received(text, items)
 }
