@@ -1,8 +1,10 @@
-ghost use Rattle.std.specs.Prelude.{◌≡◌, ◌++◌, ◌==◌, false, OnOk, string_bytes};
+ghost use Rattle.std.specs.Prelude.{◌≡◌, ◌++◌, ◌∷◌, [], ◌==◌, false, OnOk, string_bytes};
 ghost use Rattle.std.specs.List.{flat_map, prefix_len};
 ghost use Rattle.rds_history.specs.declared.reporting.item.Item.{Item as Piece};
+ghost use Rattle.std.specs.Fmt.{decimal};
 ghost use Rattle.rds_history.specs.Hosts.{IsAddress};
 ghost use Rattle.rds_history.specs.Report.{pair_text, counts_line};
+ghost use Rattle.rds_history.specs.Lines.{phrase};
 ghost use Rattle.rds_history.specs.Items.{seen};
 ghost use Rattle.rds_history.specs.Tally.{AreKnown, IsUp, groups_text, lines_of, data_lines, number_of, is_accepted, is_of};
 
@@ -97,16 +99,24 @@ fn print_data(text: &mut String, what: &What) -> Result<(), Memory>
 fn print_counts(text: &mut String, counts: Counts) -> Result<(), Memory>
     ensures { OnOk result (string_bytes text.new ≡ string_bytes text.old ++ counts_line record { accepted = counts.accepted; received = counts.received; unread = counts.unread; dropped = counts.dropped; port0 = counts.port0; cancelled = counts.cancelled }) }
 {
-    let accepted = counts.accepted;
-    let received = counts.received;
-    let unread = counts.unread;
-    let dropped = counts.dropped;
-    let port0 = counts.port0;
-    let cancelled = counts.cancelled;
+    print_two(text, " accepted ", counts.accepted, " received ", counts.received)?;
+    print_two(text, " unread ", counts.unread, " dropped ", counts.dropped)?;
+    print_two(text, " port0 ", counts.port0, " cancelled ", counts.cancelled)?;
     let pending = counts.pending();
-    writeln!(
-        text,
-        " accepted {accepted} received {received} unread {unread} dropped {dropped} port0 {port0} cancelled {cancelled} pending {pending}"
-    )?;
+    writeln!(text, " pending {pending}")?;
+    Ok(())
+}
+
+// Prints two counts, each behind its words.
+fn print_two(
+    text: &mut String,
+    first: &str,
+    m: u64,
+    second: &str,
+    n: u64,
+) -> Result<(), Memory>
+    ensures { OnOk result (string_bytes text.new ≡ string_bytes text.old ++ phrase (first.now ∷ decimal m ∷ second.now ∷ decimal n ∷ [])) }
+{
+    write!(text, "{first}{m}{second}{n}")?;
     Ok(())
 }

@@ -14,14 +14,14 @@ returns c =
     let items = c.args.items.now in
     let old = string_bytes c.args.text.now in
     let head = pair_text (seen c.args.group) in
-    let data = flat_map (λ (i : Item). data_lines i.what) items in
+    let lines = flat_map (λ (i : Item). data_lines i.what) items in
     let n = c.of-counts.ensures in
     let some : (number_of is_accepted items == 0) ≡ false = ne_eqb (number_of is_accepted items) 0 (λ e. c.if-counts-eq0.false (n.accepted ∙ e)) in
     let counts = same_counts n.accepted n.received n.unread n.dropped n.port0 n.cancelled in
     on_ok_weaker c.print_received.result
     (λ h.
-      h ∙ ap (λ (t : List ℕ). t ++ data) (c.in_ok-print_counts.ensures ∙ ap (λ (t : List ℕ). t ++ counts_line _) c.in_ok-print_pair.ensures)
-      ∙ append_assoc (old ++ head) _ data ∙ append_assoc old head _
-      ∙ ap (λ (k : Counts). old ++ (head ++ (counts_line k ++ data))) counts
+      h ∙ ap (λ (t : List ℕ). t ++ lines) (c.in_ok-print_counts.ensures ∙ ap (λ (t : List ℕ). t ++ counts_line _) c.in_ok-print_pair.ensures)
+      ∙ append_assoc (old ++ head) _ lines ∙ append_assoc old head _
+      ∙ ap (λ (k : Counts). old ++ (head ++ (counts_line k ++ lines))) counts
       ∙ ap (λ (b : Bool). old ++ (if b then [] else pair_lines (seen c.args.group) items)) (sym some))
     c.print_received.ensures
