@@ -235,14 +235,50 @@ peel g items first up =
     ap groups_text (sym (take-append-drop (prefix_len (is_of g) items) items))
     ∙ split_lines g (take (prefix_len (is_of g) items) items) (drop (prefix_len (is_of g) items) items) (run_of g items) (rest_after g items first up).0
 
--- the first item's pair is first, and the run isn't empty
-pub first_first : (items : List Item) (i : Item) → 0 < length items → i ≡ get_or items 0 i → IsUp items → AreNotBefore (seen i.group) items
-first_first [] i long is up = absurd (omega arith)
-first_first (j ∷ items) i long is up =
-    subst (λ (k : Item). AreNotBefore (seen k.group) (j ∷ items)) (sym is) (before_itself (seen j.group), up.0)
+-- the first item's pair is first, and its run isn't empty
+pub first_first : (items : List Item) (d : Item) → 0 < length items → IsUp items → AreNotBefore (seen (get_or items 0 d).group) items
+first_first [] d long up = absurd (omega arith)
+first_first (j ∷ items) d long up = (before_itself (seen j.group), up.0)
 
-pub run_long : (items : List Item) (i : Item) → 0 < length items → i ≡ get_or items 0 i → 0 < prefix_len (is_of (seen i.group)) items
-run_long [] i long is = absurd (omega arith)
-run_long (j ∷ items) i long is =
-    let this : is_of (seen i.group) j ≡ true = ap (λ (k : Item). is_of (seen i.group) k) (sym is) ∙ same_itself (seen i.group) in
-    subst (λ (b : Bool). 0 < cond b (1 + prefix_len (is_of (seen i.group)) items) 0) (sym this) (omega arith)
+pub run_long : (items : List Item) (d : Item) → 0 < length items → 0 < prefix_len (is_of (seen (get_or items 0 d).group)) items
+run_long [] d long = absurd (omega arith)
+run_long (j ∷ items) d long =
+    subst (λ (b : Bool). 0 < cond b (1 + prefix_len (is_of (seen j.group)) items) 0) (sym (same_itself (seen j.group))) (omega arith)
+
+pub positive : (n : ℕ) → false ≡ (n == 0) → 0 < n
+positive n h = elim (cases_eq n 0) [
+  | inl e ↦ absurd (true≢false (sym (eq-eqb n 0 e) ∙ sym h))
+  | inr o ↦ omega (arith, o)
+]
+
+-- what a turn of the loop prints, and what it leaves
+module _ (g : Group) (items run rest : List Item) (n : ℕ) (n_is : n ≡ prefix_len (is_of g) items) (run_is : run ≡ take n items) (rest_is : rest ≡ drop n items)
+  (first : AreNotBefore g items) (up : IsUp items) where
+  the_run : run ≡ take (prefix_len (is_of g) items) items
+  the_run = run_is ∙ ap (λ (m : ℕ). take m items) n_is
+
+  the_rest : rest ≡ drop (prefix_len (is_of g) items) items
+  the_rest = rest_is ∙ ap (λ (m : ℕ). drop m items) n_is
+
+  all : take (prefix_len (is_of g) items) items ++ drop (prefix_len (is_of g) items) items ≡ items
+  all = take-append-drop (prefix_len (is_of g) items) items
+
+  pub peeled_text : groups_text items ≡ lines_of g run ++ groups_text rest
+  peeled_text =
+      peel g items first up
+      ∙ ap (λ (l : List Item). lines_of g l ++ groups_text (drop (prefix_len (is_of g) items) items)) (sym the_run)
+      ∙ ap (λ (l : List Item). lines_of g run ++ groups_text l) (sym the_rest)
+
+  pub peeled_up : IsUp rest
+  peeled_up = subst IsUp (sym the_rest) (rest_after g items first up).1
+
+  pub peeled_known : AreKnown items → AreKnown rest
+  peeled_known known =
+      subst AreKnown (sym the_rest)
+      (known_rest g (take (prefix_len (is_of g) items) items) (drop (prefix_len (is_of g) items) items) (run_of g items) (rest_after g items first up).0
+      (subst AreKnown (sym all) known))
+
+  pub peeled_run : AreKnown items → (number_of is_accepted run == 0) ≡ false → IsAddress g.to × IsAddress g.from
+  peeled_run known some =
+      known_run g (take (prefix_len (is_of g) items) items) (drop (prefix_len (is_of g) items) items) (run_of g items) (rest_after g items first up).0
+      (subst AreKnown (sym all) known) (ap (λ (l : List Item). number_of is_accepted l == 0) (sym the_run) ∙ some)
