@@ -106,10 +106,10 @@ or_true : (b : Bool) → (b || true) ≡ true
 or_true true = refl
 or_true false = refl
 
-abbrev accepting : Item → Bool
+abbrev pub accepting : Item → Bool
 accepting i = is_accepted i.what
 
-pairs_append : (xs ys : List Item) → accepted_pairs (xs ++ ys) ≡ accepted_pairs xs ++ accepted_pairs ys
+pub pairs_append : (xs ys : List Item) → accepted_pairs (xs ++ ys) ≡ accepted_pairs xs ++ accepted_pairs ys
 pairs_append xs ys =
     ap (map (λ (i : Item). seen i.group)) (filter-append accepting xs ys)
     ∙ map-append (λ (i : Item). seen i.group) (filter accepting xs) (filter accepting ys)

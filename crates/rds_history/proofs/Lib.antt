@@ -4,3 +4,5 @@ pub mod Walked
 pub mod Gathered
 pub mod Orders
 pub mod Chunks
+pub mod Selected
+pub mod Tallied
