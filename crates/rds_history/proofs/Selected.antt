@@ -261,7 +261,7 @@ module _ (kind : What → Bool) where
       ∙ kindless_read d p from to frame.header.dport frame.header.sport o
   kindless_came d p from to (_ ∷ past) = kindless_came d p from to past
 
-  kindless_map : {X : Type 0} (f : X → Item) → ((x : X) → kind (f x).what ≡ false) → (xs : List X) → of_kind kind (map f xs) ≡ []
+  pub kindless_map : {X : Type 0} (f : X → Item) → ((x : X) → kind (f x).what ≡ false) → (xs : List X) → of_kind kind (map f xs) ≡ []
   kindless_map f never [] = refl
   kindless_map f never (x ∷ xs) = drop_one kind (f x) (map f xs) (never x) ∙ kindless_map f never xs
 
