@@ -87,6 +87,7 @@ module _ (g : Group) (lost : ℕ → Bool) where
       last : (b : Bool) → (if b then 1 else 0) ≡ length (cond b (suc (accepted past) ∷ []) [])
       last true = refl
       last false = refl
+
       go : (t : Bool) → length (filter lost (accepted_for g.sport g.dport past)) + (if t then (if lost (suc (accepted past)) then 1 else 0) else 0) ≡ length (filter lost (if t then accepted_for g.sport g.dport past ++ suc (accepted past) ∷ [] else accepted_for g.sport g.dport past))
       go true =
           ap (λ (n : ℕ). length (filter lost (accepted_for g.sport g.dport past)) + n) (last (lost (suc (accepted past))))
@@ -342,6 +343,7 @@ has_sent g from to lost (Accept slot sport dport payload ∷ past) =
     one : (b : Bool) → has g (accepted_pairs (accepted_items from to sport dport b)) ≡ is_same g (record { to = to; dport = dport; from = from; sport = sport })
     one true = or_false (is_same g (record { to = to; dport = dport; from = from; sport = sport }))
     one false = or_false (is_same g (record { to = to; dport = dport; from = from; sport = sport }))
+
     swap : (x y : Bool) → (x || y) ≡ (y || x)
     swap true true = refl
     swap true false = refl
@@ -369,12 +371,14 @@ has_items g ends = has_spread g (end_items ends) end_groups at_end ends
   where
     none : (xs : List Item) → of_kind is_accepted xs ≡ [] → has g (accepted_pairs xs) ≡ false
     none xs is = ap (λ (l : List Item). has g (map (λ (i : Item). seen i.group) l)) is
+
     at_side : (addr : ℕ) (s : Side) → has g (accepted_pairs (side_items ends addr s)) ≡ has g (side_groups addr s)
     at_side addr s =
         has_append g (sent_items addr s.peer (is_lost s.past (past_of s.peer addr ends)) s.past) (came_items s.peer addr s.past)
         ∙ ap (λ (b : Bool). has g (accepted_pairs (sent_items addr s.peer (is_lost s.past (past_of s.peer addr ends)) s.past)) || b) (none (came_items s.peer addr s.past) (kindless_came is_accepted refl refl s.peer addr s.past))
         ∙ or_false (has g (accepted_pairs (sent_items addr s.peer (is_lost s.past (past_of s.peer addr ends)) s.past)))
         ∙ has_sent g addr s.peer (is_lost s.past (past_of s.peer addr ends)) s.past
+
     at_end : (e : End) → has g (accepted_pairs (end_items ends e)) ≡ has g (end_groups e)
     at_end e =
         has_append g (flat_map (side_items ends e.addr) e.sides) (flat_map (socket_items e.addr) e.sockets)
@@ -407,10 +411,10 @@ known_spread g h (x ∷ xs) known in' = go (has g (h x)) refl (known_spread g h 
 known_groups : (ends : List End) → AreEnds ends → (g : Group) → has g (flat_map end_groups ends) ≡ true → IsAddress g.to × IsAddress g.from
 known_groups ends are g =
     known_spread g end_groups ends (λ k d below.
-      let e = get_or ends k d in
-      known_spread g (side_groups e.addr) e.sides (λ j f within.
-        let s = get_or e.sides j f in
-        known_sent g e.addr s.peer s.past (are.hosts k d below) ((are.sides k d below).peers j f within)))
+    let e = get_or ends k d in
+    known_spread g (side_groups e.addr) e.sides (λ j f within.
+    let s = get_or e.sides j f in
+    known_sent g e.addr s.peer s.past (are.hosts k d below) ((are.sides k d below).peers j f within)))
 
 all_once : (ends : List End) → ((k : ℕ) (d : End) → k < length ends → AreSides (get_or ends k d).sides) → AllSidesOnce ends
 all_once [] h = tt
