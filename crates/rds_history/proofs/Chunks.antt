@@ -1,18 +1,17 @@
 -- The report of items that stand in the order of their pairs, pair by pair.
-use Rattle.std.proofs.Common.{◌≡◌, ◌<◌, ◌≤◌, ◌+◌, inl, inr, ℕ, zero, suc, Bool, true, false, not, ◌&&◌, ◌||◌, ◌==◌, if◌then◌else◌, cond, List, [], ◌∷◌, ◌++◌, length, map, filter, take, drop, get_or, arith, refl, sym, ap, ◌∙◌, subst, append_assoc}
+use Rattle.std.proofs.Common.{◌≡◌, ◌<◌, ◌+◌, inl, inr, ℕ, suc, Bool, true, false, not, ◌&&◌, ◌||◌, ◌==◌, if◌then◌else◌, cond, List, [], ◌∷◌, ◌++◌, length, map, filter, take, drop, get_or, arith, refl, sym, ap, ◌∙◌, subst}
 use Rattle.std.specs.Bool.{⊤}
-use Rattle.std.specs.List.{list_any, flat_map, prefix_len}
-use Rattle.std.proofs.lemmas.Bool.{true≢false, cases_Bool, cases_eq, ne_eqb, eq-eqb}
+use Rattle.std.specs.List.{flat_map, prefix_len}
+use Rattle.std.proofs.lemmas.Bool.{true≢false, cases_eq, ne_eqb, eq-eqb}
 use Rattle.std.proofs.lemmas.List.{map-append, append-nil, take-append-drop}
 use Rattle.std.proofs.lemmas.List.Elements.{filter-append}
 use Rattle.std.proofs.lemmas.List.Folds.{list_any-append}
 use Rattle.rds_history.specs.declared.reporting.item.Item.{Item}
-use Rattle.rds_history.specs.declared.reporting.item.What.{What}
 use Rattle.rds_history.specs.Hosts.{IsAddress}
 use Rattle.rds_history.specs.Report.{Group, Counts, is_before, ascending}
 use Rattle.rds_history.specs.Items.{seen}
 use Rattle.rds_history.specs.Tally.{is_same, is_of, is_accepted, number_of, of_pair, accepted_pairs, pair_lines, lines_of, groups_text, AreKnown, AreNotBefore, IsUp}
-use Rattle.rds_history.proofs.Orders.{same_is, same_itself, before_itself, same_sym, before_either, before_differs, before_trans, not_before_trans, before_then_not, Above, Rising, has, rising_one, rising_ascending, has_ascending}
+use Rattle.rds_history.proofs.Orders.{same_is, same_itself, before_itself, same_sym, before_either, before_differs, not_before_trans, before_then_not, Above, has, rising_one, rising_ascending, has_ascending}
 
 pub filter_tests : {X : Type 0} (p q : X → Bool) → ((x : X) → p x ≡ q x) → (xs : List X) → filter p xs ≡ filter q xs
 filter_tests p q h [] = refl

@@ -1,8 +1,8 @@
 -- What is of one port pair among the items of all hosts.
-use Rattle.std.proofs.Common.{◌≡◌, ◌≢◌, ◌<◌, ◌+◌, inl, inr, ℕ, zero, suc, Bool, true, false, not, ◌&&◌, ◌==◌, if◌then◌else◌, cond, List, [], ◌∷◌, ◌++◌, length, map, filter, get_or, arith, refl, sym, ap, ◌∙◌, subst}
+use Rattle.std.proofs.Common.{◌≡◌, ◌≢◌, ◌<◌, inl, inr, ℕ, suc, Bool, true, false, ◌&&◌, ◌==◌, if◌then◌else◌, cond, List, [], ◌∷◌, ◌++◌, length, map, filter, get_or, arith, refl, sym, ap, ◌∙◌, subst}
 use Rattle.std.specs.Bool.{⊤}
 use Rattle.std.specs.List.{flat_map, AllPairs}
-use Rattle.std.proofs.lemmas.Bool.{true≢false, cases_eq, ne_eqb, eq-eqb, eqb-true}
+use Rattle.std.proofs.lemmas.Bool.{cases_eq, ne_eqb, eq-eqb, eqb-true}
 use Rattle.std.proofs.lemmas.List.{append-nil}
 use Rattle.std.proofs.lemmas.List.Elements.{filter-append}
 use Rattle.rds_model.specs.declared.order.Datagram.{Datagram}
@@ -16,8 +16,8 @@ use Rattle.rds_history.specs.declared.reporting.item.What.TheVariants.{Accepted,
 use Rattle.rds_history.specs.declared.reporting.item.Item.{Item}
 use Rattle.rds_history.specs.Ends.{Socket, Side, End, past_with, past_of, sockets_of}
 use Rattle.rds_history.specs.Report.{Group}
-use Rattle.rds_history.specs.Items.{seen, item, accepted_items, sent_items, read_items, came_items, socket_items, is_lost, side_items, end_items, items}
-use Rattle.rds_history.specs.Tally.{is_same, is_of, of_pair}
+use Rattle.rds_history.specs.Items.{item, accepted_items, sent_items, read_items, came_items, socket_items, is_lost, side_items, end_items, items}
+use Rattle.rds_history.specs.Tally.{is_of, of_pair}
 
 -- lists of which each differs from those after it
 

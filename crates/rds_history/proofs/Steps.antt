@@ -1,11 +1,10 @@
 -- A walk over a journal, entry by entry.
-use Rattle.std.proofs.Common.{◌≡◌, ◌<◌, ◌≤◌, ◌+◌, ◌-◌, ℕ, zero, suc, List, [], ◌∷◌, length, reverse, drop, slice_get, Some, get_or, arith, refl, sym, ap, ◌∙◌, drop-cons}
+use Rattle.std.proofs.Common.{◌≡◌, ◌<◌, ◌≤◌, ◌+◌, ◌-◌, ℕ, zero, suc, List, [], ◌∷◌, length, reverse, drop, slice_get, Some, get_or, arith, sym, ap, ◌∙◌, drop-cons}
 use Rattle.std.proofs.lemmas.List.{get_or-reverse, length-reverse, drop_all}
 use Rattle.std.proofs.lemmas.Option.{slice_get_within, get_or_from_slice_get}
 use Rattle.rds_model.specs.declared.entry.Entry.{Entry}
 use Rattle.rds_model.specs.declared.entry.Entry.TheVariants.{Accept}
 use Rattle.rds_model.specs.Past.{accepted}
-use Rattle.rds_model.proofs.Numbers.{accepted_grows}
 use Rattle.rds_history.specs.Walks.{before}
 
 -- the next entry comes on top

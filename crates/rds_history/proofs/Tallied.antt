@@ -1,9 +1,7 @@
 -- The report of the items of the hosts is the report of the hosts.
-use Rattle.std.proofs.Common.{◌≡◌, ◌<◌, ◌+◌, inl, inr, ℕ, zero, suc, Bool, true, false, not, ◌&&◌, ◌||◌, ◌==◌, if◌then◌else◌, cond, List, [], ◌∷◌, ◌++◌, length, map, filter, get_or, arith, refl, sym, ap, ◌∙◌, subst, length-append}
-use Rattle.std.specs.Bool.{⊤}
-use Rattle.std.specs.List.{list_any, flat_map, All}
-use Rattle.std.proofs.lemmas.Bool.{true≢false, eq-eqb, and_parts, eqb-true}
-use Rattle.std.proofs.lemmas.Grind.{flat_map-append}
+use Rattle.std.proofs.Common.{◌≡◌, ◌<◌, ◌+◌, ℕ, suc, Bool, true, false, not, ◌&&◌, ◌||◌, ◌==◌, if◌then◌else◌, cond, List, [], ◌∷◌, ◌++◌, length, map, filter, get_or, arith, refl, sym, ap, ◌∙◌, subst, length-append}
+use Rattle.std.specs.List.{list_any, flat_map}
+use Rattle.std.proofs.lemmas.Bool.{true≢false, eq-eqb}
 use Rattle.std.proofs.lemmas.List.{append-nil, map-append, length-map}
 use Rattle.std.proofs.lemmas.List.Elements.{filter-append}
 use Rattle.std.proofs.lemmas.List.Folds.{list_any-append}
@@ -20,14 +18,14 @@ use Rattle.rds_history.specs.declared.reporting.item.What.{What}
 use Rattle.rds_history.specs.declared.reporting.item.What.TheVariants.{Accepted, Received, Unread, Dropped, Port0, Cancelled}
 use Rattle.rds_history.specs.declared.reporting.item.Item.{Item}
 use Rattle.rds_history.specs.Hosts.{IsAddress}
-use Rattle.rds_history.specs.Ends.{Socket, Side, End, past_with, past_of, sockets_of}
-use Rattle.rds_history.specs.Report.{Group, Counts, accepted_groups, ascending, groups, of_group, received, unread, cancelled, counts, counts_line, data_line, group_text, pair_text}
+use Rattle.rds_history.specs.Ends.{Socket, Side, End, past_of, sockets_of}
+use Rattle.rds_history.specs.Report.{Group, Counts, accepted_groups, ascending, groups, of_group, received, unread, counts, counts_line, data_line, group_text, pair_text}
 use Rattle.rds_history.specs.Seen.{AreSides, AreEnds}
 use Rattle.rds_history.specs.Items.{seen, item, accepted_items, sent_items, read_items, came_items, socket_items, is_lost, side_items, end_items, items}
-use Rattle.rds_history.specs.Tally.{is_same, is_of, of_pair, is_accepted, is_received, is_unread, is_dropped, is_port0, is_cancelled, number_of, tally, data_lines, pair_lines, accepted_pairs, groups_text, AreKnown}
+use Rattle.rds_history.specs.Tally.{is_same, is_of, of_pair, is_accepted, is_received, is_unread, is_dropped, is_port0, is_cancelled, tally, data_lines, pair_lines, accepted_pairs, groups_text, AreKnown}
 use Rattle.rds_history.proofs.Orders.{has, rising_one, rising_ascending, has_ascending, same_is}
 use Rattle.rds_history.proofs.Chunks.{accepting, pairs_append, same_counts}
-use Rattle.rds_history.proofs.Selected.{eq_comm, of_kind, chosen, chosen_append, none_chosen, kindless_sent, kindless_came, kindless_sockets, kindless_map, EndsOnce, AllSidesOnce, SidesOnce, sides_once, ends_once, all_sent, all_came, all_kept}
+use Rattle.rds_history.proofs.Selected.{eq_comm, of_kind, chosen, chosen_append, none_chosen, kindless_sent, kindless_came, kindless_sockets, kindless_map, EndsOnce, AllSidesOnce, sides_once, ends_once, all_sent, all_came, all_kept}
 
 -- an item between the hosts of a pair is of the pair where its ports are
 

@@ -1,25 +1,21 @@
 -- The items of the report: each datagram, once for each thing that is counted of it. Source: this project's own.
-use Rattle.std.specs.Prelude.{◌≡◌, ℕ, suc, ◌≤◌, ◌<◌, ◌==◌, ◌&&◌, ◌||◌, not, nat_lt, if◌then◌else◌, Bool, true, false, Option, Some, None, List, [], ◌∷◌, ◌++◌, length, filter, map, codes}
-use Rattle.std.specs.List.{flat_map, All}
+use Rattle.std.specs.Prelude.{ℕ, suc, ◌==◌, ◌&&◌, not, Bool, true, false, Option, Some, None, List, [], ◌∷◌, ◌++◌, map}
+use Rattle.std.specs.List.{flat_map}
 use Rattle.rds_model.specs.declared.order.Datagram.{Datagram}
 use Rattle.rds_model.specs.declared.entry.Entry.{Entry}
 use Rattle.rds_model.specs.declared.entry.Entry.TheVariants.{Accept, Read}
 use Rattle.rds_model.specs.declared.entry.Outcome.{Outcome}
 use Rattle.rds_model.specs.declared.entry.Outcome.TheVariants as outcome
-use Rattle.rds_model.specs.declared.entry.Target.{Target}
-use Rattle.rds_model.specs.Past.{Accepted as Datum, accepted, number, passes}
+use Rattle.rds_model.specs.Past.{accepted, number, passes}
 use Rattle.rds_model.specs.Log.{Log}
-use Rattle.rds_model.specs.Alive.{aims_at, up_to, was_taken_back}
+use Rattle.rds_model.specs.Alive.{up_to, was_taken_back}
 use Rattle.rds_model.specs.Streams.{was_passed}
-use Rattle.rds_text.specs.Words.{hex}
 use Rattle.rds_history.specs.declared.reporting.item.Group.{Group as Key}
 use Rattle.rds_history.specs.declared.reporting.item.What.{What}
 use Rattle.rds_history.specs.declared.reporting.item.What.TheVariants.{Accepted, Received, Unread, Dropped, Port0, Cancelled}
 use Rattle.rds_history.specs.declared.reporting.item.Item.{Item}
 use Rattle.rds_history.specs.Ends.{Socket, Side, End, past_of}
-use Rattle.rds_history.specs.Hosts.{IsAddress}
-use Rattle.rds_history.specs.Lines.{line}
-use Rattle.rds_history.specs.Report.{Group, Counts, is_before, ascending, pair_text, counts_line}
+use Rattle.rds_history.specs.Report.{Group}
 
 -- whether each number from 1 to m passes a test
 abbrev pub flags : (ℕ → Bool) → ℕ → List Bool

@@ -2,7 +2,6 @@
 use Rattle.std.specs.Prelude.{◌≡◌, ℕ, ⊤, ◌==◌, if◌then◌else◌, ◌&&◌, Bool, true, false, List, [], ◌∷◌, ◌++◌, length, filter, map, codes}
 use Rattle.std.specs.List.{flat_map, list_any}
 use Rattle.rds_text.specs.Words.{hex}
-use Rattle.rds_history.specs.declared.reporting.item.Group.{Group as Key}
 use Rattle.rds_history.specs.declared.reporting.item.What.{What}
 use Rattle.rds_history.specs.declared.reporting.item.What.TheVariants.{Accepted, Received, Unread, Dropped, Port0, Cancelled}
 use Rattle.rds_history.specs.declared.reporting.item.Item.{Item}

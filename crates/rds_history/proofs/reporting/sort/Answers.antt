@@ -1,10 +1,8 @@
-use Rattle.std.proofs.Common.{rules, arith, ◌≡◌, ◌∙◌, ◌&&◌, ◌+◌, not, Bool, List, get_or, sym}
+use Rattle.std.proofs.Common.{rules, arith, ◌∙◌, ◌+◌, get_or, sym}
 use Rattle.std.proofs.lemmas.List.Sorted.{answers_always}
 use Rattle.rds_history.specs.declared.reporting.item.Item.{Item}
 use Rattle.rds_history.specs.declared.reporting.item.What.TheVariants.{Accepted}
-use Rattle.rds_history.specs.Report.{Group}
 use Rattle.rds_history.specs.Items.{seen}
-use Rattle.rds_history.specs.Tally.{is_of}
 use Rattle.rds_history.proofs.Orders.{cmp_before, ties_by}
 use Rattle.rds_history.proofs.Chunks.{filter_tests, up_of}
 use Rattle.rds_history.proofs.reporting.sort.Goals as goal

@@ -1,7 +1,6 @@
-use Rattle.std.proofs.Common.{◌≡◌, ◌∙◌, ◌++◌, ℕ, List, sym, ap}
+use Rattle.std.proofs.Common.{◌∙◌, ◌++◌, List, sym, ap}
 use Rattle.rds_model.specs.declared.entry.Entry.{Entry}
-use Rattle.rds_history.specs.declared.reporting.item.Item.{Item}
-use Rattle.rds_history.specs.Items.{came_items, arrival_items}
+use Rattle.rds_history.specs.Items.{came_items}
 use Rattle.rds_history.specs.Walks.{before}
 use Rattle.rds_history.proofs.Steps.{before_more}
 use Rattle.rds_history.proofs.Gathered.{came_more}

@@ -1,9 +1,6 @@
-use Rattle.std.proofs.Common.{◌≡◌, ◌++◌, ◌∙◌, List, map, refl, sym, ap}
-use Rattle.rds_model.specs.declared.order.Datagram.{Datagram}
-use Rattle.rds_history.specs.declared.reporting.item.What.TheVariants as what
-use Rattle.rds_history.specs.declared.reporting.item.Item.{Item}
+use Rattle.std.proofs.Common.{refl}
 use Rattle.rds_history.specs.Seen.{socket_of}
-use Rattle.rds_history.specs.Items.{item, socket_items}
+use Rattle.rds_history.specs.Items.{socket_items}
 use Rattle.rds_history.proofs.Gathered.{two_more}
 use Rattle.rds_history.proofs.reporting.collect.add_sockets.Goals as goal
 

@@ -1,4 +1,4 @@
-use Rattle.std.proofs.Common.{◌≡◌, ◌++◌, ◌∙◌, List, [], map, refl, sym, ap}
+use Rattle.std.proofs.Common.{[], refl}
 use Rattle.rds_history.specs.Seen.{end_of, ends_of}
 use Rattle.rds_history.specs.Items.{end_items}
 use Rattle.rds_history.proofs.Gathered.{two_more}

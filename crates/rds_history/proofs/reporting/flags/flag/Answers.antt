@@ -1,4 +1,4 @@
-use Rattle.std.proofs.Common.{rules, arith, ◌≡◌, ◌<◌, ◌+◌, ◌∙◌, ℕ, Bool, List, false, length, get_or, sym, ap}
+use Rattle.std.proofs.Common.{rules, ◌≡◌, ◌∙◌, Bool, List, false, get_or, ap}
 use Rattle.rds_history.proofs.Flags.{flag_at}
 use Rattle.rds_history.proofs.reporting.flags.flag.Goals as goal
 

@@ -1,4 +1,4 @@
-use Rattle.std.proofs.Common.{◌≡◌, ◌-◌, ℕ, Bool, List, length, set, arith, sym, ap, ◌∙◌}
+use Rattle.std.proofs.Common.{◌≡◌, ◌-◌, Bool, List, length, set, arith, sym, ap, ◌∙◌}
 use Rattle.rds_history.proofs.Flags.{length-flags, flags_same, one, one_other, set_one}
 use Rattle.rds_history.proofs.reporting.flags.set_flag.Goals as goal
 use Rattle.rds_history.proofs.reporting.flags.set_flag.Goals.{else-number-ge1-via-then-number-ge1+else-number-flags, else-number-ge1-via-else-number-ge1}

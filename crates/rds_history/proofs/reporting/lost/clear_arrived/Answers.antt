@@ -1,4 +1,4 @@
-use Rattle.std.proofs.Common.{◌≡◌, ◌∙◌, ◌&&◌, not, ℕ, Bool, List, sym, ap}
+use Rattle.std.proofs.Common.{◌∙◌, ◌&&◌, not, List, sym, ap}
 use Rattle.rds_model.specs.declared.entry.Entry.{Entry}
 use Rattle.rds_model.specs.Streams.{was_passed}
 use Rattle.rds_history.specs.Items.{flags}

@@ -1,11 +1,11 @@
-use Rattle.std.proofs.Common.{◌≡◌, ◌∙◌, ◌++◌, ◌==◌, ℕ, Bool, false, if◌then◌else◌, List, [], arith, sym, ap, append_assoc, string_bytes}
+use Rattle.std.proofs.Common.{◌≡◌, ◌∙◌, ◌++◌, ◌==◌, ℕ, Bool, false, if◌then◌else◌, List, [], sym, ap, append_assoc, string_bytes}
 use Rattle.std.proofs.lemmas.Result.{on_ok_weaker}
 use Rattle.std.proofs.lemmas.Bool.{ne_eqb}
 use Rattle.std.specs.List.{flat_map}
 use Rattle.rds_history.specs.declared.reporting.item.Item.{Item}
 use Rattle.rds_history.specs.Report.{Counts, pair_text, counts_line}
 use Rattle.rds_history.specs.Items.{seen}
-use Rattle.rds_history.specs.Tally.{tally, number_of, is_accepted, pair_lines, data_lines}
+use Rattle.rds_history.specs.Tally.{number_of, is_accepted, pair_lines, data_lines}
 use Rattle.rds_history.proofs.Chunks.{same_counts}
 use Rattle.rds_history.proofs.reporting.print.print_group.Goals as goal
 

@@ -1,4 +1,4 @@
-use Rattle.std.proofs.Common.{◌≡◌, ◌∙◌, ◌++◌, ◌<◌, ℕ, List, length, get_or, arith, sym, ap, append_assoc, string_bytes}
+use Rattle.std.proofs.Common.{◌∙◌, ◌++◌, ◌<◌, ℕ, List, length, get_or, arith, sym, ap, append_assoc, string_bytes}
 use Rattle.std.proofs.lemmas.List.Sums.{prefix_len-le-length}
 use Rattle.rds_history.specs.Items.{seen}
 use Rattle.rds_history.specs.Tally.{is_of, lines_of, groups_text}

@@ -1,4 +1,4 @@
-use Rattle.std.proofs.Common.{◌≡◌, ◌∙◌, sym}
+use Rattle.std.proofs.Common.{◌∙◌, sym}
 use Rattle.rds_history.proofs.Walked.{marked_taken, marked_other}
 use Rattle.rds_history.proofs.reporting.taken.mark.Goals as goal
 

@@ -1,4 +1,4 @@
-use Rattle.std.proofs.Common.{◌≡◌, ◌<◌, ◌+◌, ◌∙◌, ◌||◌, ℕ, List, get_or, take, sym, ap}
+use Rattle.std.proofs.Common.{◌∙◌, ◌||◌, List, get_or, take, sym, ap}
 use Rattle.std.proofs.lemmas.List.{take_more}
 use Rattle.std.specs.List.{list_any}
 use Rattle.rds_history.specs.declared.reporting.taken.Uncovered.{Uncovered}

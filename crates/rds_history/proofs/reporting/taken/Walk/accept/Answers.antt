@@ -1,4 +1,4 @@
-use Rattle.std.proofs.Common.{rules, arith, ◌≡◌, ◌+◌, ◌++◌, ◌∷◌, [], ◌∙◌, false, length, length-append, ap, subst}
+use Rattle.std.proofs.Common.{arith, ◌≡◌, ◌+◌, ◌∷◌, [], ◌∙◌, false, length, length-append, ap}
 use Rattle.rds_history.proofs.Walked.{walk_accept}
 use Rattle.rds_history.proofs.reporting.taken.Walk.accept.Goals as goal
 

@@ -1,4 +1,4 @@
-use Rattle.std.proofs.Common.{◌∷◌, max, List, sym, subst}
+use Rattle.std.proofs.Common.{◌∷◌, max, sym, subst}
 use Rattle.std.proofs.lemmas.Result.{on_ok_weaker}
 use Rattle.rds_model.specs.declared.entry.Entry.{Entry}
 use Rattle.rds_history.specs.Walks.{IsWalk}
