@@ -1,5 +1,5 @@
 -- Freed bytes, counted for each slot until they are handed out. Source: this project's own.
-use Rattle.std.specs.Prelude.{◌≡◌, ℕ, ◌+◌, ◌-◌, ◌<◌, ◌≤◌, ◌==◌, nat_lt, List, length, take, filter, sum, sum_by, slice_index, slice_set}
+use Rattle.std.specs.Prelude.{◌≡◌, ℕ, ◌+◌, ◌-◌, ◌<◌, ◌≤◌, ◌==◌, nat_lt, min, List, length, take, filter, sum, sum_by, slice_index, slice_set}
 use Rattle.rds_wire.specs.declared.kind.TheConstants.{MAX_LENGTH}
 use Rattle.rds_model.specs.declared.entry.Msg.{Msg}
 use Rattle.rds_msgs.specs.Held.{Held, bytes_of}
@@ -9,12 +9,11 @@ use Rattle.rds_conn.specs.declared.freed.Freed.{Freed}
 abbrev pub with_freed : ℕ → ℕ → List ℕ → List ℕ
 with_freed slot bytes freed = slice_set freed slot (slice_index freed slot + bytes)
 
--- bytes of a slot are handed out, at most those of one datagram; those of the others stay
+-- the bytes of a slot are handed out, as far as one datagram may have so many; those of the others stay
 pub record HandsOut (old new : List ℕ) (f : Freed) : Type 0 where
   pub slot_is : f.slot < length old
   pub some : 0 < f.bytes
-  pub one : f.bytes ≤ MAX_LENGTH
-  pub held : f.bytes ≤ slice_index old f.slot
+  pub all : f.bytes ≡ min (slice_index old f.slot) MAX_LENGTH
   pub rest : new ≡ slice_set old f.slot (slice_index old f.slot - f.bytes)
 
 -- the bytes of the messages of a slot

@@ -1,12 +1,11 @@
-ghost use Rattle.std.specs.Prelude.{◌≡◌, ◌≢◌, ℕ, ◌+◌, ◌<◌, ◌≤◌, ◌↔◌, [], false, None, IfOk, OnOk, OnErr, IfErr, IfSome, IfNone, IsNone, IsSome, length, sum, replicate, filter, slice_index};
+ghost use Rattle.std.specs.Prelude.{◌≡◌, ℕ, ◌+◌, ◌≤◌, ◌↔◌, nat_le, [], false, true, None, IfOk, OnOk, OnErr, IfErr, IfSome, IfNone, IsNone, IsSome, length, sum, replicate, filter, slice_index};
 ghost use Rattle.rds_conn.specs.declared.conn.ConnError.TheVariants as errors;
-ghost use Rattle.rds_conn.specs.Readying.{unready_as};
 
 use crate::asking::Asking;
 use crate::freed::{Freed, FreedBytes};
 use rds_cong::PortMap;
 use rds_frame::Splitter;
-use rds_model::{Journal, JournalError, Target};
+use rds_model::{Journal, Target};
 use rds_msgs::Store;
 use rds_wire::{Malformed, Memory, Payload};
 use std::alloc::Global;
@@ -16,6 +15,7 @@ mod feed;
 mod order;
 mod pull;
 mod read;
+mod ready;
 mod streams;
 
 /// Why a call on a connection did nothing, or ended its stream.
@@ -110,14 +110,14 @@ impl Model for Conn {
 }
 
 impl Conn {
-    ghost use Rattle.rds_model.specs.Alive.{alive_numbers, covers};
+    ghost use Rattle.rds_model.specs.Alive.{alive_numbers, covers, is_alive};
     ghost use Rattle.rds_model.specs.Past.{datagram, highest, last_passed};
+    ghost use Rattle.rds_model.specs.Streams.{was_pulled};
     ghost use Rattle.rds_model.specs.Legal.{IsWhole};
-    ghost use Rattle.rds_frame.specs.Splitting.{IsSound};
-    ghost use Rattle.rds_wire.specs.declared.kind.Malformed.{Malformed};
+    ghost use Rattle.rds_frame.specs.Splitting.{IsClear, IsPartial, IsSound};
     ghost use Rattle.rds_model.specs.Reading.{max_slots};
     ghost use Rattle.rds_model.specs.declared.journal.TheConstants.{MIN_ENTRIES, MAX_ENTRIES};
-    ghost use Rattle.rds_conn.specs.Connection.{readied, stream_of};
+    ghost use Rattle.rds_conn.specs.Connection.{stream_of, taken_bytes};
     ghost use Rattle.rds_conn.specs.Freeing.{HandsOut};
 
     /// A connection of the host `me` with `peer`, both IPv4 addresses: an empty journal of at most `limit` entries, and
@@ -160,31 +160,6 @@ impl Conn {
         })
     }
 
-    /// Makes the connection ready for one more call: room for two entries and a message, and the payload of a pong.
-    pub fn reserve(&mut self) -> Result<(), ConnError>
-        ensures ok { OnOk result (self.new ≡ readied self.old) }
-        ensures err { OnErr result (self.new ≡ self.old) }
-        ensures spent { (entries : ℕ) → result ≡ Err (errors.Spent entries) →
-            (entries ≡ length self.old.log.past) × (self.old.log.limit < length self.old.log.past + 2) }
-        ensures full { self.old.log.limit < length self.old.log.past + 2 → result ≡ Err (errors.Spent (length self.old.log.past)) }
-        ensures closed { result ≢ Err errors.Closed }
-        ensures malformed { (fault : Malformed) → result ≢ Err (errors.Malformed fault) }
-    {
-        match self.journal.reserve(2) {
-            Ok(()) => {}
-            Err(error) => return Err(unready(error)),
-        }
-        if self.store.reserve(1).is_err() {
-            return Err(ConnError::Memory);
-        }
-        if keep_pong(self.alloc, &mut self.pong).is_err() {
-            return Err(ConnError::Memory);
-        }
-        self.spare = self.spare.max(2);
-        self.store_spare = self.store_spare.max(1);
-        Ok(())
-    }
-
     /// The address of this host.
     pub fn me(&self) -> u32
         ensures { result ≡ self.now.me }
@@ -199,6 +174,13 @@ impl Conn {
         self.peer
     }
 
+    /// Below which number the slots of sockets are.
+    pub fn slots(&self) -> u16
+        ensures { result ≡ self.now.slots }
+    {
+        self.slots
+    }
+
     /// What every connection keeps.
     pub fn known(&self)
         ensures whole { IsWhole self.now.log.past }
@@ -209,6 +191,11 @@ impl Conn {
         ensures idle { stream_of self.now ≡ None → (self.now.waiting ≡ None) × (self.now.rest ≡ []) }
         ensures sound { IfSome self.now.waiting (IsSound (highest self.now.log.past)) }
         ensures alone { IfSome self.now.waiting (λ f. self.now.rest ≡ []) }
+        ensures partial { self.now.waiting ≡ None → IsPartial self.now.rest }
+        ensures clear { IsClear (highest self.now.log.past) (taken_bytes self.now) }
+        // A number that is alive was pulled exactly where it is at most the highest one that was pulled.
+        ensures pulled { (n : ℕ) → is_alive self.now.log.past n ≡ true →
+            was_pulled self.now.log.past n ≡ nat_le n (highest self.now.log.past) }
     {
         let _ = &self.slots;
     }
@@ -273,25 +260,4 @@ impl Conn {
     {
         self.journal
     }
-}
-
-fn unready(error: JournalError) -> ConnError
-    ensures { result ≡ unready_as error }
-{
-    match error {
-        JournalError::Memory => ConnError::Memory,
-        JournalError::Spent { entries } => ConnError::Spent { entries },
-    }
-}
-
-// Makes the empty payload of a pong, if there is none yet.
-fn keep_pong(alloc: Global, pong: &mut Option<Payload>) -> Result<(), Memory>
-    ensures ok { OnOk result (IsSome pong.new) }
-    ensures err { OnErr result (pong.new ≡ pong.old) }
-    ensures empty { IfSome pong.old (λ bytes. bytes ≡ []) → IfSome pong.new (λ bytes. bytes ≡ []) }
-{
-    if pong.is_none() {
-        *pong = Some(Payload::copy_of(alloc, &[])?);
-    }
-    Ok(())
 }

@@ -1,4 +1,4 @@
-ghost use Rattle.std.specs.Prelude.{◌≡◌, ◌↔◌, ℕ, ◌+◌, ◌-◌, ◌<◌, ◌≤◌, ◌^◌, length, replicate, sum, slice_index, slice_set, IfOk, IfSome, IfNone, IsNone};
+ghost use Rattle.std.specs.Prelude.{◌≡◌, ◌↔◌, ℕ, ◌+◌, ◌-◌, ◌<◌, ◌≤◌, ◌^◌, length, replicate, sum, slice_index, slice_set, take, IfOk, IfSome, IfNone, IsNone};
 ghost use Rattle.rds_wire.specs.declared.kind.TheConstants.{MAX_LENGTH as most};
 ghost use Rattle.rds_conn.specs.Freeing.{with_freed, HandsOut};
 
@@ -19,16 +19,18 @@ pub struct Freed {
 pub(crate) struct FreedBytes {
     bytes: Vec<u64>,
     total: u64,
+    // No slot below this one has any.
+    first: usize,
 }
 
 impl Model for FreedBytes {
-    ghost use Rattle.std.specs.Prelude.{◌≡◌, ◌≤◌, List, ℕ, length, sum};
+    ghost use Rattle.std.specs.Prelude.{◌≡◌, ◌≤◌, List, ℕ, length, sum, take};
 
     ghost Value = { List ℕ };
 
     ghost view = { λ f. f.bytes.items };
 
-    ghost invariant = { λ f. (f.total ≡ sum f.bytes.items) × (length f.bytes.items ≤ 65535) };
+    ghost invariant = { λ f. (f.total ≡ sum f.bytes.items) × (length f.bytes.items ≤ 65535) × (sum (take f.first f.bytes.items) ≡ 0) };
 }
 
 impl FreedBytes {
@@ -39,6 +41,7 @@ impl FreedBytes {
         Ok(FreedBytes {
             bytes: vec![in alloc; 0; usize::from(slots)]?,
             total: 0,
+            first: 0,
         })
     }
 
@@ -51,6 +54,7 @@ impl FreedBytes {
         if slot < self.bytes.len() {
             self.bytes[slot] += bytes;
             self.total += bytes;
+            self.first = self.first.min(slot);
         }
     }
 
@@ -63,7 +67,8 @@ impl FreedBytes {
         if self.total == 0 {
             return None;
         }
-        let slot = first_with_any(&self.bytes);
+        let slot = first_with_any(&self.bytes, self.first);
+        self.first = slot;
         let bytes = self.bytes[slot].min(u64::from(MAX_LENGTH));
         self.bytes[slot] -= bytes;
         self.total -= bytes;
@@ -74,14 +79,16 @@ impl FreedBytes {
     }
 }
 
-// The lowest slot that has bytes.
-fn first_with_any(bytes: &[u64]) -> usize
-    requires { 0 < sum bytes.now }
+// The lowest slot that has bytes, where none below `first` has any.
+fn first_with_any(bytes: &[u64], first: usize) -> usize
+    requires some { 0 < sum bytes.now }
+    requires none { sum (take first bytes.now) ≡ 0 }
     ensures slot { result < length bytes.now }
     ensures any { 0 < slice_index bytes.now result }
+    ensures lowest { sum (take result bytes.now) ≡ 0 }
 {
-    for (slot, bytes) in bytes.iter().enumerate() {
-        if *bytes > 0 {
+    for slot in first..bytes.len() {
+        if bytes[slot] > 0 {
             return slot;
         }
     }

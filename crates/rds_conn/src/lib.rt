@@ -12,3 +12,6 @@ pub use conn::{Conn, ConnError, Fed, Found, Pulled};
 pub use freed::Freed;
 pub use out::Out;
 pub use rds_model::Verdict;
+
+#[cfg(test)]
+mod tests;

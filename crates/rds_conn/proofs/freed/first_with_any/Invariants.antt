@@ -1,5 +1,5 @@
-use Rattle.std.proofs.Common.{◌<◌, sum, drop}
+use Rattle.std.proofs.Common.{◌≡◌, sum, take}
 use Rattle.rds_conn.proofs.freed.first_with_any.Given as goal
 
 abbrev pub invariant-loop-slot : goal.invariant-loop-slot
-invariant-loop-slot l = 0 < sum (drop l.slot l.bytes)
+invariant-loop-slot l = sum (take l.slot l.bytes) ≡ 0

@@ -1,0 +1,46 @@
+-- No call of a connection changes how many slots its host has.
+use Rattle.std.proofs.Common.{◌≡◌, ℕ, Option, Some, None, List, [], ◌∷◌, refl, ap}
+use Rattle.std.specs.Prelude.{IsSome}
+use Rattle.rds_wire.specs.declared.frame.Frame.{Frame}
+use Rattle.rds_wire.specs.declared.kind.Malformed.{Malformed}
+use Rattle.rds_model.specs.declared.entry.Entry.TheVariants.{Read}
+use Rattle.rds_model.specs.declared.entry.Outcome.{Outcome}
+use Rattle.rds_model.specs.Legal.{pong_for}
+use Rattle.rds_conn.specs.declared.conn.ConnError.{ConnError}
+use Rattle.rds_conn.specs.declared.conn.ConnError.TheVariants as errors
+use Rattle.rds_conn.specs.Connection.{Connection, logged, stream_of}
+use Rattle.rds_conn.specs.Feeding.{Refuses}
+use Rattle.rds_conn.specs.Passing.{answering, passed}
+
+-- what an option that isn't empty has
+pub some_of : {A : Type 0} (o : Option A) → IsSome o → (x : A) × (o ≡ Some x)
+some_of None h = cc
+some_of (Some x) h = (x, refl)
+
+-- a connection that is the same has the same
+pub slots_of : (old new : Connection) → new ≡ old → new.slots ≡ old.slots
+slots_of old new same = ap (λ (c : Connection). c.slots) same
+
+-- whatever a piece was refused for
+pub slots_unfed : (piece : List ℕ) (old new : Connection) (e : ConnError) →
+    ((fault : Malformed) → e ≡ errors.Malformed fault → Refuses piece fault old new) →
+    (e ≡ errors.Closed → stream_of old ≡ None) → (stream_of old ≡ None → new ≡ old) →
+    (e ≡ errors.Memory → new ≡ old) → ((entries : ℕ) → e ≡ errors.Spent entries → ⊥) → new.slots ≡ old.slots
+slots_unfed piece old new errors.Memory malformed closed still memory spent = slots_of old new (memory refl)
+slots_unfed piece old new (errors.Malformed fault) malformed closed still memory spent =
+    ap (λ (c : Connection). c.slots) (malformed fault refl).entry
+slots_unfed piece old new (errors.Spent entries) malformed closed still memory spent = absurd (spent entries refl)
+slots_unfed piece old new errors.Closed malformed closed still memory spent = slots_of old new (still (closed refl))
+
+slots_answered : (c : Connection) (answer : Option ℕ) → (answering answer c).slots ≡ c.slots
+slots_answered c None = refl
+slots_answered c (Some port) = refl
+
+-- a frame was read, and a pong may stand behind it
+pub slots_read : (old new : Connection) (k : ℕ) (f : Frame) (came : Outcome) →
+    new ≡ record (passed k f came old) { freed = new.freed } → new.slots ≡ old.slots
+slots_read old new k f came entry =
+    let after : new.slots ≡ (passed k f came old).slots = ap (λ (c : Connection). c.slots) entry in
+    let before : (passed k f came old).slots ≡ old.slots =
+    slots_answered (record (logged (Read k f came ∷ []) old) { waiting = None }) (pong_for came f.header.sport) in
+    cc

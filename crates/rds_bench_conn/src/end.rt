@@ -1,0 +1,136 @@
+ghost use Rattle.std.specs.Prelude.{◌≡◌, ◌≤◌, length, IsSome, IfSome};
+ghost use Rattle.rds_wire.specs.declared.kind.TheConstants.{MAX_LENGTH};
+ghost use Rattle.rds_model.specs.Reading.{verdict_of};
+ghost use Rattle.rds_conn.specs.Connection.{IsReady};
+ghost use Rattle.rds_conn.specs.Passing.{Matches};
+
+use crate::failure::Failure;
+use rds_cong::PortMap;
+use rds_conn::{Conn, Found, Out, Pulled, Verdict};
+use rds_model::{MAX_ENTRIES, Order};
+use rds_msgs::Steps;
+use rds_wire::Payload;
+use std::alloc::Global;
+use std::sync::ledger::Ledger;
+
+/// How many sockets a host has.
+const SLOTS: u16 = 1;
+
+/// One end of a connection, the bytes that it has in flight, and what it has seen of datagrams.
+#[derive(Drop)]
+pub struct End {
+    conn: Conn,
+    map: PortMap,
+    out: Out,
+    /// How many datagrams were delivered to its socket.
+    pub delivered: u64,
+    /// How many bytes of its socket's datagrams were acknowledged.
+    pub freed: u64,
+    ghost sockets: { conn.slots ≡ 1 },
+}
+
+impl End {
+    /// The end of the host `me`, with a stream to `peer` that is open.
+    pub fn new(alloc: Global, me: u32, peer: u32) -> Result<End, Failure> {
+        let mut conn = Conn::new(alloc, me, peer, SLOTS, MAX_ENTRIES)?;
+        conn.reserve()?;
+        conn.open(1);
+        Ok(End {
+            conn,
+            map: PortMap::new(alloc)?,
+            out: Out::new(alloc)?,
+            delivered: 0,
+            freed: 0,
+        })
+    }
+
+    /// Accepts a datagram of its socket.
+    pub fn send<L: Ledger>(&mut self, payload: Payload, steps: &mut Steps<L>) -> Result<(), Failure>
+        requires { length payload ≤ MAX_LENGTH }
+    {
+        self.conn.reserve()?;
+        let order = Order::Send {
+            slot: 0,
+            sport: 4000,
+            dport: 4001,
+            payload,
+        };
+        self.conn.order(order, steps);
+        Ok(())
+    }
+
+    /// Pulls every frame that is owed. Answers whether bytes are in flight.
+    pub fn pull_all(&mut self) -> Result<bool, Failure> {
+        for _ in 0..u64::MAX {
+            self.conn.reserve()?;
+            match self.conn.pull(&self.map, &mut self.out)? {
+                Pulled::Nothing | Pulled::Down => break,
+                Pulled::Data | Pulled::Ack | Pulled::Map => {}
+            }
+        }
+        Ok(!self.out.rest().is_empty())
+    }
+
+    /// Takes the bytes that the peer has in flight, and passes their frames.
+    pub fn take_from<L: Ledger>(
+        &mut self,
+        peer: &mut End,
+        steps: &mut Steps<L>,
+    ) -> Result<(), Failure> {
+        for _ in 0..=peer.out.rest().len() {
+            self.conn.reserve()?;
+            if !feed(&mut self.conn, &mut peer.out)? {
+                break;
+            }
+            self.pass(steps)?;
+        }
+        Ok(())
+    }
+
+    // Passes the frame that waits: its socket holds every port.
+    fn pass<L: Ledger>(&mut self, steps: &mut Steps<L>) -> Result<(), Failure> {
+        self.conn.reserve()?;
+        let Some(verdict) = self.conn.verdict() else {
+            return Ok(());
+        };
+        let found = match verdict {
+            Verdict::Deliver { .. } => Found::Slot(0),
+            _ => Found::Unasked,
+        };
+        pass(&mut self.conn, found, steps);
+        self.delivered = self
+            .delivered
+            .wrapping_add(u64::from(found != Found::Unasked));
+        Ok(())
+    }
+
+    /// Takes out the bytes that were acknowledged.
+    pub fn take_freed(&mut self) {
+        for _ in 0..u64::MAX {
+            let Some(freed) = self.conn.take_freed() else {
+                return;
+            };
+            self.freed = self.freed.wrapping_add(freed.bytes);
+        }
+    }
+}
+
+// Moves bytes in flight to a connection, until a frame is whole. Answers whether one is.
+fn feed(conn: &mut Conn, flying: &mut Out) -> Result<bool, Failure>
+    requires { IsReady conn.old }
+    ensures slots { conn.new.slots ≡ conn.old.slots }
+{
+    let fed = conn.feed(flying.rest())?;
+    flying.took(fed.used);
+    Ok(fed.waiting)
+}
+
+// Passes the frame that waits at a connection.
+fn pass<L: Ledger>(conn: &mut Conn, found: Found, steps: &mut Steps<L>)
+    requires ready { IsReady conn.old }
+    requires waiting { IsSome conn.old.waiting }
+    requires found { IfSome conn.old.waiting (λ f. Matches conn.old.slots (verdict_of conn.old.log.past f.header) found) }
+    ensures slots { conn.new.slots ≡ conn.old.slots }
+{
+    conn.pass(found, steps);
+}

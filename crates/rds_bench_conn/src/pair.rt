@@ -1,0 +1,73 @@
+use crate::end::End;
+use crate::failure::Failure;
+use rds_msgs::Steps;
+use rds_wire::Payload;
+use std::alloc::Global;
+use std::sync::ledger::Ledger;
+
+/// How many bytes a datagram has.
+const LENGTH: usize = 60;
+
+/// The two ends of a connection.
+#[derive(Drop)]
+pub struct Pair {
+    alloc: Global,
+    near: End,
+    far: End,
+}
+
+impl Pair {
+    /// Two hosts, with an open stream.
+    pub fn new(alloc: Global) -> Result<Pair, Failure> {
+        let near = End::new(alloc, 1, 2)?;
+        let far = End::new(alloc, 2, 1)?;
+        Ok(Pair { alloc, near, far })
+    }
+
+    /// How many datagrams arrived.
+    pub fn delivered(&self) -> u64 {
+        self.far.delivered
+    }
+
+    /// How many bytes of datagrams were acknowledged.
+    pub fn freed(&self) -> u64 {
+        self.near.freed
+    }
+
+    /// Sends so many datagrams from the near end to the far one, in batches.
+    pub fn send<L: Ledger>(
+        &mut self,
+        count: u64,
+        batch: u64,
+        steps: &mut Steps<L>,
+    ) -> Result<(), Failure> {
+        let batch = batch.max(1);
+        for _ in 0..count / batch {
+            self.send_batch(batch, steps)?;
+        }
+        self.send_batch(count % batch, steps)
+    }
+
+    fn send_batch<L: Ledger>(&mut self, count: u64, steps: &mut Steps<L>) -> Result<(), Failure> {
+        for _ in 0..count {
+            let payload = Payload::copy_of(self.alloc, &[7; LENGTH])?;
+            self.near.send(payload, steps)?;
+        }
+        self.settle(steps)
+    }
+
+    // Carries both ways until nothing moves.
+    fn settle<L: Ledger>(&mut self, steps: &mut Steps<L>) -> Result<(), Failure> {
+        for _ in 0..u64::MAX {
+            let going = self.near.pull_all()?;
+            self.far.take_from(&mut self.near, steps)?;
+            let coming = self.far.pull_all()?;
+            self.near.take_from(&mut self.far, steps)?;
+            self.near.take_freed();
+            if !going && !coming {
+                break;
+            }
+        }
+        Ok(())
+    }
+}
