@@ -1,0 +1,33 @@
+use Rattle.std.proofs.Common.{take, drop, sym, ◌∙◌, subst}
+use Rattle.std.proofs.lemmas.List.{take-append-drop}
+use Rattle.rds_pair.specs.Sides.{Side}
+use Rattle.rds_pair.specs.Half.{side_of}
+use Rattle.rds_pair.specs.Joined.{Flows}
+use Rattle.rds_pair.proofs.Halves.{fed_slots}
+use Rattle.rds_pair.proofs.Refusing.{honest_refused, never_refused}
+use Rattle.rds_pair.proofs.moving.move_bytes.Goals as goal
+
+pub invariant_of-reader : goal.invariant_of-reader
+invariant_of-reader c = record {
+  wide = fed_slots _ c.ready.new.self.conn c.feed.new.self c.feed.result c.feed.ensures.ok c.feed.ensures.malformed
+      c.feed.ensures.closed.0 c.feed.ensures.closed_still c.feed.ensures.memory c.feed.ensures.spent
+      ∙ c.ready.new.self.wide;
+}
+
+pub no_bad-requires-clause-honest : goal.no_bad-requires-clause-honest
+no_bad-requires-clause-honest c =
+    let flying = c.rest-flying.result.now in
+    let count = c.min-count.result in
+    let same = c.ready.ensures.same in
+    rw (c.journal.ensures.past, c.journal-in-Err-Malformed.ensures.past)
+    (honest_refused c.args.writer.now.conn c.ready.new.self.conn c.feed.new.self c.args.writer.now.out c.ready.new.self.out
+    (take count flying) (drop count flying) c.in-Err-Malformed.field-0-0
+    (subst (λ (s : Side). Flows (side_of c.args.writer.now) s) (sym same) c.requires.forth)
+    (subst (λ (s : Side). Flows s (side_of c.args.writer.now)) (sym same) c.requires.back)
+    (c.ready.ensures.whole).legal (sym c.rest-flying.ensures ∙ sym (take-append-drop count flying))
+    (c.in-Err-Malformed.ensures.malformed c.in-Err-Malformed.field-0-0 (cc)))
+
+pub unreachable-requires : goal.unreachable-requires
+unreachable-requires c =
+    never_refused c.ready.new.self.conn c.feed.new.self _ c.in-Err-Malformed.field-0-0 c.journal-in-Err-Malformed.result.now.past
+    (c.in-Err-Malformed.ensures.malformed c.in-Err-Malformed.field-0-0 (cc)) c.journal-in-Err-Malformed.ensures.past c.no_bad.ensures.none_in_b

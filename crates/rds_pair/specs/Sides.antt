@@ -1,0 +1,48 @@
+-- What contracts see of a pair of connections. Source: this project's own.
+use Rattle.std.specs.Prelude.{◌≡◌, ◌⊎◌, ◌+◌, ◌<◌, length, ℕ, Option, List, [], ◌++◌, None}
+use Rattle.rds_wire.specs.declared.frame.Frame.{Frame}
+use Rattle.rds_frame.specs.Holding.{waiting_bytes}
+use Rattle.rds_model.specs.declared.entry.Entry.{Entry}
+use Rattle.rds_pair.specs.declared.step.End.{End}
+use Rattle.rds_pair.specs.declared.step.End.TheVariants.{First, Second}
+
+-- One end: its journal, newest entry first, and how many entries that may have; of the open stream the whole frame that waits, and the bytes that are no whole
+-- frame yet; and the bytes that it wrote and that are in flight to the other end.
+pub record Side : Type 0 where
+  pub past : List Entry
+  pub limit : ℕ
+  pub waiting : Option Frame
+  pub rest : List ℕ
+  pub flying : List ℕ
+
+-- both ends
+pub record Sides : Type 0 where
+  pub first : Side
+  pub second : Side
+
+-- nothing has happened
+abbrev pub blank : ℕ → Side
+blank limit = record { past = []; limit = limit; waiting = None; rest = []; flying = [] }
+
+-- the bytes that were taken of the open stream and not passed
+abbrev pub taken : Side → List ℕ
+taken s = waiting_bytes s.waiting ++ s.rest
+
+-- a change of one end
+abbrev pub at : End → (Side → Side) → Sides → Sides
+at First change p = record p { first = change p.first }
+at Second change p = record p { second = change p.second }
+
+-- one of the two
+abbrev pub of_end : End → Sides → Side
+of_end First p = p.first
+of_end Second p = p.second
+
+-- the journal of the end has so many entries, and two more would pass its limit
+pub record IsFull (entries : ℕ) (s : Side) : Type 0 where
+  pub count : entries ≡ length s.past
+  pub most : s.limit < length s.past + 2
+
+-- the journal of one of the two
+abbrev pub HasFull : ℕ → Sides → Type 0
+HasFull entries p = IsFull entries p.first ⊎ IsFull entries p.second

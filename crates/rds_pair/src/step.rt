@@ -1,0 +1,28 @@
+use rds_cong::PortMap;
+use rds_model::Order;
+
+/// One of the two ends of a pair.
+#[derive(Clone, Copy, Debug, PartialEq, Eq)]
+pub enum End {
+    First,
+    Second,
+}
+
+/// One step of a pair. A step that can't be done is passed over.
+#[derive(Drop)]
+pub enum Step {
+    /// A socket of an end gives an order. A cut isn't one that an end takes.
+    Order { end: End, order: Order },
+    /// The next stream is opened at both ends, if none is open at either.
+    Open,
+    /// One end is shut, and what is in flight to it is lost. The other goes on with its stream until it is shut too.
+    Shut { end: End },
+    /// Both ends are shut, and what is in flight is lost.
+    Cut,
+    /// An end, whose host's own congestion map is `map`, pulls the frame that it owes.
+    Pull { end: End, map: PortMap },
+    /// At most so many bytes that are in flight to an end are given to it.
+    Move { to: End, bytes: u32 },
+    /// An end passes the frame that waits: a datagram goes to the socket of `slot`, or no socket holds its port.
+    Pass { end: End, slot: Option<u16> },
+}
