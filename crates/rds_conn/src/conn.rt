@@ -1,4 +1,4 @@
-ghost use Rattle.std.specs.Prelude.{◌≡◌, ◌+◌, ◌≤◌, ◌↔◌, nat_le, [], false, true, None, IfOk, OnOk, OnErr, IfSome, IfNone, IsNone, length, sum, replicate, filter};
+ghost use Rattle.std.specs.Prelude.{◌≡◌, ℕ, ◌+◌, ◌≤◌, ◌↔◌, nat_le, [], false, true, None, IfOk, OnOk, OnErr, IfSome, IfNone, IsNone, length, sum, replicate, filter};
 ghost use Rattle.rds_conn.specs.declared.conn.ConnError.TheVariants as errors;
 
 use crate::asking::Asking;
