@@ -1,5 +1,5 @@
 -- What is read of a source is the whole of its text, unless that is too large; and what follows for the answers of a call.
-use Rattle.std.proofs.Common.{◌≡◌, ◌⊎◌, inl, inr, ℕ, ◌+◌, ◌≤◌, ◌<◌, List, length, take, Option, Some, None, refl, sym, ap, subst, ◌∙◌, arith}
+use Rattle.std.proofs.Common.{◌≡◌, ◌⊎◌, inl, inr, ℕ, ◌+◌, ◌≤◌, List, length, take, Option, Some, None, refl, sym, ap, subst, ◌∙◌, arith}
 use Rattle.std.proofs.lemmas.List.{length-take, take_all}
 use Rattle.rds_link.specs.Told.{HandsFront}
 use Rattle.rds_script.specs.declared.script.TheConstants.{MAX_TEXT}

@@ -17,8 +17,7 @@ use rds_wire::Memory;
 /// Prints the groups of items, which stand in the order of their groups.
 pub fn print_groups(text: &mut String, items: &[Item]) -> Result<(), Memory>
     requires up { IsUp items.now }
-    requires known { AreKnown items.now }
-    ensures { OnOk result (string_bytes text.new ≡ string_bytes text.old ++ groups_text items.now) }
+    ensures { AreKnown items.now → OnOk result (string_bytes text.new ≡ string_bytes text.old ++ groups_text items.now) }
 {
     let mut rest = items;
     while !rest.is_empty() {
@@ -51,8 +50,8 @@ fn is_in(group: Group, item: &Item) -> bool
 
 // Prints the items of a group, unless none was accepted.
 fn print_group(text: &mut String, group: Group, items: &[Item]) -> Result<(), Memory>
-    requires known { (number_of is_accepted items.now == 0) ≡ false → IsAddress group.to × IsAddress group.from }
-    ensures { OnOk result (string_bytes text.new ≡ string_bytes text.old ++ lines_of (seen group) items.now) }
+    ensures { ((number_of is_accepted items.now == 0) ≡ false → IsAddress group.to × IsAddress group.from) →
+        OnOk result (string_bytes text.new ≡ string_bytes text.old ++ lines_of (seen group) items.now) }
 {
     let counts = Counts::of(items);
     if counts.accepted == 0 {
@@ -64,9 +63,8 @@ fn print_group(text: &mut String, group: Group, items: &[Item]) -> Result<(), Me
 }
 
 fn print_pair(text: &mut String, group: Group) -> Result<(), Memory>
-    requires from { IsAddress group.from }
-    requires to { IsAddress group.to }
-    ensures { OnOk result (string_bytes text.new ≡ string_bytes text.old ++ pair_text (seen group)) }
+    ensures { IsAddress group.from → IsAddress group.to →
+        OnOk result (string_bytes text.new ≡ string_bytes text.old ++ pair_text (seen group)) }
 {
     let from = HostName::new(host_of(group.from));
     let to = HostName::new(host_of(group.to));

@@ -20,9 +20,9 @@ returns c =
     let m = c.of-counts.result in
     let k' : Counts = record { accepted = m.accepted; received = m.received; unread = m.unread; dropped = m.dropped; port0 = m.port0; cancelled = m.cancelled } in
     let counts = same_counts n.accepted n.received n.unread n.dropped n.port0 n.cancelled in
-    on_ok_weaker c.print_received.result
+    λ known. on_ok_weaker c.print_received.result
     (λ h.
-    h ∙ ap (λ (t : List ℕ). t ++ lines) (c.in_ok-print_counts.ensures ∙ ap (λ (t : List ℕ). t ++ counts_line k') c.in_ok-print_pair.ensures)
+    h ∙ ap (λ (t : List ℕ). t ++ lines) (c.in_ok-print_counts.ensures ∙ ap (λ (t : List ℕ). t ++ counts_line k') (c.in_ok-print_pair.ensures (known some).1 (known some).0))
     ∙ append_assoc (old ++ head) (counts_line k') lines ∙ append_assoc old head (counts_line k' ++ lines)
     ∙ ap (λ (k : Counts). old ++ (head ++ (counts_line k ++ lines))) counts
     ∙ ap (λ (b : Bool). old ++ (if b then [] else pair_lines (seen c.args.group) items)) (sym some))
