@@ -33,26 +33,6 @@ impl World {
         Ok(())
     }
 
-    /// Opens a stream between two hosts that have none, first at one end and then at the other.
-    pub fn open_pair(&mut self, host: u8, peer: u8) -> Result<(), Stop>
-        requires host { host < 8 }
-        requires peer { peer < 8 }
-    {
-        self.open_end(host, peer)?;
-        self.open_end(peer, host)
-    }
-
-    fn open_end(&mut self, host: u8, peer: u8) -> Result<(), Stop>
-        requires host { host < 8 }
-        requires peer { peer < 8 }
-    {
-        let link = &mut self.links[place(host, peer)];
-        let first = link.conn.journal().len();
-        link.open()?;
-        self.print_from(host, peer, first)?;
-        Ok(())
-    }
-
     // One round over all pairs. Answers whether a byte moved.
     fn round<L: Ledger>(&mut self, steps: &mut Steps<L>) -> Result<bool, Stop> {
         let mut moved = false;

@@ -7,6 +7,7 @@ mod carry;
 mod close;
 mod drain;
 mod ending;
+mod entering;
 mod host;
 mod link;
 mod pairs;
