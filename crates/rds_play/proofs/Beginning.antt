@@ -1,6 +1,8 @@
 -- A world in which nothing has happened.
-use Rattle.std.proofs.Common.{◌≡◌, ℕ, ◌+◌, ◌*◌, ◌/◌, ◌%◌, ◌<◌, ◌≤◌, Some, None, List, [], ◌∷◌, length, get_or, refl, sym, ◌∙◌, ap, subst, arith}
+use Rattle.std.proofs.Common.{◌≡◌, ℕ, ◌+◌, ◌*◌, ◌/◌, ◌%◌, ◌<◌, ◌≤◌, Some, None, List, [], ◌∷◌, ◌++◌, ⊎_elim, length, get_or, refl, sym, ◌∙◌, ap, subst, arith}
 use Rattle.std.specs.List.{All}
+use Rattle.std.proofs.lemmas.Bool.{cases_eq}
+use Rattle.std.proofs.lemmas.List.{get_or_at, get_or_append_left, length_push}
 use Rattle.std.proofs.lemmas.List.Elements.{All-get_or}
 use Rattle.rds_play.specs.declared.host.Host.{Host}
 use Rattle.rds_play.specs.declared.host.Socket.{Socket}
@@ -40,3 +42,17 @@ tells_nothing limit count s limit_is count_is text_is links_size links outs_size
   outs_are = λ h k h_in k_in out is. out_begins h k out (is ∙ All-get_or (λ (o : List ℕ). o ≡ []) s.outs (8 * h + k) out (omega arith) outs);
   hosts_are = λ h h_in x is. host_begins h x (subst IsNewHost (sym is) (All-get_or IsNewHost s.hosts h x (omega arith) hosts));
 }
+
+-- one more link, at the next place
+pub links_more : (limit n : ℕ) (links : List Link) (l : Link) → length links ≡ n → AreNewLinks limit links →
+    IsNewLink limit (n / 8) (n % 8) l → AreNewLinks limit (links ++ l ∷ [])
+links_more limit n links l size before new = λ i i_in x is.
+    ⊎_elim
+    (λ (e : i ≡ n).
+    let here : x ≡ l = is ∙ get_or_at links l [] x i (size ∙ sym e) in
+    subst (λ j. IsNewLink limit (j / 8) (j % 8) x) (sym e) (subst (λ y. IsNewLink limit (n / 8) (n % 8) y) (sym here) new))
+    (λ (ne : i ≡ n → ⊥).
+    let pushed = length_push links l in
+    let below : i < length links = omega arith in
+    before i below x (is ∙ get_or_append_left links (l ∷ []) x i below))
+    (cases_eq i n)

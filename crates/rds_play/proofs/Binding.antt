@@ -90,7 +90,7 @@ host_bound h port sndbuf rcvbuf past old new s t items new_socket at others map_
     let counted : binds h (Bound h port (binds h past) sndbuf rcvbuf ∷ past) ≡ suc (binds h past) =
     cond-true (h == h) (suc (binds h past)) (binds h past) (eq-eqb h h refl) in
     record {
-      binds_are = ap length items ∙ length_push old.sockets.items s ∙ ap (λ n. n + 1) t.binds_are ∙ sym counted;
+      binds_are = let pushed = ap (λ (l : List Socket). length l) items ∙ length_push old.sockets.items s in omega (arith, pushed, t.binds_are, counted);
       holders_are = λ q. holder_bound h port (binds h past) sndbuf rcvbuf q past old new
           (at ∙ ap Some t.binds_are) (λ ne. others q ne) (t.holders_are q);
       map_is = map_same ∙ t.map_is;

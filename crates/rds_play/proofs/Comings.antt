@@ -1,5 +1,6 @@
 -- What comes of courses, one after another.
-use Rattle.std.proofs.Common.{◌≡◌, ℕ, Result, Ok, Err, List, ◌∷◌, ◌++◌, length, refl, sym, ◌∙◌, ap, subst, tt}
+use Rattle.std.proofs.Common.{◌≡◌, ℕ, Result, Ok, Err, List, ◌∷◌, ◌++◌, length, refl, sym, ◌∙◌, ap, subst}
+use Rattle.std.specs.Prelude.{OnOk}
 use Rattle.rds_history.specs.Events.{Event, Said}
 use Rattle.rds_history.specs.Courses.{Course, Full, and_then, says}
 use Rattle.rds_play.specs.declared.stop.Stop.{Stop}
@@ -12,20 +13,26 @@ use Rattle.rds_play.specs.Coming.{Comes}
 use Rattle.rds_play.specs.Telling.{State, Tells, TellsLink, TellsOut, TellsHost, TellsSocket}
 
 -- there may always be no memory
-pub comes_memory : {A : Type 0} (limit hosts : ℕ) (course : Course) (s : State) → Comes {A = A} limit hosts course (Err stop.Memory) s
-comes_memory limit hosts (Ok past) s = tt
-comes_memory limit hosts (Err full) s = tt
+pub comes_memory : (A : Type 0) (limit hosts : ℕ) (course : Course) (s : State) → Comes {A = A} limit hosts course (Err stop.Memory) s
+comes_memory A limit hosts (Ok past) s = tt
+comes_memory A limit hosts (Err full) s = tt
 
-pub comes_lacking : {A : Type 0} (limit hosts : ℕ) (course : Course) (why : Stop) (s : State) → IsMemory why →
+pub comes_lacking : (A : Type 0) (limit hosts : ℕ) (course : Course) (why : Stop) (s : State) → IsMemory why →
     Comes {A = A} limit hosts course (Err why) s
-comes_lacking limit hosts course stop.Memory s lacks = comes_memory limit hosts course s
-comes_lacking limit hosts course (stop.Spent full) s lacks = absurd lacks
+comes_lacking A limit hosts course stop.Memory s lacks = comes_memory A limit hosts course s
+comes_lacking A limit hosts course (stop.Spent full) s lacks = absurd lacks
+
+-- the step leads here, or there is no memory
+pub comes_made : (A : Type 0) (limit hosts : ℕ) (later : List Event) (result : Result A Stop) (s : State) →
+    OnOk result (Tells limit hosts later s) → LacksMemory result → Comes limit hosts (Ok later) result s
+comes_made A limit hosts later (Ok x) s made lacks = made
+comes_made A limit hosts later (Err why) s made lacks = lacks
 
 -- the first step was stopped
-pub comes_stopped : {A B : Type 0} (limit hosts : ℕ) (first : Course) (next : List Event → Course) (why : Stop) (s t : State) →
+pub comes_stopped : (A B : Type 0) (limit hosts : ℕ) (first : Course) (next : List Event → Course) (why : Stop) (s t : State) →
     Comes {A = A} limit hosts first (Err why) s → Comes {A = B} limit hosts (and_then first next) (Err why) t
-comes_stopped limit hosts (Ok past) next why s t comes = comes_lacking limit hosts (next past) why t comes
-comes_stopped limit hosts (Err full) next why s t comes = comes
+comes_stopped A B limit hosts (Ok past) next why s t comes = comes_lacking B limit hosts (next past) why t comes
+comes_stopped A B limit hosts (Err full) next why s t comes = comes
 
 -- the first step went well, and then the next
 pub comes_then : {A B : Type 0} (limit hosts : ℕ) (first : Course) (next : List Event → Course) (x : A) (result : Result B Stop) (s t : State) →

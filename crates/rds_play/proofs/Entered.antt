@@ -1,7 +1,7 @@
 -- A world in which one end wrote an entry.
-use Rattle.std.proofs.Common.{◌≡◌, ℕ, ◌+◌, ◌*◌, ◌<◌, ◌≤◌, Bool, true, false, cond, Option, Some, None, Result, Ok, Err, List, ◌∷◌, ◌++◌, length, drop, get_or, set, refl, sym, ◌∙◌, ap, subst, tt}
+use Rattle.std.proofs.Common.{◌≡◌, ℕ, ◌+◌, ◌*◌, ◌<◌, ◌≤◌, Bool, true, false, cond, Option, Some, None, Result, Ok, Err, List, ◌∷◌, ◌++◌, length, drop, get_or, set, refl, sym, ◌∙◌, ap, subst, ⊎_elim}
 use Rattle.std.specs.Prelude.{nat_lt, sum_by}
-use Rattle.std.proofs.lemmas.Bool.{cond-true, cond-false}
+use Rattle.std.proofs.lemmas.Bool.{cases_Bool, cond-true, cond-false}
 use Rattle.rds_model.specs.declared.entry.Entry.{Entry}
 use Rattle.rds_model.specs.declared.order.Datagram.{Datagram}
 use Rattle.rds_history.specs.Events.{Event, Entered}
@@ -102,25 +102,33 @@ enters_full limit h k e past room =
     ap (λ (c : Course). and_then c (λ before. Ok (Entered h k e ∷ before)))
     (cond-true (nat_lt limit (length (journal h k past) + 2)) (Err (record { host = h; peer = k; entries = length (journal h k past) })) (Ok past) room)
 
-pub comes_entered : {A : Type 0} (limit hosts h k : ℕ) (past : List Event) (e : Entry) (s : State) (old new : Link) (text : List ℕ)
+pub comes_entered : (A : Type 0) (limit hosts h k : ℕ) (past : List Event) (e : Entry) (s : State) (old new : Link) (text : List ℕ)
     (outs : List (List ℕ)) (result : Result A Stop) →
     h < 8 → k < 8 → length s.links ≡ 64 → Tells limit hosts past s → old ≡ get_or s.links (8 * h + k) old →
     Enters e result old new s.text text →
     EachPair (λ a b out. TellsOut a b (Entered h k e ∷ past) out) outs → DeliversNone h k e past →
     Comes limit hosts (enters limit h k e past) result (record s { text = text; links = set s.links (8 * h + k) new; outs = outs })
-comes_entered limit hosts h k past e s old new text outs (Ok x) h_in k_in size t old_is entered outs_are none =
+comes_entered A limit hosts h k past e s old new text outs (Ok x) h_in k_in size t old_is entered outs_are none =
     let told = t.links_are h k h_in k_in old old_is in
     let room : nat_lt limit (length (journal h k past) + 2) ≡ false = cc (entered.room, told.journal_is, told.limit_is) in
-    subst (λ (c : Course). Comes limit hosts c (Ok x) (record s { text = text; links = set s.links (8 * h + k) new; outs = outs }))
+    subst (λ (c : Course). Comes {A = A} limit hosts c (Ok x) (record s { text = text; links = set s.links (8 * h + k) new; outs = outs }))
     (sym (enters_ok limit h k e past room))
     (tells_entered limit hosts h k past e s old new text outs h_in k_in size t old_is entered.wrote entered.same outs_are none)
-comes_entered limit hosts h k past e s old new text outs (Err stop.Memory) h_in k_in size t old_is entered outs_are none =
-    comes_memory limit hosts (enters limit h k e past) (record s { text = text; links = set s.links (8 * h + k) new; outs = outs })
-comes_entered limit hosts h k past e s old new text outs (Err (stop.Spent full)) h_in k_in size t old_is entered outs_are none =
+comes_entered A limit hosts h k past e s old new text outs (Err stop.Memory) h_in k_in size t old_is entered outs_are none =
+    comes_memory A limit hosts (enters limit h k e past) (record s { text = text; links = set s.links (8 * h + k) new; outs = outs })
+comes_entered A limit hosts h k past e s old new text outs (Err (stop.Spent full)) h_in k_in size t old_is entered outs_are none =
     let told = t.links_are h k h_in k_in old old_is in
     let full_is = entered.room.0 in
     let room : nat_lt limit (length (journal h k past) + 2) ≡ true = cc (entered.room.1, told.journal_is, told.limit_is) in
     let entries : length old.conn.log.past ≡ length (journal h k past) = ap (λ (j : List Entry). length j) told.journal_is in
-    subst (λ (c : Course). Comes limit hosts c (Err (stop.Spent full)) (record s { text = text; links = set s.links (8 * h + k) new; outs = outs }))
+    subst (λ (c : Course). Comes {A = A} limit hosts c (Err (stop.Spent full)) (record s { text = text; links = set s.links (8 * h + k) new; outs = outs }))
     (sym (enters_full limit h k e past room))
     (record { host_is = full_is.host_is ∙ told.host_is; peer_is = full_is.peer_is ∙ told.peer_is; entries_are = full_is.entries_are ∙ entries })
+
+-- where an entry could be written, the past is longer by it
+pub entered_is : (limit h k : ℕ) (e : Entry) (past later : List Event) → enters limit h k e past ≡ Ok later → later ≡ Entered h k e ∷ past
+entered_is limit h k e past later is =
+    ⊎_elim
+    (λ (full : nat_lt limit (length (journal h k past) + 2) ≡ true). let no = sym (enters_full limit h k e past full) ∙ is in cc)
+    (λ (room : nat_lt limit (length (journal h k past) + 2) ≡ false). let same = sym (enters_ok limit h k e past room) ∙ is in cc)
+    (cases_Bool (nat_lt limit (length (journal h k past) + 2)))

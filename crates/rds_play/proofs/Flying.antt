@@ -1,5 +1,5 @@
 -- The bytes in flight after an entry.
-use Rattle.std.proofs.Common.{◌≡◌, ℕ, zero, suc, ◌+◌, ◌*◌, ◌<◌, ◌≤◌, ◌==◌, ◌&&◌, Bool, true, false, cond, Option, Some, None, List, [], ◌∷◌, ◌++◌, length, drop, get_or, set, refl, sym, ◌∙◌, ap, subst, arith, ⊎_elim}
+use Rattle.std.proofs.Common.{◌≡◌, ℕ, zero, suc, ◌+◌, ◌*◌, ◌<◌, ◌≤◌, ◌==◌, ◌&&◌, Bool, true, false, cond, Option, Some, None, Ok, List, [], ◌∷◌, ◌++◌, length, drop, get_or, set, refl, sym, ◌∙◌, ap, subst, arith, ⊎_elim}
 use Rattle.std.specs.List.{flat_map}
 use Rattle.std.proofs.lemmas.Bool.{cases_eq, cond-true, cond-false, ne_eqb}
 use Rattle.rds_wire.specs.declared.frame.Frame.{Frame}
@@ -13,7 +13,9 @@ use Rattle.rds_model.proofs.Legality.{lawful_open, lawful_pull}
 use Rattle.rds_conn.proofs.Untouched.{open_is_newest}
 use Rattle.rds_history.specs.Events.{Event, Entered}
 use Rattle.rds_history.specs.Journals.{journal, fed, in_flight, wrote_on}
+use Rattle.rds_history.specs.Courses.{enters}
 use Rattle.rds_play.specs.Telling.{State, TellsOut, EachPair}
+use Rattle.rds_play.proofs.Entered.{entered_is}
 use Rattle.rds_play.proofs.Journaling.{journal_here, journal_there, same_pair, other_pair}
 use Rattle.rds_play.proofs.Places.{pair_kept, pair_replaced}
 
@@ -30,7 +32,7 @@ none_pulled (Read stream f o ∷ past) legal k above = none_pulled past legal.1 
 none_pulled (Shut stream ∷ past) legal k above = none_pulled past legal.1 k above
 none_pulled (Bad stream h found ∷ past) legal k above = none_pulled past legal.1 k above
 
-drop_none : (n : ℕ) → drop n ([] {A = ℕ}) ≡ []
+drop_none : (n : ℕ) → drop {A = ℕ} n [] ≡ []
 drop_none zero = refl
 drop_none (suc n) = refl
 
@@ -99,3 +101,10 @@ outs_shut h k stream past outs h_in k_in size each =
     pair_replaced (λ a b out. TellsOut a b past out) (λ a b out. TellsOut a b (Entered h k (Shut stream) ∷ past) out) outs h k []
     h_in k_in size each (shut_here h k stream past)
     (λ a b out apart was. out_same a b past (Entered h k (Shut stream) ∷ past) out refl (journal_there h k a b (Shut stream) past apart) was)
+
+-- the other end stays closed where one was opened
+pub closed_there : (limit h k stream : ℕ) (past later : List Event) → (h ≡ k → ⊥) → enters limit h k (Open stream) past ≡ Ok later →
+    open_stream (journal k h past) ≡ None → open_stream (journal k h later) ≡ None
+closed_there limit h k stream past later apart is closed =
+    ap (λ (p : List Event). open_stream (journal k h p)) (entered_is limit h k (Open stream) past later is)
+    ∙ ap open_stream (journal_there h k k h (Open stream) past (λ e f. apart (sym e))) ∙ closed

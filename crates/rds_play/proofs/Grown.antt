@@ -1,6 +1,6 @@
 -- No call of a connection but the opening of a stream makes a newer stream.
 use Rattle.std.proofs.Common.{◌≡◌, ℕ, ◌≤◌, Option, Some, None, List, refl, sym, subst, arith}
-use Rattle.std.specs.Prelude.{IsSome}
+use Rattle.std.specs.Prelude.{IfSome, IsSome, is_some, true, false}
 use Rattle.rds_wire.specs.declared.frame.Frame.{Frame}
 use Rattle.rds_wire.specs.declared.kind.Malformed.{Malformed}
 use Rattle.rds_model.specs.declared.entry.Verdict.{Verdict}
@@ -14,6 +14,20 @@ use Rattle.rds_conn.specs.Feeding.{Refuses}
 use Rattle.rds_conn.specs.Passing.{passed, outcome_of}
 use Rattle.rds_play.specs.Counting.{pongs}
 use Rattle.rds_play.specs.Growth.{Grows, Passes}
+
+-- what is true of what an option has
+pub at_some : {A : Type 0} (P : A → Type 0) (o : Option A) → IfSome o P → (x : A) → o ≡ Some x → P x
+at_some P None h x is = let no : None ≡ Some x = is in cc
+at_some P (Some y) h x is = let same : y ≡ x = cc in subst P same h
+
+-- an option by the test that it has something
+pub some_from : (o : Option ℕ) → is_some o ≡ true → (x : ℕ) × (o ≡ Some x)
+some_from None on = cc
+some_from (Some x) on = (x, refl)
+
+pub none_from : (o : Option ℕ) → is_some o ≡ false → o ≡ None
+none_from None off = refl
+none_from (Some x) off = cc
 
 -- what an option that isn't empty has
 pub some_of : {A : Type 0} (o : Option A) → IsSome o → (x : A) × (o ≡ Some x)

@@ -1,5 +1,5 @@
 -- A datagram that was handed out.
-use Rattle.std.proofs.Common.{◌≡◌, ◌⊎◌, inl, inr, ⊎_elim, ℕ, zero, suc, ◌+◌, ◌-◌, ◌<◌, ◌≤◌, ◌==◌, ◌&&◌, Bool, true, false, cond, Option, Some, None, List, [], ◌∷◌, ◌++◌, length, map, drop, get_or, set, refl, sym, ◌∙◌, ap, subst, arith}
+use Rattle.std.proofs.Common.{◌≡◌, ◌⊎◌, inl, inr, ⊎_elim, ℕ, zero, suc, ◌+◌, ◌-◌, ◌<◌, ◌≤◌, ◌==◌, ◌&&◌, Bool, true, false, cond, Option, Some, None, List, [], ◌∷◌, ◌++◌, length, map, drop, get_or, set, refl, sym, ◌∙◌, ap, subst, arith, add-one}
 use Rattle.std.specs.Prelude.{sum_by}
 use Rattle.std.proofs.lemmas.Bool.{cases_eq, cond-true, cond-false, eq-eqb, ne_eqb, and_left, and_right}
 use Rattle.std.proofs.lemmas.List.{length_push, length-set, length-drop, get_or-set_same, get_or-set_other}
@@ -13,18 +13,18 @@ use Rattle.rds_history.specs.Transcript.{lines}
 use Rattle.rds_play.specs.declared.host.Arrived.{Arrived}
 use Rattle.rds_play.specs.declared.host.Host.{Host}
 use Rattle.rds_play.specs.declared.host.Socket.{Socket}
-use Rattle.rds_play.specs.Receiving.{HandsOut}
+use Rattle.rds_play.specs.Receiving.{HandsOut, KeepsAll}
 use Rattle.rds_play.specs.Telling.{State, Tells, TellsLink, TellsOut, TellsHost, TellsSocket, EachHost, EachPair, IsFresh}
 use Rattle.rds_play.proofs.Journaling.{same_pair, other_pair}
 use Rattle.rds_play.proofs.Places.{host_replaced}
 
-drop_next : {X : Type 0} (n : ℕ) (xs : List X) (y : X) (ys : List X) → drop n xs ≡ y ∷ ys → drop (n + 1) xs ≡ ys
+drop_next : {X : Type 0} (n : ℕ) (xs : List X) (y : X) (ys : List X) → drop n xs ≡ y ∷ ys → drop (suc n) xs ≡ ys
 drop_next zero [] y ys is = cc
 drop_next zero (x ∷ xs) y ys is = cc
 drop_next (suc n) [] y ys is = cc
 drop_next (suc n) (x ∷ xs) y ys is = drop_next n xs y ys is
 
-drop_short : {X : Type 0} (n : ℕ) (xs : List X) (y : X) (ys : List X) → drop n xs ≡ y ∷ ys → n + 1 ≤ length xs
+drop_short : {X : Type 0} (n : ℕ) (xs : List X) (y : X) (ys : List X) → drop n xs ≡ y ∷ ys → suc n ≤ length xs
 drop_short zero [] y ys is = cc
 drop_short zero (x ∷ xs) y ys is = omega arith
 drop_short (suc n) [] y ys is = cc
@@ -43,8 +43,8 @@ socket_handed h port slot past a waiting old new text_old text_new t items out =
     let here = received_here h port slot a.datagram past in
     let front : queue h slot past ≡ a.datagram ∷ map (λ (x : Arrived). x.datagram) waiting =
     sym t.queue_is ∙ ap (λ (q : List Arrived). map (λ (x : Arrived). x.datagram) q) items in
-    let one_more : length (received h slot (Received h port slot a.datagram ∷ past)) ≡ length (received h slot past) + 1 =
-    ap (λ (ds : List Datagram). length ds) here ∙ length_push (received h slot past) a.datagram in
+    let one_more : length (received h slot (Received h port slot a.datagram ∷ past)) ≡ suc (length (received h slot past)) =
+    ap (λ (ds : List Datagram). length ds) here ∙ length_push (received h slot past) a.datagram ∙ add-one in
     let rest : queue h slot (Received h port slot a.datagram ∷ past) ≡ map (λ (x : Arrived). x.datagram) waiting =
     ap (λ n. drop n (delivered h slot past)) one_more
     ∙ drop_next (length (received h slot past)) (delivered h slot past) a.datagram (map (λ (x : Arrived). x.datagram) waiting) front in
@@ -135,3 +135,78 @@ tells_handed limit hosts h port slot past s a x text h_in t told text_is =
       hosts_are = host_replaced (λ b y. TellsHost b past y) (λ b y. TellsHost b (Received h port slot a.datagram ∷ past) y) s.hosts h x
           h_in t.hosts_are told (λ b y apart was. host_handed_elsewhere b h port slot a.datagram past y apart was);
     }
+
+-- the same, where the host stands at this place, and the datagram is this one
+pub tells_handed_at : (limit hosts h port slot i : ℕ) (past : List Event) (s : State) (a : Arrived) (d : Datagram) (x : Host) (text : List ℕ) →
+    i ≡ h → a.datagram ≡ d → h < length s.hosts → Tells limit hosts past s → TellsHost h (Received h port slot a.datagram ∷ past) x →
+    text ≡ s.text ++ recv_line h port a.from a.datagram.sport a.datagram.payload →
+    Tells limit hosts (Received h port slot d ∷ past) (record s { text = text; hosts = set s.hosts i x })
+tells_handed_at limit hosts h port slot i past s a d x text at d_is h_in t told text_is =
+    subst (λ j. Tells limit hosts (Received h port slot d ∷ past) (record s { text = text; hosts = set s.hosts j x })) (sym at)
+    (subst (λ e. Tells limit hosts (Received h port slot e ∷ past) (record s { text = text; hosts = set s.hosts h x })) d_is
+    (tells_handed limit hosts h port slot past s a x text h_in t told text_is))
+
+-- the first of a queue, by its datagram
+pub record IsFront (q : List Arrived) (d : Datagram) : Type 0 where
+  pub a : Arrived
+  pub rest : List Arrived
+  pub items_are : q ≡ a ∷ rest
+  pub datagram_is : a.datagram ≡ d
+
+pub front : (q : List Arrived) (d : Datagram) (waiting : List Datagram) → map (λ (x : Arrived). x.datagram) q ≡ d ∷ waiting → IsFront q d
+front [] d waiting is = cc
+front (a ∷ rest) d waiting is = record { a = a; rest = rest; items_are = refl; datagram_is = cc }
+
+-- no datagram, no queue
+pub no_queue : (q : List Arrived) → map (λ (x : Arrived). x.datagram) q ≡ [] → q ≡ []
+no_queue [] is = refl
+no_queue (a ∷ rest) is = cc
+
+-- a socket that was looked at, and nothing more
+socket_kept : (h slot : ℕ) (past : List Event) (old new : Socket) (text_old text_new : List ℕ) → TellsSocket h slot past old →
+    KeepsAll old new text_old text_new → TellsSocket h slot past new
+socket_kept h slot past old new text_old text_new t k = record {
+  sndbuf_is = k.sndbuf_same ∙ t.sndbuf_is;
+  rcvbuf_is = k.rcvbuf_same ∙ t.rcvbuf_is;
+  queue_is = ap (λ (q : List Arrived). map (λ (x : Arrived). x.datagram) q) k.queue_same ∙ t.queue_is;
+  queued_is = k.queued_same ∙ t.queued_is;
+  got_is = k.got_same ∙ t.got_is;
+  within = t.within;
+}
+
+pub host_looked : (h slot : ℕ) (past : List Event) (old new : Host) (x y : Socket) (text_old text_new : List ℕ) →
+    TellsHost h past old → slot < length old.sockets.items → x ≡ get_or old.sockets.items slot x → KeepsAll x y text_old text_new →
+    new.sockets.items ≡ set old.sockets.items slot y → new.holders ≡ old.holders → new.map ≡ old.map → TellsHost h past new
+host_looked h slot past old new x y text_old text_new t in_range x_is kept sockets_is holders_same map_same = record {
+  binds_are = ap (λ (l : List Socket). length l) sockets_is ∙ length-set old.sockets.items slot y ∙ t.binds_are;
+  holders_are = λ q. cc (holders_same, t.holders_are q);
+  map_is = map_same ∙ t.map_is;
+  marks_are = λ q. cc (map_same, t.marks_are q);
+  sockets_are = λ s s_in z z_is. socket_at s s_in z (z_is ∙ ap (λ (l : List Socket). get_or l s z) sockets_is);
+  fresh = t.fresh;
+}
+  where
+    socket_at : (s : ℕ) → s < binds h past → (z : Socket) → z ≡ get_or (set old.sockets.items slot y) s z → TellsSocket h s past z
+    socket_at s s_in z z_is = ⊎_elim
+        (λ (e : s ≡ slot).
+        let here : z ≡ y = z_is ∙ ap (λ i. get_or (set old.sockets.items slot y) i z) e ∙ get_or-set_same old.sockets.items slot y z in_range in
+        subst (λ i. TellsSocket h i past z) (sym e)
+        (subst (λ w. TellsSocket h slot past w) (sym here)
+        (socket_kept h slot past x y text_old text_new (t.sockets_are slot (subst (λ i. i < binds h past) e s_in) x x_is) kept)))
+        (λ (ne : s ≡ slot → ⊥).
+        t.sockets_are s s_in z (z_is ∙ get_or-set_other old.sockets.items slot s y z ne))
+        (cases_eq s slot)
+
+pub tells_looked_at : (limit hosts h i : ℕ) (past : List Event) (s : State) (x : Host) (text : List ℕ) → i ≡ h → h < length s.hosts →
+    Tells limit hosts past s → TellsHost h past x → text ≡ s.text →
+    Tells limit hosts past (record s { text = text; hosts = set s.hosts i x })
+tells_looked_at limit hosts h i past s x text at h_in t told text_is =
+    subst (λ j. Tells limit hosts past (record s { text = text; hosts = set s.hosts j x })) (sym at)
+    (record {
+      limit_is = t.limit_is;
+      count_is = t.count_is;
+      text_is = text_is ∙ t.text_is;
+      links_are = t.links_are;
+      outs_are = t.outs_are;
+      hosts_are = host_replaced (λ b y. TellsHost b past y) (λ b y. TellsHost b past y) s.hosts h x h_in t.hosts_are told (λ b y apart was. was);
+    })

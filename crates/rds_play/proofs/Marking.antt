@@ -103,3 +103,11 @@ tells_marked limit hosts h port slot past s x text h_in t told text_is =
           (λ a y apart before. noted_either (λ (p : List Event). TellsHost a p y) was is (Marked h port is (queued h slot past) (receive_buffer h slot past)) past before
           (host_marked_elsewhere a h port (queued h slot past) (receive_buffer h slot past) is past y apart before));
     }
+
+-- the same, where the host stands at this place
+pub tells_marked_at : (limit hosts h port slot i : ℕ) (past : List Event) (s : State) (x : Host) (text : List ℕ) → i ≡ h →
+    h < length s.hosts → Tells limit hosts past s → TellsHost h (marked h port slot past) x → text ≡ lines (marked h port slot past) →
+    Tells limit hosts (marked h port slot past) (record s { text = text; hosts = set s.hosts i x })
+tells_marked_at limit hosts h port slot i past s x text at h_in t told text_is =
+    subst (λ j. Tells limit hosts (marked h port slot past) (record s { text = text; hosts = set s.hosts j x })) (sym at)
+    (tells_marked limit hosts h port slot past s x text h_in t told text_is)

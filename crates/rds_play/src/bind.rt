@@ -40,7 +40,7 @@ impl World {
         requires host { host < 8 }
         requires roomy { 2 ≤ rcvbuf }
         requires room { (x : Host) → x ≡ get_or self.old.hosts.items host x → vec_len x.sockets < 1024 }
-        ensures { (limit hosts : ℕ) (past : List Event) → Tells limit hosts past (state self.old) → OnOk result
+        ensures bound { (limit hosts : ℕ) (past : List Event) → Tells limit hosts past (state self.old) → OnOk result
             (Tells limit hosts (Bound host port (binds host past) sndbuf rcvbuf ∷ past) (state self.new)) }
         ensures stop { LacksMemory result }
     {

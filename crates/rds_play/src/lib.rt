@@ -10,6 +10,7 @@ mod ending;
 mod entering;
 mod host;
 mod link;
+mod memory;
 mod pairs;
 mod playing;
 mod recv;

@@ -120,6 +120,7 @@ impl Link {
     pub fn order<L: Ledger>(&mut self, order: Order, steps: &mut Steps<L>) -> Result<(), Stop>
         requires { IsOrderFor max_slots order }
     {
+        self.conn.known();
         ready(&mut self.conn, self.host, self.peer)?;
         if let Order::Send { .. } = &order {
             self.accepted += 1;

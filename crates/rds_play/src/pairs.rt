@@ -1,10 +1,10 @@
-ghost use Rattle.std.specs.Prelude.{◌≡◌, ◌<◌, ℕ, None, List, length};
+ghost use Rattle.std.specs.Prelude.{◌≡◌, ◌≢◌, ◌<◌, ℕ, None, Some, List, is_some, length};
 ghost use Rattle.rds_model.specs.Past.{open_stream};
 ghost use Rattle.rds_history.specs.Events.{Event};
 ghost use Rattle.rds_history.specs.Courses.{says};
 ghost use Rattle.rds_history.specs.Journals.{in_flight, journal};
 ghost use Rattle.rds_history.specs.Lines.{cut_line as line_of_cut};
-ghost use Rattle.rds_history.specs.Open.{open_pair, opens, opens_end, cut, shuts_end};
+ghost use Rattle.rds_history.specs.Open.{open_pair, opens, opens_end, cut, cut_on, shuts_end};
 ghost use Rattle.rds_history.specs.Refusals.{pair_refused_line};
 ghost use Rattle.rds_play.specs.Coming.{Comes};
 ghost use Rattle.rds_play.specs.Pairing.{IsPaired};
@@ -23,19 +23,31 @@ impl World {
     pub fn open(&mut self, host: u8, peer: u8) -> Result<(), Stop>
         requires host { host < 8 }
         requires peer { peer < 8 }
+        requires apart { host ≢ peer }
         ensures { (limit hosts : ℕ) (past : List Event) → IsPaired past → Tells limit hosts past (state self.old) →
             Comes limit hosts (open_pair limit host peer past) result (state self.new) }
     {
-        if self.links[place(host, peer)].is_open() {
+        if self.is_open(host, peer) {
             return self.refuse_pair("open", host, peer, Refusal::Open);
         }
         self.open_pair(host, peer)
+    }
+
+    /// Whether a host has a stream to a peer.
+    pub fn is_open(&self, host: u8, peer: u8) -> bool
+        requires host { host < 8 }
+        requires peer { peer < 8 }
+        ensures { (limit hosts : ℕ) (past : List Event) → Tells limit hosts past (state self.now) →
+            result ≡ is_some (open_stream (journal host peer past)) }
+    {
+        self.links[place(host, peer)].is_open()
     }
 
     /// Opens a stream between two hosts that have none, first at one end and then at the other.
     pub fn open_pair(&mut self, host: u8, peer: u8) -> Result<(), Stop>
         requires host { host < 8 }
         requires peer { peer < 8 }
+        requires apart { host ≢ peer }
         ensures { (limit hosts : ℕ) (past : List Event) → IsPaired past → Tells limit hosts past (state self.old) →
             open_stream (journal host peer past) ≡ None →
             Comes limit hosts (opens limit host peer past) result (state self.new) }
@@ -76,7 +88,7 @@ impl World {
         requires host { host < 8 }
         requires peer { peer < 8 }
     {
-        if !self.links[place(host, peer)].is_open() {
+        if !self.is_open(host, peer) {
             return self.refuse_pair("move", host, peer, Refusal::Down);
         }
         let moved = self.carry(host, peer, u64::from(bytes), steps)?;
@@ -91,9 +103,19 @@ impl World {
         ensures { (limit hosts : ℕ) (past : List Event) → Tells limit hosts past (state self.old) →
             Comes limit hosts (cut limit host peer past) result (state self.new) }
     {
-        if !self.links[place(host, peer)].is_open() {
+        if !self.is_open(host, peer) {
             return self.refuse_pair("cut", host, peer, Refusal::Down);
         }
+        self.cut_open(host, peer)
+    }
+
+    // Cuts the stream that is open between two hosts.
+    fn cut_open(&mut self, host: u8, peer: u8) -> Result<(), Stop>
+        requires host { host < 8 }
+        requires peer { peer < 8 }
+        ensures { (limit hosts stream : ℕ) (past : List Event) → Tells limit hosts past (state self.old) →
+            Comes limit hosts (cut_on (Some stream) limit host peer past) result (state self.new) }
+    {
         self.tell_loss(host, peer)?;
         self.shut_end(host, peer)?;
         self.shut_end(peer, host)

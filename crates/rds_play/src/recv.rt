@@ -10,7 +10,7 @@ ghost use Rattle.rds_play.specs.declared.host.Arrived.{Arrived as ArrivedAt};
 ghost use Rattle.rds_play.specs.declared.host.Host.{Host as HostOf};
 ghost use Rattle.rds_play.specs.Coming.{Comes};
 ghost use Rattle.rds_play.specs.Readiness.{LacksMemory};
-ghost use Rattle.rds_play.specs.Receiving.{HandsOut};
+ghost use Rattle.rds_play.specs.Receiving.{HandsOut, KeepsAll};
 ghost use Rattle.rds_play.specs.Telling.{Tells, TellsHost, state};
 
 use crate::host::{Arrived, Host, Socket};
@@ -44,7 +44,7 @@ impl World {
         requires slot { (x : HostOf) → x ≡ get_or self.old.hosts.items host x → slot < vec_len x.sockets }
         ensures stop { LacksMemory result }
         ensures none { (limit hosts : ℕ) (past : List Event) → Tells limit hosts past (state self.old) →
-            queue host slot past ≡ [] → IfOk result (λ some. (some ≡ false) × (state self.new ≡ state self.old)) }
+            queue host slot past ≡ [] → IfOk result (λ some. (some ≡ false) × Tells limit hosts past (state self.new)) }
         ensures some { (limit hosts : ℕ) (past : List Event) → Tells limit hosts past (state self.old) →
             (d : Datagram) (waiting : List Datagram) → queue host slot past ≡ d ∷ waiting →
             IfOk result (λ some. (some ≡ true) × Tells limit hosts (Received host port slot d ∷ past) (state self.new)) }
@@ -75,7 +75,7 @@ impl World {
 fn hand_out(text: &mut String, socket: &mut Socket, host: u8, port: u16) -> Result<bool, Memory>
     requires { host < 8 }
     ensures none { socket.old.queue.items ≡ [] →
-        IfOk result (λ some. (some ≡ false) × (socket.new ≡ socket.old) × (string_bytes text.new ≡ string_bytes text.old)) }
+        IfOk result (λ some. (some ≡ false) × KeepsAll socket.old socket.new (string_bytes text.old) (string_bytes text.new)) }
     ensures some { (a : ArrivedAt) (waiting : List ArrivedAt) → socket.old.queue.items ≡ a ∷ waiting → IfOk result (λ some.
         (some ≡ true) × HandsOut host port a waiting socket.old socket.new (string_bytes text.old) (string_bytes text.new)) }
 {

@@ -1,5 +1,6 @@
-ghost use Rattle.std.specs.Prelude.{◌≡◌, ◌++◌, ◌<◌, OnOk, Some, string_bytes};
-ghost use Rattle.rds_history.specs.Lines.{close_line as line_of_close, cut_line as line_of_cut, mark_line as line_of_mark, mark_word, move_line as line_of_move};
+ghost use Rattle.std.specs.Prelude.{◌≡◌, ◌++◌, ◌∷◌, [], ◌<◌, OnOk, Some, codes, string_bytes};
+ghost use Rattle.std.specs.Fmt.{decimal};
+ghost use Rattle.rds_history.specs.Lines.{close_line as line_of_close, cut_line as line_of_cut, mark_line as line_of_mark, line, mark_word, move_line as line_of_move};
 ghost use Rattle.rds_history.specs.Refusals.{pair_refused_line as line_of_pair, send_refused_line as line_of_send, socket_refused_line as line_of_socket};
 ghost use Rattle.rds_play.specs.Reasons.{words_of};
 
@@ -182,6 +183,15 @@ pub fn cut_line(
 {
     let host = HostName::new(host);
     let peer = HostName::new(peer);
-    writeln!(text, "cut {host} {peer} lost {forth} {back}")?;
+    write!(text, "cut {host} {peer}")?;
+    loss(text, forth, back)
+}
+
+// The rest of the line of a cut.
+fn loss(text: &mut String, forth: usize, back: usize) -> Result<(), Memory>
+    ensures { OnOk result (string_bytes text.new ≡
+        string_bytes text.old ++ line (codes " lost " ∷ decimal forth ∷ codes " " ∷ decimal back ∷ [])) }
+{
+    writeln!(text, " lost {forth} {back}")?;
     Ok(())
 }
