@@ -1,13 +1,18 @@
 -- A datagram that was handed out.
-use Rattle.std.proofs.Common.{◌≡◌, ◌⊎◌, inl, inr, ⊎_elim, ℕ, zero, suc, ◌+◌, ◌-◌, ◌<◌, ◌≤◌, ◌==◌, ◌&&◌, Bool, true, false, cond, Option, Some, None, List, [], ◌∷◌, ◌++◌, length, map, drop, get_or, set, refl, sym, ◌∙◌, ap, subst, arith, add-one}
+use Rattle.std.proofs.Common.{◌≡◌, ◌⊎◌, inl, inr, ⊎_elim, ℕ, zero, suc, ◌+◌, ◌-◌, ◌<◌, ◌≤◌, ◌==◌, ◌&&◌, Bool, true, false, cond, Option, Some, None, Result, Ok, List, [], ◌∷◌, ◌++◌, length, map, drop, get_or, set, refl, sym, ◌∙◌, ap, subst, arith, add-one}
 use Rattle.std.specs.Prelude.{sum_by}
-use Rattle.std.proofs.lemmas.Bool.{cases_eq, cond-true, cond-false, eq-eqb, ne_eqb, and_left, and_right}
+use Rattle.std.proofs.lemmas.Bool.{both_ways, cases_eq, cond-true, cond-false, eq-eqb, ne_eqb, and_left, and_right}
 use Rattle.std.proofs.lemmas.List.{length_push, length-set, length-drop, get_or-set_same, get_or-set_other}
 use Rattle.std.proofs.lemmas.List.Sums.{sum_by-cons}
 use Rattle.rds_model.specs.declared.order.Datagram.{Datagram}
 use Rattle.rds_history.specs.Events.{Event, Received}
+use Rattle.rds_history.specs.Mark.{marked}
+use Rattle.rds_history.specs.Recv.{recv_first}
+use Rattle.rds_play.specs.declared.stop.Stop.{Stop}
+use Rattle.rds_play.specs.Coming.{Comes}
+use Rattle.rds_play.proofs.Comings.{comes_said}
 use Rattle.rds_history.specs.Hosts.{address_of, host_at}
-use Rattle.rds_history.specs.Lines.{recv_line}
+use Rattle.rds_history.specs.Lines.{recv_line, recv_none_line}
 use Rattle.rds_history.specs.Sockets.{binds, holder, delivered, received, queue, queued}
 use Rattle.rds_history.specs.Transcript.{lines}
 use Rattle.rds_play.specs.declared.host.Arrived.{Arrived}
@@ -44,7 +49,7 @@ socket_handed h port slot past a waiting old new text_old text_new t items out =
     let front : queue h slot past ≡ a.datagram ∷ map (λ (x : Arrived). x.datagram) waiting =
     sym t.queue_is ∙ ap (λ (q : List Arrived). map (λ (x : Arrived). x.datagram) q) items in
     let one_more : length (received h slot (Received h port slot a.datagram ∷ past)) ≡ suc (length (received h slot past)) =
-    ap (λ (ds : List Datagram). length ds) here ∙ length_push (received h slot past) a.datagram ∙ add-one in
+    ap (λ (ds : List Datagram). length ds) here ∙ length_push (received h slot past) a.datagram ∙ add-one (length (received h slot past)) in
     let rest : queue h slot (Received h port slot a.datagram ∷ past) ≡ map (λ (x : Arrived). x.datagram) waiting =
     ap (λ n. drop n (delivered h slot past)) one_more
     ∙ drop_next (length (received h slot past)) (delivered h slot past) a.datagram (map (λ (x : Arrived). x.datagram) waiting) front in
@@ -210,3 +215,24 @@ tells_looked_at limit hosts h i past s x text at h_in t told text_is =
       outs_are = t.outs_are;
       hosts_are = host_replaced (λ b y. TellsHost b past y) (λ b y. TellsHost b past y) s.hosts h x h_in t.hosts_are told (λ b y apart was. was);
     })
+
+-- a receive that was handed a datagram
+pub received_some : (limit hosts h port slot : ℕ) (past : List Event) (q : List Datagram) (some : Bool) (r : Result (Unit {0}) Stop) (s t : State) →
+    some ≡ true → queue h slot past ≡ q →
+    (queue h slot past ≡ [] → (some ≡ false) × Tells limit hosts past s) →
+    ((d : Datagram) (waiting : List Datagram) → queue h slot past ≡ d ∷ waiting → (some ≡ true) × Tells limit hosts (Received h port slot d ∷ past) s) →
+    ((d : Datagram) → Tells limit hosts (Received h port slot d ∷ past) s → Comes limit hosts (Ok (marked h port slot (Received h port slot d ∷ past))) r t) →
+    Comes limit hosts (recv_first q h port slot past) r t
+received_some limit hosts h port slot past [] some r s t on is none handed mark = absurd (both_ways some (none is).0 on)
+received_some limit hosts h port slot past (d ∷ waiting) some r s t on is none handed mark = mark d (handed d waiting is).1
+
+-- a receive that found nothing
+pub received_none : (limit hosts h port slot : ℕ) (past : List Event) (q : List Datagram) (some : Bool) (s : State) (text : List ℕ) →
+    some ≡ false → queue h slot past ≡ q →
+    (queue h slot past ≡ [] → (some ≡ false) × Tells limit hosts past s) →
+    ((d : Datagram) (waiting : List Datagram) → queue h slot past ≡ d ∷ waiting → (some ≡ true) × Tells limit hosts (Received h port slot d ∷ past) s) →
+    text ≡ s.text ++ recv_none_line h port →
+    Comes {A = Unit {0}} limit hosts (recv_first q h port slot past) (Ok tt) (record s { text = text })
+received_none limit hosts h port slot past [] some s text off is none handed text_is =
+    comes_said limit hosts past (recv_none_line h port) (tt {0}) s (record s { text = text }) (none is).1 (ap (λ (l : List ℕ). record s { text = l }) text_is)
+received_none limit hosts h port slot past (d ∷ waiting) some s text off is none handed text_is = absurd (both_ways some off (handed d waiting is).0)

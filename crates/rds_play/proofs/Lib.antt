@@ -8,3 +8,4 @@ pub mod Handing
 pub mod Journaling
 pub mod Marking
 pub mod Places
+pub mod Searching

@@ -141,11 +141,17 @@ impl Host {
             result ≡ find (is_free h past) (range_with_len first (end - first)) }
     {
         for port in first..end {
-            let port = port as u16;
-            if port >= 2 && self.holder(port).is_none() {
-                return Some(port);
+            if self.is_free(port as u16) {
+                return Some(port as u16);
             }
         }
         None
+    }
+
+    // Whether a socket could be bound to the port.
+    fn is_free(&self, port: u16) -> bool
+        ensures { (h : ℕ) (past : List Event) → TellsHost h past self.now → result ≡ is_free h past port }
+    {
+        port >= 2 && self.holder(port).is_none()
     }
 }

@@ -12,7 +12,7 @@ impl World {
         for low in 0..self.count {
             self.open_above(low)?;
         }
-        for _ in 0..=u64::from(self.limit) {
+        for _ in 0..=64 * u64::from(self.limit) {
             if !self.round(steps)? {
                 break;
             }

@@ -23,7 +23,7 @@ impl World {
     pub fn open(&mut self, host: u8, peer: u8) -> Result<(), Stop>
         requires host { host < 8 }
         requires peer { peer < 8 }
-        requires apart { host ≢ peer }
+        requires apart { peer ≢ host }
         ensures { (limit hosts : ℕ) (past : List Event) → IsPaired past → Tells limit hosts past (state self.old) →
             Comes limit hosts (open_pair limit host peer past) result (state self.new) }
     {
@@ -47,7 +47,7 @@ impl World {
     pub fn open_pair(&mut self, host: u8, peer: u8) -> Result<(), Stop>
         requires host { host < 8 }
         requires peer { peer < 8 }
-        requires apart { host ≢ peer }
+        requires apart { peer ≢ host }
         ensures { (limit hosts : ℕ) (past : List Event) → IsPaired past → Tells limit hosts past (state self.old) →
             open_stream (journal host peer past) ≡ None →
             Comes limit hosts (opens limit host peer past) result (state self.new) }

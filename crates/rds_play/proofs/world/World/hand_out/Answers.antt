@@ -7,6 +7,7 @@ use Rattle.rds_play.proofs.world.World.hand_out.Goals as goal
 pub returns-clause-none : goal.returns-clause-none
 returns-clause-none c = λ limit hosts past told empty.
     let h = c.args.host in
+    let place : c.from.result ≡ h = cc in
     let slot = c.args.slot in
     let s = state c.args.self.now in
     let x = c.index_mut.result.now in
@@ -20,7 +21,7 @@ returns-clause-none c = λ limit hosts past told empty.
     let out = c.in_ok-hand_out.ensures.none (no_queue y.queue.items (socket.queue_is ∙ empty)) in
     let size : h < length s.hosts = omega (arith, c.requires.host, c.args.self.now.housed, c.args.self.now.hosts.ok.0) in (
       out.0,
-      tells_looked_at limit hosts h c.from.result past s _ (string_bytes c.hand_out.new.text) (cc) size told
+      tells_looked_at limit hosts h c.from.result past s _ (string_bytes c.hand_out.new.text) place size told
           (host_looked h slot past x _ y c.hand_out.new.socket s.text (string_bytes c.hand_out.new.text) host slot_in y_at out.1 refl refl refl)
           out.1.text_same,
     )
@@ -28,6 +29,7 @@ returns-clause-none c = λ limit hosts past told empty.
 pub returns-clause-some : goal.returns-clause-some
 returns-clause-some c = λ limit hosts past told d waiting is.
     let h = c.args.host in
+    let place : c.from.result ≡ h = cc in
     let slot = c.args.slot in
     let s = state c.args.self.now in
     let x = c.index_mut.result.now in
@@ -42,7 +44,7 @@ returns-clause-some c = λ limit hosts past told d waiting is.
     let out = c.in_ok-hand_out.ensures.some first.a first.rest first.items_are in
     let size : h < length s.hosts = omega (arith, c.requires.host, c.args.self.now.housed, c.args.self.now.hosts.ok.0) in (
       out.0,
-      tells_handed_at limit hosts h c.args.port slot c.from.result past s first.a d _ (string_bytes c.hand_out.new.text) (cc) first.datagram_is size told
+      tells_handed_at limit hosts h c.args.port slot c.from.result past s first.a d _ (string_bytes c.hand_out.new.text) place first.datagram_is size told
           (host_handed h c.args.port slot past first.a first.rest x _ y c.hand_out.new.socket s.text (string_bytes c.hand_out.new.text)
           host slot_in y_at first.items_are out.1 refl refl refl)
           out.1.text_is,

@@ -24,5 +24,5 @@ returns c = λ limit hosts past paired told closed.
     c.in_ok-open_end.field-0 c.open_end-2.result (state c.open_end.new.self) (state c.open_end-2.new.self)
     (c.in_ok-open_end.ensures limit hosts past told closed)
     (λ later is told_later. c.open_end-2.ensures limit hosts later told_later
-    (closed_there limit c.args.host c.args.peer (suc (newest_stream (journal c.args.host c.args.peer past))) past later c.requires.apart is
+    (closed_there limit c.args.host c.args.peer (suc (newest_stream (journal c.args.host c.args.peer past))) past later (λ e. c.requires.apart (sym e)) is
     (paired c.args.host c.args.peer closed)))
