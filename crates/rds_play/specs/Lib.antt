@@ -1,5 +1,6 @@
 pub mod Coming
 pub mod Counting
+pub mod Ending
 pub mod Entering
 pub mod Fresh
 pub mod Growth
