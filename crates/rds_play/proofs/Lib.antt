@@ -1,6 +1,7 @@
 pub mod Beginning
 pub mod Binding
 pub mod Comings
+pub mod Ended
 pub mod Entered
 pub mod Flying
 pub mod Grown

@@ -1,0 +1,103 @@
+-- What hosts and links tell in the end, in lists.
+use Rattle.std.proofs.Common.{◌≡◌, ℕ, zero, suc, ◌+◌, ◌<◌, ◌==◌, Bool, true, false, cond, not, List, [], ◌∷◌, ◌++◌, length, map, get_or, refl, sym, ◌∙◌, ap, subst, arith}
+use Rattle.std.specs.List.{filter, range_with_len}
+use Rattle.std.proofs.lemmas.List.{map-append}
+use Rattle.rds_text.specs.Ports.{below}
+use Rattle.rds_model.specs.declared.order.Datagram.{Datagram}
+use Rattle.rds_model.specs.declared.entry.Entry.{Entry}
+use Rattle.rds_history.specs.Events.{Event}
+use Rattle.rds_history.specs.Ends.{Side, Socket as Kept}
+use Rattle.rds_history.specs.History.{sockets}
+use Rattle.rds_history.specs.Hosts.{address_of}
+use Rattle.rds_history.specs.Journals.{journal}
+use Rattle.rds_history.specs.Sockets.{binds, received, queue}
+use Rattle.rds_play.specs.declared.host.Arrived.{Arrived}
+use Rattle.rds_play.specs.declared.host.Host.{Host}
+use Rattle.rds_play.specs.declared.host.Socket.{Socket}
+use Rattle.rds_play.specs.declared.link.Link.{Link}
+use Rattle.rds_play.specs.Ending.{TellRow, sides}
+use Rattle.rds_play.specs.Telling.{TellsHost, TellsSocket, TellsLink}
+
+pub map_push : {X Y : Type 0} (f : X → Y) (xs : List X) (x : X) → map f (xs ++ x ∷ []) ≡ map f xs ++ f x ∷ []
+map_push f xs x = map-append f xs (x ∷ [])
+
+range_push : (a n : ℕ) → range_with_len a n ++ (a + n) ∷ [] ≡ range_with_len a (suc n)
+range_push a zero = let e : a + 0 ≡ a = omega arith in ap (λ i. i ∷ []) e
+range_push a (suc n) =
+    let e : a + suc n ≡ a + 1 + n = omega arith in
+    ap (λ (l : List ℕ). a ∷ l) (ap (λ i. range_with_len (a + 1) n ++ i ∷ []) e ∙ range_push (a + 1) n)
+
+below_range : (n : ℕ) → below n ≡ range_with_len 0 n
+below_range zero = refl
+below_range (suc n) =
+    let e : n ≡ 0 + n = omega arith in
+    ap (λ (l : List ℕ). l ++ n ∷ []) (below_range n) ∙ ap (λ i. range_with_len 0 n ++ i ∷ []) e ∙ range_push 0 n
+
+-- items that are told by their places
+numbered : {X Y : Type 0} (f : X → Y) (g : ℕ → Y) (p : X → Bool) (q : ℕ → Bool) (a : ℕ) (xs : List X) →
+    ((k : ℕ) → k < length xs → (x : X) → x ≡ get_or xs k x → (f x ≡ g (a + k)) × (p x ≡ q (a + k))) →
+    map f (filter p xs) ≡ map g (filter q (range_with_len a (length xs)))
+numbered f g p q a [] each = refl
+numbered {X} {Y} f g p q a (x ∷ xs) each =
+    let e : a + 0 ≡ a = omega arith in
+    let here = each 0 (omega arith) x refl in
+    let head : f x ≡ g a = here.0 ∙ ap g e in
+    let test : p x ≡ q a = here.1 ∙ ap q e in
+    let rest : map f (filter p xs) ≡ map g (filter q (range_with_len (a + 1) (length xs))) =
+    numbered f g p q (a + 1) xs (λ k k_in y is.
+    let s : a + suc k ≡ a + 1 + k = omega arith in
+    let there = each (suc k) (omega arith) y is in
+    (there.0 ∙ ap g s, there.1 ∙ ap q s)) in
+    ap (λ b. map f (cond b (x ∷ filter p xs) (filter p xs))) test ∙ both (q a) head rest
+  where
+    both : (b : Bool) → f x ≡ g a → map f (filter p xs) ≡ map g (filter q (range_with_len (a + 1) (length xs))) →
+        map f (cond b (x ∷ filter p xs) (filter p xs)) ≡ map g (cond b (a ∷ filter q (range_with_len (a + 1) (length xs))) (filter q (range_with_len (a + 1) (length xs))))
+    both true head rest = ap (λ (y : Y). y ∷ map f (filter p xs)) head ∙ ap (λ (l : List Y). g a ∷ l) rest
+    both false head rest = rest
+
+numbered_all : {X Y : Type 0} (f : X → Y) (g : ℕ → Y) (a : ℕ) (xs : List X) →
+    ((k : ℕ) → k < length xs → (x : X) → x ≡ get_or xs k x → f x ≡ g (a + k)) → map f xs ≡ map g (range_with_len a (length xs))
+numbered_all f g a [] each = refl
+numbered_all {X} {Y} f g a (x ∷ xs) each =
+    let e : a + 0 ≡ a = omega arith in
+    ap (λ (y : Y). y ∷ map f xs) (each 0 (omega arith) x refl ∙ ap g e)
+    ∙ ap (λ (l : List Y). g a ∷ l) (numbered_all f g (a + 1) xs (λ k k_in y is.
+    let s : a + suc k ≡ a + 1 + k = omega arith in each (suc k) (omega arith) y is ∙ ap g s))
+
+-- a socket of the world as one of the end
+abbrev pub left_by : Socket → Kept
+left_by s = record { got = s.got.items; unread = map (λ (a : Arrived). a.datagram) s.queue.items }
+
+pub sockets_left : (h : ℕ) (past : List Event) (x : Host) → TellsHost h past x → map left_by x.sockets.items ≡ sockets h past
+sockets_left h past x t =
+    numbered_all left_by socket 0 x.sockets.items (λ k k_in s is. left k s (t.sockets_are k (subst (λ n. k < n) t.binds_are k_in) s is))
+    ∙ ap (map socket) (sym (below_range (length x.sockets.items))) ∙ ap (λ n. map socket (below n)) t.binds_are
+  where
+    socket : ℕ → Kept
+    socket slot = record { got = received h slot past; unread = queue h slot past }
+
+    left : (k : ℕ) (s : Socket) → TellsSocket h k past s → left_by s ≡ socket (0 + k)
+    left k s told =
+        ap (λ (ds : List Datagram). record { got = ds; unread = map (λ (a : Arrived). a.datagram) s.queue.items }) told.got_is
+        ∙ ap (λ (ds : List Datagram). record { got = received h k past; unread = ds }) told.queue_is
+        ∙ (let e : k ≡ 0 + k = omega arith in ap socket e)
+
+pub sides_left : (limit h : ℕ) (past : List Event) (links : List Link) → TellRow limit h past links →
+    sides h links ≡ map (λ k. record { peer = address_of k; past = journal h k past }) (filter (λ k. not (k == h)) (below (length links)))
+sides_left limit h past links row =
+    numbered seen side (λ (l : Link). not (l.peer == h)) (λ k. not (k == h)) 0 links (λ k k_in l is. left k l (row k k_in l is))
+    ∙ ap (λ (ks : List ℕ). map side (filter (λ k. not (k == h)) ks)) (sym (below_range (length links)))
+  where
+    side : ℕ → Side
+    side k = record { peer = address_of k; past = journal h k past }
+
+    seen : Link → Side
+    seen l = record { peer = address_of l.peer; past = l.conn.log.past }
+
+    left : (k : ℕ) (l : Link) → TellsLink limit h k past l → (seen l ≡ side (0 + k)) × (not (l.peer == h) ≡ not (0 + k == h))
+    left k l told =
+        let e : k ≡ 0 + k = omega arith in (
+          ap (λ i. record { peer = address_of i; past = l.conn.log.past }) told.peer_is
+              ∙ ap (λ (j : List Entry). record { peer = address_of k; past = j }) told.journal_is ∙ ap side e,
+          ap (λ i. not (i == h)) (told.peer_is ∙ e),
+        )
