@@ -31,9 +31,9 @@ up_of [] h = tt
 up_of (i ∷ []) h = (tt, tt)
 up_of (i ∷ j ∷ items) h =
     let rest = up_of (j ∷ items) (λ k d more.
-      let e : suc (k + 1) ≡ suc k + 1 = omega arith in
-      ap (λ (n : ℕ). is_before (seen (get_or (i ∷ j ∷ items) n d).group) (seen (get_or (j ∷ items) k d).group)) e
-      ∙ h (suc k) d (omega arith)) in
+    let e : suc (k + 1) ≡ suc k + 1 = omega arith in
+    ap (λ (n : ℕ). is_before (seen (get_or (i ∷ j ∷ items) n d).group) (seen (get_or (j ∷ items) k d).group)) e
+    ∙ h (suc k) d (omega arith)) in
     let first : is_before (seen j.group) (seen i.group) ≡ false = h 0 i (omega arith) in
     ((first, not_before_all (seen i.group) (seen j.group) items first rest.0), rest)
 
@@ -131,10 +131,12 @@ pairs_of g (i ∷ items) h k = go (accepting i) (pairs_of g items h.1 k)
   where
     this : is_same k (seen i.group) ≡ is_same k g
     this = ap (is_same k) (sym (same_is g (seen i.group) h.0))
+
     absorb : (a b : Bool) → (a || (b && a)) ≡ a
     absorb true b = refl
     absorb false true = refl
     absorb false false = refl
+
     go : (b : Bool) → has k (accepted_pairs items) ≡ (not (number_of is_accepted items == 0) && is_same k g) →
         has k (map (λ (j : Item). seen j.group) (cond b (i ∷ filter accepting items) (filter accepting items)))
         ≡ (not (length (cond b (i ∷ filter accepting items) (filter accepting items)) == 0) && is_same k g)
@@ -155,9 +157,10 @@ above_has g a (b ∷ l) h in' = go (is_same a b) refl (above_has g a l h.1)
 
 above_members : (g : Group) (l m : List Group) → Above g l → ((k : Group) → has k m ≡ true → has k l ≡ true) → Above g m
 above_members g l [] h from = tt
-above_members g l (a ∷ m) h from =
-    (above_has g a l h (from a (ap (λ (x : Bool). x || has a m) (same_itself a))),
-      above_members g l m h (λ k in'. from k (ap (λ (x : Bool). is_same k a || x) in' ∙ or_true (is_same k a))))
+above_members g l (a ∷ m) h from = (
+  above_has g a l h (from a (ap (λ (x : Bool). x || has a m) (same_itself a))),
+  above_members g l m h (λ k in'. from k (ap (λ (x : Bool). is_same k a || x) in' ∙ or_true (is_same k a))),
+)
 
 module _ (g : Group) (run rest : List Item) (of' : AreOf g run) (after : AreAfter g rest) where
   abbrev text_at : List Item → Group → List ℕ
@@ -253,7 +256,7 @@ positive n h = elim (cases_eq n 0) [
 
 -- what a turn of the loop prints, and what it leaves
 module _ (g : Group) (items run rest : List Item) (n : ℕ) (n_is : n ≡ prefix_len (is_of g) items) (run_is : run ≡ take n items) (rest_is : rest ≡ drop n items)
-  (first : AreNotBefore g items) (up : IsUp items) where
+    (first : AreNotBefore g items) (up : IsUp items) where
   the_run : run ≡ take (prefix_len (is_of g) items) items
   the_run = run_is ∙ ap (λ (m : ℕ). take m items) n_is
 

@@ -227,6 +227,7 @@ rising_one (a ∷ l) (b ∷ m) r s h =
   where
     lacks : (c d : Group) (k : List Group) → is_before c d ≡ true → Above d k → has c (d ∷ k) ≡ false
     lacks c d k less up = above_lacks c (d ∷ k) (less, above_all c d k less up)
+
     rest : a ≡ b → (g : Group) → (x : Bool) → is_same g a ≡ x → has g l ≡ has g m
     rest one g true is =
         let this : g ≡ a = same_is g a is in
@@ -234,6 +235,7 @@ rising_one (a ∷ l) (b ∷ m) r s h =
     rest one g false is =
         ap (λ (x : Bool). x || has g l) (sym is) ∙ h g
         ∙ ap (λ (x : Bool). x || has g m) (ap (is_same g) (sym one) ∙ is)
+
     go : (x y : Bool) → is_before a b ≡ x → is_before b a ≡ y → (((g : Group) → has g l ≡ has g m) → l ≡ m) → a ∷ l ≡ b ∷ m
     go true y is is' ih = absurd (true≢false (sym (ap (λ (x : Bool). x || has a l) (same_itself a)) ∙ h a ∙ lacks a b m is s.0))
     go false true is is' ih = absurd (true≢false (sym (ap (λ (x : Bool). x || has b m) (same_itself b)) ∙ sym (h b) ∙ lacks b a l is' r.0))

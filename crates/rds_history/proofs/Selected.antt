@@ -60,7 +60,7 @@ ends_once (e ∷ ends) h =
 -- of lists that differ one is chosen
 
 module _ {A : Type 0} (peer : ℕ) (h : Side → List A) (k : List Entry → List A) (none : k [] ≡ [])
-  (other : (s : Side) → (s.peer == peer) ≡ false → h s ≡ []) (own : (s : Side) → (s.peer == peer) ≡ true → h s ≡ k s.past) where
+    (other : (s : Side) → (s.peer == peer) ≡ false → h s ≡ []) (own : (s : Side) → (s.peer == peer) ≡ true → h s ≡ k s.past) where
   no_side : (sides : List Side) → SidesDiffer peer sides → flat_map h sides ≡ []
   no_side [] d = refl
   no_side (s ∷ sides) d = ap (λ (l : List A). l ++ flat_map h sides) (other s d.0) ∙ no_side sides d.1
@@ -81,7 +81,7 @@ module _ {A : Type 0} (peer : ℕ) (h : Side → List A) (k : List Entry → Lis
           ∙ ap (λ (b : Bool). k (if b then s.past else past_with peer sides)) (sym is)
 
 module _ {A T : Type 0} (addr : ℕ) (h : End → List A) (k : T → List A) (get : End → T) (look : List End → T) (none : k (look []) ≡ [])
-  (more : (e : End) (ends : List End) → look (e ∷ ends) ≡ (if e.addr == addr then get e else look ends)) where
+    (more : (e : End) (ends : List End) → look (e ∷ ends) ≡ (if e.addr == addr then get e else look ends)) where
   abbrev Other : Type 0
   Other = (e : End) → (e.addr == addr) ≡ false → h e ≡ []
 
@@ -261,7 +261,7 @@ module _ (kind : What → Bool) where
       ∙ kindless_read d p from to frame.header.dport frame.header.sport o
   kindless_came d p from to (_ ∷ past) = kindless_came d p from to past
 
-  kindless_map : {X : Type 0} (f : X → Item) → ((x : X) → kind (f x).what ≡ false) → (xs : List X) → of_kind kind (map f xs) ≡ []
+  pub kindless_map : {X : Type 0} (f : X → Item) → ((x : X) → kind (f x).what ≡ false) → (xs : List X) → of_kind kind (map f xs) ≡ []
   kindless_map f never [] = refl
   kindless_map f never (x ∷ xs) = drop_one kind (f x) (map f xs) (never x) ∙ kindless_map f never xs
 
@@ -304,7 +304,7 @@ module _ (kind : What → Bool) (g : Group) (all : List End) where
   no_sides addr none (s ∷ sides) = ap (λ (l : List Item). l ++ flat_map (at_side addr) sides) (none s) ∙ no_sides addr none sides
 
   module _ (no_came : (from to : ℕ) (past : List Entry) → chosen kind g (came_items from to past) ≡ [])
-    (no_sockets : (to : ℕ) (sockets : List Socket) → chosen kind g (flat_map (socket_items to) sockets) ≡ []) where
+      (no_sockets : (to : ℕ) (sockets : List Socket) → chosen kind g (flat_map (socket_items to) sockets) ≡ []) where
     abbrev sent_at : List Entry → List Item
     sent_at past = chosen kind g (sent_items g.from g.to (is_lost past (past_of g.to g.from all)) past)
 

@@ -133,12 +133,14 @@ cleared_more test m e past = flags_same _ _ m (λ n a b. go e n)
     and_true : (x : Bool) → (x && true) ≡ x
     and_true true = refl
     and_true false = refl
+
     three : (t p q : Bool) → ((t && not p) && not q) ≡ (t && not (q || p))
     three true true true = refl
     three true true false = refl
     three true false true = refl
     three true false false = refl
     three false p q = refl
+
     go : (e : Entry) (n : ℕ) → ((test n && not (was_passed past n)) && not (passes_number e n)) ≡ (test n && not (was_passed (e ∷ past) n))
     go (Read stream frame outcome) n = three (test n) (was_passed past n) (passes outcome && (number frame == n))
     go (Accept slot sport dport payload) n = and_true (test n && not (was_passed past n))
@@ -160,8 +162,10 @@ module _ (taken : List Bool) (open' : List Uncovered) (ack : ℕ) (past : List E
     where
       ack' : ℕ
       ack' = max ack frame.header.ack
+
       now : ack' ≡ max frame.header.ack (acked past)
       now = let e = w.acknowledged in omega (arith, e)
+
       alive' : (n : ℕ) (test : Uncovered → Bool) → list_any (stands ack' n test) open' ≡ is_alive (Read stream frame outcome ∷ past) n && holds n test (datagram past n)
       alive' n test =
           let test' : Uncovered → Bool = λ (u : Uncovered). nat_lt ack' u.number && test u in
@@ -191,13 +195,17 @@ module _ (taken : List Bool) (open' : List Uncovered) (ack : ℕ) (past : List E
     where
       entries : List Entry
       entries = Accept slot sport dport payload ∷ past
+
       u : Uncovered
       u = record { number = number; slot = slot; dport = dport }
+
       newest : number ≡ suc (accepted past)
       newest = let e : length taken ≡ accepted past = ap length w.numbers ∙ length-flags (was_taken_back past) (accepted past) in omega (arith, e, is)
+
       or_false : (x : Bool) → (x || false) ≡ x
       or_false true = refl
       or_false false = refl
+
       alive' : (n : ℕ) (test : Uncovered → Bool) → list_any (stands ack n test) (open' ++ u ∷ []) ≡ is_alive entries n && holds n test (datagram entries n)
       alive' n test =
           list_any-append (stands ack n test) open' (u ∷ [])
@@ -234,11 +242,13 @@ module _ (taken : List Bool) (open' : List Uncovered) (ack : ℕ) (past : List E
       step true l v t = refl
       step false true v t = refl
       step false false v t = refl
+
       swap' : (x y : Bool) → (x || y) ≡ (y || x)
       swap' true true = refl
       swap' true false = refl
       swap' false true = refl
       swap' false false = refl
+
       back : (n : ℕ) → (was_taken_back past n || list_any (stands ack n (takes ack slot target)) open') ≡ (is_alive past n && covers slot target (datagram past n) || was_taken_back past n)
       back n =
           ap (λ (b : Bool). was_taken_back past n || b) (w.alive n (takes ack slot target))
@@ -251,6 +261,7 @@ module _ (taken : List Bool) (open' : List Uncovered) (ack : ℕ) (past : List E
               let v = slot == d.slot && aims_at target d.dport in
               ap (λ (k : ℕ). (not c && nat_lt (acked past) n) && (nat_lt k n && v) || was_taken_back past n) w.acknowledged
               ∙ step c (nat_lt (acked past) n) v (was_taken_back past n)
+
       sort' : (l v e t : Bool) → ((l && not (l && v)) && (e && (l && t))) ≡ (e && (l && (not (l && v) && t)))
       sort' true true true t = refl
       sort' true true false t = refl
@@ -258,6 +269,7 @@ module _ (taken : List Bool) (open' : List Uncovered) (ack : ℕ) (past : List E
       sort' true false false t = refl
       sort' false v true t = refl
       sort' false v false t = refl
+
       rest : (c l v t : Bool) → ((not c && l) && (not (l && v) && t)) ≡ ((not (v || c) && l) && t)
       rest true l true t = refl
       rest true l false t = refl
@@ -265,6 +277,7 @@ module _ (taken : List Bool) (open' : List Uncovered) (ack : ℕ) (past : List E
       rest false true false t = refl
       rest false false true t = refl
       rest false false false t = refl
+
       alive' : (n : ℕ) (test : Uncovered → Bool) → list_any (stands ack n test) (filter (λ (u : Uncovered). nat_lt ack u.number && not (takes ack slot target u)) open') ≡ is_alive (Cancel slot target ∷ past) n && holds n test (datagram past n)
       alive' n test =
           let test' : Uncovered → Bool = λ (u : Uncovered). not (takes ack slot target u) && test u in

@@ -179,10 +179,11 @@ fn add_received(items: &mut Vec<Item>, addr: u32, got: &[Datagram]) -> Result<()
 {
     for datagram in got {
         let payload = datagram.payload.share()?;
-        items.push(Item {
+        let received = Item {
             group: group_of(addr, datagram),
             what: What::Received(payload),
-        })?;
+        };
+        items.push(received)?;
     }
     Ok(())
 }

@@ -8,8 +8,8 @@ ghost use Rattle.rds_history.specs.Lines.{phrase};
 ghost use Rattle.rds_history.specs.Items.{seen};
 ghost use Rattle.rds_history.specs.Tally.{AreKnown, IsUp, groups_text, lines_of, data_lines, number_of, is_accepted, is_of};
 
-use super::item::{Group, Item, What};
 use super::counts::Counts;
+use super::item::{Group, Item, What};
 use crate::host_of;
 use rds_text::{Hex, HostName};
 use rds_wire::Memory;
@@ -99,22 +99,28 @@ fn print_data(text: &mut String, what: &What) -> Result<(), Memory>
 fn print_counts(text: &mut String, counts: Counts) -> Result<(), Memory>
     ensures { OnOk result (string_bytes text.new ≡ string_bytes text.old ++ counts_line record { accepted = counts.accepted; received = counts.received; unread = counts.unread; dropped = counts.dropped; port0 = counts.port0; cancelled = counts.cancelled }) }
 {
-    print_two(text, " accepted ", counts.accepted, " received ", counts.received)?;
+    print_two(
+        text,
+        " accepted ",
+        counts.accepted,
+        " received ",
+        counts.received,
+    )?;
     print_two(text, " unread ", counts.unread, " dropped ", counts.dropped)?;
-    print_two(text, " port0 ", counts.port0, " cancelled ", counts.cancelled)?;
+    print_two(
+        text,
+        " port0 ",
+        counts.port0,
+        " cancelled ",
+        counts.cancelled,
+    )?;
     let pending = counts.pending();
     writeln!(text, " pending {pending}")?;
     Ok(())
 }
 
 // Prints two counts, each behind its words.
-fn print_two(
-    text: &mut String,
-    first: &str,
-    m: u64,
-    second: &str,
-    n: u64,
-) -> Result<(), Memory>
+fn print_two(text: &mut String, first: &str, m: u64, second: &str, n: u64) -> Result<(), Memory>
     ensures { OnOk result (string_bytes text.new ≡ string_bytes text.old ++ phrase (first.now ∷ decimal m ∷ second.now ∷ decimal n ∷ [])) }
 {
     write!(text, "{first}{m}{second}{n}")?;

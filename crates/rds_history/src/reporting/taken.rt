@@ -108,13 +108,7 @@ fn takes(acked: u64, slot: u16, target: Target, datagram: &Uncovered) -> bool
 }
 
 // Marks the datagrams that a cancellation takes back.
-fn mark_covered(
-    taken: &mut [bool],
-    uncovered: &[Uncovered],
-    acked: u64,
-    slot: u16,
-    target: Target,
-)
+fn mark_covered(taken: &mut [bool], uncovered: &[Uncovered], acked: u64, slot: u16, target: Target)
     ensures { (test : ℕ → Bool) (m : ℕ) → taken.old ≡ flags test m →
         taken.new ≡ flags (λ n. test n || list_any (stands acked n (takes_it acked slot target)) uncovered.now) m }
 {

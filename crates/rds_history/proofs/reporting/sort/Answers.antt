@@ -13,8 +13,8 @@ pub returns-clause-up : goal.returns-clause-up
 returns-clause-up c =
     let items = c.sort_by_key.new.self.items in
     up_of items (λ k d more.
-      sym (cmp_before (seen (get_or items (k + 1) d).group) (seen (get_or items k d).group))
-      ∙ c.in_ok-sort_by_key.ensures.sorted (λ i. i.group) (answers_always _ _ _ (λ f a r g h. search rules)) k d (omega arith) more)
+    sym (cmp_before (seen (get_or items (k + 1) d).group) (seen (get_or items k d).group))
+    ∙ c.in_ok-sort_by_key.ensures.sorted (λ i. i.group) (answers_always _ _ _ (λ f a r g h. search rules)) k d (omega arith) more)
 
 pub returns-clause-stable : goal.returns-clause-stable
 returns-clause-stable c = λ g.

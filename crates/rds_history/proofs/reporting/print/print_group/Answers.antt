@@ -22,8 +22,8 @@ returns c =
     let counts = same_counts n.accepted n.received n.unread n.dropped n.port0 n.cancelled in
     on_ok_weaker c.print_received.result
     (λ h.
-      h ∙ ap (λ (t : List ℕ). t ++ lines) (c.in_ok-print_counts.ensures ∙ ap (λ (t : List ℕ). t ++ counts_line k') c.in_ok-print_pair.ensures)
-      ∙ append_assoc (old ++ head) (counts_line k') lines ∙ append_assoc old head (counts_line k' ++ lines)
-      ∙ ap (λ (k : Counts). old ++ (head ++ (counts_line k ++ lines))) counts
-      ∙ ap (λ (b : Bool). old ++ (if b then [] else pair_lines (seen c.args.group) items)) (sym some))
+    h ∙ ap (λ (t : List ℕ). t ++ lines) (c.in_ok-print_counts.ensures ∙ ap (λ (t : List ℕ). t ++ counts_line k') c.in_ok-print_pair.ensures)
+    ∙ append_assoc (old ++ head) (counts_line k') lines ∙ append_assoc old head (counts_line k' ++ lines)
+    ∙ ap (λ (k : Counts). old ++ (head ++ (counts_line k ++ lines))) counts
+    ∙ ap (λ (b : Bool). old ++ (if b then [] else pair_lines (seen c.args.group) items)) (sym some))
     c.print_received.ensures

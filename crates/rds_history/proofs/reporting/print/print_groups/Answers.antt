@@ -18,7 +18,7 @@ print_group-requires c =
     let long : 0 < length rest = positive (length rest) c.loop-rest-test.ensures in
     record {
       known = peeled_run g rest c.split_at.result.0.now c.split_at.result.1.now c.run_length.result c.run_length.ensures c.split_at.ensures.front
-      c.split_at.ensures.back (first_first rest c.index-rest-0.result long c.loop-rest.invariant.up) c.loop-rest.invariant.up c.loop-rest.invariant.known;
+          c.split_at.ensures.back (first_first rest c.index-rest-0.result long c.loop-rest.invariant.up) c.loop-rest.invariant.up c.loop-rest.invariant.known;
     }
 
 pub loop-rest-preserved : goal.loop-rest-preserved
