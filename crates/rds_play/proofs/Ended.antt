@@ -2,6 +2,7 @@
 use Rattle.std.proofs.Common.{◌≡◌, ℕ, zero, suc, ◌+◌, ◌<◌, ◌==◌, Bool, true, false, cond, not, List, [], ◌∷◌, ◌++◌, length, map, get_or, refl, sym, ◌∙◌, ap, subst, arith}
 use Rattle.std.specs.List.{filter, range_with_len}
 use Rattle.std.proofs.lemmas.List.{map-append}
+use Rattle.std.proofs.lemmas.List.Elements.{filter-append}
 use Rattle.rds_text.specs.Ports.{below}
 use Rattle.rds_model.specs.declared.order.Datagram.{Datagram}
 use Rattle.rds_model.specs.declared.entry.Entry.{Entry}
@@ -101,3 +102,31 @@ sides_left limit h past links row =
               ∙ ap (λ (j : List Entry). record { peer = address_of k; past = j }) told.journal_is ∙ ap side e,
           ap (λ i. not (i == h)) (told.peer_is ∙ e),
         )
+
+sides_push : (h : ℕ) (links : List Link) (l : Link) → sides h (links ++ l ∷ []) ≡
+    sides h links ++ map (λ (l : Link). record { peer = address_of l.peer; past = l.conn.log.past }) (cond (not (l.peer == h)) (l ∷ []) [])
+sides_push h links l =
+    ap (map seen) (filter-append apart links (l ∷ [])) ∙ map-append seen (filter apart links) (filter apart (l ∷ []))
+  where
+    seen : Link → Side
+    seen l = record { peer = address_of l.peer; past = l.conn.log.past }
+
+    apart : Link → Bool
+    apart l = not (l.peer == h)
+
+-- a link to another host, and one to itself
+pub sides_more : (h : ℕ) (links : List Link) (l : Link) → (l.peer == h) ≡ false →
+    sides h (links ++ l ∷ []) ≡ sides h links ++ record { peer = address_of l.peer; past = l.conn.log.past } ∷ []
+sides_more h links l other =
+    sides_push h links l
+    ∙ ap (λ b. sides h links ++ map (λ (l : Link). record { peer = address_of l.peer; past = l.conn.log.past }) (cond (not b) (l ∷ []) [])) other
+
+pub sides_same : (h : ℕ) (links : List Link) (l : Link) → (l.peer == h) ≡ true → sides h (links ++ l ∷ []) ≡ sides h links
+sides_same h links l own =
+    sides_push h links l
+    ∙ ap (λ b. sides h links ++ map (λ (l : Link). record { peer = address_of l.peer; past = l.conn.log.past }) (cond (not b) (l ∷ []) [])) own
+    ∙ append_nil (sides h links)
+  where
+    append_nil : {X : Type 0} (xs : List X) → xs ++ [] ≡ xs
+    append_nil [] = refl
+    append_nil (x ∷ xs) = ap (λ l. x ∷ l) (append_nil xs)
