@@ -1,14 +1,14 @@
 -- What hosts and links tell in the end, in lists.
-use Rattle.std.proofs.Common.{◌≡◌, ℕ, zero, suc, ◌+◌, ◌<◌, ◌==◌, Bool, true, false, cond, not, List, [], ◌∷◌, ◌++◌, length, map, get_or, refl, sym, ◌∙◌, ap, subst, arith}
+use Rattle.std.proofs.Common.{◌≡◌, ℕ, zero, suc, ◌+◌, ◌-◌, ◌*◌, ◌<◌, ◌≤◌, ◌==◌, Bool, true, false, cond, not, List, [], ◌∷◌, ◌++◌, length, map, take, drop, get_or, refl, sym, ◌∙◌, ap, subst, arith}
 use Rattle.std.specs.List.{filter, range_with_len}
-use Rattle.std.proofs.lemmas.List.{map-append}
+use Rattle.std.proofs.lemmas.List.{map-append, get_or-take, get_or-drop, length-take-le, length-drop}
 use Rattle.std.proofs.lemmas.List.Elements.{filter-append}
 use Rattle.rds_text.specs.Ports.{below}
 use Rattle.rds_model.specs.declared.order.Datagram.{Datagram}
 use Rattle.rds_model.specs.declared.entry.Entry.{Entry}
 use Rattle.rds_history.specs.Events.{Event}
 use Rattle.rds_history.specs.Ends.{Side, Socket as Kept}
-use Rattle.rds_history.specs.History.{sockets}
+use Rattle.rds_history.specs.History.{sockets, end_of}
 use Rattle.rds_history.specs.Hosts.{address_of}
 use Rattle.rds_history.specs.Journals.{journal}
 use Rattle.rds_history.specs.Sockets.{binds, received, queue}
@@ -16,7 +16,7 @@ use Rattle.rds_play.specs.declared.host.Arrived.{Arrived}
 use Rattle.rds_play.specs.declared.host.Host.{Host}
 use Rattle.rds_play.specs.declared.host.Socket.{Socket}
 use Rattle.rds_play.specs.declared.link.Link.{Link}
-use Rattle.rds_play.specs.Ending.{TellRow, sides}
+use Rattle.rds_play.specs.Ending.{TellHosts, TellLinks, TellRow, sides}
 use Rattle.rds_play.specs.Telling.{TellsHost, TellsSocket, TellsLink}
 
 pub map_push : {X Y : Type 0} (f : X → Y) (xs : List X) (x : X) → map f (xs ++ x ∷ []) ≡ map f xs ++ f x ∷ []
@@ -130,3 +130,32 @@ sides_same h links l own =
     append_nil : {X : Type 0} (xs : List X) → xs ++ [] ≡ xs
     append_nil [] = refl
     append_nil (x ∷ xs) = ap (λ l. x ∷ l) (append_nil xs)
+
+-- the first of a host's links
+pub row_taken : (limit h n : ℕ) (past : List Event) (links : List Link) → n ≤ length links → TellRow limit h past links → TellRow limit h past (take n links)
+row_taken limit h n past links few row = λ k k_in l is.
+    let size : length (take n links) ≡ n = length-take-le n links few in
+    let below : k < n = subst (λ m. k < m) size k_in in
+    row k (omega (arith, below, few)) l (is ∙ get_or-take n links k l below)
+
+-- a host of the world as one of the end
+pub end_told : (limit h n : ℕ) (past : List Event) (links : List Link) (x : Host) (addr : ℕ) (js : List Side) (ks : List Kept) →
+    n ≤ length links → TellsHost h past x → TellRow limit h past links → addr ≡ address_of h → js ≡ sides h (take n links) → ks ≡ sockets h past →
+    record { addr = addr; sides = js; sockets = ks } ≡ end_of n h past
+end_told limit h n past links x addr js ks few told row addr_is js_are ks_are =
+    let size : length (take n links) ≡ n = length-take-le n links few in
+    let sides_are : js ≡ map (λ k. record { peer = address_of k; past = journal h k past }) (filter (λ k. not (k == h)) (below n)) =
+    js_are ∙ sides_left limit h past (take n links) (row_taken limit h n past links few row)
+    ∙ ap (λ m. map (λ k. record { peer = address_of k; past = journal h k past }) (filter (λ k. not (k == h)) (below m))) size in
+    ap (λ a. record { addr = a; sides = js; sockets = ks }) addr_is
+    ∙ ap (λ (l : List Side). record { addr = address_of h; sides = l; sockets = ks }) sides_are
+    ∙ ap (λ (l : List Kept). record { addr = address_of h; sides = map (λ k. record { peer = address_of k; past = journal h k past }) (filter (λ k. not (k == h)) (below n)); sockets = l }) ks_are
+
+-- the links of a host, among all
+pub row_of : (limit h : ℕ) (past : List Event) (links : List Link) → h < 8 → length links ≡ 64 → TellLinks limit past links →
+    TellRow limit h past (take 8 (drop (8 * h) links))
+row_of limit h past links h_in size told = λ k k_in l is.
+    let dropped : length (drop (8 * h) links) ≡ length links - 8 * h = length-drop (8 * h) links in
+    let few : length (take 8 (drop (8 * h) links)) ≡ 8 = length-take-le 8 (drop (8 * h) links) (omega (arith, dropped, size, h_in)) in
+    let below : k < 8 = subst (λ m. k < m) few k_in in
+    told h k h_in below l (is ∙ get_or-take 8 (drop (8 * h) links) k l below ∙ get_or-drop (8 * h) links k l)
