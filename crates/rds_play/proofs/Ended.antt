@@ -7,7 +7,9 @@ use Rattle.rds_text.specs.Ports.{below}
 use Rattle.rds_model.specs.declared.order.Datagram.{Datagram}
 use Rattle.rds_model.specs.declared.entry.Entry.{Entry}
 use Rattle.rds_history.specs.Events.{Event}
-use Rattle.rds_history.specs.Ends.{Side, Socket as Kept}
+use Rattle.rds_history.specs.declared.ends.HostEnd.{HostEnd}
+use Rattle.rds_history.specs.Ends.{End, Side, Socket as Kept}
+use Rattle.rds_history.specs.Seen.{ends_of, end_of as end_seen}
 use Rattle.rds_history.specs.History.{sockets, end_of}
 use Rattle.rds_history.specs.Hosts.{address_of}
 use Rattle.rds_history.specs.Journals.{journal}
@@ -159,3 +161,11 @@ row_of limit h past links h_in size told = λ k k_in l is.
     let few : length (take 8 (drop (8 * h) links)) ≡ 8 = length-take-le 8 (drop (8 * h) links) (omega (arith, dropped, size, h_in)) in
     let below : k < 8 = subst (λ m. k < m) few k_in in
     told h k h_in below l (is ∙ get_or-take 8 (drop (8 * h) links) k l below ∙ get_or-drop (8 * h) links k l)
+
+-- one more host, in its turn
+pub ends_more : (count n : ℕ) (past : List Event) (ends : List HostEnd) (e : HostEnd) →
+    ends_of ends ≡ map (λ h. end_of count h past) (below n) → end_seen e ≡ end_of count n past →
+    ends_of (ends ++ e ∷ []) ≡ map (λ h. end_of count h past) (below (suc n))
+ends_more count n past ends e before is =
+    map_push end_seen ends e ∙ ap (λ (l : List End). l ++ end_seen e ∷ []) before
+    ∙ ap (λ (x : End). map (λ h. end_of count h past) (below n) ++ x ∷ []) is ∙ sym (map_push (λ h. end_of count h past) (below n) n)

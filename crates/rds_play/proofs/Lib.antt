@@ -8,5 +8,6 @@ pub mod Grown
 pub mod Handing
 pub mod Journaling
 pub mod Marking
+pub mod Paired
 pub mod Places
 pub mod Searching
