@@ -1,9 +1,11 @@
+pub mod Addressed
 pub mod Beginning
 pub mod Binding
 pub mod Comings
 pub mod Ended
 pub mod Entered
 pub mod Flying
+pub mod Givings
 pub mod Grown
 pub mod Handing
 pub mod Journaling

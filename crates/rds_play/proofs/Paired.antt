@@ -2,7 +2,7 @@
 use Rattle.std.proofs.Common.{◌≡◌, ◌⊎◌, inl, inr, ⊎_elim, ℕ, zero, suc, ◌+◌, ◌-◌, ◌==◌, ◌&&◌, ◌<◌, Bool, true, false, cond, not, Option, Some, None, Result, Ok, Err, List, [], ◌∷◌, length, filter, refl, sym, ◌∙◌, ap, subst}
 use Rattle.std.specs.Prelude.{nat_lt, unwrap_or, codes}
 use Rattle.std.specs.Option.{option_map}
-use Rattle.std.proofs.lemmas.Bool.{cases_Bool, cases_eq, cond-true, cond-false}
+use Rattle.std.proofs.lemmas.Bool.{cases_Bool, cond-true, cond-false, eqb-true, and_cases, and_left, and_right, and_parts}
 use Rattle.rds_wire.specs.declared.frame.Frame.{Frame}
 use Rattle.rds_model.specs.declared.entry.Entry.{Entry}
 use Rattle.rds_model.specs.declared.entry.Entry.TheVariants.{Accept, Cancel, Open, Pull, Read, Shut}
@@ -36,6 +36,7 @@ use Rattle.rds_history.specs.History.{after}
 use Rattle.rds_history.specs.Lines.{cut_line, drained_line, move_line, recv_none_line}
 use Rattle.rds_history.specs.Refusals.{no_route, socket_refused_line, pair_refused_line, send_refused_line}
 use Rattle.rds_play.specs.Pairing.{IsPaired}
+use Rattle.rds_play.proofs.Journaling.{journal_here}
 
 -- where the course ends well, it ends so
 pub Holds : (List Event → Type 0) → Course → Type 0
@@ -226,3 +227,137 @@ paired_move None limit h k count past p = λ a b none. p a b none
 paired_move (Some stream) limit h k count past p =
     holds_then IsPaired IsPaired (carries limit h k (Some (moved past + count)) past) (λ later. says (move_line h k (moved later - moved past)) later)
     (paired_carries limit h k (Some (moved past + count)) past p) (λ later there a b none. there a b none)
+
+-- an entry of another journal is not seen
+same_elsewhere : (h k a b : ℕ) (e : Entry) (past : List Event) → (h == a && (k == b)) ≡ false → journal a b (Entered h k e ∷ past) ≡ journal a b past
+same_elsewhere h k a b e past other = cond-false (h == a && (k == b)) (e ∷ journal a b past) (journal a b past) other
+
+-- where h opened a stream to k, and k to h
+paired_opened : (h k n m : ℕ) (past : List Event) → IsPaired past → IsPaired (Entered k h (Open m) ∷ Entered h k (Open n) ∷ past)
+paired_opened h k n m past p = λ a b none. go a b none (cases_Bool (k == a && (h == b))) (cases_Bool (h == a && (k == b)))
+  where
+    first : List Event
+    first = Entered h k (Open n) ∷ past
+
+    swapped : (x y a b : ℕ) → (x == a && (y == b)) ≡ false → (y == b && (x == a)) ≡ false
+    swapped x y a b is = ⊎_elim (λ e. and_right (y == b) (x == a) e) (λ e. and_left (y == b) (x == a) e) (and_cases (x == a) (y == b) is)
+
+    go : (a b : ℕ) → open_stream (journal a b (Entered k h (Open m) ∷ first)) ≡ None →
+        ((k == a && (h == b)) ≡ true) ⊎ ((k == a && (h == b)) ≡ false) → ((h == a && (k == b)) ≡ true) ⊎ ((h == a && (k == b)) ≡ false) →
+        open_stream (journal b a (Entered k h (Open m) ∷ first)) ≡ None
+    go a b none (inl last) other =
+        let some : Some m ≡ None = sym (ap open_stream (cond-true (k == a && (h == b)) (Open m ∷ journal a b first) (journal a b first) last)) ∙ none in cc
+    go a b none (inr no) (inl here) =
+        let some : Some n ≡ None =
+        sym (ap open_stream (same_elsewhere k h a b (Open m) first no ∙ cond-true (h == a && (k == b)) (Open n ∷ journal a b past) (journal a b past) here)) ∙ none in cc
+    go a b none (inr no) (inr nor) =
+        let before : open_stream (journal a b past) ≡ None =
+        sym (ap open_stream (same_elsewhere k h a b (Open m) first no ∙ same_elsewhere h k a b (Open n) past nor)) ∙ none in
+        ap open_stream (same_elsewhere k h b a (Open m) first (swapped h k a b nor) ∙ same_elsewhere h k b a (Open n) past (swapped k h a b no)) ∙ p a b before
+
+paired_opens : (limit h k : ℕ) (past : List Event) → IsPaired past → Holds IsPaired (opens limit h k past)
+paired_opens limit h k past p =
+    holds_then (λ mid. mid ≡ Entered h k (Open (suc (newest_stream (journal h k past)))) ∷ past) IsPaired (opens_end limit h k past) (opens_end limit k h)
+    (holds_enters (λ before. before ≡ past) (λ mid. mid ≡ Entered h k (Open (suc (newest_stream (journal h k past)))) ∷ past) limit h k
+    (Open (suc (newest_stream (journal h k past)))) past refl (λ before is. ap (λ (l : List Event). Entered h k (Open (suc (newest_stream (journal h k past)))) ∷ l) is))
+    (λ mid is. holds_enters (λ before. before ≡ mid) IsPaired limit k h (Open (suc (newest_stream (journal k h mid)))) mid refl
+    (λ before same. subst (λ (l : List Event). IsPaired (Entered k h (Open (suc (newest_stream (journal k h mid)))) ∷ l)) (sym (same ∙ is))
+    (paired_opened h k (suc (newest_stream (journal h k past))) (suc (newest_stream (journal k h mid))) past p)))
+
+paired_open : (o : Option ℕ) (limit h k : ℕ) (past : List Event) → IsPaired past → Holds IsPaired (open_on o limit h k past)
+paired_open None limit h k past p = paired_opens limit h k past p
+paired_open (Some stream) limit h k past p = λ a b none. p a b none
+
+-- h has no stream to k, and nothing else changed
+record IsShut (h k : ℕ) (past later : List Event) : Type 0 where
+  none : open_stream (journal h k later) ≡ None
+  others : (a b : ℕ) → (h == a && (k == b)) ≡ false → open_stream (journal a b later) ≡ open_stream (journal a b past)
+
+holds_shuts : (h k limit : ℕ) (past : List Event) → Holds (IsShut h k past) (shuts_end limit h k past)
+holds_shuts h k limit past = go (open_stream (journal h k past)) refl
+  where
+    entered : (stream : ℕ) (before : List Event) → before ≡ past → IsShut h k past (Entered h k (Shut stream) ∷ before)
+    entered stream before is = record {
+      none = ap open_stream (journal_here h k (Shut stream) before);
+      others = λ a b other. ap open_stream (same_elsewhere h k a b (Shut stream) before other ∙ ap (journal a b) is);
+    }
+
+    go : (o : Option ℕ) → open_stream (journal h k past) ≡ o → Holds (IsShut h k past) (shuts_on o limit h k past)
+    go None is = record { none = is; others = λ a b other. refl }
+    go (Some stream) is = holds_enters (λ before. before ≡ past) (IsShut h k past) limit h k (Shut stream) past refl (entered stream)
+
+paired_shut : (h k : ℕ) (past mid last : List Event) → IsPaired past → IsShut h k past mid → IsShut k h mid last → IsPaired last
+paired_shut h k past mid last p first second = λ a b none. go a b none (cases_Bool (h == a && (k == b))) (cases_Bool (k == a && (h == b)))
+  where
+    swapped : (x y a b : ℕ) → (x == a && (y == b)) ≡ false → (y == b && (x == a)) ≡ false
+    swapped x y a b is = ⊎_elim (λ e. and_right (y == b) (x == a) e) (λ e. and_left (y == b) (x == a) e) (and_cases (x == a) (y == b) is)
+
+    at : (x y a b : ℕ) → (x == a && (y == b)) ≡ true → (x ≡ a) × (y ≡ b)
+    at x y a b is = let both = and_parts (x == a) (y == b) is in (eqb-true x a both.0, eqb-true y b both.1)
+
+    here : open_stream (journal h k last) ≡ None
+    here = from (cases_Bool (k == h && (h == k)))
+      where
+        from : ((k == h && (h == k)) ≡ true) ⊎ ((k == h && (h == k)) ≡ false) → open_stream (journal h k last) ≡ None
+        from (inl one) = let e = at k h h k one in ap (λ i. open_stream (journal h i last)) e.0 ∙ ap (λ i. open_stream (journal i h last)) (sym e.0) ∙ second.none
+        from (inr two) = second.others h k two ∙ first.none
+
+    go : (a b : ℕ) → open_stream (journal a b last) ≡ None →
+        ((h == a && (k == b)) ≡ true) ⊎ ((h == a && (k == b)) ≡ false) → ((k == a && (h == b)) ≡ true) ⊎ ((k == a && (h == b)) ≡ false) →
+        open_stream (journal b a last) ≡ None
+    go a b none (inl is) other =
+        let e = at h k a b is in
+        ap (λ i. open_stream (journal i a last)) (sym e.1) ∙ ap (λ i. open_stream (journal k i last)) (sym e.0) ∙ second.none
+    go a b none (inr no) (inl is) =
+        let e = at k h a b is in
+        ap (λ i. open_stream (journal i a last)) (sym e.1) ∙ ap (λ i. open_stream (journal h i last)) (sym e.0) ∙ here
+    go a b none (inr no) (inr nor) =
+        let before : open_stream (journal a b past) ≡ None = sym (first.others a b no) ∙ sym (second.others a b nor) ∙ none in
+        second.others b a (swapped h k a b no) ∙ first.others b a (swapped k h a b nor) ∙ p a b before
+
+paired_cut : (o : Option ℕ) (limit h k : ℕ) (past : List Event) → IsPaired past → Holds IsPaired (cut_on o limit h k past)
+paired_cut None limit h k past p = λ a b none. p a b none
+paired_cut (Some stream) limit h k past p =
+    let line = cut_line h k (length (in_flight h k past)) (length (in_flight k h past)) in
+    let told : List Event = Said line ∷ past in
+    holds_then (IsShut h k told) IsPaired (shuts_end limit h k told) (shuts_end limit k h) (holds_shuts h k limit told)
+    (λ mid first. holds_weaker (IsShut k h mid) IsPaired (shuts_end limit k h mid) (holds_shuts k h limit mid)
+    (λ last second. paired_shut h k told mid last (λ a b none. p a b none) first second))
+  where
+    holds_weaker : (P Q : List Event → Type 0) (c : Course) → Holds P c → ((past : List Event) → P past → Q past) → Holds Q c
+    holds_weaker P Q (Ok past) here step = step past here
+    holds_weaker P Q (Err full) here step = tt
+
+paired_closed : (o : Option ℕ) (limit : ℕ) (pair : Pair) (past : List Event) → IsPaired past → Holds IsPaired (opens_closed o limit pair past)
+paired_closed None limit pair past p = paired_opens limit pair.low pair.high past p
+paired_closed (Some stream) limit pair past p = p
+
+paired_drain : (limit hosts : ℕ) (past : List Event) → IsPaired past → Holds IsPaired (drain limit hosts past)
+paired_drain limit hosts past p =
+    holds_then IsPaired IsPaired (each (pairs hosts) (opens_if_closed limit) past)
+    (λ opened. and_then (again (rounds limit) (round limit hosts) opened) (says drained_line))
+    (holds_each IsPaired (pairs hosts) (opens_if_closed limit) past p
+    (λ pair before there. paired_closed (open_stream (journal pair.low pair.high before)) limit pair before there))
+    (λ opened there. holds_then IsPaired IsPaired (again (rounds limit) (round limit hosts) opened) (says drained_line)
+    (holds_again IsPaired (rounds limit) (round limit hosts) opened there
+    (λ before now. holds_each IsPaired (pairs hosts) (both_ways limit) before now
+    (λ pair then_ q. holds_then IsPaired IsPaired (carries limit pair.low pair.high None then_) (carries limit pair.high pair.low None)
+    (paired_carries limit pair.low pair.high None then_ q) (λ later r. paired_carries limit pair.high pair.low None later r))))
+    (λ later q a b none. q a b none))
+
+-- each command leaves the ends in pairs
+pub paired_after : (limit hosts : ℕ) (c : Command) (past : List Event) → IsPaired past → Holds IsPaired (after limit hosts c past)
+paired_after limit hosts (command.Bind host port sndbuf rcvbuf) past p = paired_bind host port sndbuf rcvbuf past p
+paired_after limit hosts (command.BindAny host port sndbuf rcvbuf) past p = paired_bind host (unwrap_or (free_port host port past) port) sndbuf rcvbuf past p
+paired_after limit hosts (command.Send host port to dport payload) past p = paired_send (holder host port past) limit hosts host port to dport payload past p
+paired_after limit hosts (command.Recv host port) past p = paired_recv (holder host port past) host port past p
+paired_after limit hosts (command.Cancel host port to dport) past p = paired_cancel (holder host port past) limit host port to dport past p
+paired_after limit hosts (command.Close host port) past p = paired_close (holder host port past) limit hosts host port past p
+paired_after limit hosts (command.Open host to) past p = paired_open (open_stream (journal host to past)) limit host to past p
+paired_after limit hosts (command.Move host to bytes) past p = paired_move (open_stream (journal host to past)) limit host to bytes past p
+paired_after limit hosts (command.Cut host to) past p = paired_cut (open_stream (journal host to past)) limit host to past p
+paired_after limit hosts command.Drain past p = paired_drain limit hosts past p
+
+-- nothing has happened
+pub paired_nothing : IsPaired []
+paired_nothing = λ a b none. refl

@@ -6,6 +6,7 @@ pub mod Fresh
 pub mod Growth
 pub mod Pairing
 pub mod Playable
+pub mod Playing
 pub mod Printing
 pub mod Readiness
 pub mod Reasons

@@ -1,6 +1,10 @@
-ghost use Rattle.std.specs.Prelude.{◌<◌};
+ghost use Rattle.std.specs.Prelude.{ℕ, ◌<◌, List};
 ghost use Rattle.rds_model.specs.Reading.{max_slots};
 ghost use Rattle.rds_conn.specs.Orders.{IsOrderFor};
+ghost use Rattle.rds_history.specs.Cancel.{cancel};
+ghost use Rattle.rds_history.specs.Events.{Event};
+ghost use Rattle.rds_play.specs.Coming.{Comes};
+ghost use Rattle.rds_play.specs.Telling.{Tells, state};
 
 use crate::refusal::Refusal;
 use crate::stop::Stop;
@@ -46,6 +50,8 @@ impl World {
     ) -> Result<(), Stop>
         requires host { host < 8 }
         requires peer { to < 8 }
+        ensures { (limit hosts : ℕ) (past : List Event) → Tells limit hosts past (state self.old) →
+            Comes limit hosts (cancel limit host port to dport past) result (state self.new) }
     {
         let refusal = match self.hosts[usize::from(host)].holder(port) {
             None => Refusal::NoSocket,

@@ -1,4 +1,8 @@
-ghost use Rattle.std.specs.Prelude.{◌<◌};
+ghost use Rattle.std.specs.Prelude.{ℕ, ◌<◌, List};
+ghost use Rattle.rds_history.specs.Cancel.{close};
+ghost use Rattle.rds_history.specs.Events.{Event};
+ghost use Rattle.rds_play.specs.Coming.{Comes};
+ghost use Rattle.rds_play.specs.Telling.{Tells, state};
 
 use crate::refusal::{Refusal, close_line, mark_line};
 use crate::stop::Stop;
@@ -17,6 +21,8 @@ impl World {
         steps: &mut Steps<L>,
     ) -> Result<(), Stop>
         requires { host < 8 }
+        ensures { (limit hosts : ℕ) (past : List Event) → Tells limit hosts past (state self.old) →
+            Comes limit hosts (close limit hosts host port past) result (state self.new) }
     {
         let Some(slot) = self.hosts[usize::from(host)].holder(port) else {
             return self.refuse_socket("close", host, port, Refusal::NoSocket);

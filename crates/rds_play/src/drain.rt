@@ -1,4 +1,9 @@
-ghost use Rattle.std.specs.Prelude.{◌<◌, ◌≤◌};
+ghost use Rattle.std.specs.Prelude.{ℕ, ◌<◌, ◌≤◌, List};
+ghost use Rattle.rds_history.specs.Drain.{drain};
+ghost use Rattle.rds_history.specs.Events.{Event};
+ghost use Rattle.rds_play.specs.Coming.{Comes};
+ghost use Rattle.rds_play.specs.Pairing.{IsPaired};
+ghost use Rattle.rds_play.specs.Telling.{Tells, state};
 
 use crate::stop::Stop;
 use crate::world::{World, place};
@@ -8,7 +13,10 @@ use std::sync::ledger::Ledger;
 
 impl World {
     /// Opens all pairs, and moves bytes both ways between all until none is left to move.
-    pub fn drain<L: Ledger>(&mut self, steps: &mut Steps<L>) -> Result<(), Stop> {
+    pub fn drain<L: Ledger>(&mut self, steps: &mut Steps<L>) -> Result<(), Stop>
+        ensures { (limit hosts : ℕ) (past : List Event) → IsPaired past → Tells limit hosts past (state self.old) →
+            Comes limit hosts (drain limit hosts past) result (state self.new) }
+    {
         for low in 0..self.count {
             self.open_above(low)?;
         }

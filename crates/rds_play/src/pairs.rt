@@ -4,6 +4,7 @@ ghost use Rattle.rds_history.specs.Events.{Event};
 ghost use Rattle.rds_history.specs.Courses.{says};
 ghost use Rattle.rds_history.specs.Journals.{in_flight, journal};
 ghost use Rattle.rds_history.specs.Lines.{cut_line as line_of_cut};
+ghost use Rattle.rds_history.specs.Move.{move};
 ghost use Rattle.rds_history.specs.Open.{open_pair, opens, opens_end, cut, cut_on, shuts_end};
 ghost use Rattle.rds_history.specs.Refusals.{pair_refused_line};
 ghost use Rattle.rds_play.specs.Coming.{Comes};
@@ -87,6 +88,9 @@ impl World {
     ) -> Result<(), Stop>
         requires host { host < 8 }
         requires peer { peer < 8 }
+        requires apart { peer ≢ host }
+        ensures { (limit hosts : ℕ) (past : List Event) → Tells limit hosts past (state self.old) →
+            Comes limit hosts (move limit host peer bytes past) result (state self.new) }
     {
         if !self.is_open(host, peer) {
             return self.refuse_pair("move", host, peer, Refusal::Down);

@@ -1,5 +1,9 @@
-ghost use Rattle.std.specs.Prelude.{◌<◌, ◌≤◌, IfOk, OnOk};
+ghost use Rattle.std.specs.Prelude.{ℕ, ◌<◌, ◌≤◌, IfOk, List, OnOk};
 ghost use Rattle.rds_model.specs.Reading.{max_slots};
+ghost use Rattle.rds_history.specs.Events.{Event};
+ghost use Rattle.rds_history.specs.Send.{send};
+ghost use Rattle.rds_play.specs.Coming.{Comes};
+ghost use Rattle.rds_play.specs.Telling.{Tells, state};
 
 use crate::refusal::{Refusal, send_refused_line};
 use crate::stop::Stop;
@@ -22,6 +26,8 @@ impl World {
     ) -> Result<(), Stop>
         requires host { host < 8 }
         requires peer { to < 8 }
+        ensures { (limit hosts : ℕ) (past : List Event) → Tells limit hosts past (state self.old) →
+            Comes limit hosts (send limit hosts host port to dport payload.now past) result (state self.new) }
     {
         let slot = match self.sender(host, port, to, dport, payload.len()) {
             Ok(slot) => slot,

@@ -1,0 +1,25 @@
+use Rattle.std.proofs.Common.{◌≡◌, ℕ, List, sym, ◌∙◌, ap, subst}
+use Rattle.std.specs.Prelude.{string_bytes}
+use Rattle.rds_history.specs.Events.{Event}
+use Rattle.rds_history.specs.History.{ends}
+use Rattle.rds_history.specs.Report.{report}
+use Rattle.rds_history.specs.Seen.{AreEnds, ends_of}
+use Rattle.rds_history.specs.Transcript.{lines}
+use Rattle.rds_play.specs.Playing.{course}
+use Rattle.rds_play.specs.declared.world.World.{World}
+use Rattle.rds_play.specs.Telling.{Tells, state}
+use Rattle.rds_play.proofs.Addressed.{are_ends}
+use Rattle.rds_play.proofs.Givings.{made_of, gives_made, gives_memory, gives_stopped}
+use Rattle.rds_play.proofs.playing.text_of.Goals as goal
+
+pub report-requires : goal.report-requires
+report-requires c =
+    let s = c.args.script.now in
+    let m = made_of (λ (past : List Event) (world : World). Tells c.args.limit s.hosts past (state world)) (course s c.args.limit) c.in_ok-played.world c.in_ok-played.ensures in
+    subst AreEnds (sym (c.in_ok-end.ensures.ends c.args.limit s.hosts m.past m.right)) (are_ends s.hosts m.past c.requires.script.hosts_high)
+
+pub returns : goal.returns
+returns c =
+    let s = c.args.script.now in
+    let m = made_of (λ (past : List Event) (world : World). Tells c.args.limit s.hosts past (state world)) (course s c.args.limit) c.in_ok-played.world c.in_ok-played.ensures in
+    ?
