@@ -22,7 +22,7 @@ pairs_apart : {Y : Type 0} (R : Y → Y → Type 0) (f : ℕ → Y) (p : ℕ →
     AllPairs R (map f (filter p (below n)))
 pairs_apart R f p apart zero = λ i j d i_in j_in. absurd (omega arith)
 pairs_apart {Y} R f p apart (suc n) =
-    subst (AllPairs R) (sym (ap (map f) (filter-append p (below n) (n ∷ [])))) (go (p n))
+    subst (AllPairs R) (sym (ap (map f) (filter-append p (below n) (n ∷ [])))) (go (p n) (pairs_apart R f p apart n))
   where
     front : List ℕ
     front = filter p (below n)
@@ -37,12 +37,12 @@ pairs_apart {Y} R f p apart (suc n) =
     later : (xs : List ℕ) → All (λ k. k < n) xs → All (λ y. R y (f n)) (map f xs)
     later xs all = All-map (λ y. R y (f n)) f xs (λ k d k_in. apart _ n (all k d k_in))
 
-    go : (b : Bool) → AllPairs R (map f (front ++ cond b (n ∷ []) []))
-    go true =
+    go : (b : Bool) → AllPairs R (map f front) → AllPairs R (map f (front ++ cond b (n ∷ []) []))
+    go true before =
         subst (AllPairs R) (sym (map-append f front (n ∷ [])))
-        (all_pairs_push R (map f front) (f n) (pairs_apart R f p apart n)
+        (all_pairs_push R (map f front) (f n) before
         (λ k d k_in. All-get_or (λ y. R y (f n)) (map f front) k d k_in (later front less)))
-    go false = subst (λ l. AllPairs R (map f l)) (sym (append_nil front)) (pairs_apart R f p apart n)
+    go false before = subst (λ l. AllPairs R (map f l)) (sym (append_nil front)) before
 
 all_apart : {Y : Type 0} (R : Y → Y → Type 0) (f : ℕ → Y) → ((a b : ℕ) → a < b → R (f a) (f b)) → (n : ℕ) → AllPairs R (map f (below n))
 all_apart R f apart zero = λ i j d i_in j_in. absurd (omega arith)

@@ -48,7 +48,7 @@ gives_made P c x past is right = subst (λ d. Gives P d (Ok x)) (sym is) right
 -- a text is that of its course
 pub text_made : {A : Type 0} (bytes : A → List ℕ) (hosts : ℕ) (c : Course) (x : A) →
     Gives (λ past y. bytes y ≡ lines past ++ report (ends hosts past)) c (Ok x) → IsOk c × (bytes x ≡ text_of hosts c)
-text_made bytes hosts (Ok past) x is = (tt, is)
+text_made bytes hosts (Ok past) x is = (refl, is)
 text_made bytes hosts (Err full) x is = absurd is
 
 -- so is the line of a full journal
@@ -73,11 +73,11 @@ pub record Plays (limit hosts : ℕ) (all rest : List Placed) (s : State) : Type
 
 -- one command more
 pub plays_more : (limit hosts : ℕ) (all rest : List Placed) (placed : Placed) (s t : State) →
-    (p : Plays limit hosts all (placed ∷ rest) s) → Comes limit hosts (after limit hosts placed.command p.past) (Ok tt) t → Plays limit hosts all rest t
+    (p : Plays limit hosts all (placed ∷ rest) s) → Comes limit hosts (after limit hosts placed.command p.past) (Ok (tt {0})) t → Plays limit hosts all rest t
 plays_more limit hosts all rest placed s t p comes =
     go (after limit hosts placed.command p.past) refl comes (paired_after limit hosts placed.command p.past p.paired)
   where
-    go : (c : Course) → after limit hosts placed.command p.past ≡ c → Comes {A = Unit {0}} limit hosts c (Ok tt) t → Holds IsPaired c → Plays limit hosts all rest t
+    go : (c : Course) → after limit hosts placed.command p.past ≡ c → Comes {A = Unit {0}} limit hosts c (Ok (tt {0})) t → Holds IsPaired c → Plays limit hosts all rest t
     go (Ok later) is told paired = record {
       past = later;
       same = p.same ∙ ap (λ (c : Course). and_then c (history limit hosts rest)) is;

@@ -39,7 +39,7 @@ use Rattle.rds_play.specs.Pairing.{IsPaired}
 use Rattle.rds_play.proofs.Journaling.{journal_here}
 
 -- where the course ends well, it ends so
-pub Holds : (List Event → Type 0) → Course → Type 0
+abbrev pub Holds : (List Event → Type 0) → Course → Type 0
 Holds P (Ok past) = P past
 Holds P (Err full) = Unit {0}
 
@@ -71,11 +71,11 @@ holds_again : (P : List Event → Type 0) (times : ℕ) (step : List Event → C
 holds_again P zero step past here keeps = here
 holds_again P (suc times) step past here keeps =
     holds_then P P (step past) (λ later. if_moved (nat_lt (moved past) (moved later)) (again times step) later) (keeps past here)
-    (λ later there. go (nat_lt (moved past) (moved later)) later there)
+    (λ later there. go (nat_lt (moved past) (moved later)) later there (holds_again P times step later there keeps))
   where
-    go : (b : Bool) (later : List Event) → P later → Holds P (if_moved b (again times step) later)
-    go true later there = holds_again P times step later there keeps
-    go false later there = there
+    go : (b : Bool) (later : List Event) → P later → Holds P (again times step later) → Holds P (if_moved b (again times step) later)
+    go true later there rest = rest
+    go false later there rest = there
 
 -- an entry that opens and shuts no stream
 abbrev pub IsQuiet : Entry → Type 0
@@ -247,13 +247,13 @@ paired_opened h k n m past p = λ a b none. go a b none (cases_Bool (k == a && (
         open_stream (journal b a (Entered k h (Open m) ∷ first)) ≡ None
     go a b none (inl last) other =
         let some : Some m ≡ None = sym (ap open_stream (cond-true (k == a && (h == b)) (Open m ∷ journal a b first) (journal a b first) last)) ∙ none in cc
-    go a b none (inr no) (inl here) =
+    go a b none (inr apart) (inl here) =
         let some : Some n ≡ None =
-        sym (ap open_stream (same_elsewhere k h a b (Open m) first no ∙ cond-true (h == a && (k == b)) (Open n ∷ journal a b past) (journal a b past) here)) ∙ none in cc
-    go a b none (inr no) (inr nor) =
+        sym (ap open_stream (same_elsewhere k h a b (Open m) first apart ∙ cond-true (h == a && (k == b)) (Open n ∷ journal a b past) (journal a b past) here)) ∙ none in cc
+    go a b none (inr apart) (inr nor) =
         let before : open_stream (journal a b past) ≡ None =
-        sym (ap open_stream (same_elsewhere k h a b (Open m) first no ∙ same_elsewhere h k a b (Open n) past nor)) ∙ none in
-        ap open_stream (same_elsewhere k h b a (Open m) first (swapped h k a b nor) ∙ same_elsewhere h k b a (Open n) past (swapped k h a b no)) ∙ p a b before
+        sym (ap open_stream (same_elsewhere k h a b (Open m) first apart ∙ same_elsewhere h k a b (Open n) past nor)) ∙ none in
+        ap open_stream (same_elsewhere k h b a (Open m) first (swapped h k a b nor) ∙ same_elsewhere h k b a (Open n) past (swapped k h a b apart)) ∙ p a b before
 
 paired_opens : (limit h k : ℕ) (past : List Event) → IsPaired past → Holds IsPaired (opens limit h k past)
 paired_opens limit h k past p =
@@ -308,12 +308,12 @@ paired_shut h k past mid last p first second = λ a b none. go a b none (cases_B
     go a b none (inl is) other =
         let e = at h k a b is in
         ap (λ i. open_stream (journal i a last)) (sym e.1) ∙ ap (λ i. open_stream (journal k i last)) (sym e.0) ∙ second.none
-    go a b none (inr no) (inl is) =
+    go a b none (inr apart) (inl is) =
         let e = at k h a b is in
         ap (λ i. open_stream (journal i a last)) (sym e.1) ∙ ap (λ i. open_stream (journal h i last)) (sym e.0) ∙ here
-    go a b none (inr no) (inr nor) =
-        let before : open_stream (journal a b past) ≡ None = sym (first.others a b no) ∙ sym (second.others a b nor) ∙ none in
-        second.others b a (swapped h k a b no) ∙ first.others b a (swapped k h a b nor) ∙ p a b before
+    go a b none (inr apart) (inr nor) =
+        let before : open_stream (journal a b past) ≡ None = sym (first.others a b apart) ∙ sym (second.others a b nor) ∙ none in
+        second.others b a (swapped h k a b apart) ∙ first.others b a (swapped k h a b nor) ∙ p a b before
 
 paired_cut : (o : Option ℕ) (limit h k : ℕ) (past : List Event) → IsPaired past → Holds IsPaired (cut_on o limit h k past)
 paired_cut None limit h k past p = λ a b none. p a b none

@@ -4,5 +4,5 @@ use Rattle.rds_play.proofs.Givings.{Plays}
 use Rattle.rds_play.proofs.playing.played.Given as goal
 
 abbrev pub invariant-loop-placed : goal.invariant-loop-placed
-invariant-loop-placed l =
+invariant-loop-placed g l =
     Plays l.fn.limit l.fn.script.hosts l.fn.script.commands.items (drop l.placed-index l.fn.script.commands.items) (state l.world)
