@@ -11,4 +11,5 @@ pub mod Printing
 pub mod Readiness
 pub mod Reasons
 pub mod Receiving
+pub mod Reliable
 pub mod Telling
