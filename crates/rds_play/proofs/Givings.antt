@@ -16,7 +16,9 @@ use Rattle.rds_play.specs.Pairing.{IsPaired}
 use Rattle.rds_play.specs.Playing.{Gives}
 use Rattle.rds_play.specs.Readiness.{IsFull, IsMemory}
 use Rattle.rds_play.specs.Telling.{State, Tells}
-use Rattle.rds_play.proofs.Paired.{Holds, paired_after}
+use Rattle.rds_play.proofs.Always.{Holds}
+use Rattle.rds_play.proofs.InOrder.{InOrder, in_order_after}
+use Rattle.rds_play.proofs.Paired.{paired_after}
 
 -- there may always be no memory
 pub gives_memory : {A : Type 0} (P : List Event → A → Type 0) (c : Course) → Gives P c (Err stop.Memory)
@@ -69,6 +71,7 @@ pub record Plays (limit hosts : ℕ) (all rest : List Placed) (s : State) : Type
   pub past : List Event
   pub same : history limit hosts all [] ≡ history limit hosts rest past
   pub paired : IsPaired past
+  pub ordered : InOrder past
   pub tells : Tells limit hosts past s
 
 -- one command more
@@ -76,15 +79,17 @@ pub plays_more : (limit hosts : ℕ) (all rest : List Placed) (placed : Placed) 
     (p : Plays limit hosts all (placed ∷ rest) s) → Comes limit hosts (after limit hosts placed.command p.past) (Ok (tt {0})) t → Plays limit hosts all rest t
 plays_more limit hosts all rest placed s t p comes =
     go (after limit hosts placed.command p.past) refl comes (paired_after limit hosts placed.command p.past p.paired)
+    (in_order_after limit hosts placed.command p.past p.ordered)
   where
-    go : (c : Course) → after limit hosts placed.command p.past ≡ c → Comes {A = Unit {0}} limit hosts c (Ok (tt {0})) t → Holds IsPaired c → Plays limit hosts all rest t
-    go (Ok later) is told paired = record {
+    go : (c : Course) → after limit hosts placed.command p.past ≡ c → Comes {A = Unit {0}} limit hosts c (Ok (tt {0})) t → Holds IsPaired c → Holds InOrder c → Plays limit hosts all rest t
+    go (Ok later) is told paired ordered = record {
       past = later;
       same = p.same ∙ ap (λ (c : Course). and_then c (history limit hosts rest)) is;
       paired = paired;
+      ordered = ordered;
       tells = told;
     }
-    go (Err full) is told paired = absurd told
+    go (Err full) is told paired ordered = absurd told
 
 -- a command that was stopped
 pub plays_stopped : {A : Type 0} (P : List Event → A → Type 0) (limit hosts : ℕ) (all rest : List Placed) (placed : Placed) (s t : State) (why : Stop) →

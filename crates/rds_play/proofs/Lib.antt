@@ -1,4 +1,5 @@
 pub mod Addressed
+pub mod Always
 pub mod Beginning
 pub mod Binding
 pub mod Comings
@@ -8,6 +9,7 @@ pub mod Flying
 pub mod Givings
 pub mod Grown
 pub mod Handing
+pub mod InOrder
 pub mod Journaling
 pub mod Marking
 pub mod Paired

@@ -9,6 +9,7 @@ use Rattle.rds_play.specs.Playing.{Gives, course}
 use Rattle.rds_play.specs.Telling.{Tells, state}
 use Rattle.rds_play.proofs.Givings.{Plays, plays_more, plays_stopped, gives_made}
 use Rattle.rds_play.proofs.Paired.{paired_nothing}
+use Rattle.rds_play.proofs.InOrder.{in_order_nothing}
 use Rattle.rds_play.proofs.playing.played.Goals as goal
 
 -- the commands from one on
@@ -16,7 +17,7 @@ from_one : (xs : List Placed) (i : ℕ) (x : Placed) → i < length xs → x ≡
 from_one xs i x below is = at_drop_more (λ (l : List Placed). l) xs i x below ∙ ap (λ (y : Placed). y ∷ drop (i + 1) xs) (sym is)
 
 pub loop-placed-init : goal.loop-placed-init
-loop-placed-init g c = record { past = []; same = refl; paired = paired_nothing; tells = c.in_ok-world.ensures }
+loop-placed-init g c = record { past = []; same = refl; paired = paired_nothing; ordered = in_order_nothing; tells = c.in_ok-world.ensures }
 
 pub loop-placed-preserved : goal.loop-placed-preserved
 loop-placed-preserved g c =
