@@ -9,12 +9,15 @@ use Rattle.rds_model.specs.declared.order.Datagram.{Datagram}
 use Rattle.rds_model.specs.Honest.{Begins}
 use Rattle.rds_model.specs.Past.{newest_stream, open_stream}
 use Rattle.rds_script.specs.declared.script.Command.{Command}
+use Rattle.rds_script.specs.declared.script.Placed.{Placed}
+use Rattle.rds_script.specs.declared.script.Script.{Script}
 use Rattle.rds_history.specs.Events.{Event, Entered, Received}
 use Rattle.rds_history.specs.Courses.{Course, Full, and_then}
-use Rattle.rds_history.specs.History.{after}
+use Rattle.rds_history.specs.History.{after, history}
 use Rattle.rds_history.specs.Journals.{journal}
 use Rattle.rds_history.specs.Open.{opens, opens_end, shuts_end, shuts_on}
 use Rattle.rds_history.specs.Sockets.{delivered, delivery, received, queue}
+use Rattle.rds_play.specs.Playing.{course}
 use Rattle.rds_play.specs.Reliable.{HandsOutInOrder}
 use Rattle.rds_play.proofs.Always.{Holds, holds_then, holds_enters, IsKept, keeps_after}
 
@@ -60,10 +63,16 @@ ordered_received h port slot d waiting past is p = λ a s. go a s (cases_Bool (h
 
     go : (a s : ℕ) → ((h == a && (slot == s)) ≡ true) ⊎ ((h == a && (slot == s)) ≡ false) →
         ((rest : List Datagram) × (delivered a s past ≡ received a s (Received h port slot d ∷ past) ++ rest))
-    go a s (inl here) = (waiting, front a s here ∙ sym (append_assoc (received a s past) (d ∷ []) waiting)
-        ∙ ap (λ (l : List Datagram). l ++ waiting) (sym (cond-true (h == a && (slot == s)) (received a s past ++ d ∷ []) (received a s past) here)))
-    go a s (inr there) = let q = p a s in (q.0, q.1
-        ∙ ap (λ (l : List Datagram). l ++ q.0) (sym (cond-false (h == a && (slot == s)) (received a s past ++ d ∷ []) (received a s past) there)))
+    go a s (inl here) = (
+      waiting,
+      front a s here ∙ sym (append_assoc (received a s past) (d ∷ []) waiting)
+          ∙ ap (λ (l : List Datagram). l ++ waiting) (sym (cond-true (h == a && (slot == s)) (received a s past ++ d ∷ []) (received a s past) here)),
+    )
+    go a s (inr there) = let q = p a s in (
+      q.0,
+      q.1
+          ∙ ap (λ (l : List Datagram). l ++ q.0) (sym (cond-false (h == a && (slot == s)) (received a s past ++ d ∷ []) (received a s past) there)),
+    )
 
 ordered_shuts : (limit h k : ℕ) (past : List Event) → InOrder past → Holds InOrder (shuts_end limit h k past)
 ordered_shuts limit h k past p = go (open_stream (journal h k past))
@@ -91,6 +100,12 @@ in_order_is_kept = record {
 pub in_order_after : (limit hosts : ℕ) (c : Command) (past : List Event) → InOrder past → Holds InOrder (after limit hosts c past)
 in_order_after limit hosts c past p = keeps_after InOrder in_order_is_kept limit hosts c past p
 
+in_order_history : (limit hosts : ℕ) (commands : List Placed) (past : List Event) → InOrder past → Holds InOrder (history limit hosts commands past)
+in_order_history limit hosts [] past p = p
+in_order_history limit hosts (placed ∷ commands) past p =
+    holds_then InOrder InOrder (after limit hosts placed.command past) (history limit hosts commands) (in_order_after limit hosts placed.command past p)
+    (λ later q. in_order_history limit hosts commands later q)
+
 pub in_order_nothing : InOrder []
 in_order_nothing = λ h slot. ([], refl)
 
@@ -98,3 +113,8 @@ pub hands_out_in_order : (h slot : ℕ) (past : List Event) → InOrder past →
 hands_out_in_order h slot past p =
     let q = p h slot in
     ap (λ (l : List Datagram). received h slot past ++ l) (ap (drop (length (received h slot past))) q.1 ∙ drop_front (received h slot past) q.0) ∙ sym q.1
+
+-- so in the end
+pub in_order_at_last : (script : Script) (limit : ℕ) (past : List Event) (h slot : ℕ) → course script limit ≡ Ok past → HandsOutInOrder h slot past
+in_order_at_last script limit past h slot is =
+    hands_out_in_order h slot past (subst (Holds InOrder) is (in_order_history limit script.hosts script.commands.items [] in_order_nothing))

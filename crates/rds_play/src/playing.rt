@@ -1,4 +1,4 @@
-ghost use Rattle.std.specs.Prelude.{◌≡◌, ◌≢◌, ◌⊎◌, ◌≤◌, ◌<◌, ◌++◌, ℕ, Err, IsOk, List, OnOk, IfOk, string_bytes};
+ghost use Rattle.std.specs.Prelude.{◌≡◌, ◌≢◌, ◌⊎◌, ◌≤◌, ◌<◌, ◌++◌, ℕ, Err, IsOk, Ok, List, OnOk, IfOk, string_bytes};
 ghost use Rattle.rds_link.specs.Told.{HasRisen, Takes};
 ghost use Rattle.rds_script.specs.Script.{IsScript};
 ghost use Rattle.rds_model.specs.declared.journal.TheConstants.{MIN_ENTRIES, MAX_ENTRIES};
@@ -12,6 +12,7 @@ ghost use Rattle.rds_play.specs.Pairing.{IsPaired};
 ghost use Rattle.rds_play.specs.Playable.{IsPlayable};
 ghost use Rattle.rds_play.specs.Playing.{Gives, course};
 ghost use Rattle.rds_play.specs.Readiness.{IsFull};
+ghost use Rattle.rds_play.specs.Reliable.{HandsOutInOrder};
 ghost use Rattle.rds_play.specs.Telling.{Tells, state};
 ghost use Rattle.rds_play.specs.declared.playing.PlayEnd.TheVariants as ended;
 
@@ -47,6 +48,7 @@ pub fn play<K: Sink>(alloc: Global, script: &Script, limit: u32, sink: &mut K) -
     ensures spent { (host peer entries : ℕ) → result ≡ ended.Spent host peer entries →
         (course script.now limit ≡ Err (record { host = host; peer = peer; entries = entries }))
         × Takes (K.held sink.old) (K.held sink.new) (text script.now limit) }
+    ensures in_order { (past : List Event) (h slot : ℕ) → course script.now limit ≡ Ok past → HandsOutInOrder h slot past }
     ensures fault { result ≡ ended.WriteFault → HasRisen (K.faults sink.old) (K.faults sink.new) }
     ensures counts { K.faults sink.old ≤ K.faults sink.new }
 {

@@ -37,8 +37,7 @@ loop-host-preserved c =
     let own : c.split_off.new.self.items ≡ take 8 (drop (8 * n) links) = cc (c.in_ok-later.ensures.items, c.loop-host.invariant.2, c.from-in-loop-host.ensures) in
     let rest : c.in_ok-later.later.items ≡ drop 8 (drop (8 * n) links) = cc (c.in_ok-later.ensures.tail, c.loop-host.invariant.2, c.from-in-loop-host.ensures) in
     let more : length (c.loop-host.yielded ++ x ∷ []) ≡ suc n = let p = length_push c.loop-host.yielded x in omega (arith, p) in
-    let next : 8 * n + 8 ≡ 8 * length (c.loop-host.yielded ++ x ∷ []) = omega (arith, more) in
-    (
+    let next : 8 * n + 8 ≡ 8 * length (c.loop-host.yielded ++ x ∷ []) = omega (arith, more) in (
       grind arith,
       grind arith,
       rest ∙ drop-drop 8 (8 * n) links ∙ ap (λ m. drop m links) next,
@@ -47,8 +46,8 @@ loop-host-preserved c =
           let row = row_of limit n past links (omega (arith, n_in, c.requires.few)) all told_links in
           let is : end_seen e ≡ end_of count n past =
           subst (λ h. end_seen e ≡ end_of count h past) addr
-              (c.in_ok-end_of.ensures limit past (subst (λ h. TellsHost h past x) (sym addr) told)
-              (subst (λ h. TellRow limit h past c.split_off.new.self.items) (sym addr) (subst (λ (l : List Link). TellRow limit n past l) (sym own) row))) in
+          (c.in_ok-end_of.ensures limit past (subst (λ h. TellsHost h past x) (sym addr) told)
+          (subst (λ h. TellRow limit h past c.split_off.new.self.items) (sym addr) (subst (λ (l : List Link). TellRow limit n past l) (sym own) row))) in
           ap ends_of pushed ∙ ends_more count n past c.loop-host.ends.items e (c.loop-host.invariant.3 limit past told_hosts told_links) is
           ∙ ap (λ m. map (λ h. end_of count h past) (below m)) (sym more),
     )

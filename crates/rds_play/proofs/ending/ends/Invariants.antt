@@ -12,4 +12,4 @@ invariant-loop-host l =
     × (vec_len l.links + 8 * length l.yielded ≡ 64)
     × (l.links.items ≡ drop (8 * length l.yielded) l.fn.links.items)
     × ((limit : ℕ) (past : List Event) → TellHosts past l.fn.hosts.items → TellLinks limit past l.fn.links.items →
-        ends_of l.ends.items ≡ map (λ h. end_of l.fn.count h past) (below (length l.yielded)))
+    ends_of l.ends.items ≡ map (λ h. end_of l.fn.count h past) (below (length l.yielded)))

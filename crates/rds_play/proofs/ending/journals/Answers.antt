@@ -26,7 +26,7 @@ loop-link-preserved c =
     let old = c.loop-link.journals.items in
     let before = c.loop-link.yielded in
     elim c.if-peer-host.branch [
-      then-peer-host+in_ok-push w ↦
+      | then-peer-host+in_ok-push w ↦
           let j : ℕ × Log = (w.address.result, c.into_journal-journal.result) in
           let pushed : w.push.new.self.items ≡ old ++ j ∷ [] = w.in_ok-push.ensures.items in
           let items : c.if-peer-host.journals.items ≡ old ++ j ∷ [] = ap (λ (v : Vec (ℕ × Log) Global). v.items) w.journals-is ∙ pushed in
