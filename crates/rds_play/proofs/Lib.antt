@@ -1,5 +1,4 @@
 pub mod Beginning
-pub mod Binding
 pub mod Comings
 pub mod Entered
 pub mod Flying
