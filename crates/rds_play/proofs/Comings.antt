@@ -1,16 +1,15 @@
 -- What comes of courses, one after another.
-use Rattle.std.proofs.Common.{◌≡◌, ℕ, Result, Ok, Err, List, ◌∷◌, ◌++◌, length, refl, sym, ◌∙◌, ap, subst}
+use Rattle.std.proofs.Common.{◌≡◌, ℕ, Result, Ok, Err, List, ◌∷◌, ◌++◌, refl, sym, ap, subst}
 use Rattle.std.specs.Prelude.{OnOk}
 use Rattle.rds_history.specs.Events.{Event, Said}
-use Rattle.rds_history.specs.Courses.{Course, Full, and_then, says}
+use Rattle.rds_history.specs.Courses.{Course, and_then, says}
 use Rattle.rds_play.specs.declared.stop.Stop.{Stop}
 use Rattle.rds_play.specs.declared.stop.Stop.TheVariants as stop
 use Rattle.rds_play.specs.declared.host.Host.{Host}
 use Rattle.rds_play.specs.declared.host.Socket.{Socket}
-use Rattle.rds_play.specs.declared.link.Link.{Link}
 use Rattle.rds_play.specs.Readiness.{IsMemory, LacksMemory}
 use Rattle.rds_play.specs.Coming.{Comes}
-use Rattle.rds_play.specs.Telling.{State, Tells, TellsLink, TellsOut, TellsHost, TellsSocket}
+use Rattle.rds_play.specs.Telling.{State, Tells, TellsHost, TellsSocket}
 
 -- there may always be no memory
 pub comes_memory : (A : Type 0) (limit hosts : ℕ) (course : Course) (s : State) → Comes {A = A} limit hosts course (Err stop.Memory) s

@@ -1,13 +1,13 @@
 -- A world in which one end wrote an entry.
-use Rattle.std.proofs.Common.{◌≡◌, ℕ, ◌+◌, ◌*◌, ◌<◌, ◌≤◌, Bool, true, false, cond, Option, Some, None, Result, Ok, Err, List, ◌∷◌, ◌++◌, length, drop, get_or, set, refl, sym, ◌∙◌, ap, subst, ⊎_elim}
+use Rattle.std.proofs.Common.{◌≡◌, ℕ, ◌+◌, ◌*◌, ◌<◌, ◌≤◌, true, false, Result, Ok, Err, List, ◌∷◌, ◌++◌, length, drop, get_or, set, sym, ◌∙◌, ap, subst, ⊎_elim}
 use Rattle.std.specs.Prelude.{nat_lt, sum_by}
 use Rattle.std.proofs.lemmas.Bool.{cases_Bool, cond-true, cond-false}
 use Rattle.rds_model.specs.declared.entry.Entry.{Entry}
 use Rattle.rds_model.specs.declared.order.Datagram.{Datagram}
 use Rattle.rds_history.specs.Events.{Event, Entered}
-use Rattle.rds_history.specs.Courses.{Course, Full, enters, and_then, ready}
+use Rattle.rds_history.specs.Courses.{Course, enters, and_then}
 use Rattle.rds_history.specs.Journals.{journal}
-use Rattle.rds_history.specs.Sockets.{delivered, received, queued, binds}
+use Rattle.rds_history.specs.Sockets.{delivered, received}
 use Rattle.rds_history.specs.Transcript.{lines, entry_line}
 use Rattle.rds_play.specs.declared.stop.Stop.{Stop}
 use Rattle.rds_play.specs.declared.stop.Stop.TheVariants as stop
@@ -16,8 +16,7 @@ use Rattle.rds_play.specs.declared.host.Socket.{Socket}
 use Rattle.rds_play.specs.declared.link.Link.{Link}
 use Rattle.rds_play.specs.Coming.{Comes}
 use Rattle.rds_play.specs.Entering.{Enters, IsSameEnd, Writes}
-use Rattle.rds_play.specs.Readiness.{IsFull}
-use Rattle.rds_play.specs.Telling.{State, Tells, TellsLink, TellsOut, TellsHost, TellsSocket, EachPair, EachHost, IsFresh}
+use Rattle.rds_play.specs.Telling.{State, Tells, TellsLink, TellsOut, TellsHost, TellsSocket, EachPair}
 use Rattle.rds_play.proofs.Comings.{comes_memory}
 use Rattle.rds_play.proofs.Journaling.{journal_here, journal_there}
 use Rattle.rds_play.proofs.Places.{pair_replaced, host_kept}

@@ -1,5 +1,5 @@
 -- The bytes in flight after an entry.
-use Rattle.std.proofs.Common.{◌≡◌, ℕ, zero, suc, ◌+◌, ◌*◌, ◌<◌, ◌≤◌, ◌==◌, ◌&&◌, Bool, true, false, cond, Option, Some, None, Ok, List, [], ◌∷◌, ◌++◌, length, drop, get_or, set, refl, sym, ◌∙◌, ap, subst, arith, ⊎_elim}
+use Rattle.std.proofs.Common.{◌≡◌, ℕ, zero, suc, ◌+◌, ◌*◌, ◌<◌, ◌≤◌, ◌==◌, ◌&&◌, Option, Some, None, Ok, List, [], ◌∷◌, ◌++◌, length, drop, set, refl, sym, ◌∙◌, ap, subst, arith, ⊎_elim}
 use Rattle.std.specs.List.{flat_map}
 use Rattle.std.proofs.lemmas.Bool.{cases_eq, cond-true, cond-false, ne_eqb}
 use Rattle.rds_wire.specs.declared.frame.Frame.{Frame}
@@ -14,10 +14,10 @@ use Rattle.rds_conn.proofs.Untouched.{open_is_newest}
 use Rattle.rds_history.specs.Events.{Event, Entered}
 use Rattle.rds_history.specs.Journals.{journal, fed, in_flight, wrote_on}
 use Rattle.rds_history.specs.Courses.{enters}
-use Rattle.rds_play.specs.Telling.{State, TellsOut, EachPair}
+use Rattle.rds_play.specs.Telling.{TellsOut, EachPair}
 use Rattle.rds_play.proofs.Entered.{entered_is}
 use Rattle.rds_play.proofs.Journaling.{journal_here, journal_there, same_pair, other_pair}
-use Rattle.rds_play.proofs.Places.{pair_kept, pair_replaced}
+use Rattle.rds_play.proofs.Places.{pair_replaced}
 
 -- nothing was pulled on a stream above all others
 pub none_pulled : (past : List Entry) → IsLegal past → (k : ℕ) → newest_stream past < k → pulls k past ≡ []

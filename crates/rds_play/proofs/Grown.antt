@@ -1,5 +1,5 @@
 -- No call of a connection but the opening of a stream makes a newer stream.
-use Rattle.std.proofs.Common.{◌≡◌, ℕ, ◌≤◌, Option, Some, None, List, refl, sym, subst, arith}
+use Rattle.std.proofs.Common.{◌≡◌, ℕ, Option, Some, None, List, refl, sym, subst, arith}
 use Rattle.std.specs.Prelude.{IfSome, IsSome, is_some, true, false}
 use Rattle.rds_wire.specs.declared.frame.Frame.{Frame}
 use Rattle.rds_wire.specs.declared.kind.Malformed.{Malformed}
@@ -9,7 +9,7 @@ use Rattle.rds_conn.specs.declared.conn.Found.{Found}
 use Rattle.rds_conn.specs.declared.conn.Found.TheVariants as found
 use Rattle.rds_conn.specs.declared.conn.ConnError.{ConnError}
 use Rattle.rds_conn.specs.declared.conn.ConnError.TheVariants as errors
-use Rattle.rds_conn.specs.Connection.{Connection, logged, stream_of}
+use Rattle.rds_conn.specs.Connection.{Connection, stream_of}
 use Rattle.rds_conn.specs.Feeding.{Refuses}
 use Rattle.rds_conn.specs.Passing.{passed, outcome_of}
 use Rattle.rds_play.specs.Counting.{pongs}

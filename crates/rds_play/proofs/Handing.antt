@@ -1,8 +1,8 @@
 -- A datagram that was handed out.
-use Rattle.std.proofs.Common.{◌≡◌, ◌⊎◌, inl, inr, ⊎_elim, ℕ, zero, suc, ◌+◌, ◌-◌, ◌<◌, ◌≤◌, ◌==◌, ◌&&◌, Bool, true, false, cond, Option, Some, None, Result, Ok, List, [], ◌∷◌, ◌++◌, length, map, drop, get_or, set, refl, sym, ◌∙◌, ap, subst, arith, add-one}
+use Rattle.std.proofs.Common.{◌≡◌, ⊎_elim, ℕ, zero, suc, ◌+◌, ◌<◌, ◌≤◌, ◌==◌, ◌&&◌, Bool, true, false, Result, Ok, List, [], ◌∷◌, ◌++◌, length, map, drop, get_or, set, refl, sym, ◌∙◌, ap, subst, arith, add-one}
 use Rattle.std.specs.Prelude.{sum_by}
-use Rattle.std.proofs.lemmas.Bool.{both_ways, cases_eq, cond-true, cond-false, eq-eqb, ne_eqb, and_left, and_right}
-use Rattle.std.proofs.lemmas.List.{length_push, length-set, length-drop, get_or-set_same, get_or-set_other}
+use Rattle.std.proofs.lemmas.Bool.{both_ways, cases_eq, cond-true, cond-false}
+use Rattle.std.proofs.lemmas.List.{length_push, length-set, get_or-set_same, get_or-set_other}
 use Rattle.std.proofs.lemmas.List.Sums.{sum_by-cons}
 use Rattle.rds_model.specs.declared.order.Datagram.{Datagram}
 use Rattle.rds_history.specs.Events.{Event, Received}
@@ -11,15 +11,15 @@ use Rattle.rds_history.specs.Recv.{recv_first}
 use Rattle.rds_play.specs.declared.stop.Stop.{Stop}
 use Rattle.rds_play.specs.Coming.{Comes}
 use Rattle.rds_play.proofs.Comings.{comes_said}
-use Rattle.rds_history.specs.Hosts.{address_of, host_at}
+use Rattle.rds_history.specs.Hosts.{host_at}
 use Rattle.rds_history.specs.Lines.{recv_line, recv_none_line}
-use Rattle.rds_history.specs.Sockets.{binds, holder, delivered, received, queue, queued}
+use Rattle.rds_history.specs.Sockets.{binds, delivered, received, queue, queued}
 use Rattle.rds_history.specs.Transcript.{lines}
 use Rattle.rds_play.specs.declared.host.Arrived.{Arrived}
 use Rattle.rds_play.specs.declared.host.Host.{Host}
 use Rattle.rds_play.specs.declared.host.Socket.{Socket}
 use Rattle.rds_play.specs.Receiving.{HandsOut, KeepsAll}
-use Rattle.rds_play.specs.Telling.{State, Tells, TellsLink, TellsOut, TellsHost, TellsSocket, EachHost, EachPair, IsFresh}
+use Rattle.rds_play.specs.Telling.{State, Tells, TellsHost, TellsSocket, IsFresh}
 use Rattle.rds_play.proofs.Journaling.{same_pair, other_pair}
 use Rattle.rds_play.proofs.Places.{host_replaced}
 

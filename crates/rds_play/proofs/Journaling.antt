@@ -1,5 +1,5 @@
 -- What an entry of one journal leaves of the others.
-use Rattle.std.proofs.Common.{◌≡◌, ◌⊎◌, inl, inr, ⊎_elim, ℕ, ◌<◌, ◌&&◌, ◌==◌, Bool, true, false, cond, List, ◌∷◌, refl, sym, ◌∙◌, ap, arith}
+use Rattle.std.proofs.Common.{◌≡◌, ⊎_elim, ℕ, ◌&&◌, ◌==◌, true, false, List, ◌∷◌, refl, sym}
 use Rattle.std.proofs.lemmas.Bool.{cases_eq, eq-eqb, ne_eqb, and_from, and_left, and_right, cond-true, cond-false}
 use Rattle.rds_model.specs.declared.entry.Entry.{Entry}
 use Rattle.rds_history.specs.Events.{Event, Entered}

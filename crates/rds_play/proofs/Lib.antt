@@ -1,7 +1,6 @@
 pub mod Addressed
 pub mod Always
 pub mod Beginning
-pub mod Binding
 pub mod Comings
 pub mod Ended
 pub mod Entered

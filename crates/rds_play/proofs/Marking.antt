@@ -1,23 +1,17 @@
 -- A port that became congested or free, and a datagram that was handed out.
-use Rattle.std.proofs.Common.{◌≡◌, ◌⊎◌, inl, inr, ⊎_elim, ℕ, zero, suc, ◌+◌, ◌<◌, ◌≤◌, ◌==◌, ◌&&◌, Bool, true, false, cond, Option, Some, None, List, [], ◌∷◌, ◌++◌, length, map, drop, get_or, set, refl, sym, ◌∙◌, ap, subst, arith}
-use Rattle.std.specs.Prelude.{sum_by}
-use Rattle.std.proofs.lemmas.Bool.{cases_Bool, cases_eq, cond-true, cond-false, eq-eqb, ne_eqb, and_left, and_right}
-use Rattle.std.proofs.lemmas.List.{length_push, length-append, get_or-set_same, get_or-set_other}
+use Rattle.std.proofs.Common.{◌≡◌, ⊎_elim, ℕ, ◌<◌, ◌==◌, ◌&&◌, Bool, true, false, cond, List, ◌∷◌, length, set, refl, sym, ◌∙◌, ap, subst}
+use Rattle.std.proofs.lemmas.Bool.{cases_eq, cond-true, cond-false, eq-eqb, ne_eqb, and_left, and_right}
 use Rattle.rds_cong.specs.Map.{has_port, with_port, without_port}
 use Rattle.rds_cong.specs.Limit.{congested_after}
-use Rattle.rds_model.specs.declared.order.Datagram.{Datagram}
-use Rattle.rds_history.specs.Events.{Event, Marked, Received}
-use Rattle.rds_history.specs.Hosts.{host_at}
+use Rattle.rds_history.specs.Events.{Event, Marked}
 use Rattle.rds_history.specs.Journals.{is_marked, own_map}
-use Rattle.rds_history.specs.Lines.{mark_line, recv_line}
 use Rattle.rds_history.specs.Mark.{noted, marked}
-use Rattle.rds_history.specs.Sockets.{binds, holder, delivered, received, queue, queued, receive_buffer}
+use Rattle.rds_history.specs.Sockets.{queued, receive_buffer}
 use Rattle.rds_history.specs.Transcript.{lines}
-use Rattle.rds_play.specs.declared.host.Arrived.{Arrived}
 use Rattle.rds_play.specs.declared.host.Host.{Host}
 use Rattle.rds_play.specs.declared.host.Socket.{Socket}
-use Rattle.rds_play.specs.Telling.{State, Tells, TellsLink, TellsOut, TellsHost, TellsSocket, EachHost, EachPair, IsFresh}
-use Rattle.rds_play.proofs.Journaling.{same_pair, other_pair}
+use Rattle.rds_play.specs.Telling.{State, Tells, TellsLink, TellsOut, TellsHost, TellsSocket}
+use Rattle.rds_play.proofs.Journaling.{same_pair}
 use Rattle.rds_play.proofs.Places.{host_replaced}
 
 -- what is true before and after a change is true of what is noted

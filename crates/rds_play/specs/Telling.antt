@@ -1,14 +1,13 @@
 -- What the fields of a world tell of a past. Source: this project's own.
-use Rattle.std.specs.Prelude.{◌≡◌, ℕ, ◌+◌, ◌*◌, ◌<◌, ◌≤◌, Some, List, [], length, map, get_or, sum, string_bytes}
+use Rattle.std.specs.Prelude.{◌≡◌, ℕ, ◌+◌, ◌*◌, ◌<◌, ◌≤◌, Some, List, [], length, map, get_or, string_bytes}
 use Rattle.std.specs.BTreeMap as tree
-use Rattle.std.specs.BTreeMap.{BTreeMap}
 use Rattle.std.specs.Ordering.{nat_cmp}
 use Rattle.rds_cong.specs.Map.{has_port}
 use Rattle.rds_model.specs.Past.{open_stream}
 use Rattle.rds_model.specs.Streams.{wrote}
 use Rattle.rds_history.specs.Events.{Event}
 use Rattle.rds_history.specs.Journals.{journal, fed, in_flight, is_marked, own_map}
-use Rattle.rds_history.specs.Sockets.{binds, holder, send_buffer, receive_buffer, delivered, received, queue, queued, unacknowledged}
+use Rattle.rds_history.specs.Sockets.{binds, holder, send_buffer, receive_buffer, delivered, received, queue, queued}
 use Rattle.rds_history.specs.Transcript.{lines}
 use Rattle.rds_play.specs.declared.host.Arrived.{Arrived}
 use Rattle.rds_play.specs.declared.host.Socket.{Socket}

@@ -1,4 +1,4 @@
-use Rattle.std.proofs.Common.{◌≡◌, suc, [], refl, sym, ap}
+use Rattle.std.proofs.Common.{suc, []}
 use Rattle.rds_model.specs.declared.entry.Entry.TheVariants as entries
 use Rattle.rds_model.specs.Past.{newest_stream}
 use Rattle.rds_play.proofs.entering.open_end.Goals as goal

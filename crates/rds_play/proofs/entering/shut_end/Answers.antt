@@ -1,11 +1,10 @@
-use Rattle.std.proofs.Common.{◌≡◌, ℕ, Option, Some, None, Ok, List, [], ◌∷◌, ◌++◌, length, sym, ◌∙◌, ap}
+use Rattle.std.proofs.Common.{◌≡◌, ℕ, Option, Some, None, Ok, List, [], ◌∷◌, ◌++◌, length}
 use Rattle.std.specs.Prelude.{IfSome}
 use Rattle.rds_model.specs.declared.entry.Entry.{Entry}
 use Rattle.rds_model.specs.declared.entry.Entry.TheVariants as entries
 use Rattle.rds_conn.specs.Connection.{stream_of}
 use Rattle.rds_history.specs.Transcript.{entry_line}
 use Rattle.rds_play.specs.declared.link.Link.{Link}
-use Rattle.rds_play.specs.declared.stop.Stop.{Stop}
 use Rattle.rds_play.specs.Entering.{Enters, IsSameEnd}
 use Rattle.rds_play.specs.Printing.{HasLine}
 use Rattle.rds_play.specs.Readiness.{Readies}

@@ -1,9 +1,8 @@
-use Rattle.std.proofs.Common.{◌≡◌, subst, sym, ap}
+use Rattle.std.proofs.Common.{◌≡◌, subst, sym}
 use Rattle.rds_wire.specs.declared.frame.Frame.{Frame}
 use Rattle.rds_model.specs.declared.entry.Verdict.{Verdict}
 use Rattle.rds_model.specs.Reading.{verdict_of}
 use Rattle.rds_conn.specs.Connection.{stream_of}
-use Rattle.rds_conn.specs.Passing.{passed, outcome_of}
 use Rattle.rds_play.specs.Counting.{pongs}
 use Rattle.rds_play.specs.Growth.{Passes}
 use Rattle.rds_play.proofs.Grown.{at_some, some_of, passes_read}

@@ -1,4 +1,4 @@
-use Rattle.std.proofs.Common.{◌≡◌, ℕ, ◌+◌, ◌/◌, ◌%◌, ◌++◌, ◌∷◌, [], List, length, sym, subst, arith}
+use Rattle.std.proofs.Common.{◌≡◌, ◌/◌, ◌%◌, ◌++◌, ◌∷◌, [], List, length, sym, subst, arith}
 use Rattle.rds_play.specs.declared.link.Link.{Link}
 use Rattle.rds_play.specs.Fresh.{AreNewLinks, IsNewLink}
 use Rattle.rds_play.proofs.Beginning.{links_more}

@@ -1,4 +1,4 @@
-use Rattle.std.proofs.Common.{◌≡◌, sym, ◌∙◌}
+use Rattle.std.proofs.Common.{sym, ◌∙◌}
 use Rattle.rds_history.specs.Bind.{is_free}
 use Rattle.rds_play.proofs.Searching.{found, passed}
 use Rattle.rds_play.proofs.host.Host.free_within.Goals as goal

@@ -1,4 +1,4 @@
-use Rattle.std.proofs.Common.{◌≡◌, ℕ, Option, None, Ok, List, ◌∷◌, get_or, refl, sym, ◌∙◌, ap, subst, codes}
+use Rattle.std.proofs.Common.{◌≡◌, ℕ, Option, None, Ok, List, ◌∷◌, get_or, ap, subst, codes}
 use Rattle.rds_history.specs.Bind.{bind, bind_refusal}
 use Rattle.rds_history.specs.Courses.{Course, unless}
 use Rattle.rds_history.specs.Events.{Event, Bound}

@@ -1,4 +1,4 @@
-use Rattle.std.proofs.Common.{◌≡◌, ◌<◌, get_or, length, refl, sym, ◌∙◌, subst, arith}
+use Rattle.std.proofs.Common.{◌≡◌, ◌<◌, get_or, length, refl, ◌∙◌, subst, arith}
 use Rattle.std.specs.Prelude.{string_bytes}
 use Rattle.rds_play.specs.Telling.{state}
 use Rattle.rds_play.proofs.Handing.{front, no_queue, host_handed, host_looked, tells_handed_at, tells_looked_at}

@@ -1,6 +1,5 @@
-use Rattle.std.proofs.Common.{◌≡◌, ℕ, ◌<◌, true, false, Option, Some, Ok, ◌∷◌, get_or, length, refl, sym, ◌∙◌, subst, arith}
+use Rattle.std.proofs.Common.{◌≡◌, ℕ, ◌<◌, Option, Some, Ok, ◌∷◌, get_or, refl, ◌∙◌, subst, arith}
 use Rattle.std.specs.Prelude.{string_bytes}
-use Rattle.std.proofs.lemmas.Grind.{common_steps}
 use Rattle.rds_history.specs.Events.{Received}
 use Rattle.rds_history.specs.Mark.{marked}
 use Rattle.rds_history.specs.Recv.{recv_from}
