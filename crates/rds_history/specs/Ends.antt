@@ -3,10 +3,8 @@ use Rattle.std.specs.Prelude.{ℕ, ◌==◌, if◌then◌else◌, List, [], ◌�
 use Rattle.rds_model.specs.declared.order.Datagram.{Datagram}
 use Rattle.rds_model.specs.declared.entry.Entry.{Entry}
 
--- a socket: its slot, its port, what it handed out, and what it left unread
+-- a socket: what it handed out, and what it left unread
 pub record Socket : Type 0 where
-  pub slot : ℕ
-  pub port : ℕ
   pub got : List Datagram
   pub unread : List Datagram
 

@@ -1,14 +1,14 @@
 -- The one history of a script, and the text that is printed of it. Source: this project's own.
-use Rattle.std.specs.Prelude.{ℕ, ◌==◌, not, if◌then◌else◌, Ok, Err, List, [], ◌∷◌, ◌++◌, filter, map}
+use Rattle.std.specs.Prelude.{ℕ, ◌==◌, not, Ok, Err, List, [], ◌∷◌, ◌++◌, filter, map}
 use Rattle.rds_script.specs.declared.script.Script.{Script}
 use Rattle.rds_script.specs.declared.script.Placed.{Placed}
 use Rattle.rds_script.specs.declared.script.Command.{Command}
 use Rattle.rds_script.specs.declared.script.Command.TheVariants as command
 use Rattle.rds_text.specs.Ports.{below}
-use Rattle.rds_history.specs.Events.{Event, Bound}
+use Rattle.rds_history.specs.Events.{Event}
 use Rattle.rds_history.specs.Hosts.{address_of}
 use Rattle.rds_history.specs.Journals.{journal}
-use Rattle.rds_history.specs.Sockets.{received, queue}
+use Rattle.rds_history.specs.Sockets.{binds, received, queue}
 use Rattle.rds_history.specs.Courses.{Course, and_then}
 use Rattle.rds_history.specs.Bind.{bind, bind_any}
 use Rattle.rds_history.specs.Send.{send}
@@ -41,23 +41,15 @@ history limit hosts [] past = Ok past
 history limit hosts (placed ∷ commands) past = and_then (after limit hosts placed.command past) (history limit hosts commands)
 
 -- the sockets of host h by slot
-abbrev pub sockets : ℕ → List Event → List Event → List Socket
-sockets h past [] = []
-sockets h past (Bound host port slot sndbuf rcvbuf ∷ earlier) =
-    if host == h then sockets h past earlier ++ record {
-      slot = slot;
-      port = port;
-      got = received h slot past;
-      unread = queue h slot past;
-    } ∷ [] else sockets h past earlier
-sockets h past (_ ∷ earlier) = sockets h past earlier
+abbrev pub sockets : ℕ → List Event → List Socket
+sockets h past = map (λ slot. record { got = received h slot past; unread = queue h slot past }) (below (binds h past))
 
 -- what host h has in the end
 abbrev pub end_of : (hosts h : ℕ) → List Event → End
 end_of hosts h past = record {
   addr = address_of h;
   sides = map (λ k. record { peer = address_of k; past = journal h k past }) (filter (λ k. not (k == h)) (below hosts));
-  sockets = sockets h past past;
+  sockets = sockets h past;
 }
 
 -- what the hosts have in the end

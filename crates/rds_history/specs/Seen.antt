@@ -8,7 +8,7 @@ use Rattle.rds_history.specs.Hosts.{IsAddress}
 use Rattle.rds_history.specs.Ends.{Socket, Side, End}
 
 abbrev pub socket_of : Kept → Socket
-socket_of k = record { slot = k.slot; port = k.port; got = k.got.items; unread = k.unread.items }
+socket_of k = record { got = k.got.items; unread = k.unread.items }
 
 abbrev pub side_of : ℕ × Log → Side
 side_of j = record { peer = j.0; past = j.1.past }

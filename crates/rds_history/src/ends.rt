@@ -11,8 +11,6 @@ pub const MAX_HOSTS: u8 = 8;
 /// What a socket received in its time, and what it left unread.
 #[derive(Drop)]
 pub struct Kept {
-    pub slot: u16,
-    pub port: u16,
     pub got: Vec<Datagram>,
     pub unread: Vec<Datagram>,
 }

@@ -98,8 +98,6 @@ fn a_report(rt: HostRuntime) -> Result<(), Fail> {
         },
     ]?;
     let kept = Kept {
-        slot: 0,
-        port: 4001,
         got,
         unread: Vec::new(rt.alloc()),
     };

@@ -1,10 +1,16 @@
+pub mod Addressed
+pub mod Always
 pub mod Beginning
 pub mod Comings
+pub mod Ended
 pub mod Entered
 pub mod Flying
+pub mod Givings
 pub mod Grown
 pub mod Handing
+pub mod InOrder
 pub mod Journaling
 pub mod Marking
+pub mod Paired
 pub mod Places
 pub mod Searching

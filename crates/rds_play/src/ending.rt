@@ -1,6 +1,16 @@
+ghost use Rattle.std.specs.Prelude.{◌≡◌, ℕ, ◌≤◌, ◌<◌, ◌*◌, IfOk, List, length, map, string_bytes, vec_len};
+ghost use Rattle.rds_model.specs.declared.order.Datagram.{Datagram as Message};
+ghost use Rattle.rds_history.specs.Events.{Event};
+ghost use Rattle.rds_history.specs.History.{ends as ends_after, end_of as end_after, sockets};
+ghost use Rattle.rds_history.specs.Seen.{AreEnds, ends_of, end_of as end_seen, side_of, socket_of};
+ghost use Rattle.rds_history.specs.Transcript.{lines};
+ghost use Rattle.rds_play.specs.declared.host.Arrived.{Arrived as ArrivedAt};
+ghost use Rattle.rds_play.specs.Ending.{TellHosts, TellLinks, TellRow, sides};
+ghost use Rattle.rds_play.specs.Telling.{Tells, TellsHost, state};
+
 use crate::host::{Arrived, Host, Socket};
 use crate::link::Link;
-use crate::world::World;
+use crate::world::{HOSTS, World};
 use rds_history::{HostEnd, Kept, address};
 use rds_model::{Datagram, Journal};
 use rds_wire::Memory;
@@ -9,7 +19,12 @@ use std::collections::VecDeque;
 
 impl World {
     /// Ends the script: what each host kept, and the transcript.
-    pub fn end(self) -> Result<(Vec<HostEnd>, String), Memory> {
+    pub fn end(self) -> Result<(Vec<HostEnd>, String), Memory>
+        ensures ends { (limit hosts : ℕ) (past : List Event) → Tells limit hosts past (state self) →
+            IfOk result (λ r. ends_of r.0.items ≡ ends_after hosts past) }
+        ensures text { (limit hosts : ℕ) (past : List Event) → Tells limit hosts past (state self) →
+            IfOk result (λ r. string_bytes r.1 ≡ lines past) }
+    {
         let World {
             alloc,
             count,
@@ -19,53 +34,76 @@ impl World {
             limit: _,
             outs: _,
         } = self;
-        let mut ends = ends(alloc, hosts)?;
-        ends.truncate(usize::from(count));
-        hand_out(&mut ends, links)?;
+        let ends = ends(alloc, count, hosts, links)?;
         Ok((ends, text))
     }
 }
 
-// What each host kept, its journals aside.
-fn ends(alloc: Global, hosts: Vec<Host>) -> Result<Vec<HostEnd>, Memory> {
+// What each of the hosts kept. Each has as many links as there may be hosts.
+fn ends(
+    alloc: Global,
+    count: u8,
+    mut hosts: Vec<Host>,
+    links: Vec<Link>,
+) -> Result<Vec<HostEnd>, Memory>
+    requires few { count ≤ 8 }
+    requires housed { vec_len hosts ≡ 8 }
+    requires linked { vec_len links ≡ 64 }
+    ensures { (limit : ℕ) (past : List Event) → TellHosts past hosts.items → TellLinks limit past links.items →
+        IfOk result (λ ends. ends_of ends.items ≡ ends_after count past) }
+{
+    hosts.truncate(usize::from(count));
     let mut ends = Vec::new(alloc);
+    let mut links = links;
     for host in hosts {
-        let addr = address(ends.len().min(7) as u8);
-        let kept = kept(alloc, host)?;
-        ends.push(HostEnd {
-            addr,
-            journals: Vec::new(alloc),
-            kept,
-        })?;
+        let later = links.split_off(usize::from(HOSTS))?;
+        let addr = ends.len() as u8;
+        ends.push(end_of(alloc, addr, count, host, links)?)?;
+        links = later;
     }
     Ok(ends)
 }
 
+// What a host kept, which has these links.
+fn end_of(
+    alloc: Global,
+    host: u8,
+    count: u8,
+    at: Host,
+    mut links: Vec<Link>,
+) -> Result<HostEnd, Memory>
+    requires host { host < 8 }
+    requires few { count ≤ 8 }
+    requires linked { vec_len links ≡ 8 }
+    ensures { (limit : ℕ) (past : List Event) → TellsHost host past at → TellRow limit host past links.items →
+        IfOk result (λ end. end_seen end ≡ end_after count host past) }
+{
+    links.truncate(usize::from(count));
+    Ok(HostEnd {
+        addr: address(host),
+        journals: journals(alloc, host, links)?,
+        kept: kept(alloc, at)?,
+    })
+}
+
 // What each socket of a host received, and what it didn't.
-fn kept(alloc: Global, host: Host) -> Result<Vec<Kept>, Memory> {
+fn kept(alloc: Global, host: Host) -> Result<Vec<Kept>, Memory>
+    ensures { (h : ℕ) (past : List Event) → TellsHost h past host →
+        IfOk result (λ kept. map socket_of kept.items ≡ sockets h past) }
+{
     let mut kept = Vec::new(alloc);
-    let mut slot = 0u16;
     for socket in host.sockets {
-        let Socket {
-            port,
-            queue,
-            got,
-            ..
-        } = socket;
+        let Socket { queue, got, .. } = socket;
         let unread = unread(alloc, queue)?;
-        kept.push(Kept {
-            slot,
-            port,
-            got,
-            unread,
-        })?;
-        slot = slot.saturating_add(1);
+        kept.push(Kept { got, unread })?;
     }
     Ok(kept)
 }
 
 // The datagrams of a queue.
-fn unread(alloc: Global, queue: VecDeque<Arrived>) -> Result<Vec<Datagram>, Memory> {
+fn unread(alloc: Global, queue: VecDeque<Arrived>) -> Result<Vec<Datagram>, Memory>
+    ensures { IfOk result (λ unread. unread.items ≡ map (λ (a : ArrivedAt). a.datagram) queue.items) }
+{
     let mut unread = Vec::new(alloc);
     for arrived in queue {
         let Arrived { datagram, .. } = arrived;
@@ -74,21 +112,18 @@ fn unread(alloc: Global, queue: VecDeque<Arrived>) -> Result<Vec<Datagram>, Memo
     Ok(unread)
 }
 
-// Gives each host its journals.
-fn hand_out(ends: &mut Vec<HostEnd>, links: Vec<Link>) -> Result<(), Memory> {
+// The journals of a host's links to the other hosts.
+fn journals(alloc: Global, host: u8, links: Vec<Link>) -> Result<Vec<(u32, Journal)>, Memory>
+    requires { host < 8 }
+    ensures { IfOk result (λ journals. map side_of journals.items ≡ sides host links.items) }
+{
+    let mut journals = Vec::new(alloc);
     for link in links {
-        let Link {
-            host,
-            peer,
-            conn,
-            ..
-        } = link;
-        let journal: Journal = conn.into_journal();
-        if host != peer && usize::from(peer) < ends.len() {
-            if let Some(end) = ends.get_mut(usize::from(host)) {
-                end.journals.push((address(peer), journal))?;
-            }
+        let Link { peer, conn, .. } = link;
+        let journal = conn.into_journal();
+        if peer != host {
+            journals.push((address(peer), journal))?;
         }
     }
-    Ok(())
+    Ok(journals)
 }

@@ -1,9 +1,20 @@
-ghost use Rattle.std.specs.Prelude.{◌≡◌, ◌≢◌, ◌⊎◌, ◌≤◌, ◌<◌, ◌++◌, ℕ, List, OnOk, IfOk, string_bytes};
+ghost use Rattle.std.specs.Prelude.{◌≡◌, ◌≢◌, ◌⊎◌, ◌≤◌, ◌<◌, ◌++◌, ℕ, Err, IsOk, Ok, List, OnOk, IfOk, string_bytes};
 ghost use Rattle.rds_link.specs.Told.{HasRisen, Takes};
 ghost use Rattle.rds_script.specs.Script.{IsScript};
 ghost use Rattle.rds_model.specs.declared.journal.TheConstants.{MIN_ENTRIES, MAX_ENTRIES};
+ghost use Rattle.rds_history.specs.Events.{Event};
+ghost use Rattle.rds_history.specs.History.{after, ends, text};
 ghost use Rattle.rds_history.specs.Lines.{end_line, spent_line as line_of_spent};
+ghost use Rattle.rds_history.specs.Report.{report as text_of_report};
+ghost use Rattle.rds_history.specs.Transcript.{lines};
+ghost use Rattle.rds_play.specs.Coming.{Comes};
+ghost use Rattle.rds_play.specs.Pairing.{IsPaired};
 ghost use Rattle.rds_play.specs.Playable.{IsPlayable};
+ghost use Rattle.rds_play.specs.Playing.{Gives, course};
+ghost use Rattle.rds_play.specs.Readiness.{IsFull};
+ghost use Rattle.rds_play.specs.Reliable.{HandsOutInOrder};
+ghost use Rattle.rds_play.specs.Telling.{Tells, state};
+ghost use Rattle.rds_play.specs.Told.{AreTold, IsTold};
 ghost use Rattle.rds_play.specs.declared.playing.PlayEnd.TheVariants as ended;
 
 use crate::stop::{Full, Stop};
@@ -37,6 +48,12 @@ pub fn play<K: Sink>(alloc: Global, script: &Script, limit: u32, sink: &mut K) -
     ensures ok { result ≡ ended.Ok → (text : List ℕ) × Takes (K.held sink.old) (K.held sink.new) (text ++ end_line) }
     ensures spent { (host peer entries : ℕ) → result ≡ ended.Spent host peer entries →
         Takes (K.held sink.old) (K.held sink.new) (line_of_spent host peer entries) }
+    ensures exact { AreTold script.now → result ≡ ended.Ok →
+        IsOk (course script.now limit) × Takes (K.held sink.old) (K.held sink.new) (text script.now limit) }
+    ensures exact_spent { AreTold script.now → (host peer entries : ℕ) → result ≡ ended.Spent host peer entries →
+        (course script.now limit ≡ Err (record { host = host; peer = peer; entries = entries }))
+        × Takes (K.held sink.old) (K.held sink.new) (text script.now limit) }
+    ensures in_order { (past : List Event) (h slot : ℕ) → course script.now limit ≡ Ok past → HandsOutInOrder h slot past }
     ensures fault { result ≡ ended.WriteFault → HasRisen (K.faults sink.old) (K.faults sink.new) }
     ensures counts { K.faults sink.old ≤ K.faults sink.new }
 {
@@ -63,7 +80,7 @@ fn write<K: Sink>(sink: &mut K, text: &str, end: PlayEnd) -> PlayEnd
 fn write_spent<K: Sink>(alloc: Global, full: Full, sink: &mut K) -> PlayEnd
     ensures ok { result ≢ ended.Ok }
     ensures spent { (host peer entries : ℕ) → result ≡ ended.Spent host peer entries →
-        Takes (K.held sink.old) (K.held sink.new) (line_of_spent host peer entries) }
+        IsFull host peer entries full × Takes (K.held sink.old) (K.held sink.new) (line_of_spent host peer entries) }
     ensures fault { result ≡ ended.WriteFault → HasRisen (K.faults sink.old) (K.faults sink.new) }
     ensures counts { K.faults sink.old ≤ K.faults sink.new }
 {
@@ -92,7 +109,9 @@ fn text_of(alloc: Global, script: &Script, limit: u32) -> Result<String, Stop>
     requires script { IsScript script.now }
     requires least { MIN_ENTRIES ≤ limit }
     requires most { limit ≤ MAX_ENTRIES }
-    ensures { IfOk result (λ text. (lines : List ℕ) × (string_bytes text ≡ lines ++ end_line)) }
+    ensures end { IfOk result (λ text. (lines : List ℕ) × (string_bytes text ≡ lines ++ end_line)) }
+    ensures exact { AreTold script.now →
+        Gives (λ past made. string_bytes made ≡ lines past ++ text_of_report (ends script.now.hosts past)) (course script.now limit) result }
 {
     let world = played::<Brand>(alloc, script, limit, Blank::new(1))?;
     let (ends, mut text) = world.end()?;
@@ -113,6 +132,7 @@ fn played<L: Ledger>(
     requires name { blank.name ≡ L.name }
     requires parts { blank.parts ≡ L.parts }
     requires whole { 0 < L.parts }
+    ensures { AreTold script.now → Gives (λ past world. Tells limit script.now.hosts past (state world)) (course script.now limit) result }
 {
     let mut steps: Steps<L> = Steps::new(blank);
     let mut world = World::new(alloc, script.hosts, limit)?;
@@ -126,6 +146,8 @@ impl World {
     // Does one command.
     fn obey<L: Ledger>(&mut self, command: &Command, steps: &mut Steps<L>) -> Result<(), Stop>
         requires { IsPlayable command.now }
+        ensures { (limit hosts : ℕ) (past : List Event) → IsTold command.now → IsPaired past → Tells limit hosts past (state self.old) →
+            Comes limit hosts (after limit hosts command.now past) result (state self.new) }
     {
         match command {
             Command::Bind {

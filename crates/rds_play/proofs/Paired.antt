@@ -1,0 +1,161 @@
+-- Each command leaves the ends of connections in pairs: both have a stream, or none has.
+use Rattle.std.proofs.Common.{◌≡◌, ◌⊎◌, inl, inr, ⊎_elim, ℕ, zero, suc, ◌+◌, ◌-◌, ◌==◌, ◌&&◌, ◌<◌, Bool, true, false, cond, not, Option, Some, None, Result, Ok, Err, List, [], ◌∷◌, length, filter, refl, sym, ◌∙◌, ap, subst}
+use Rattle.std.specs.Prelude.{nat_lt, unwrap_or, codes}
+use Rattle.std.specs.Option.{option_map}
+use Rattle.std.proofs.lemmas.Bool.{cases_Bool, cond-true, cond-false, eqb-true, and_cases, and_left, and_right, and_parts}
+use Rattle.rds_wire.specs.declared.frame.Frame.{Frame}
+use Rattle.rds_model.specs.declared.entry.Entry.{Entry}
+use Rattle.rds_model.specs.declared.entry.Entry.TheVariants.{Accept, Cancel, Open, Pull, Read, Shut}
+use Rattle.rds_model.specs.declared.entry.TheConstants.{NO_SLOT}
+use Rattle.rds_model.specs.declared.entry.Outcome.{Outcome}
+use Rattle.rds_model.specs.declared.entry.Outcome.TheVariants as outcome
+use Rattle.rds_model.specs.declared.entry.Target.TheVariants.{Port, All}
+use Rattle.rds_model.specs.declared.order.Datagram.{Datagram}
+use Rattle.rds_model.specs.Owed.{owed}
+use Rattle.rds_model.specs.Past.{open_stream, newest_stream}
+use Rattle.rds_model.specs.Reading.{verdict_of}
+use Rattle.rds_text.specs.Ports.{below}
+use Rattle.rds_script.specs.declared.script.Placed.{Placed}
+use Rattle.rds_script.specs.declared.script.Command.{Command}
+use Rattle.rds_script.specs.declared.script.Command.TheVariants as command
+use Rattle.rds_history.specs.Events.{Event, Entered, Bound, Closed, Received, Marked, Fed, Said}
+use Rattle.rds_history.specs.Courses.{Course, Full, and_then, ready, enters, says, unless, each, again, if_moved}
+use Rattle.rds_history.specs.Journals.{journal, moved, in_flight, is_marked, own_map, newest_pull}
+use Rattle.rds_history.specs.Sockets.{binds, holder, queue, queued, receive_buffer}
+use Rattle.rds_cong.specs.Limit.{congested_after}
+use Rattle.rds_history.specs.Mark.{marked, noted}
+use Rattle.rds_history.specs.Bind.{bind, bind_any, bind_refusal, free_port}
+use Rattle.rds_history.specs.Send.{send, send_from, send_refusal}
+use Rattle.rds_history.specs.Recv.{recv, recv_from, recv_first}
+use Rattle.rds_history.specs.Cancel.{cancel, cancel_from, close, close_from, unbinds, unmarked}
+use Rattle.rds_history.specs.Open.{opens, opens_end, open_on, open_pair, shuts_on, shuts_end, cut_on, cut}
+use Rattle.rds_history.specs.Reading.{pulls, pulls_on, pulls_frame, reads, reads_on, reads_with, answers, outcome_at}
+use Rattle.rds_history.specs.Move.{reads_whole, feeds, loads, loads_behind, comes, turn, carries, move, move_on, portion}
+use Rattle.rds_history.specs.Drain.{Pair, pairs, opens_if_closed, opens_closed, both_ways, round, rounds, drain}
+use Rattle.rds_history.specs.History.{after}
+use Rattle.rds_history.specs.Lines.{cut_line, drained_line, move_line, recv_none_line}
+use Rattle.rds_history.specs.Refusals.{no_route, socket_refused_line, pair_refused_line, send_refused_line}
+use Rattle.rds_play.specs.Pairing.{IsPaired}
+use Rattle.rds_play.proofs.Always.{Holds, IsKept, IsQuiet, holds_then, holds_enters, keeps_after}
+use Rattle.rds_play.proofs.Journaling.{journal_here}
+
+same_quiet : (h k a b : ℕ) (e : Entry) (past : List Event) → IsQuiet e → open_stream (journal a b (Entered h k e ∷ past)) ≡ open_stream (journal a b past)
+same_quiet h k a b e past quiet = go (h == a && (k == b))
+  where
+    go : (is : Bool) → open_stream (cond is (e ∷ journal a b past) (journal a b past)) ≡ open_stream (journal a b past)
+    go true = quiet (journal a b past)
+    go false = refl
+
+paired_entry : (h k : ℕ) (e : Entry) (past : List Event) → IsQuiet e → IsPaired past → IsPaired (Entered h k e ∷ past)
+paired_entry h k e past quiet p = λ a b none.
+    same_quiet h k b a e past quiet ∙ p a b (sym (same_quiet h k a b e past quiet) ∙ none)
+
+-- an entry of another journal is not seen
+same_elsewhere : (h k a b : ℕ) (e : Entry) (past : List Event) → (h == a && (k == b)) ≡ false → journal a b (Entered h k e ∷ past) ≡ journal a b past
+same_elsewhere h k a b e past other = cond-false (h == a && (k == b)) (e ∷ journal a b past) (journal a b past) other
+
+-- where h opened a stream to k, and k to h
+paired_opened : (h k n m : ℕ) (past : List Event) → IsPaired past → IsPaired (Entered k h (Open m) ∷ Entered h k (Open n) ∷ past)
+paired_opened h k n m past p = λ a b none. go a b none (cases_Bool (k == a && (h == b))) (cases_Bool (h == a && (k == b)))
+  where
+    first : List Event
+    first = Entered h k (Open n) ∷ past
+
+    swapped : (x y a b : ℕ) → (x == a && (y == b)) ≡ false → (y == b && (x == a)) ≡ false
+    swapped x y a b is = ⊎_elim (λ e. and_right (y == b) (x == a) e) (λ e. and_left (y == b) (x == a) e) (and_cases (x == a) (y == b) is)
+
+    go : (a b : ℕ) → open_stream (journal a b (Entered k h (Open m) ∷ first)) ≡ None →
+        ((k == a && (h == b)) ≡ true) ⊎ ((k == a && (h == b)) ≡ false) → ((h == a && (k == b)) ≡ true) ⊎ ((h == a && (k == b)) ≡ false) →
+        open_stream (journal b a (Entered k h (Open m) ∷ first)) ≡ None
+    go a b none (inl last) other =
+        let some : Some m ≡ None = sym (ap open_stream (cond-true (k == a && (h == b)) (Open m ∷ journal a b first) (journal a b first) last)) ∙ none in cc
+    go a b none (inr apart) (inl here) =
+        let some : Some n ≡ None =
+        sym (ap open_stream (same_elsewhere k h a b (Open m) first apart ∙ cond-true (h == a && (k == b)) (Open n ∷ journal a b past) (journal a b past) here)) ∙ none in cc
+    go a b none (inr apart) (inr nor) =
+        let before : open_stream (journal a b past) ≡ None =
+        sym (ap open_stream (same_elsewhere k h a b (Open m) first apart ∙ same_elsewhere h k a b (Open n) past nor)) ∙ none in
+        ap open_stream (same_elsewhere k h b a (Open m) first (swapped h k a b nor) ∙ same_elsewhere h k b a (Open n) past (swapped k h a b apart)) ∙ p a b before
+
+pub paired_opens : (limit h k : ℕ) (past : List Event) → IsPaired past → Holds IsPaired (opens limit h k past)
+paired_opens limit h k past p =
+    holds_then (λ mid. mid ≡ Entered h k (Open (suc (newest_stream (journal h k past)))) ∷ past) IsPaired (opens_end limit h k past) (opens_end limit k h)
+    (holds_enters (λ before. before ≡ past) (λ mid. mid ≡ Entered h k (Open (suc (newest_stream (journal h k past)))) ∷ past) limit h k
+    (Open (suc (newest_stream (journal h k past)))) past refl (λ before is. ap (λ (l : List Event). Entered h k (Open (suc (newest_stream (journal h k past)))) ∷ l) is))
+    (λ mid is. holds_enters (λ before. before ≡ mid) IsPaired limit k h (Open (suc (newest_stream (journal k h mid)))) mid refl
+    (λ before same. subst (λ (l : List Event). IsPaired (Entered k h (Open (suc (newest_stream (journal k h mid)))) ∷ l)) (sym (same ∙ is))
+    (paired_opened h k (suc (newest_stream (journal h k past))) (suc (newest_stream (journal k h mid))) past p)))
+
+-- h has no stream to k, and nothing else changed
+record IsShut (h k : ℕ) (past later : List Event) : Type 0 where
+  none : open_stream (journal h k later) ≡ None
+  others : (a b : ℕ) → (h == a && (k == b)) ≡ false → open_stream (journal a b later) ≡ open_stream (journal a b past)
+
+holds_shuts : (h k limit : ℕ) (past : List Event) → Holds (IsShut h k past) (shuts_end limit h k past)
+holds_shuts h k limit past = go (open_stream (journal h k past)) refl
+  where
+    entered : (stream : ℕ) (before : List Event) → before ≡ past → IsShut h k past (Entered h k (Shut stream) ∷ before)
+    entered stream before is = record {
+      none = ap open_stream (journal_here h k (Shut stream) before);
+      others = λ a b other. ap open_stream (same_elsewhere h k a b (Shut stream) before other ∙ ap (journal a b) is);
+    }
+
+    go : (o : Option ℕ) → open_stream (journal h k past) ≡ o → Holds (IsShut h k past) (shuts_on o limit h k past)
+    go None is = record { none = is; others = λ a b other. refl }
+    go (Some stream) is = holds_enters (λ before. before ≡ past) (IsShut h k past) limit h k (Shut stream) past refl (entered stream)
+
+paired_shut : (h k : ℕ) (past mid last : List Event) → IsPaired past → IsShut h k past mid → IsShut k h mid last → IsPaired last
+paired_shut h k past mid last p first second = λ a b none. go a b none (cases_Bool (h == a && (k == b))) (cases_Bool (k == a && (h == b)))
+  where
+    swapped : (x y a b : ℕ) → (x == a && (y == b)) ≡ false → (y == b && (x == a)) ≡ false
+    swapped x y a b is = ⊎_elim (λ e. and_right (y == b) (x == a) e) (λ e. and_left (y == b) (x == a) e) (and_cases (x == a) (y == b) is)
+
+    at : (x y a b : ℕ) → (x == a && (y == b)) ≡ true → (x ≡ a) × (y ≡ b)
+    at x y a b is = let both = and_parts (x == a) (y == b) is in (eqb-true x a both.0, eqb-true y b both.1)
+
+    here : open_stream (journal h k last) ≡ None
+    here = from (cases_Bool (k == h && (h == k)))
+      where
+        from : ((k == h && (h == k)) ≡ true) ⊎ ((k == h && (h == k)) ≡ false) → open_stream (journal h k last) ≡ None
+        from (inl one) = let e = at k h h k one in ap (λ i. open_stream (journal h i last)) e.0 ∙ ap (λ i. open_stream (journal i h last)) (sym e.0) ∙ second.none
+        from (inr two) = second.others h k two ∙ first.none
+
+    go : (a b : ℕ) → open_stream (journal a b last) ≡ None →
+        ((h == a && (k == b)) ≡ true) ⊎ ((h == a && (k == b)) ≡ false) → ((k == a && (h == b)) ≡ true) ⊎ ((k == a && (h == b)) ≡ false) →
+        open_stream (journal b a last) ≡ None
+    go a b none (inl is) other =
+        let e = at h k a b is in
+        ap (λ i. open_stream (journal i a last)) (sym e.1) ∙ ap (λ i. open_stream (journal k i last)) (sym e.0) ∙ second.none
+    go a b none (inr apart) (inl is) =
+        let e = at k h a b is in
+        ap (λ i. open_stream (journal i a last)) (sym e.1) ∙ ap (λ i. open_stream (journal h i last)) (sym e.0) ∙ here
+    go a b none (inr apart) (inr nor) =
+        let before : open_stream (journal a b past) ≡ None = sym (first.others a b apart) ∙ sym (second.others a b nor) ∙ none in
+        second.others b a (swapped h k a b apart) ∙ first.others b a (swapped k h a b nor) ∙ p a b before
+
+holds_weaker : (P Q : List Event → Type 0) (c : Course) → Holds P c → ((past : List Event) → P past → Q past) → Holds Q c
+holds_weaker P Q (Ok past) here step = step past here
+holds_weaker P Q (Err full) here step = tt
+
+paired_is_kept : IsKept IsPaired
+paired_is_kept = record {
+  said = λ line past p a b none. p a b none;
+  bound = λ h port slot sndbuf rcvbuf past p a b none. p a b none;
+  closed = λ h port slot unread past p a b none. p a b none;
+  marked = λ h port set bytes most past p a b none. p a b none;
+  fed = λ h k count past p a b none. p a b none;
+  received = λ h port slot d waiting past is p a b none. p a b none;
+  entered = paired_entry;
+  opened = paired_opens;
+  shut = λ limit h k past p. holds_then (IsShut h k past) IsPaired (shuts_end limit h k past) (shuts_end limit k h) (holds_shuts h k limit past)
+      (λ mid first. holds_weaker (IsShut k h mid) IsPaired (shuts_end limit k h mid) (holds_shuts k h limit mid)
+      (λ last second. paired_shut h k past mid last p first second));
+}
+
+-- each command leaves the ends in pairs
+pub paired_after : (limit hosts : ℕ) (c : Command) (past : List Event) → IsPaired past → Holds IsPaired (after limit hosts c past)
+paired_after limit hosts c past p = keeps_after IsPaired paired_is_kept limit hosts c past p
+
+-- nothing has happened
+pub paired_nothing : IsPaired []
+paired_nothing = λ a b none. refl

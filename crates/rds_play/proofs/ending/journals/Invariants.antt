@@ -1,0 +1,7 @@
+use Rattle.std.proofs.Common.{◌≡◌, map}
+use Rattle.rds_history.specs.Seen.{side_of}
+use Rattle.rds_play.specs.Ending.{sides}
+use Rattle.rds_play.proofs.ending.journals.Given as goal
+
+abbrev pub invariant-loop-link : goal.invariant-loop-link
+invariant-loop-link l = map side_of l.journals.items ≡ sides l.fn.host l.yielded

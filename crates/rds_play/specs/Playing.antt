@@ -1,0 +1,20 @@
+-- What the playing of a script comes to. Source: this project's own.
+use Rattle.std.specs.Prelude.{ℕ, Result, Ok, Err, List, []}
+use Rattle.rds_script.specs.declared.script.Script.{Script}
+use Rattle.rds_history.specs.Courses.{Course}
+use Rattle.rds_history.specs.Events.{Event}
+use Rattle.rds_history.specs.History.{history}
+use Rattle.rds_play.specs.declared.stop.Stop.{Stop}
+use Rattle.rds_play.specs.Readiness.{IsMemory, IsStopAt}
+
+-- the one course of a script
+abbrev pub course : Script → (limit : ℕ) → Course
+course script limit = history limit script.hosts script.commands.items []
+
+-- what is made is right for the past that the course leads to, or the stop is that of the first full journal; there may
+-- always be no memory
+abbrev pub Gives : {A : Type 0} → (List Event → A → Type 0) → Course → Result A Stop → Type 0
+Gives IsRight (Ok past) (Ok x) = IsRight past x
+Gives IsRight (Ok past) (Err why) = IsMemory why
+Gives IsRight (Err full) (Ok _) = ⊥
+Gives IsRight (Err full) (Err why) = IsStopAt full.host full.peer full.entries why
