@@ -13,12 +13,12 @@ use Rattle.rds_history.specs.Seen.{ends_of, end_of as end_seen}
 use Rattle.rds_history.specs.History.{sockets, end_of}
 use Rattle.rds_history.specs.Hosts.{address_of}
 use Rattle.rds_history.specs.Journals.{journal}
-use Rattle.rds_history.specs.Sockets.{binds, received, queue}
+use Rattle.rds_history.specs.Sockets.{received, queue}
 use Rattle.rds_play.specs.declared.host.Arrived.{Arrived}
 use Rattle.rds_play.specs.declared.host.Host.{Host}
 use Rattle.rds_play.specs.declared.host.Socket.{Socket}
 use Rattle.rds_play.specs.declared.link.Link.{Link}
-use Rattle.rds_play.specs.Ending.{TellHosts, TellLinks, TellRow, sides}
+use Rattle.rds_play.specs.Ending.{TellLinks, TellRow, sides}
 use Rattle.rds_play.specs.Telling.{TellsHost, TellsSocket, TellsLink}
 
 pub map_push : {X Y : Type 0} (f : X → Y) (xs : List X) (x : X) → map f (xs ++ x ∷ []) ≡ map f xs ++ f x ∷ []

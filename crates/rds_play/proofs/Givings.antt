@@ -1,5 +1,5 @@
 -- What is made of a course.
-use Rattle.std.proofs.Common.{◌≡◌, ℕ, Result, Ok, Err, List, [], ◌∷◌, ◌++◌, refl, sym, ◌∙◌, ap, subst}
+use Rattle.std.proofs.Common.{◌≡◌, ℕ, Ok, Err, List, [], ◌∷◌, ◌++◌, refl, sym, ◌∙◌, ap, subst}
 use Rattle.std.specs.Prelude.{IsOk}
 use Rattle.rds_script.specs.declared.script.Placed.{Placed}
 use Rattle.rds_history.specs.Courses.{Course, Full as FullAt, and_then}

@@ -1,21 +1,17 @@
 -- Sockets hand out what was delivered to them, in order.
-use Rattle.std.proofs.Common.{◌≡◌, ℕ, zero, suc, ◌+◌, ◌==◌, ◌&&◌, ◌⊎◌, inl, inr, Bool, true, false, cond, Option, Some, None, Ok, Err, List, [], ◌∷◌, ◌++◌, length, drop, refl, sym, ◌∙◌, ap, subst}
+use Rattle.std.proofs.Common.{◌≡◌, ℕ, suc, ◌==◌, ◌&&◌, ◌⊎◌, inl, inr, Bool, true, false, cond, Option, Some, None, Ok, List, [], ◌∷◌, ◌++◌, length, drop, refl, sym, ◌∙◌, ap, subst}
 use Rattle.std.proofs.lemmas.Bool.{cases_Bool, cond-true, cond-false, eqb-true, and_parts}
-use Rattle.rds_wire.specs.declared.frame.Frame.{Frame}
 use Rattle.rds_model.specs.declared.entry.Entry.{Entry}
 use Rattle.rds_model.specs.declared.entry.Entry.TheVariants.{Accept, Cancel, Open, Pull, Read, Shut, Bad}
-use Rattle.rds_model.specs.declared.entry.Outcome.{Outcome}
 use Rattle.rds_model.specs.declared.order.Datagram.{Datagram}
-use Rattle.rds_model.specs.Honest.{Begins}
 use Rattle.rds_model.specs.Past.{newest_stream, open_stream}
 use Rattle.rds_script.specs.declared.script.Command.{Command}
 use Rattle.rds_script.specs.declared.script.Placed.{Placed}
 use Rattle.rds_script.specs.declared.script.Script.{Script}
 use Rattle.rds_history.specs.Events.{Event, Entered, Received}
-use Rattle.rds_history.specs.Courses.{Course, Full, and_then}
 use Rattle.rds_history.specs.History.{after, history}
 use Rattle.rds_history.specs.Journals.{journal}
-use Rattle.rds_history.specs.Open.{opens, opens_end, shuts_end, shuts_on}
+use Rattle.rds_history.specs.Open.{opens_end, shuts_end, shuts_on}
 use Rattle.rds_history.specs.Sockets.{delivered, delivery, received, queue}
 use Rattle.rds_play.specs.Playing.{course}
 use Rattle.rds_play.specs.Reliable.{HandsOutInOrder}

@@ -1,40 +1,15 @@
 -- Each command leaves the ends of connections in pairs: both have a stream, or none has.
-use Rattle.std.proofs.Common.{◌≡◌, ◌⊎◌, inl, inr, ⊎_elim, ℕ, zero, suc, ◌+◌, ◌-◌, ◌==◌, ◌&&◌, ◌<◌, Bool, true, false, cond, not, Option, Some, None, Result, Ok, Err, List, [], ◌∷◌, length, filter, refl, sym, ◌∙◌, ap, subst}
-use Rattle.std.specs.Prelude.{nat_lt, unwrap_or, codes}
-use Rattle.std.specs.Option.{option_map}
+use Rattle.std.proofs.Common.{◌≡◌, ◌⊎◌, inl, inr, ⊎_elim, ℕ, suc, ◌==◌, ◌&&◌, Bool, true, false, cond, Option, Some, None, Ok, Err, List, [], ◌∷◌, refl, sym, ◌∙◌, ap, subst}
 use Rattle.std.proofs.lemmas.Bool.{cases_Bool, cond-true, cond-false, eqb-true, and_cases, and_left, and_right, and_parts}
-use Rattle.rds_wire.specs.declared.frame.Frame.{Frame}
 use Rattle.rds_model.specs.declared.entry.Entry.{Entry}
-use Rattle.rds_model.specs.declared.entry.Entry.TheVariants.{Accept, Cancel, Open, Pull, Read, Shut}
-use Rattle.rds_model.specs.declared.entry.TheConstants.{NO_SLOT}
-use Rattle.rds_model.specs.declared.entry.Outcome.{Outcome}
-use Rattle.rds_model.specs.declared.entry.Outcome.TheVariants as outcome
-use Rattle.rds_model.specs.declared.entry.Target.TheVariants.{Port, All}
-use Rattle.rds_model.specs.declared.order.Datagram.{Datagram}
-use Rattle.rds_model.specs.Owed.{owed}
+use Rattle.rds_model.specs.declared.entry.Entry.TheVariants.{Open, Shut}
 use Rattle.rds_model.specs.Past.{open_stream, newest_stream}
-use Rattle.rds_model.specs.Reading.{verdict_of}
-use Rattle.rds_text.specs.Ports.{below}
-use Rattle.rds_script.specs.declared.script.Placed.{Placed}
 use Rattle.rds_script.specs.declared.script.Command.{Command}
-use Rattle.rds_script.specs.declared.script.Command.TheVariants as command
-use Rattle.rds_history.specs.Events.{Event, Entered, Bound, Closed, Received, Marked, Fed, Said}
-use Rattle.rds_history.specs.Courses.{Course, Full, and_then, ready, enters, says, unless, each, again, if_moved}
-use Rattle.rds_history.specs.Journals.{journal, moved, in_flight, is_marked, own_map, newest_pull}
-use Rattle.rds_history.specs.Sockets.{binds, holder, queue, queued, receive_buffer}
-use Rattle.rds_cong.specs.Limit.{congested_after}
-use Rattle.rds_history.specs.Mark.{marked, noted}
-use Rattle.rds_history.specs.Bind.{bind, bind_any, bind_refusal, free_port}
-use Rattle.rds_history.specs.Send.{send, send_from, send_refusal}
-use Rattle.rds_history.specs.Recv.{recv, recv_from, recv_first}
-use Rattle.rds_history.specs.Cancel.{cancel, cancel_from, close, close_from, unbinds, unmarked}
-use Rattle.rds_history.specs.Open.{opens, opens_end, open_on, open_pair, shuts_on, shuts_end, cut_on, cut}
-use Rattle.rds_history.specs.Reading.{pulls, pulls_on, pulls_frame, reads, reads_on, reads_with, answers, outcome_at}
-use Rattle.rds_history.specs.Move.{reads_whole, feeds, loads, loads_behind, comes, turn, carries, move, move_on, portion}
-use Rattle.rds_history.specs.Drain.{Pair, pairs, opens_if_closed, opens_closed, both_ways, round, rounds, drain}
+use Rattle.rds_history.specs.Events.{Event, Entered}
+use Rattle.rds_history.specs.Courses.{Course}
+use Rattle.rds_history.specs.Journals.{journal}
+use Rattle.rds_history.specs.Open.{opens, opens_end, shuts_on, shuts_end}
 use Rattle.rds_history.specs.History.{after}
-use Rattle.rds_history.specs.Lines.{cut_line, drained_line, move_line, recv_none_line}
-use Rattle.rds_history.specs.Refusals.{no_route, socket_refused_line, pair_refused_line, send_refused_line}
 use Rattle.rds_play.specs.Pairing.{IsPaired}
 use Rattle.rds_play.proofs.Always.{Holds, IsKept, IsQuiet, holds_then, holds_enters, keeps_after}
 use Rattle.rds_play.proofs.Journaling.{journal_here}

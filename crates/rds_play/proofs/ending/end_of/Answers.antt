@@ -1,10 +1,5 @@
-use Rattle.std.proofs.Common.{◌≡◌, ℕ, ◌<◌, ◌==◌, not, List, length, map, take, get_or, sym, ◌∙◌, ap, subst, arith}
-use Rattle.std.specs.List.{filter}
-use Rattle.std.proofs.lemmas.List.{get_or-take, length-take-le}
-use Rattle.rds_text.specs.Ports.{below}
-use Rattle.rds_history.specs.Ends.{End, Side, Socket}
-use Rattle.rds_history.specs.Hosts.{address_of}
-use Rattle.rds_history.specs.Journals.{journal}
+use Rattle.std.proofs.Common.{◌≡◌, length, take, ◌∙◌, ap, arith}
+use Rattle.std.proofs.lemmas.List.{length-take-le}
 use Rattle.rds_play.specs.Ending.{sides}
 use Rattle.rds_play.proofs.Ended.{end_told}
 use Rattle.rds_play.proofs.ending.end_of.Goals as goal

@@ -1,16 +1,14 @@
-use Rattle.std.proofs.Common.{◌≡◌, ℕ, suc, ◌+◌, ◌*◌, ◌<◌, ◌≤◌, List, [], ◌∷◌, ◌++◌, length, map, take, drop, get_or, vec_len, sym, ◌∙◌, ap, subst, arith}
-use Rattle.std.proofs.lemmas.List.{drop-drop, get_or-take, length-take-le, length_push, map-id}
+use Rattle.std.proofs.Common.{◌≡◌, suc, ◌+◌, ◌*◌, ◌<◌, List, [], ◌∷◌, ◌++◌, length, map, take, drop, get_or, sym, ◌∙◌, ap, subst, arith}
+use Rattle.std.proofs.lemmas.List.{drop-drop, get_or-take, length-take-le, length_push}
 use Rattle.std.proofs.lemmas.Iterator.Adapters.{YieldsList-from_vec}
 use Rattle.std.proofs.lemmas.Iterator.Consumers.{YieldsList-end, YieldsList-turn}
 use Rattle.std.specs.Vec.Iter.{into_iter_items, into_iter_len}
 use Rattle.rds_text.specs.Ports.{below}
-use Rattle.rds_history.specs.Events.{Event}
 use Rattle.rds_history.specs.History.{end_of}
-use Rattle.rds_history.specs.declared.ends.HostEnd.{HostEnd}
 use Rattle.rds_history.specs.Seen.{ends_of, end_of as end_seen}
 use Rattle.rds_play.specs.declared.host.Host.{Host}
 use Rattle.rds_play.specs.declared.link.Link.{Link}
-use Rattle.rds_play.specs.Ending.{TellHosts, TellLinks, TellRow}
+use Rattle.rds_play.specs.Ending.{TellRow}
 use Rattle.rds_play.specs.Telling.{TellsHost}
 use Rattle.rds_play.proofs.Ended.{ends_more, row_of}
 use Rattle.rds_play.proofs.ending.ends.Goals as goal

@@ -8,7 +8,6 @@ use Rattle.std.proofs.lemmas.Iterator.Adapters.{YieldsList-from_vec}
 use Rattle.std.proofs.lemmas.Iterator.Consumers.{YieldsList-end}
 use Rattle.rds_history.specs.Ends.{Side}
 use Rattle.rds_history.specs.Seen.{side_of}
-use Rattle.rds_play.specs.declared.link.Link.{Link}
 use Rattle.rds_play.specs.Ending.{sides}
 use Rattle.rds_play.proofs.Ended.{map_push, sides_more, sides_same}
 use Rattle.rds_play.proofs.ending.journals.Goals as goal

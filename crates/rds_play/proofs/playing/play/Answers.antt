@@ -1,4 +1,4 @@
-use Rattle.std.proofs.Common.{◌≡◌, ℕ, Global, String, Err, List, ◌++◌, subst}
+use Rattle.std.proofs.Common.{◌≡◌, Global, String, Err, List, ◌++◌, subst}
 use Rattle.std.specs.Prelude.{string_bytes}
 use Rattle.rds_link.specs.Told.{Takes}
 use Rattle.rds_history.specs.Events.{Event}

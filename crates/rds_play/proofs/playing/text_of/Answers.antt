@@ -10,7 +10,7 @@ use Rattle.rds_play.specs.Playing.{course}
 use Rattle.rds_play.specs.declared.world.World.{World}
 use Rattle.rds_play.specs.Telling.{Tells, state}
 use Rattle.rds_play.proofs.Addressed.{are_ends}
-use Rattle.rds_play.proofs.Givings.{made_of, gives_made, gives_memory, gives_stopped}
+use Rattle.rds_play.proofs.Givings.{made_of, gives_made}
 use Rattle.rds_play.proofs.playing.text_of.Goals as goal
 
 pub returns-clause-exact : goal.returns-clause-exact

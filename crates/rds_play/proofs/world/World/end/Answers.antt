@@ -1,4 +1,4 @@
-use Rattle.std.proofs.Common.{◌≡◌, ◌∙◌, ap}
+use Rattle.std.proofs.Common.{◌∙◌, ap}
 use Rattle.rds_history.specs.History.{ends}
 use Rattle.rds_play.proofs.world.World.end.Goals as goal
 
