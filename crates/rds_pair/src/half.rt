@@ -125,7 +125,7 @@ impl Half {
         ensures whole { IsWhole self.new.conn.log.past }
     {
         self.conn.open(stream);
-        self.out.wipe();
+        self.lose();
         self.conn.known();
     }
 
