@@ -1,20 +1,20 @@
 -- Which numbers are alive, and due on a stream, after each entry.
-use Rattle.std.proofs.Common.{◌≡◌, ◌⊎◌, inl, inr, ℕ, zero, suc, ◌+◌, ◌<◌, ◌≤◌, ◌&&◌, ◌||◌, ◌==◌, not, nat_lt, max, Bool, true, false, cond, Option, Some, None, is_some, List, [], ◌∷◌, ◌++◌, length, filter, refl, sym, ◌∙◌, ap, subst, arith}
-use Rattle.std.proofs.lemmas.Bool.{and_parts, and_from, or_right, or_left, or_cases, not-true, not_from_false, ltb-true, lt-ltb, eqb-true, ne_eqb, eq-eqb, cond_both, cases_Bool, cond-true, cond-false, cases_eq, false≢true, false_from_ne_true, both_ways}
+use Rattle.std.proofs.Common.{◌≡◌, inl, inr, ℕ, suc, ◌<◌, ◌≤◌, ◌&&◌, ◌||◌, ◌==◌, not, nat_lt, max, Bool, true, false, cond, Option, Some, None, is_some, List, [], ◌∷◌, ◌++◌, length, filter, refl, sym, ◌∙◌, ap, subst, arith}
+use Rattle.std.proofs.lemmas.Bool.{and_from, not_from_false, lt-ltb, ne_eqb, eq-eqb, cond-true, cond-false, false_from_ne_true}
 use Rattle.std.proofs.lemmas.List.Elements.{filter-append}
 use Rattle.rds_wire.specs.declared.frame.Frame.{Frame}
 use Rattle.rds_model.specs.declared.entry.Entry.{Entry}
-use Rattle.rds_model.specs.declared.entry.Entry.TheVariants.{Accept, Cancel, Open, Pull, Read, Shut, Bad}
+use Rattle.rds_model.specs.declared.entry.Entry.TheVariants.{Accept, Cancel, Pull, Read}
 use Rattle.rds_model.specs.declared.entry.Outcome.{Outcome}
 use Rattle.rds_model.specs.declared.entry.Target.{Target}
-use Rattle.rds_model.specs.Past.{Moment, now, before, Accepted, accepted, datagram, acked, highest, number, is_datagram, carries_number}
-use Rattle.rds_model.specs.Streams.{was_pulled, pulled_on}
+use Rattle.rds_model.specs.Past.{Accepted, accepted, datagram, acked, number, is_datagram, carries_number}
+use Rattle.rds_model.specs.Streams.{pulled_on}
 use Rattle.rds_model.specs.Alive.{is_cancelled, is_alive, covers, up_to, alive_numbers, due}
 use Rattle.rds_model.specs.Legal.{IsLegal}
-use Rattle.rds_model.proofs.Numbers.{Alive, alive_parts, alive_from, number_of_known, known_of_number}
+use Rattle.rds_model.proofs.Numbers.{alive_from, number_of_known}
 use Rattle.std.proofs.lemmas.Bool.{cases_lt, le-ltb}
 use Rattle.std.proofs.Math.Bool.{and-false}
-use Rattle.rds_conn.proofs.Filters.{filter_same_up_to, filter-filter, left_to_do, done_more, filter_none_done, filter_true}
+use Rattle.rds_conn.proofs.Filters.{filter_same_up_to, filter-filter, left_to_do, done_more, filter_true}
 use Rattle.rds_conn.proofs.Rising.{Rises, rises_filter, rises_up_to, without_lower}
 use Rattle.rds_conn.proofs.Bounds.{acked_within, highest_within, pulled_on-pulled, pulled-highest}
 

@@ -1,20 +1,18 @@
 -- How the counts of a legal journal bound one another.
-use Rattle.std.proofs.Common.{◌≡◌, ◌⊎◌, inl, inr, ℕ, zero, suc, ◌+◌, ◌<◌, ◌≤◌, ◌^◌, ◌&&◌, ◌||◌, ◌==◌, not, nat_lt, nat_le, max, Bool, true, false, cond, Option, Some, None, is_some, List, [], ◌∷◌, length, refl, sym, ◌∙◌, ap, subst, arith}
-use Rattle.std.proofs.lemmas.Bool.{and_parts, and_from, or_right, or_left, or_cases, eq-eqb, cases_lt, not-true, ltb-true, eqb-true, cond_both, cases_Bool, cond-true, cond-false, cases_eq, false≢true, ltb-false}
-use Rattle.rds_wire.specs.declared.frame.Frame.{Frame}
+use Rattle.std.proofs.Common.{◌≡◌, inl, inr, ℕ, ◌≤◌, ◌^◌, ◌&&◌, ◌||◌, ◌==◌, not, nat_lt, nat_le, max, Bool, true, false, cond, Some, None, is_some, List, [], ◌∷◌, length, refl, ap, arith}
+use Rattle.std.proofs.lemmas.Bool.{and_parts, and_from, or_right, or_left, or_cases, eq-eqb, cases_lt, eqb-true, cond_both, cases_Bool, cond-true, cond-false, cases_eq, false≢true, ltb-false}
 use Rattle.rds_wire.specs.declared.header.Header.{Header}
-use Rattle.rds_wire.specs.declared.kind.Malformed.{Malformed}
 use Rattle.rds_wire.specs.declared.kind.Malformed.TheVariants as malformed
 use Rattle.rds_wire.specs.declared.kind.TheConstants.{MAX_LENGTH}
 use Rattle.rds_wire.specs.Bytes.{computed}
 use Rattle.rds_wire.specs.Kinds.{cause, is_data, kind_of}
 use Rattle.rds_model.specs.declared.entry.Entry.{Entry}
-use Rattle.rds_model.specs.declared.entry.Entry.TheVariants.{Accept, Cancel, Open, Pull, Read, Shut, Bad}
-use Rattle.rds_model.specs.Past.{Moment, now, before, Accepted, accepted, datagram, acked, highest, number, is_datagram, carries_number}
+use Rattle.rds_model.specs.declared.entry.Entry.TheVariants.{Accept, Pull, Read}
+use Rattle.rds_model.specs.Past.{now, before, accepted, acked, highest, number, is_datagram, carries_number}
 use Rattle.rds_model.specs.Streams.{was_pulled, pulled_on}
 use Rattle.rds_model.specs.Alive.{is_alive}
-use Rattle.rds_model.specs.Legal.{IsLegal, IsLawfulPull, IsDataPull}
-use Rattle.rds_model.proofs.Numbers.{Alive, alive_parts, alive_from, number_of_known, known_of_number, highest_grows, accepted_grows, alive_earlier}
+use Rattle.rds_model.specs.Legal.{IsLegal}
+use Rattle.rds_model.proofs.Numbers.{number_of_known, highest_grows, accepted_grows, alive_earlier}
 use Rattle.rds_model.proofs.Legality.{lawful_pull, lawful_read}
 use Rattle.rds_model.proofs.LawfulFrames.{data_pull_of, number_of_pull}
 

@@ -1,12 +1,12 @@
 -- The bytes that are freed are those that are gone.
-use Rattle.std.proofs.Common.{◌≡◌, ◌⊎◌, inl, inr, ℕ, zero, suc, ◌+◌, ◌-◌, ◌<◌, ◌≤◌, ◌&&◌, ◌||◌, ◌==◌, not, nat_lt, Bool, true, false, cond, Option, Some, None, is_some, List, [], ◌∷◌, ◌++◌, length, filter, sum_by, refl, sym, ◌∙◌, ap, subst, arith, add-zero}
-use Rattle.std.specs.List.{filter_map, cons_option}
+use Rattle.std.proofs.Common.{◌≡◌, ℕ, suc, ◌+◌, ◌&&◌, ◌==◌, not, Bool, true, cond, Option, Some, None, is_some, List, [], ◌∷◌, length, sum_by, refl, sym, ◌∙◌, ap, add-zero}
+use Rattle.std.specs.List.{cons_option}
 use Rattle.std.specs.Option.{option_map}
 use Rattle.std.proofs.lemmas.Bool.{false≢true}
 use Rattle.std.proofs.Math.Bool.{and-false}
 use Rattle.rds_wire.specs.declared.frame.Frame.{Frame}
 use Rattle.rds_model.specs.declared.entry.Entry.{Entry}
-use Rattle.rds_model.specs.declared.entry.Entry.TheVariants.{Accept, Cancel, Open, Pull, Read, Shut, Bad}
+use Rattle.rds_model.specs.declared.entry.Entry.TheVariants.{Accept, Cancel, Read}
 use Rattle.rds_model.specs.declared.entry.Msg.{Msg}
 use Rattle.rds_model.specs.declared.entry.Outcome.{Outcome}
 use Rattle.rds_model.specs.declared.entry.Target.{Target}
@@ -18,8 +18,8 @@ use Rattle.rds_conn.specs.Freeing.{left_bytes}
 use Rattle.rds_conn.specs.Gone.{is_from, size, is_gone, gone}
 use Rattle.rds_conn.proofs.Totals.{total, total-cons, total-append, total_same_up_to, total_split}
 use Rattle.rds_conn.proofs.Filters.{filter-filter}
-use Rattle.rds_conn.proofs.Messages.{message_of, messages_of, AllKnown, alive_known}
-use Rattle.rds_conn.proofs.AliveSteps.{datagram_newest, datagram_other, alive_newest, alive_other}
+use Rattle.rds_conn.proofs.Messages.{messages_of, AllKnown, alive_known}
+use Rattle.rds_conn.proofs.AliveSteps.{datagram_other, alive_newest, alive_other}
 
 -- the bytes that a slot sent, and of those the ones that are alive
 abbrev from_slot : ℕ → List Entry → ℕ → Bool

@@ -1,24 +1,24 @@
 -- What a store holds after each entry.
-use Rattle.std.proofs.Common.{◌≡◌, ◌⊎◌, inl, inr, ℕ, zero, suc, ◌+◌, ◌-◌, ◌<◌, ◌≤◌, ◌&&◌, ◌||◌, ◌==◌, not, nat_lt, Bool, true, false, cond, Option, Some, None, is_some, List, [], ◌∷◌, ◌++◌, length, take, drop, map, filter, refl, sym, ◌∙◌, ap, subst, arith, add-one}
+use Rattle.std.proofs.Common.{◌≡◌, inl, inr, ℕ, zero, suc, ◌+◌, ◌≤◌, ◌&&◌, ◌==◌, not, nat_lt, Bool, true, false, cond, Option, Some, None, List, [], ◌∷◌, ◌++◌, length, take, drop, map, filter, refl, sym, ◌∙◌, ap, subst, arith, add-one}
 use Rattle.std.specs.Prelude.{slice_get}
-use Rattle.std.specs.List.{filter_map, cons_option}
+use Rattle.std.specs.List.{cons_option}
 use Rattle.std.specs.Option.{option_map}
 use Rattle.std.proofs.lemmas.Bool.{cases_Bool, cond-true, cond-false}
 use Rattle.std.proofs.lemmas.List.{map-append}
 use Rattle.rds_wire.specs.declared.frame.Frame.{Frame}
 use Rattle.rds_model.specs.declared.entry.Entry.{Entry}
-use Rattle.rds_model.specs.declared.entry.Entry.TheVariants.{Accept, Cancel, Open, Pull, Read, Shut, Bad}
+use Rattle.rds_model.specs.declared.entry.Entry.TheVariants.{Accept, Cancel, Open, Pull, Read}
 use Rattle.rds_model.specs.declared.entry.Msg.{Msg}
 use Rattle.rds_model.specs.declared.entry.Outcome.{Outcome}
 use Rattle.rds_model.specs.declared.entry.Target.{Target}
 use Rattle.rds_model.specs.Past.{Accepted, accepted, datagram, open_stream, is_datagram, number}
-use Rattle.rds_model.specs.Alive.{is_alive, up_to, alive_numbers, due, covers, aims_at}
+use Rattle.rds_model.specs.Alive.{alive_numbers, due, covers, aims_at}
 use Rattle.rds_model.specs.Store.{message, alive_messages, due_on, Holds}
 use Rattle.rds_model.specs.Legal.{IsLegal}
-use Rattle.rds_conn.specs.Choosing.{IsMessage, IsFirstDue, IsNextDue}
-use Rattle.rds_conn.proofs.Messages.{message_of, messages_of, AllKnown, alive_known, messages_sieved, numbers_of, messages_after_accept, messages_after_cancel, messages_after_read}
-use Rattle.rds_conn.proofs.AliveSteps.{alive_after_accept, due_after_accept, alive_after_cancel, due_after_cancel, alive_after_read, due_after_read, due_after_first, due_after_other, is_spared, alive_rises}
-use Rattle.rds_conn.proofs.Untouched.{Untouched, untouched, due_of_untouched}
+use Rattle.rds_conn.specs.Choosing.{IsMessage, IsNextDue}
+use Rattle.rds_conn.proofs.Messages.{messages_of, alive_known, numbers_of, messages_after_accept, messages_after_cancel, messages_after_read}
+use Rattle.rds_conn.proofs.AliveSteps.{alive_after_accept, due_after_accept, alive_after_cancel, due_after_cancel, alive_after_read, due_after_read, due_after_first, due_after_other, is_spared}
+use Rattle.rds_conn.proofs.Untouched.{Untouched, due_of_untouched}
 
 -- a sieve of what is behind a mark
 pub drop_filter : {X : Type 0} (p : X → Bool) (m : ℕ) (xs : List X) → drop (length (filter p (take m xs))) (filter p xs) ≡ filter p (drop m xs)

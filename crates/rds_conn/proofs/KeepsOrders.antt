@@ -1,39 +1,36 @@
 -- What a connection keeps where a datagram is accepted, or datagrams are taken back.
-use Rattle.std.proofs.Common.{◌≡◌, ◌≢◌, ◌⊎◌, inl, inr, ℕ, zero, suc, ◌+◌, ◌-◌, ◌*◌, ◌<◌, ◌≤◌, ◌^◌, ◌&&◌, ◌==◌, not, Bool, true, false, cond, Option, Some, None, is_some, IfSome, List, [], ◌∷◌, ◌++◌, length, take, map, filter, sum, sum_by, get_or, set, refl, sym, ◌∙◌, ap, subst, arith, length-append, get_or-set_same, get_or-set_other}
+use Rattle.std.proofs.Common.{◌≡◌, ◌≢◌, ◌⊎◌, inl, inr, ℕ, zero, suc, ◌+◌, ◌-◌, ◌*◌, ◌<◌, ◌≤◌, ◌^◌, ◌==◌, not, Bool, true, false, cond, Option, Some, None, is_some, IfSome, List, [], ◌∷◌, ◌++◌, length, take, map, filter, sum, get_or, refl, sym, ◌∙◌, ap, subst, arith, length-append, get_or-set_same, get_or-set_other}
 use Rattle.std.specs.Prelude.{All}
-use Rattle.std.proofs.lemmas.Bool.{cases_eq, cases_lt, cases_Bool, and_parts, eqb-true, ne_eqb, eq-eqb, cond_both}
+use Rattle.std.proofs.lemmas.Bool.{cases_eq, cases_lt, and_parts, eqb-true, ne_eqb, eq-eqb}
 use Rattle.std.proofs.lemmas.List.{length-map, length-set, set_past}
 use Rattle.std.proofs.lemmas.List.Sums.{sum_by-append, sum_by-cons, sum_by-set}
 use Rattle.std.proofs.lemmas.List.Filters.{sum_by-filter_both}
 use Rattle.std.proofs.lemmas.List.Elements.{All-nil, All-cons}
-use Rattle.rds_wire.specs.declared.frame.Frame.{Frame}
 use Rattle.rds_wire.specs.declared.kind.TheConstants.{MAX_LENGTH}
 use Rattle.rds_model.specs.declared.entry.Entry.{Entry}
-use Rattle.rds_model.specs.declared.entry.Entry.TheVariants.{Accept, Cancel, Open, Pull, Read, Shut, Bad}
+use Rattle.rds_model.specs.declared.entry.Entry.TheVariants.{Accept, Cancel}
 use Rattle.rds_model.specs.declared.entry.Msg.{Msg}
 use Rattle.rds_model.specs.declared.entry.Target.{Target}
 use Rattle.rds_model.specs.declared.entry.TheConstants.{NO_SLOT}
-use Rattle.rds_model.specs.Log.{Log}
-use Rattle.rds_model.specs.Past.{accepted, datagram, open_stream, newest_stream, highest, last_passed}
+use Rattle.rds_model.specs.Past.{accepted, datagram}
 use Rattle.rds_model.specs.Alive.{alive_numbers, aims_at, covers}
-use Rattle.rds_model.specs.Legal.{IsLegal, IsWhole, IsLawful, IsLawfulAccept}
-use Rattle.rds_model.specs.Store.{Holds, alive_messages}
+use Rattle.rds_model.specs.Legal.{IsLegal, IsLawfulAccept}
+use Rattle.rds_model.specs.Store.{alive_messages}
 use Rattle.rds_model.proofs.Numbers.{number_of_known}
 use Rattle.rds_msgs.specs.Held.{Held, bytes_of, takes, taken, left, cancelled, numbers}
 use Rattle.rds_conn.specs.declared.conn.Conn.TheInside.{Inside}
 use Rattle.rds_conn.specs.Freeing.{with_freed, left_bytes, Frees}
-use Rattle.rds_conn.specs.Keeping.{Keeps, HasRoom, IsCounted, IsLinked, IsReading, IsStored, IsFreed}
-use Rattle.rds_conn.specs.Asking.{IsAsking}
+use Rattle.rds_conn.specs.Keeping.{Keeps, IsLinked, IsStored, IsFreed}
 use Rattle.rds_conn.proofs.Filters.{filter_same, not_not}
 use Rattle.rds_conn.proofs.Bounds.{accepted_within}
-use Rattle.rds_conn.proofs.Rising.{Rises, rises_bounds}
+use Rattle.rds_conn.proofs.Rising.{Rises}
 use Rattle.rds_conn.proofs.AliveSteps.{alive_rises}
-use Rattle.rds_conn.proofs.Messages.{messages_of, numbers_of, alive_known, messages_after_cancel}
+use Rattle.rds_conn.proofs.Messages.{numbers_of, alive_known, messages_after_cancel}
 use Rattle.rds_conn.proofs.Held.{AllTell, messages_tell, numbers_sieved, holds_after_accept, holds_after_cancel}
-use Rattle.rds_conn.proofs.Totals.{total, total-cons, total_sieved, total_all, total_none}
+use Rattle.rds_conn.proofs.Totals.{total_sieved, total_all, total_none}
 use Rattle.rds_conn.specs.Gone.{gone}
 use Rattle.rds_conn.proofs.GoneBytes.{gone_after_cancel}
-use Rattle.rds_conn.proofs.KeepsStreams.{whole_with, room_once}
+use Rattle.rds_conn.proofs.KeepsStreams.{whole_with}
 
 -- each message has a number that was accepted
 pub messages_below : (past : List Entry) (ms : List Msg) → AllTell past ms → All (λ (m : Msg). m.num < suc (accepted past)) ms

@@ -1,39 +1,31 @@
 -- What a connection keeps where a frame is passed.
-use Rattle.std.proofs.Common.{◌≡◌, ◌≢◌, ◌⊎◌, inl, inr, ℕ, zero, suc, ◌+◌, ◌-◌, ◌*◌, ◌<◌, ◌≤◌, ◌^◌, ◌&&◌, ◌||◌, ◌==◌, nat_lt, Bool, true, false, cond, Option, Some, None, IfSome, IsSome, List, [], ◌∷◌, ◌++◌, length, take, filter, sum, get_or, refl, sym, ◌∙◌, ap, subst, arith}
+use Rattle.std.proofs.Common.{◌≡◌, inr, ℕ, suc, ◌+◌, ◌-◌, ◌<◌, ◌≤◌, ◌^◌, ◌&&◌, ◌||◌, nat_lt, Bool, cond, Option, Some, None, IfSome, List, [], ◌∷◌, ◌++◌, length, filter, sum, get_or, refl, sym, ◌∙◌, ap, subst, arith}
 use Rattle.std.proofs.lemmas.Bool.{eq-eqb}
 use Rattle.rds_wire.specs.declared.frame.Frame.{Frame}
 use Rattle.rds_wire.specs.declared.header.Header.{Header}
 use Rattle.rds_wire.specs.declared.header.TheConstants.{ACK_REQUIRED}
-use Rattle.rds_wire.specs.declared.kind.TheConstants.{MAX_LENGTH}
-use Rattle.rds_wire.specs.Bytes.{IsHeader, frame_bytes}
+use Rattle.rds_wire.specs.Bytes.{frame_bytes}
 use Rattle.rds_wire.specs.Kinds.{carries, kind_of, cause}
-use Rattle.rds_frame.specs.Holding.{Held as Frames, IsHeld, held_bytes, nothing_held, waiting_bytes}
-use Rattle.rds_frame.specs.Splitting.{IsClear, IsFrame, IsSound}
+use Rattle.rds_frame.specs.Holding.{Held as Frames, held_bytes}
+use Rattle.rds_frame.specs.Splitting.{IsClear, IsFrame}
 use Rattle.rds_model.specs.declared.entry.Entry.{Entry}
 use Rattle.rds_model.specs.declared.entry.Entry.TheVariants.{Accept, Read}
 use Rattle.rds_model.specs.declared.entry.Msg.{Msg}
 use Rattle.rds_model.specs.declared.entry.Outcome.{Outcome}
 use Rattle.rds_model.specs.declared.entry.Outcome.TheVariants as outcome
-use Rattle.rds_model.specs.declared.entry.Verdict.{Verdict}
 use Rattle.rds_model.specs.declared.entry.Verdict.TheVariants as verdict
 use Rattle.rds_model.specs.declared.entry.TheConstants.{NO_SLOT}
-use Rattle.rds_model.specs.Log.{Log}
-use Rattle.rds_model.specs.Past.{accepted, open_stream, highest, last_passed, passes, number}
+use Rattle.rds_model.specs.Past.{accepted, highest, passes, number}
 use Rattle.rds_model.specs.Owed.{answers_kind, is_asked, wants_answer}
-use Rattle.rds_model.specs.Reading.{verdict_of, Obeys, IsDelivered, max_slots}
-use Rattle.rds_model.specs.Legal.{IsLegal, IsWhole, IsLawful, IsLawfulRead, IsPong, Continues, pong_for, pong_to}
-use Rattle.rds_model.specs.Store.{Holds, alive_messages}
+use Rattle.rds_model.specs.Reading.{verdict_of, Obeys}
+use Rattle.rds_model.specs.Legal.{IsLegal, IsLawfulRead, pong_for}
 use Rattle.rds_model.proofs.Owing.{settled_continues}
 use Rattle.rds_msgs.specs.Held.{Held, bytes_of}
 use Rattle.rds_conn.specs.declared.asking.Asking.{Asking}
 use Rattle.rds_conn.specs.declared.conn.Conn.TheInside.{Inside}
-use Rattle.rds_conn.specs.declared.conn.Found.{Found}
-use Rattle.rds_conn.specs.declared.conn.Found.TheVariants as found
-use Rattle.rds_conn.specs.Asking.{IsAsking}
-use Rattle.rds_conn.specs.Freeing.{left_bytes, acknowledged, Frees}
+use Rattle.rds_conn.specs.Freeing.{acknowledged, Frees}
 use Rattle.rds_conn.specs.Gone.{gone}
-use Rattle.rds_conn.specs.Passing.{Matches, IsLookedUp, outcome_of, delivery_of}
-use Rattle.rds_conn.specs.Keeping.{Keeps, HasRoom, IsCounted, IsLinked, IsReading, IsStored, IsFreed}
+use Rattle.rds_conn.specs.Keeping.{Keeps, IsCounted, IsLinked, IsReading, IsStored, IsFreed}
 use Rattle.rds_conn.proofs.Messages.{messages_after_read}
 use Rattle.rds_conn.proofs.Held.{holds_after_read}
 use Rattle.rds_conn.proofs.GoneBytes.{gone_after_read, gone_after_accept}

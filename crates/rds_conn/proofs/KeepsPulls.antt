@@ -1,31 +1,30 @@
 -- What a connection keeps where a frame is pulled.
-use Rattle.std.proofs.Common.{◌≡◌, ◌≢◌, ◌⊎◌, inl, inr, ℕ, zero, suc, ◌+◌, ◌-◌, ◌*◌, ◌<◌, ◌≤◌, ◌^◌, ◌&&◌, ◌||◌, ◌==◌, max, Bool, true, false, cond, Option, Some, None, IfSome, IsSome, is_some, List, [], ◌∷◌, length, map, drop, sum, refl, sym, ◌∙◌, ap, subst, arith, rules, length-drop, nat_le, nat_lt}
+use Rattle.std.proofs.Common.{◌≡◌, ℕ, suc, ◌+◌, ◌-◌, ◌<◌, ◌≤◌, ◌^◌, ◌||◌, ◌==◌, max, Bool, true, false, cond, Option, Some, None, IfSome, IsSome, is_some, List, [], ◌∷◌, length, map, drop, refl, sym, ◌∙◌, ap, subst, arith, rules, length-drop, nat_le, nat_lt}
 use Rattle.std.specs.Prelude.{IsTrue, ◌↔◌}
 use Rattle.rds_model.specs.declared.owed.TheConstants.{MAX_UNASKED, MAX_UNASKED_BYTES}
 use Rattle.rds_model.specs.Streams.{was_pulled}
-use Rattle.std.proofs.lemmas.Bool.{cases_Bool, cond-true, cond-false, false≢true, eq-eqb, ne_eqb}
+use Rattle.std.proofs.lemmas.Bool.{cond-true, cond-false, false≢true, eq-eqb, ne_eqb}
 use Rattle.rds_wire.specs.declared.frame.Frame.{Frame}
 use Rattle.rds_wire.specs.declared.header.TheConstants.{ACK_REQUIRED, RETRANSMITTED}
-use Rattle.rds_wire.specs.declared.kind.TheConstants.{MAP_LENGTH, MAX_LENGTH}
-use Rattle.rds_wire.specs.Kinds.{kind_of, is_data}
+use Rattle.rds_wire.specs.declared.kind.TheConstants.{MAP_LENGTH}
+use Rattle.rds_wire.specs.Kinds.{is_data}
 use Rattle.rds_model.specs.declared.entry.Entry.{Entry}
 use Rattle.rds_model.specs.declared.entry.Entry.TheVariants.{Pull}
 use Rattle.rds_model.specs.declared.entry.Msg.{Msg}
-use Rattle.rds_model.specs.Past.{Moment, now, before, Accepted, accepted, datagram, open_stream, highest, number, is_datagram}
+use Rattle.rds_model.specs.Past.{now, before, Accepted, datagram, open_stream, highest, number, is_datagram}
 use Rattle.rds_model.specs.Alive.{due}
-use Rattle.rds_model.specs.Owed.{asks, is_map, is_map_kind, last_map, is_last_map, is_asked, must_ask, asks_with, map_frame, ack_frame, data_frame, data_flags, header_of, flag_if, owed, owed_behind}
-use Rattle.rds_model.specs.Legal.{IsLegal, IsLawfulPull}
+use Rattle.rds_model.specs.Owed.{asks, is_map, is_map_kind, last_map, is_last_map, is_asked, must_ask, asks_with, map_frame, ack_frame, data_frame, data_flags, header_of, flag_if, owed}
+use Rattle.rds_model.specs.Legal.{IsLawfulPull}
 use Rattle.rds_model.specs.Store.{Holds, due_on, message}
 use Rattle.std.proofs.lemmas.List.{length-map}
 use Rattle.rds_model.proofs.Numbers.{highest_grows, number_of_known}
 use Rattle.rds_model.proofs.LawfulFrames.{kind_of_map_frame, map_asks_not, kind_of_ack_frame, ack_asks, kind_of_data_frame, data_asks, number_of_data}
 use Rattle.rds_model.proofs.Owing.{owed_is_lawful}
-use Rattle.rds_msgs.specs.Held.{Held, bytes_of}
 use Rattle.rds_conn.specs.declared.asking.Asking.{Asking}
 use Rattle.rds_conn.specs.declared.conn.Conn.TheInside.{Inside}
 use Rattle.rds_conn.specs.Asking.{IsAsking}
 use Rattle.rds_conn.specs.Choosing.{IsFirstDue}
-use Rattle.rds_conn.specs.Keeping.{Keeps, HasRoom, IsCounted, IsLinked, IsReading, IsStored, IsFreed}
+use Rattle.rds_conn.specs.Keeping.{Keeps, IsLinked}
 use Rattle.rds_conn.proofs.Held.{holds_after_data, holds_after_other}
 use Rattle.rds_conn.proofs.KeepsStreams.{whole_with}
 use Rattle.rds_conn.proofs.Places.{frame_of}

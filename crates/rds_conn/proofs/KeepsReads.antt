@@ -1,8 +1,7 @@
 -- What a connection keeps where bytes are taken of the stream.
-use Rattle.std.proofs.Common.{◌≡◌, ◌⊎◌, inl, inr, ℕ, ◌+◌, ◌-◌, ◌<◌, ◌≤◌, Bool, true, false, cond, Option, Some, None, IfSome, IsSome, List, [], ◌∷◌, ◌++◌, length, take, refl, sym, ◌∙◌, ap, subst, arith, length-append, length-take, rules}
+use Rattle.std.proofs.Common.{◌≡◌, ℕ, ◌+◌, ◌-◌, ◌<◌, ◌≤◌, Some, None, IfSome, IsSome, List, [], ◌∷◌, length, take, refl, sym, ◌∙◌, ap, subst, arith, length-append, length-take, rules}
 use Rattle.rds_wire.specs.declared.header.Header.{Header}
 use Rattle.rds_wire.specs.declared.kind.Malformed.{Malformed}
-use Rattle.rds_wire.specs.Bytes.{header_bytes, IsHeader}
 use Rattle.rds_wire.specs.Kinds.{cause}
 use Rattle.rds_wire.proofs.Headers.{length-header_bytes}
 use Rattle.rds_frame.specs.declared.took.Took.{Took}
@@ -10,13 +9,11 @@ use Rattle.rds_frame.specs.Holding.{Held as Frames, IsHeld, held_bytes, refusing
 use Rattle.rds_frame.specs.Taking.{Takes, Refuses as RefusesHeader}
 use Rattle.rds_model.specs.declared.entry.Entry.TheVariants.{Bad}
 use Rattle.rds_model.specs.Log.{Log}
-use Rattle.rds_model.specs.Past.{open_stream, highest}
 use Rattle.rds_model.specs.Legal.{IsLawfulBad}
 use Rattle.rds_conn.specs.declared.conn.Conn.TheInside.{Inside}
-use Rattle.rds_conn.specs.declared.conn.Fed.{Fed}
-use Rattle.rds_conn.specs.Connection.{Connection, logged, taken_bytes}
-use Rattle.rds_conn.specs.Feeding.{Feeds, Refuses}
-use Rattle.rds_conn.specs.Keeping.{Keeps, IsReading, seen}
+use Rattle.rds_conn.specs.Connection.{Connection, logged}
+use Rattle.rds_conn.specs.Feeding.{Refuses}
+use Rattle.rds_conn.specs.Keeping.{Keeps, seen}
 use Rattle.rds_conn.proofs.Reading.{clear_after}
 
 pub keeps_fed : (c : Inside) (k : ℕ) (piece : List ℕ) (took : Took) (splitter : Frames) → Keeps c → c.stream ≡ Some k →

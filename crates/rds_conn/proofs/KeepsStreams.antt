@@ -1,24 +1,23 @@
 -- What a connection keeps where a stream is opened, or comes to its end.
-use Rattle.std.proofs.Common.{◌≡◌, ◌⊎◌, inl, inr, ℕ, zero, suc, ◌+◌, ◌-◌, ◌*◌, ◌<◌, ◌≤◌, ◌^◌, Bool, true, false, cond, Option, Some, None, List, [], ◌∷◌, ◌++◌, length, sum, sum_by, refl, sym, ◌∙◌, ap, subst, arith, length-append}
+use Rattle.std.proofs.Common.{◌≡◌, inl, ℕ, ◌+◌, ◌-◌, ◌*◌, ◌<◌, ◌≤◌, false, Option, Some, None, List, [], ◌∷◌, length, sum, sum_by, refl, sym, ◌∙◌, ap, subst, arith, length-append}
 use Rattle.std.specs.Option.{MatchOption}
 use Rattle.rds_wire.specs.declared.frame.Frame.{Frame}
 use Rattle.rds_wire.specs.declared.header.Header.{Header}
 use Rattle.rds_wire.specs.declared.kind.Malformed.{Malformed}
 use Rattle.rds_wire.specs.declared.kind.TheConstants.{MAX_LENGTH}
-use Rattle.rds_wire.specs.Bytes.{header_bytes, IsHeader}
+use Rattle.rds_wire.specs.Bytes.{header_bytes}
 use Rattle.rds_wire.proofs.Headers.{length-header_bytes}
-use Rattle.rds_frame.specs.Holding.{Held as Frames, IsHeld, held_bytes, nothing_held}
+use Rattle.rds_frame.specs.Holding.{nothing_held}
 use Rattle.rds_frame.specs.Splitting.{IsClear}
 use Rattle.rds_model.specs.declared.entry.Entry.{Entry}
-use Rattle.rds_model.specs.declared.entry.Entry.TheVariants.{Accept, Cancel, Open, Pull, Read, Shut, Bad}
+use Rattle.rds_model.specs.declared.entry.Entry.TheVariants.{Open, Shut, Bad}
 use Rattle.rds_model.specs.Log.{Log}
 use Rattle.rds_model.specs.Past.{accepted, open_stream, newest_stream}
-use Rattle.rds_model.specs.Alive.{alive_numbers}
-use Rattle.rds_model.specs.Legal.{IsLegal, IsWhole, IsLawful, IsLawfulBad, IsPong, Continues, pong_to}
+use Rattle.rds_model.specs.Legal.{IsWhole, IsLawful, IsLawfulBad, IsPong, pong_to}
 use Rattle.rds_model.specs.Store.{Holds, due_on}
 use Rattle.rds_msgs.specs.Held.{Held, bytes_of}
 use Rattle.rds_conn.specs.declared.conn.Conn.TheInside.{Inside}
-use Rattle.rds_conn.specs.Keeping.{Keeps, HasRoom, IsCounted, IsLinked, IsReading, IsStored, IsFreed}
+use Rattle.rds_conn.specs.Keeping.{Keeps, HasRoom, IsCounted, IsReading}
 use Rattle.rds_conn.proofs.Held.{holds_all, due_after_open}
 use Rattle.rds_conn.proofs.Untouched.{untouched}
 

@@ -1,22 +1,22 @@
 -- The messages of the numbers that are alive.
-use Rattle.std.proofs.Common.{◌≡◌, ◌⊎◌, inl, inr, ℕ, zero, suc, ◌+◌, ◌-◌, ◌<◌, ◌≤◌, ◌&&◌, ◌||◌, ◌==◌, not, nat_lt, Bool, true, false, cond, Option, Some, None, is_some, List, [], ◌∷◌, ◌++◌, length, take, drop, map, filter, refl, sym, ◌∙◌, ap, subst, arith}
+use Rattle.std.proofs.Common.{◌≡◌, inl, inr, ℕ, suc, ◌≤◌, ◌&&◌, ◌==◌, not, nat_lt, Bool, true, cond, Option, Some, None, is_some, List, [], ◌∷◌, ◌++◌, length, map, filter, refl, sym, ◌∙◌, ap}
 use Rattle.std.specs.List.{filter_map, cons_option}
 use Rattle.std.specs.Option.{option_map}
-use Rattle.std.proofs.lemmas.Bool.{cond_both, false≢true, cases_Bool, cond-true, cond-false, and_parts}
+use Rattle.std.proofs.lemmas.Bool.{cond_both, false≢true, cases_Bool, cond-true, cond-false}
 use Rattle.std.proofs.lemmas.List.Elements.{filter_map-append}
 use Rattle.rds_wire.specs.declared.frame.Frame.{Frame}
 use Rattle.rds_model.specs.declared.entry.Entry.{Entry}
-use Rattle.rds_model.specs.declared.entry.Entry.TheVariants.{Accept, Cancel, Open, Pull, Read, Shut, Bad}
+use Rattle.rds_model.specs.declared.entry.Entry.TheVariants.{Accept, Cancel, Read}
 use Rattle.rds_model.specs.declared.entry.Msg.{Msg}
 use Rattle.rds_model.specs.declared.entry.Outcome.{Outcome}
 use Rattle.rds_model.specs.declared.entry.Target.{Target}
-use Rattle.rds_model.specs.Past.{Accepted, accepted, datagram, open_stream}
-use Rattle.rds_model.specs.Alive.{is_alive, up_to, alive_numbers, due, covers, aims_at}
-use Rattle.rds_model.specs.Store.{message, alive_messages, due_on, Holds}
+use Rattle.rds_model.specs.Past.{Accepted, accepted, datagram}
+use Rattle.rds_model.specs.Alive.{is_alive, up_to, alive_numbers, covers, aims_at}
+use Rattle.rds_model.specs.Store.{message, alive_messages}
 use Rattle.rds_model.specs.Legal.{IsLegal}
 use Rattle.rds_model.proofs.Numbers.{alive_parts}
-use Rattle.rds_conn.proofs.Rising.{Rises, rises_filter, rises_bounds}
-use Rattle.rds_conn.proofs.AliveSteps.{alive_after_accept, due_after_accept, alive_after_cancel, due_after_cancel, alive_after_read, due_after_read, datagram_newest, datagram_other, is_spared, alive_rises}
+use Rattle.rds_conn.proofs.Rising.{Rises, rises_bounds}
+use Rattle.rds_conn.proofs.AliveSteps.{alive_after_accept, alive_after_cancel, alive_after_read, datagram_newest, datagram_other, is_spared, alive_rises}
 
 -- the message of a number, where it was accepted
 abbrev pub message_of : List Entry → ℕ → Option Msg

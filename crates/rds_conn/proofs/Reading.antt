@@ -1,15 +1,14 @@
 -- What is read of a stream stays free of faulty headers.
-use Rattle.std.proofs.Common.{◌≡◌, ◌⊎◌, inl, inr, ℕ, zero, suc, ◌+◌, ◌-◌, ◌<◌, ◌≤◌, ◌&&◌, ◌||◌, ◌==◌, not, nat_lt, nat_le, ◌^◌, Bool, true, false, cond, Option, Some, None, List, [], ◌∷◌, ◌++◌, length, take, drop, refl, sym, ◌∙◌, ap, subst, arith, length-append, append_assoc}
+use Rattle.std.proofs.Common.{◌≡◌, inl, inr, ℕ, ◌<◌, ◌≤◌, ◌&&◌, ◌||◌, ◌==◌, not, nat_lt, nat_le, ◌^◌, Bool, true, false, cond, Some, None, List, [], ◌∷◌, ◌++◌, length, refl, sym, ◌∙◌, ap, subst, arith, append_assoc}
 use Rattle.std.proofs.lemmas.Bool.{cases_lt, le-ltb}
 use Rattle.rds_wire.specs.declared.frame.Frame.{Frame}
 use Rattle.rds_wire.specs.declared.header.Header.{Header}
-use Rattle.rds_wire.specs.declared.kind.Malformed.{Malformed}
 use Rattle.rds_wire.specs.declared.kind.Malformed.TheVariants as malformed
 use Rattle.rds_wire.specs.declared.kind.TheConstants.{MAX_LENGTH}
-use Rattle.rds_wire.specs.Bytes.{header_bytes, frame_bytes, IsHeader, computed}
+use Rattle.rds_wire.specs.Bytes.{header_bytes, frame_bytes, computed}
 use Rattle.rds_wire.specs.Kinds.{cause, is_data, kind_of}
 use Rattle.rds_wire.proofs.Headers.{length-header_bytes}
-use Rattle.rds_frame.specs.Holding.{Held, IsHeld, held_bytes, nothing_held, waiting_bytes}
+use Rattle.rds_frame.specs.Holding.{Held, held_bytes}
 use Rattle.rds_frame.specs.Splitting.{IsClear, IsFrame, IsSound}
 use Rattle.rds_conn.proofs.Bounds.{ack_of_sound}
 

@@ -1,17 +1,14 @@
 -- What is asked on a stream, after each pull, and bounds on it.
-use Rattle.std.proofs.Common.{◌≡◌, ◌⊎◌, inl, inr, ℕ, zero, suc, ◌+◌, ◌*◌, ◌<◌, ◌≤◌, ◌^◌, ◌&&◌, ◌||◌, ◌==◌, not, Bool, true, false, cond, Option, Some, None, is_some, List, [], ◌∷◌, length, sum_by, refl, sym, ◌∙◌, ap, subst, arith}
-use Rattle.std.proofs.lemmas.Bool.{cases_Bool, cond_both, cond-true, cond-false, eq-eqb}
+use Rattle.std.proofs.Common.{◌≡◌, ℕ, suc, ◌+◌, ◌*◌, ◌≤◌, ◌&&◌, ◌||◌, ◌==◌, not, true, false, cond, Some, List, [], ◌∷◌, length, sum_by, refl, sym, ◌∙◌, ap, arith}
+use Rattle.std.proofs.lemmas.Bool.{cond_both, cond-true, cond-false, eq-eqb}
 use Rattle.std.proofs.lemmas.List.Sums.{sum_by-cons}
 use Rattle.rds_wire.specs.declared.frame.Frame.{Frame}
-use Rattle.rds_wire.specs.declared.kind.Kind.{Kind}
-use Rattle.rds_wire.specs.declared.kind.Kind.TheVariants as kind
 use Rattle.rds_wire.specs.declared.kind.TheConstants.{MAX_LENGTH}
-use Rattle.rds_wire.specs.Kinds.{kind_of, is_data}
 use Rattle.rds_model.specs.declared.entry.Entry.{Entry}
-use Rattle.rds_model.specs.declared.entry.Entry.TheVariants.{Accept, Cancel, Open, Pull, Read, Shut, Bad}
-use Rattle.rds_model.specs.Past.{Moment, now, Accepted, datagram, is_datagram, number}
-use Rattle.rds_model.specs.Owed.{asks, is_map, is_map_kind, last_map, unasked, is_asked, must_ask, data_frame, header_of, data_flags}
-use Rattle.rds_model.specs.Legal.{IsLegal, IsLawfulPull}
+use Rattle.rds_model.specs.declared.entry.Entry.TheVariants.{Pull}
+use Rattle.rds_model.specs.Past.{now, Accepted, is_datagram}
+use Rattle.rds_model.specs.Owed.{asks, is_map, last_map, unasked, is_asked, must_ask, data_frame, header_of}
+use Rattle.rds_model.specs.Legal.{IsLegal}
 use Rattle.rds_model.proofs.Bounds.{datagram_fits}
 use Rattle.rds_model.proofs.Legality.{lawful_pull}
 use Rattle.rds_model.proofs.LawfulFrames.{data_pull_of}

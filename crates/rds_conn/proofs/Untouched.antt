@@ -1,13 +1,12 @@
 -- On a stream that is about to be opened nothing was pulled and nothing was read.
-use Rattle.std.proofs.Common.{◌≡◌, ◌⊎◌, inl, inr, ℕ, zero, suc, ◌+◌, ◌<◌, ◌≤◌, ◌&&◌, ◌||◌, ◌==◌, not, Bool, true, false, cond, Option, Some, None, List, [], ◌∷◌, ◌++◌, length, refl, sym, ◌∙◌, ap, subst, arith}
+use Rattle.std.proofs.Common.{◌≡◌, ℕ, ◌<◌, ◌&&◌, ◌||◌, ◌==◌, not, false, cond, Some, None, List, [], ◌∷◌, ◌++◌, refl, ◌∙◌, ap, arith}
 use Rattle.std.proofs.lemmas.Bool.{ne_eqb}
 use Rattle.rds_wire.specs.Bytes.{header_bytes}
-use Rattle.rds_wire.specs.declared.frame.Frame.{Frame}
 use Rattle.rds_model.specs.declared.entry.Entry.{Entry}
 use Rattle.rds_model.specs.declared.entry.Entry.TheVariants.{Accept, Cancel, Open, Pull, Read, Shut, Bad}
-use Rattle.rds_model.specs.Past.{Moment, now, before, accepted, open_stream, newest_stream, is_datagram, carries_number}
+use Rattle.rds_model.specs.Past.{now, accepted, open_stream, newest_stream, is_datagram, carries_number}
 use Rattle.rds_model.specs.Streams.{pulled_on, reads, refused}
-use Rattle.rds_model.specs.Alive.{is_alive, up_to, alive_numbers, due}
+use Rattle.rds_model.specs.Alive.{is_alive, alive_numbers, due}
 use Rattle.rds_model.specs.Owed.{asks, is_map, wants_answer, last_map, unasked, is_asked, must_ask}
 use Rattle.rds_model.specs.Legal.{IsLegal}
 use Rattle.rds_model.proofs.Legality.{lawful_open, lawful_pull, lawful_read, lawful_bad}

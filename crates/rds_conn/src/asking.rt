@@ -1,4 +1,4 @@
-ghost use Rattle.std.specs.Prelude.{◌≡◌, ℕ, ◌+◌, ◌<◌, ◌≤◌, ◌^◌, ◌||◌, nat_le, nat_lt, not, ◌&&◌, false, true, if◌then◌else◌};
+ghost use Rattle.std.specs.Prelude.{◌≡◌, ◌+◌, ◌<◌, ◌^◌, ◌||◌, nat_le, nat_lt, ◌&&◌, false, true, if◌then◌else◌};
 ghost use Rattle.rds_model.specs.declared.owed.TheConstants.{MAX_UNASKED as most, MAX_UNASKED_BYTES as most_bytes};
 ghost use Rattle.rds_model.specs.Owed.{answers_kind};
 ghost use Rattle.rds_wire.specs.declared.header.TheConstants.{ACK_REQUIRED as asking_flag};

@@ -1,4 +1,4 @@
-ghost use Rattle.std.specs.Prelude.{◌≡◌, ℕ, ◌+◌, ◌≤◌, ◌↔◌, nat_le, [], false, true, None, IfOk, OnOk, OnErr, IfErr, IfSome, IfNone, IsNone, IsSome, length, sum, replicate, filter, slice_index};
+ghost use Rattle.std.specs.Prelude.{◌≡◌, ℕ, ◌+◌, ◌≤◌, ◌↔◌, nat_le, [], false, true, None, IfOk, OnOk, OnErr, IfSome, IfNone, IsNone, length, sum, replicate, filter};
 ghost use Rattle.rds_conn.specs.declared.conn.ConnError.TheVariants as errors;
 
 use crate::asking::Asking;

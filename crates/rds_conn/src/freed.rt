@@ -1,4 +1,4 @@
-ghost use Rattle.std.specs.Prelude.{◌≡◌, ◌↔◌, ℕ, ◌+◌, ◌-◌, ◌<◌, ◌≤◌, ◌^◌, length, replicate, sum, slice_index, slice_set, take, IfOk, IfSome, IfNone, IsNone};
+ghost use Rattle.std.specs.Prelude.{◌≡◌, ◌↔◌, ℕ, ◌+◌, ◌-◌, ◌<◌, ◌≤◌, ◌^◌, length, replicate, sum, slice_index, take, IfOk, IfSome, IfNone, IsNone};
 ghost use Rattle.rds_wire.specs.declared.kind.TheConstants.{MAX_LENGTH as most};
 ghost use Rattle.rds_conn.specs.Freeing.{with_freed, HandsOut};
 

@@ -1,4 +1,4 @@
-ghost use Rattle.std.specs.Prelude.{◌≡◌, ℕ, List, IfOk, if◌then◌else◌, ◌+◌};
+ghost use Rattle.std.specs.Prelude.{◌≡◌, List, IfOk, if◌then◌else◌, ◌+◌};
 ghost use Rattle.rds_wire.specs.declared.header.TheConstants.{ACK_REQUIRED as asking, RETRANSMITTED as again_flag};
 ghost use Rattle.rds_model.specs.declared.entry.Entry.{Entry};
 ghost use Rattle.rds_model.specs.Past.{last_passed};

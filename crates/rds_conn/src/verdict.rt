@@ -1,4 +1,4 @@
-ghost use Rattle.std.specs.Prelude.{◌≡◌, ℕ, List, if◌then◌else◌, nat_le, ◌&&◌, ◌==◌, not};
+ghost use Rattle.std.specs.Prelude.{◌≡◌, List, if◌then◌else◌, nat_le, ◌&&◌, ◌==◌};
 ghost use Rattle.rds_wire.specs.declared.header.TheConstants.{RETRANSMITTED as again_flag};
 ghost use Rattle.rds_wire.specs.Kinds.{carries};
 ghost use Rattle.rds_model.specs.declared.entry.Entry.{Entry};

@@ -1,5 +1,5 @@
 -- The command `drain`. Source: this project's own.
-use Rattle.std.specs.Prelude.{ℕ, ◌+◌, ◌*◌, ◌<◌, nat_lt, Option, Some, None, Ok, List, filter, map}
+use Rattle.std.specs.Prelude.{ℕ, ◌+◌, ◌*◌, nat_lt, Option, Some, None, Ok, List, filter, map}
 use Rattle.std.specs.List.{flat_map}
 use Rattle.rds_model.specs.Past.{open_stream}
 use Rattle.rds_text.specs.Ports.{below}

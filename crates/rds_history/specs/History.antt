@@ -9,7 +9,7 @@ use Rattle.rds_history.specs.Events.{Event, Bound}
 use Rattle.rds_history.specs.Hosts.{address_of}
 use Rattle.rds_history.specs.Journals.{journal}
 use Rattle.rds_history.specs.Sockets.{received, queue}
-use Rattle.rds_history.specs.Courses.{Course, Full, and_then}
+use Rattle.rds_history.specs.Courses.{Course, and_then}
 use Rattle.rds_history.specs.Bind.{bind, bind_any}
 use Rattle.rds_history.specs.Send.{send}
 use Rattle.rds_history.specs.Recv.{recv}
@@ -19,7 +19,7 @@ use Rattle.rds_history.specs.Move.{move}
 use Rattle.rds_history.specs.Drain.{drain}
 use Rattle.rds_history.specs.Lines.{spent_line}
 use Rattle.rds_history.specs.Transcript.{lines}
-use Rattle.rds_history.specs.Ends.{Socket, Side, End}
+use Rattle.rds_history.specs.Ends.{Socket, End}
 use Rattle.rds_history.specs.Report.{report}
 
 -- what a command comes to

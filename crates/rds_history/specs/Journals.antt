@@ -2,13 +2,13 @@
 use Rattle.std.specs.Prelude.{ℕ, suc, ◌+◌, ◌==◌, ◌&&◌, if◌then◌else◌, Bool, true, false, Option, Some, None, List, [], ◌∷◌, drop}
 use Rattle.rds_wire.specs.declared.frame.Frame.{Frame}
 use Rattle.rds_model.specs.declared.entry.Entry.{Entry}
-use Rattle.rds_model.specs.declared.entry.Entry.TheVariants.{Accept, Cancel, Open, Pull, Read, Shut, Bad}
+use Rattle.rds_model.specs.declared.entry.Entry.TheVariants.{Open, Pull, Read}
 use Rattle.rds_model.specs.declared.entry.Outcome.{Outcome}
 use Rattle.rds_model.specs.declared.entry.Outcome.TheVariants as outcome
 use Rattle.rds_model.specs.Past.{open_stream}
 use Rattle.rds_model.specs.Streams.{wrote}
 use Rattle.rds_cong.specs.Map.{no_ports, with_port, without_port}
-use Rattle.rds_history.specs.Events.{Event, Entered, Bound, Closed, Received, Marked, Fed, Said}
+use Rattle.rds_history.specs.Events.{Event, Entered, Marked, Fed}
 
 -- the journal that host h keeps of its connection with k, newest entry first
 abbrev pub journal : (h k : ℕ) → List Event → List Entry

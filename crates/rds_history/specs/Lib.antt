@@ -17,6 +17,10 @@ pub mod Drain
 pub mod Transcript
 pub mod Ends
 pub mod Report
+pub mod Seen
+pub mod Items
+pub mod Tally
+pub mod Walks
 pub mod History
 pub mod Known
 pub mod Rows

@@ -1,5 +1,5 @@
 -- The congestion of a port after its queue has changed. Source: this project's own, after rds(7).
-use Rattle.std.specs.Prelude.{ℕ, not, Bool, true, false, if◌then◌else◌, List, ◌∷◌}
+use Rattle.std.specs.Prelude.{ℕ, Bool, true, false, List, ◌∷◌}
 use Rattle.rds_cong.specs.Limit.{congested_after}
 use Rattle.rds_history.specs.Events.{Event, Marked}
 use Rattle.rds_history.specs.Journals.{is_marked}

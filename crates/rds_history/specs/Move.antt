@@ -1,8 +1,8 @@
 -- The command `move`. Source: this project's own.
-use Rattle.std.specs.Prelude.{ℕ, zero, ◌+◌, ◌-◌, ◌==◌, min, nat_le, if◌then◌else◌, Bool, true, false, Option, Some, None, Ok, List, [], ◌∷◌, length, codes}
+use Rattle.std.specs.Prelude.{ℕ, zero, ◌+◌, ◌-◌, ◌==◌, min, Bool, true, false, Option, Some, None, Ok, List, [], ◌∷◌, length, codes}
 use Rattle.std.specs.Option.{option_map}
 use Rattle.rds_model.specs.Past.{open_stream}
-use Rattle.rds_history.specs.Events.{Event, Fed, Said}
+use Rattle.rds_history.specs.Events.{Event, Fed}
 use Rattle.rds_history.specs.Journals.{journal, moved, in_flight}
 use Rattle.rds_history.specs.Courses.{Course, and_then, ready, says, again}
 use Rattle.rds_history.specs.Lines.{move_line}

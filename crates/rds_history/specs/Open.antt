@@ -1,5 +1,5 @@
 -- The commands `open` and `cut`. Source: this project's own.
-use Rattle.std.specs.Prelude.{ℕ, suc, Option, Some, None, Ok, List, ◌∷◌, length, codes}
+use Rattle.std.specs.Prelude.{ℕ, suc, Option, Some, None, Ok, List, length, codes}
 use Rattle.rds_model.specs.declared.entry.Entry.TheVariants.{Open, Shut}
 use Rattle.rds_model.specs.Past.{open_stream, newest_stream}
 use Rattle.rds_history.specs.Events.{Event}

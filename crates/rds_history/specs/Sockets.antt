@@ -9,7 +9,7 @@ use Rattle.rds_model.specs.declared.entry.Outcome.TheVariants as outcome
 use Rattle.rds_model.specs.declared.entry.Msg.{Msg}
 use Rattle.rds_model.specs.Store.{alive_messages}
 use Rattle.rds_text.specs.Ports.{below}
-use Rattle.rds_history.specs.Events.{Event, Entered, Bound, Closed, Received, Marked, Fed, Said}
+use Rattle.rds_history.specs.Events.{Event, Entered, Bound, Closed, Received}
 use Rattle.rds_history.specs.Hosts.{address_of}
 use Rattle.rds_history.specs.Journals.{journal}
 

@@ -1,5 +1,5 @@
 -- The transcript: the lines of a past. Source: this project's own.
-use Rattle.std.specs.Prelude.{ℕ, suc, ◌&&◌, not, List, [], ◌∷◌, ◌++◌, filter}
+use Rattle.std.specs.Prelude.{ℕ, suc, not, List, [], ◌∷◌, ◌++◌, filter}
 use Rattle.rds_model.specs.declared.entry.Entry.{Entry}
 use Rattle.rds_model.specs.declared.entry.Entry.TheVariants.{Accept, Cancel, Open, Pull, Read, Shut, Bad}
 use Rattle.rds_model.specs.declared.entry.Target.{Target}

@@ -1,18 +1,33 @@
 -- No call of a connection but the opening of a stream makes a newer stream.
-use Rattle.std.proofs.Common.{◌≡◌, ℕ, ◌≤◌, Option, Some, None, List, [], ◌∷◌, length, refl, sym, ap, subst, arith}
-use Rattle.std.specs.Prelude.{IsSome}
+use Rattle.std.proofs.Common.{◌≡◌, ℕ, Option, Some, None, List, refl, sym, subst, arith}
+use Rattle.std.specs.Prelude.{IfSome, IsSome, is_some, true, false}
 use Rattle.rds_wire.specs.declared.frame.Frame.{Frame}
 use Rattle.rds_wire.specs.declared.kind.Malformed.{Malformed}
-use Rattle.rds_model.specs.declared.entry.Entry.{Entry}
-use Rattle.rds_model.specs.declared.entry.Entry.TheVariants.{Read}
-use Rattle.rds_model.specs.declared.entry.Outcome.{Outcome}
-use Rattle.rds_model.specs.Legal.{pong_for}
+use Rattle.rds_model.specs.declared.entry.Verdict.{Verdict}
+use Rattle.rds_model.specs.declared.entry.Verdict.TheVariants as verdict
+use Rattle.rds_conn.specs.declared.conn.Found.{Found}
+use Rattle.rds_conn.specs.declared.conn.Found.TheVariants as found
 use Rattle.rds_conn.specs.declared.conn.ConnError.{ConnError}
 use Rattle.rds_conn.specs.declared.conn.ConnError.TheVariants as errors
-use Rattle.rds_conn.specs.Connection.{Connection, logged, stream_of}
+use Rattle.rds_conn.specs.Connection.{Connection, stream_of}
 use Rattle.rds_conn.specs.Feeding.{Refuses}
-use Rattle.rds_conn.specs.Passing.{answering, passed}
-use Rattle.rds_play.specs.Growth.{Grows}
+use Rattle.rds_conn.specs.Passing.{passed, outcome_of}
+use Rattle.rds_play.specs.Counting.{pongs}
+use Rattle.rds_play.specs.Growth.{Grows, Passes}
+
+-- what is true of what an option has
+pub at_some : {A : Type 0} (P : A → Type 0) (o : Option A) → IfSome o P → (x : A) → o ≡ Some x → P x
+at_some P None h x is = let no : None ≡ Some x = is in cc
+at_some P (Some y) h x is = let same : y ≡ x = cc in subst P same h
+
+-- an option by the test that it has something
+pub some_from : (o : Option ℕ) → is_some o ≡ true → (x : ℕ) × (o ≡ Some x)
+some_from None on = cc
+some_from (Some x) on = (x, refl)
+
+pub none_from : (o : Option ℕ) → is_some o ≡ false → o ≡ None
+none_from None off = refl
+none_from (Some x) off = cc
 
 -- what an option that isn't empty has
 pub some_of : {A : Type 0} (o : Option A) → IsSome o → (x : A) × (o ≡ Some x)
@@ -21,11 +36,11 @@ some_of (Some x) h = (x, refl)
 
 pub grows_not : (old new : Connection) → new ≡ old → Grows old new
 grows_not old new same =
-    subst (λ (c : Connection). Grows old c) (sym same) (record { slots = refl; limit = refl; newest = refl; longer = omega arith })
+    subst (λ (c : Connection). Grows old c) (sym same) (record { slots = refl; limit = refl; newest = refl; datagrams = refl; longer = omega arith })
 
 pub grows_refused : (piece : List ℕ) (fault : Malformed) (old new : Connection) → Refuses piece fault old new → Grows old new
 grows_refused piece fault old new refused =
-    subst (λ (c : Connection). Grows old c) (sym refused.entry) (record { slots = refl; limit = refl; newest = refl; longer = omega arith })
+    subst (λ (c : Connection). Grows old c) (sym refused.entry) (record { slots = refl; limit = refl; newest = refl; datagrams = refl; longer = omega arith })
 
 -- whatever a piece was refused for
 pub grows_unfed : (piece : List ℕ) (old new : Connection) (e : ConnError) →
@@ -38,13 +53,20 @@ grows_unfed piece old new (errors.Malformed fault) malformed closed still memory
 grows_unfed piece old new (errors.Spent entries) malformed closed still memory spent = absurd (spent entries refl)
 grows_unfed piece old new errors.Closed malformed closed still memory spent = grows_not old new (still (closed refl))
 
-grows_passed : (old : Connection) (freed : List ℕ) (answer : Option ℕ) (k : ℕ) (f : Frame) (came : Outcome) →
-    Grows old (record (answering answer (record (logged (Read k f came ∷ []) old) { waiting = None })) { freed = freed })
-grows_passed old freed None k f came = record { slots = refl; limit = refl; newest = refl; longer = omega arith }
-grows_passed old freed (Some port) k f came = record { slots = refl; limit = refl; newest = refl; longer = omega arith }
+passes_by : (v : Verdict) (came : Found) (old : Connection) (freed : List ℕ) (k : ℕ) (f : Frame) →
+    Passes (pongs v) old (record (passed k f (outcome_of v came) old) { freed = freed })
+passes_by (verdict.Deliver dport) (found.Slot slot) old freed k f = record { slots = refl; limit = refl; newest = refl; datagrams = omega arith; longer = omega arith }
+passes_by (verdict.Deliver dport) found.NoSocket old freed k f = record { slots = refl; limit = refl; newest = refl; datagrams = omega arith; longer = omega arith }
+passes_by (verdict.Deliver dport) found.Unasked old freed k f = record { slots = refl; limit = refl; newest = refl; datagrams = omega arith; longer = omega arith }
+passes_by verdict.Old _ old freed k f = record { slots = refl; limit = refl; newest = refl; datagrams = omega arith; longer = omega arith }
+passes_by verdict.Ping _ old freed k f = record { slots = refl; limit = refl; newest = refl; datagrams = omega arith; longer = omega arith }
+passes_by verdict.Void _ old freed k f = record { slots = refl; limit = refl; newest = refl; datagrams = omega arith; longer = omega arith }
+passes_by verdict.AckOnly _ old freed k f = record { slots = refl; limit = refl; newest = refl; datagrams = omega arith; longer = omega arith }
+passes_by verdict.Map _ old freed k f = record { slots = refl; limit = refl; newest = refl; datagrams = omega arith; longer = omega arith }
+passes_by verdict.OddMap _ old freed k f = record { slots = refl; limit = refl; newest = refl; datagrams = omega arith; longer = omega arith }
 
 -- a frame was read, and a pong may stand behind it
-pub grows_read : (old new : Connection) (k : ℕ) (f : Frame) (came : Outcome) →
-    new ≡ record (passed k f came old) { freed = new.freed } → Grows old new
-grows_read old new k f came entry =
-    subst (λ (c : Connection). Grows old c) (sym entry) (grows_passed old new.freed (pong_for came f.header.sport) k f came)
+pub passes_read : (old new : Connection) (k : ℕ) (f : Frame) (v : Verdict) (found : Found) →
+    new ≡ record (passed k f (outcome_of v found) old) { freed = new.freed } → Passes (pongs v) old new
+passes_read old new k f v found entry =
+    subst (λ (c : Connection). Passes (pongs v) old c) (sym entry) (passes_by v found old new.freed k f)

@@ -1,1 +1,10 @@
+pub mod Beginning
+pub mod Comings
+pub mod Entered
+pub mod Flying
 pub mod Grown
+pub mod Handing
+pub mod Journaling
+pub mod Marking
+pub mod Places
+pub mod Searching

@@ -1,2 +1,12 @@
+pub mod Coming
+pub mod Counting
+pub mod Entering
+pub mod Fresh
 pub mod Growth
+pub mod Pairing
 pub mod Playable
+pub mod Printing
+pub mod Readiness
+pub mod Reasons
+pub mod Receiving
+pub mod Telling

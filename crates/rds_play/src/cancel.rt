@@ -2,13 +2,12 @@ ghost use Rattle.std.specs.Prelude.{◌<◌};
 ghost use Rattle.rds_model.specs.Reading.{max_slots};
 ghost use Rattle.rds_conn.specs.Orders.{IsOrderFor};
 
-use crate::refusal::{Refusal, socket_refused_line};
+use crate::refusal::Refusal;
 use crate::stop::Stop;
 use crate::world::{World, place};
 use rds_history::cancel_line;
 use rds_model::{Order, Target};
 use rds_msgs::Steps;
-use rds_text::HostName;
 use rds_wire::Memory;
 use std::alloc::Global;
 use std::sync::ledger::Ledger;
@@ -57,8 +56,7 @@ impl World {
                 return self.take_back(host, to, slot, target, Order::Cancel { slot, dport }, steps);
             }
         };
-        socket_refused_line(&mut self.text, "cancel", HostName::new(host), port, refusal)?;
-        Ok(())
+        self.refuse_socket("cancel", host, port, refusal)
     }
 
     /// Gives a cancellation of a slot's datagrams to a connection, and prints which it covers.

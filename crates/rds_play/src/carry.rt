@@ -1,8 +1,8 @@
 ghost use Rattle.std.specs.Prelude.{◌<◌, ◌≤◌, IfOk};
 
+use crate::link::Queued;
 use crate::stop::Stop;
-use crate::world::{World, place};
-use rds_conn::Found;
+use crate::world::{World, place, print};
 use rds_msgs::Steps;
 use std::sync::ledger::Ledger;
 
@@ -67,7 +67,7 @@ impl World {
         let link = &mut self.links[place(from, to)];
         let first = link.conn.journal().len();
         let pulled = link.pull(&self.hosts[usize::from(from)].map, out)?;
-        self.print_from(from, to, first)?;
+        print(&mut self.text, link, first)?;
         Ok(pulled)
     }
 
@@ -78,12 +78,13 @@ impl World {
     {
         let link = &mut self.links[place(to, from)];
         let first = link.conn.journal().len();
-        let found = link.pass(&mut self.hosts[usize::from(to)], steps)?;
-        self.print_from(to, from, first)?;
+        let queued = link.pass(&mut self.hosts[usize::from(to)], steps)?;
+        print(&mut self.text, link, first)?;
+        print(&mut self.text, link, first.saturating_add(1))?;
         self.credit(to, from);
-        match found {
-            Some(Found::Slot(slot)) => self.mark(to, usize::from(slot)),
-            _ => Ok(()),
+        match queued {
+            Some(Queued { port, slot }) => self.mark(to, port, usize::from(slot)),
+            None => Ok(()),
         }
     }
 

@@ -1,11 +1,10 @@
 ghost use Rattle.std.specs.Prelude.{◌<◌};
 
-use crate::refusal::{Refusal, mark_line, socket_refused_line};
+use crate::refusal::{Refusal, close_line, mark_line};
 use crate::stop::Stop;
 use crate::world::World;
 use rds_model::{Order, Target};
 use rds_msgs::Steps;
-use rds_text::HostName;
 use rds_wire::Memory;
 use std::sync::ledger::Ledger;
 
@@ -20,14 +19,7 @@ impl World {
         requires { host < 8 }
     {
         let Some(slot) = self.hosts[usize::from(host)].holder(port) else {
-            socket_refused_line(
-                &mut self.text,
-                "close",
-                HostName::new(host),
-                port,
-                Refusal::NoSocket,
-            )?;
-            return Ok(());
+            return self.refuse_socket("close", host, port, Refusal::NoSocket);
         };
         for peer in 0..self.count {
             if peer != host {
@@ -50,7 +42,6 @@ impl World {
     fn unbind(&mut self, host: u8, port: u16, slot: usize) -> Result<(), Memory>
         requires { host < 8 }
     {
-        let name = HostName::new(host);
         let at = &mut self.hosts[usize::from(host)];
         at.holders.remove(&port);
         let Some(socket) = at.sockets.get(slot) else {
@@ -58,13 +49,8 @@ impl World {
         };
         if at.map.has(port) {
             at.map.clear(port);
-            mark_line(&mut self.text, name, port, false, 0, socket.rcvbuf)?;
+            mark_line(&mut self.text, host, port, false, 0, socket.rcvbuf)?;
         }
-        let unread = socket.queue.len();
-        write!(
-            self.text,
-            "close {name} {port} slot {slot} unread {unread}\n"
-        )?;
-        Ok(())
+        close_line(&mut self.text, host, port, slot, socket.queue.len())
     }
 }

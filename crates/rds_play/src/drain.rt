@@ -12,7 +12,7 @@ impl World {
         for low in 0..self.count {
             self.open_above(low)?;
         }
-        for _ in 0..=u64::from(self.limit) {
+        for _ in 0..=64 * u64::from(self.limit) {
             if !self.round(steps)? {
                 break;
             }
@@ -30,26 +30,6 @@ impl World {
                 self.open_pair(low, high)?;
             }
         }
-        Ok(())
-    }
-
-    /// Opens a stream between two hosts that have none, first at one end and then at the other.
-    pub fn open_pair(&mut self, host: u8, peer: u8) -> Result<(), Stop>
-        requires host { host < 8 }
-        requires peer { peer < 8 }
-    {
-        self.open_end(host, peer)?;
-        self.open_end(peer, host)
-    }
-
-    fn open_end(&mut self, host: u8, peer: u8) -> Result<(), Stop>
-        requires host { host < 8 }
-        requires peer { peer < 8 }
-    {
-        let link = &mut self.links[place(host, peer)];
-        let first = link.conn.journal().len();
-        link.open()?;
-        self.print_from(host, peer, first)?;
         Ok(())
     }
 

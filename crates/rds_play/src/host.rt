@@ -1,4 +1,7 @@
-ghost use Rattle.std.specs.Prelude.{◌≡◌, ◌≤◌, ◌<◌, vec_len, IfSome};
+ghost use Rattle.std.specs.Prelude.{◌≡◌, ℕ, ◌≤◌, ◌<◌, vec_len, IfOk, IfSome, Some};
+ghost use Rattle.std.specs.BTreeMap as tree;
+ghost use Rattle.std.specs.Ordering.{nat_cmp};
+ghost use Rattle.rds_history.specs.Hosts.{address_of};
 
 use rds_cong::PortMap;
 use rds_model::Datagram;
@@ -15,6 +18,7 @@ pub struct Arrived {
     pub from: u8,
     pub datagram: Datagram,
     ghost sender: { from < 8 },
+    ghost addressed: { datagram.from ≡ address_of from },
 }
 
 /// A socket of a host, bound to a port.
@@ -41,10 +45,16 @@ pub struct Host {
     pub holders: BTreeMap<u16, u16>,
     pub map: PortMap,
     ghost few: { vec_len sockets ≤ 1024 },
+    ghost held: { (port slot : ℕ) → tree.get nat_cmp holders port ≡ Some slot → slot < vec_len sockets },
 }
 
 impl Host {
-    pub fn new(alloc: Global) -> Result<Host, Memory> {
+    ghost use Rattle.rds_play.specs.Fresh.{IsNewHost};
+
+    /// A host without sockets.
+    pub fn new(alloc: Global) -> Result<Host, Memory>
+        ensures { IfOk result IsNewHost }
+    {
         Ok(Host {
             sockets: Vec::new(alloc),
             holders: BTreeMap::new(alloc),
@@ -54,32 +64,12 @@ impl Host {
 
     /// The slot that holds a port.
     pub fn holder(&self, port: u16) -> Option<usize>
-        ensures { IfSome result (λ slot. slot < vec_len self.now.sockets) }
+        ensures is { result ≡ tree.get nat_cmp self.now.holders port }
+        ensures slot { IfSome result (λ slot. slot < vec_len self.now.sockets) }
     {
-        let slot = usize::from(*self.holders.get(&port)?);
-        if slot < self.sockets.len() {
-            Some(slot)
-        } else {
-            None
+        match self.holders.get(&port) {
+            Some(slot) => Some(usize::from(*slot)),
+            None => None,
         }
-    }
-
-    /// Binds a socket to a free port, in the next slot.
-    pub fn add(&mut self, alloc: Global, port: u16, sndbuf: u32, rcvbuf: u32) -> Result<u16, Memory>
-        requires room { vec_len self.old.sockets < 1024 }
-        requires roomy { 2 ≤ rcvbuf }
-    {
-        let slot = self.sockets.len() as u16;
-        self.sockets.push(Socket {
-            port,
-            sndbuf,
-            rcvbuf,
-            unacked: 0,
-            queue: VecDeque::new(alloc),
-            queued: 0,
-            got: Vec::new(alloc),
-        })?;
-        self.holders.insert(port, slot)?;
-        Ok(slot)
     }
 }

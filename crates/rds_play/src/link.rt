@@ -1,11 +1,15 @@
-ghost use Rattle.std.specs.Prelude.{◌≡◌, ◌≤◌, ◌<◌, ◌+◌, ℕ, Err, is_some, IsSome, IfOk, IfSome, OnOk, length};
+ghost use Rattle.std.specs.Prelude.{◌≡◌, ◌≤◌, ◌<◌, ◌+◌, suc, ◌∷◌, [], ℕ, Err, None, is_some, IsSome, IfOk, IfSome, OnOk, OnErr, length};
+ghost use Rattle.rds_model.specs.declared.entry.Entry.TheVariants as entries;
+ghost use Rattle.rds_model.specs.Legal.{IsWhole};
 ghost use Rattle.rds_model.specs.Past.{newest_stream};
 ghost use Rattle.rds_model.specs.Reading.{max_slots, verdict_of};
 ghost use Rattle.rds_model.specs.declared.journal.TheConstants.{MIN_ENTRIES, MAX_ENTRIES};
 ghost use Rattle.rds_conn.specs.Connection.{IsReady, stream_of};
 ghost use Rattle.rds_conn.specs.Orders.{IsOrderFor};
 ghost use Rattle.rds_conn.specs.Passing.{Matches};
-ghost use Rattle.rds_play.specs.Growth.{Grows};
+ghost use Rattle.rds_play.specs.Counting.{Counts, pongs};
+ghost use Rattle.rds_play.specs.Growth.{Grows, Passes};
+ghost use Rattle.rds_play.specs.Readiness.{Readies};
 
 use crate::host::{Arrived, Host};
 use crate::stop::{Full, Stop};
@@ -33,11 +37,19 @@ pub struct Link {
     ghost home: { host < 8 },
     ghost near: { peer < 8 },
     ghost wide: { conn.slots ≡ max_slots },
-    ghost newest: { newest_stream conn.log.past ≤ streams },
-    ghost counted: { streams ≤ length conn.log.past },
+    ghost counted: { Counts conn.log.past streams accepted },
+}
+
+/// Where a datagram was queued: at the socket of a slot, for its port.
+#[derive(Clone, Copy)]
+pub struct Queued {
+    pub port: u16,
+    pub slot: u16,
 }
 
 impl Link {
+    ghost use Rattle.rds_play.specs.Entering.{IsSameEnd};
+
     /// The end of `host` to `peer`, of which nothing has happened. Its journal may have `limit` entries.
     pub fn new(alloc: Global, host: u8, peer: u8, limit: u32) -> Result<Link, Memory>
         requires host { host < 8 }
@@ -45,6 +57,9 @@ impl Link {
         requires least { MIN_ENTRIES ≤ limit }
         requires most { limit ≤ MAX_ENTRIES }
         ensures limit { IfOk result (λ link. link.conn.log.limit ≡ limit) }
+        ensures empty { IfOk result (λ link. link.conn.log.past ≡ []) }
+        ensures host { IfOk result (λ link. link.host ≡ host) }
+        ensures peer { IfOk result (λ link. link.peer ≡ peer) }
     {
         Ok(Link {
             host,
@@ -63,25 +78,6 @@ impl Link {
         })
     }
 
-    /// Makes the connection ready for its next entries.
-    pub fn ready(&mut self) -> Result<(), Stop>
-        ensures ready { OnOk result (IsReady self.new.conn) }
-        ensures past { self.new.conn.log.past ≡ self.old.conn.log.past }
-        ensures waiting { self.new.conn.waiting ≡ self.old.conn.waiting }
-        ensures limit { self.new.conn.log.limit ≡ self.old.conn.log.limit }
-        ensures streams { self.new.streams ≡ self.old.streams }
-    {
-        match self.conn.reserve() {
-            Ok(()) => Ok(()),
-            Err(ConnError::Spent { entries }) => Err(Stop::Spent(Full {
-                host: self.host,
-                peer: self.peer,
-                entries,
-            })),
-            Err(_) => Err(Stop::Memory),
-        }
-    }
-
     /// Whether a stream is open.
     pub fn is_open(&self) -> bool
         ensures { result ≡ is_some (stream_of self.now.conn) }
@@ -90,23 +86,33 @@ impl Link {
     }
 
     /// Opens the next stream, where none is open.
-    pub fn open(&mut self) -> Result<(), Stop> {
-        self.ready()?;
+    pub fn open(&mut self) -> Result<(), Stop>
+        ensures room { Readies self.old.conn.log.limit self.old.host self.old.peer self.old.conn.log.past result }
+        ensures past { stream_of self.old.conn ≡ None → OnOk result (self.new.conn.log.past ≡
+            entries.Open (suc (newest_stream self.old.conn.log.past)) ∷ self.old.conn.log.past) }
+        ensures same { IsSameEnd self.old self.new }
+        ensures whole { IsWhole self.old.conn.log.past }
+    {
+        self.conn.known();
+        ready(&mut self.conn, self.host, self.peer)?;
         if self.is_open() {
             return Ok(());
         }
-        self.conn.known();
         self.streams += 1;
         self.conn.open(self.streams);
         Ok(())
     }
 
-    /// Shuts the stream, where one is open.
-    pub fn shut(&mut self) -> Result<(), Stop> {
-        self.ready()?;
-        if self.is_open() {
-            self.conn.shut();
-        }
+    /// Shuts the stream that is open.
+    pub fn shut(&mut self) -> Result<(), Stop>
+        requires { IsSome (stream_of self.old.conn) }
+        ensures room { Readies self.old.conn.log.limit self.old.host self.old.peer self.old.conn.log.past result }
+        ensures past { IfSome (stream_of self.old.conn) (λ k. OnOk result (self.new.conn.log.past ≡
+            entries.Shut k ∷ self.old.conn.log.past)) }
+        ensures same { IsSameEnd self.old self.new }
+    {
+        ready(&mut self.conn, self.host, self.peer)?;
+        self.conn.shut();
         Ok(())
     }
 
@@ -114,47 +120,85 @@ impl Link {
     pub fn order<L: Ledger>(&mut self, order: Order, steps: &mut Steps<L>) -> Result<(), Stop>
         requires { IsOrderFor max_slots order }
     {
-        self.ready()?;
+        self.conn.known();
+        ready(&mut self.conn, self.host, self.peer)?;
+        if let Order::Send { .. } = &order {
+            self.accepted += 1;
+        }
         self.conn.order(order, steps);
         Ok(())
     }
 
     /// Pulls the frame that is owed. Answers whether there was one.
     pub fn pull(&mut self, map: &PortMap, out: &mut Out) -> Result<bool, Stop> {
-        self.ready()?;
-        match self.conn.pull(map, out) {
-            Ok(Pulled::Nothing) | Ok(Pulled::Down) => Ok(false),
-            Ok(_) => Ok(true),
-            Err(_) => Err(Stop::Memory),
-        }
+        ready(&mut self.conn, self.host, self.peer)?;
+        pull(&mut self.conn, map, out)
     }
 
     /// Takes a piece of the stream. Answers how many bytes it took, from the front.
     pub fn feed(&mut self, piece: &[u8]) -> Result<usize, Stop>
         ensures { IfOk result (λ used. used ≤ length piece.now) }
     {
-        self.ready()?;
+        ready(&mut self.conn, self.host, self.peer)?;
         feed(&mut self.conn, piece)
     }
 
     /// Passes the frame that waits, if one does: a datagram is queued at the socket of `host` that holds its port, and a
-    /// congestion map is kept. Answers what was found.
+    /// congestion map is kept. Answers where a datagram was queued, if one was.
     pub fn pass<L: Ledger>(
         &mut self,
         host: &mut Host,
         steps: &mut Steps<L>,
-    ) -> Result<Option<Found>, Stop> {
-        self.ready()?;
+    ) -> Result<Option<Queued>, Stop> {
+        ready(&mut self.conn, self.host, self.peer)?;
         let (Some(frame), Some(verdict)) = (self.conn.waiting(), self.conn.verdict()) else {
             return Ok(None);
         };
+        let port = frame.header.dport;
         let found = found(host, self.peer, frame, verdict)?;
         self.version = keep_map(&mut self.map, self.version, frame, verdict);
-        pass(&mut self.conn, found, steps);
-        Ok(Some(found))
+        self.conn.known();
+        self.accepted += pass(&mut self.conn, verdict, found, steps);
+        Ok(match found {
+            Found::Slot(slot) => Some(Queued { port, slot }),
+            Found::NoSocket | Found::Unasked => None,
+        })
     }
 }
 
+// Makes the connection of a host with a peer ready for its next entries.
+fn ready(conn: &mut Conn, host: u8, peer: u8) -> Result<(), Stop>
+    requires host { host < 8 }
+    requires peer { peer < 8 }
+    ensures room { Readies conn.old.log.limit host peer conn.old.log.past result }
+    ensures ready { OnOk result (IsReady conn.new) }
+    ensures past { conn.new.log.past ≡ conn.old.log.past }
+    ensures waiting { conn.new.waiting ≡ conn.old.waiting }
+    ensures limit { conn.new.log.limit ≡ conn.old.log.limit }
+    ensures slots { conn.new.slots ≡ conn.old.slots }
+{
+    match conn.reserve() {
+        Ok(()) => Ok(()),
+        Err(ConnError::Spent { entries }) => Err(Stop::Spent(Full {
+            host,
+            peer,
+            entries,
+        })),
+        Err(_) => Err(Stop::Memory),
+    }
+}
+
+// Pulls the frame that a connection owes. Answers whether there was one.
+fn pull(conn: &mut Conn, map: &PortMap, out: &mut Out) -> Result<bool, Stop>
+    requires { IsReady conn.old }
+    ensures grows { Grows conn.old conn.new }
+{
+    match conn.pull(map, out) {
+        Ok(Pulled::Nothing) | Ok(Pulled::Down) => Ok(false),
+        Ok(_) => Ok(true),
+        Err(_) => Err(Stop::Memory),
+    }
+}
 // Gives a piece of the stream to a connection. Answers how many bytes it took.
 fn feed(conn: &mut Conn, piece: &[u8]) -> Result<usize, Stop>
     requires { IsReady conn.old }
@@ -168,14 +212,28 @@ fn feed(conn: &mut Conn, piece: &[u8]) -> Result<usize, Stop>
     }
 }
 
-// Passes the frame that waits at a connection.
-fn pass<L: Ledger>(conn: &mut Conn, found: Found, steps: &mut Steps<L>)
+// Passes the frame that waits at a connection. Answers how many datagrams that accepts: a pong, or none.
+fn pass<L: Ledger>(conn: &mut Conn, verdict: Verdict, found: Found, steps: &mut Steps<L>) -> u64
     requires ready { IsReady conn.old }
     requires waiting { IsSome conn.old.waiting }
+    requires verdict { IfSome conn.old.waiting (λ f. verdict ≡ verdict_of conn.old.log.past f.header) }
     requires found { IfSome conn.old.waiting (λ f. Matches conn.old.slots (verdict_of conn.old.log.past f.header) found) }
-    ensures grows { Grows conn.old conn.new }
+    ensures pongs { result ≡ pongs verdict }
+    ensures passes { Passes result conn.old conn.new }
 {
     conn.pass(found, steps);
+    pongs(verdict)
+}
+
+// How many datagrams a reading accepts.
+fn pongs(verdict: Verdict) -> u64
+    ensures pongs { result ≡ pongs verdict }
+    ensures few { result ≤ 1 }
+{
+    match verdict {
+        Verdict::Ping => 1,
+        _ => 0,
+    }
 }
 
 // Where a frame from a peer goes: a datagram is queued at the socket that holds its port.

@@ -1,3 +1,9 @@
+ghost use Rattle.std.specs.Prelude.{◌≡◌, ◌++◌, ◌∷◌, [], ◌<◌, OnOk, Some, codes, string_bytes};
+ghost use Rattle.std.specs.Fmt.{decimal};
+ghost use Rattle.rds_history.specs.Lines.{close_line as line_of_close, cut_line as line_of_cut, mark_line as line_of_mark, line, mark_word, move_line as line_of_move};
+ghost use Rattle.rds_history.specs.Refusals.{pair_refused_line as line_of_pair, send_refused_line as line_of_send, socket_refused_line as line_of_socket};
+ghost use Rattle.rds_play.specs.Reasons.{words_of};
+
 use rds_text::HostName;
 use rds_wire::Memory;
 use std::fmt;
@@ -28,21 +34,35 @@ pub enum Refusal {
 }
 
 impl fmt::Display for Refusal {
+    ghost output = { λ r. Some (words_of r) };
+
     fn fmt<W: fmt::Write>(&self, f: &mut fmt::Formatter<W>) -> fmt::Result {
-        match self {
-            Refusal::NoSlot => write!(f, "refused no-slot"),
-            Refusal::Reserved => write!(f, "refused reserved"),
-            Refusal::InUse { word } => write!(f, "refused in-use {word}"),
-            Refusal::NoSocket => write!(f, "refused no-socket"),
-            Refusal::TooLong { len, limit } => write!(f, "refused too-long {len} {limit}"),
-            Refusal::NoRoute => write!(f, "refused no-route"),
-            Refusal::Congested { version } => write!(f, "refused congested {version}"),
-            Refusal::Open => write!(f, "refused open"),
-            Refusal::Down => write!(f, "refused down"),
-            Refusal::Full { queued, len, limit } => write!(
-                f,
-                "refused full {queued} {len} {limit}"
-            ),
+        match *self {
+            Refusal::NoSlot => write!(f, "no-slot"),
+            Refusal::Reserved => write!(f, "reserved"),
+            Refusal::InUse { word } => write!(f, "in-use {word}"),
+            Refusal::NoSocket => write!(f, "no-socket"),
+            Refusal::TooLong { len, limit } => write!(f, "too-long {len} {limit}"),
+            Refusal::NoRoute => write!(f, "no-route"),
+            Refusal::Congested { version } => write!(f, "congested {version}"),
+            Refusal::Full { queued, len, limit } => write!(f, "full {queued} {len} {limit}"),
+            Refusal::Open => write!(f, "open"),
+            Refusal::Down => write!(f, "down"),
+        }
+    }
+}
+
+/// A congestion bit's change, in a word.
+#[derive(Clone, Copy)]
+struct MarkWord(bool);
+
+impl fmt::Display for MarkWord {
+    ghost output = { λ m. Some (mark_word m.0) };
+
+    fn fmt<W: fmt::Write>(&self, f: &mut fmt::Formatter<W>) -> fmt::Result {
+        match self.0 {
+            true => write!(f, "set"),
+            false => write!(f, "clear"),
         }
     }
 }
@@ -50,13 +70,19 @@ impl fmt::Display for Refusal {
 /// The line of a send that is refused.
 pub fn send_refused_line(
     text: &mut String,
-    host: HostName,
+    host: u8,
     port: u16,
-    to: HostName,
+    to: u8,
     dport: u16,
     refusal: Refusal,
-) -> Result<(), Memory> {
-    write!(text, "send {host}:{port} {to}:{dport} {refusal}\n")?;
+) -> Result<(), Memory>
+    requires host { host < 26 }
+    requires peer { to < 26 }
+    ensures { OnOk result (string_bytes text.new ≡ string_bytes text.old ++ line_of_send host port to dport (words_of refusal)) }
+{
+    let host = HostName::new(host);
+    let to = HostName::new(to);
+    writeln!(text, "send {host}:{port} {to}:{dport} refused {refusal}")?;
     Ok(())
 }
 
@@ -64,15 +90,15 @@ pub fn send_refused_line(
 pub fn socket_refused_line(
     text: &mut String,
     verb: &str,
-    host: HostName,
+    host: u8,
     port: u16,
     refusal: Refusal,
-) -> Result<(), Memory> {
-    write!(
-        text,
-        "{verb} {host} {port} {refusal}
-"
-    )?;
+) -> Result<(), Memory>
+    requires { host < 26 }
+    ensures { OnOk result (string_bytes text.new ≡ string_bytes text.old ++ line_of_socket verb.now host port (words_of refusal)) }
+{
+    let host = HostName::new(host);
+    writeln!(text, "{verb} {host} {port} refused {refusal}")?;
     Ok(())
 }
 
@@ -80,31 +106,92 @@ pub fn socket_refused_line(
 pub fn pair_refused_line(
     text: &mut String,
     verb: &str,
-    host: HostName,
-    peer: HostName,
+    host: u8,
+    peer: u8,
     refusal: Refusal,
-) -> Result<(), Memory> {
-    write!(
-        text,
-        "{verb} {host} {peer} {refusal}
-"
-    )?;
+) -> Result<(), Memory>
+    requires host { host < 26 }
+    requires peer { peer < 26 }
+    ensures { OnOk result (string_bytes text.new ≡ string_bytes text.old ++ line_of_pair verb.now host peer (words_of refusal)) }
+{
+    let host = HostName::new(host);
+    let peer = HostName::new(peer);
+    writeln!(text, "{verb} {host} {peer} refused {refusal}")?;
     Ok(())
 }
 
 /// The line of a port's congestion bit that changed.
 pub fn mark_line(
     text: &mut String,
-    host: HostName,
+    host: u8,
     port: u16,
     set: bool,
     queued: u64,
     limit: u32,
-) -> Result<(), Memory> {
-    let verb = if set { "set" } else { "clear" };
-    write!(
+) -> Result<(), Memory>
+    requires { host < 26 }
+    ensures { OnOk result (string_bytes text.new ≡ string_bytes text.old ++ line_of_mark host port set queued limit) }
+{
+    let host = HostName::new(host);
+    let word = MarkWord(set);
+    writeln!(
         text,
-        "mark {host} {port} {verb} queued={queued} limit={limit}\n"
+        "mark {host} {port} {word} queued={queued} limit={limit}"
     )?;
+    Ok(())
+}
+
+/// The line of a socket that was closed, with the number of datagrams that it left unread.
+pub fn close_line(
+    text: &mut String,
+    host: u8,
+    port: u16,
+    slot: usize,
+    unread: usize,
+) -> Result<(), Memory>
+    requires { host < 26 }
+    ensures { OnOk result (string_bytes text.new ≡ string_bytes text.old ++ line_of_close host port slot unread) }
+{
+    let host = HostName::new(host);
+    writeln!(text, "close {host} {port} slot {slot} unread {unread}")?;
+    Ok(())
+}
+
+/// The line of bytes that were moved.
+pub fn move_line(text: &mut String, host: u8, peer: u8, moved: u64) -> Result<(), Memory>
+    requires host { host < 26 }
+    requires peer { peer < 26 }
+    ensures { OnOk result (string_bytes text.new ≡ string_bytes text.old ++ line_of_move host peer moved) }
+{
+    let host = HostName::new(host);
+    let peer = HostName::new(peer);
+    writeln!(text, "move {host} {peer} moved {moved}")?;
+    Ok(())
+}
+
+/// The line of a stream that is cut: so many bytes were in flight to the peer, and back.
+pub fn cut_line(
+    text: &mut String,
+    host: u8,
+    peer: u8,
+    forth: usize,
+    back: usize,
+) -> Result<(), Memory>
+    requires host { host < 26 }
+    requires peer { peer < 26 }
+    ensures { OnOk result (string_bytes text.new ≡ string_bytes text.old ++ line_of_cut host peer forth back) }
+{
+    let host = HostName::new(host);
+    let peer = HostName::new(peer);
+    write!(text, "cut {host} {peer}")?;
+    loss(text, forth, back)
+}
+
+// The rest of the line of a cut.
+fn loss(text: &mut String, forth: usize, back: usize) -> Result<(), Memory>
+    ensures { OnOk result (string_bytes text.new ≡
+        string_bytes text.old ++ line (codes " lost " ∷ decimal forth ∷ codes " " ∷ decimal back ∷ [])) }
+{
+    writeln!(text, " lost {forth} {back}")?;
     Ok(())
 }

@@ -3,10 +3,9 @@ ghost use Rattle.rds_model.specs.Reading.{max_slots};
 
 use crate::refusal::{Refusal, send_refused_line};
 use crate::stop::Stop;
-use crate::world::{World, place};
+use crate::world::{World, place, print};
 use rds_model::Order;
 use rds_msgs::Steps;
-use rds_text::HostName;
 use rds_wire::{MAX_LENGTH, Payload};
 use std::sync::ledger::Ledger;
 
@@ -27,14 +26,7 @@ impl World {
         let slot = match self.sender(host, port, to, dport, payload.len()) {
             Ok(slot) => slot,
             Err(refusal) => {
-                send_refused_line(
-                    &mut self.text,
-                    HostName::new(host),
-                    port,
-                    HostName::new(to),
-                    dport,
-                    refusal,
-                )?;
+                send_refused_line(&mut self.text, host, port, to, dport, refusal)?;
                 return Ok(());
             }
         };
@@ -50,7 +42,7 @@ impl World {
         if let Some(socket) = self.hosts[usize::from(host)].sockets.get_mut(slot) {
             socket.unacked = socket.unacked.saturating_add(u64::from(payload.len()));
         }
-        self.print_from(host, to, first)?;
+        print(&mut self.text, &self.links[place(host, to)], first)?;
         Ok(())
     }
 

@@ -1,8 +1,5 @@
 ghost use Rattle.std.specs.Prelude.{◌<◌};
 
-use rds_wire::Memory;
-use std::alloc::{AllocError, AllocFailed};
-
 /// A journal that is full: that of `host` with `peer` has this many entries, and two more would pass its limit.
 #[derive(Clone, Copy)]
 pub struct Full {
@@ -18,22 +15,4 @@ pub struct Full {
 pub enum Stop {
     Spent(Full),
     Memory,
-}
-
-impl From<Memory> for Stop {
-    fn from(_error: Memory) -> Stop {
-        Stop::Memory
-    }
-}
-
-impl From<AllocError> for Stop {
-    fn from(_error: AllocError) -> Stop {
-        Stop::Memory
-    }
-}
-
-impl<T: Drop> From<AllocFailed<T>> for Stop {
-    fn from(_error: AllocFailed<T>) -> Stop {
-        Stop::Memory
-    }
 }

@@ -1,5 +1,11 @@
-ghost use Rattle.std.specs.Prelude.{◌≡◌, ◌≤◌, ◌<◌, IfOk, vec_len};
+ghost use Rattle.std.specs.Prelude.{◌≡◌, ◌≤◌, ◌<◌, ◌+◌, ◌*◌, ◌∷◌, ◌++◌, [], IfOk, OnOk, List, length, string_bytes, vec_len};
+ghost use Rattle.std.specs.List.{All};
 ghost use Rattle.rds_model.specs.declared.journal.TheConstants.{MIN_ENTRIES, MAX_ENTRIES};
+ghost use Rattle.rds_model.specs.declared.entry.Entry.{Entry};
+ghost use Rattle.rds_model.specs.Past.{accepted as accepted_in};
+ghost use Rattle.rds_history.specs.Transcript.{entry_line};
+ghost use Rattle.rds_play.specs.Fresh.{AreNewLinks, IsNewHost};
+ghost use Rattle.rds_play.specs.Printing.{HasLine};
 
 use crate::host::Host;
 use crate::link::Link;
@@ -33,13 +39,15 @@ pub struct World {
 pub fn place(host: u8, peer: u8) -> usize
     requires host { host < 8 }
     requires peer { peer < 8 }
-    ensures { result < 64 }
+    ensures is { result ≡ 8 * host + peer }
+    ensures within { result < 64 }
 {
     usize::from(HOSTS) * usize::from(host) + usize::from(peer)
 }
 
 fn hosts(alloc: Global) -> Result<Vec<Host>, Memory>
-    ensures { IfOk result (λ hosts. vec_len hosts ≡ 8) }
+    ensures count { IfOk result (λ hosts. vec_len hosts ≡ 8) }
+    ensures new { IfOk result (λ hosts. All IsNewHost hosts.items) }
 {
     let mut hosts = Vec::new(alloc);
     for _ in 0..HOSTS {
@@ -51,7 +59,8 @@ fn hosts(alloc: Global) -> Result<Vec<Host>, Memory>
 fn links(alloc: Global, limit: u32) -> Result<Vec<Link>, Memory>
     requires least { MIN_ENTRIES ≤ limit }
     requires most { limit ≤ MAX_ENTRIES }
-    ensures { IfOk result (λ links. vec_len links ≡ 64) }
+    ensures count { IfOk result (λ links. vec_len links ≡ 64) }
+    ensures new { IfOk result (λ links. AreNewLinks limit links.items) }
 {
     let mut links = Vec::new(alloc);
     for i in 0..HOSTS * HOSTS {
@@ -61,7 +70,8 @@ fn links(alloc: Global, limit: u32) -> Result<Vec<Link>, Memory>
 }
 
 fn outs(alloc: Global) -> Result<Vec<Out>, Memory>
-    ensures { IfOk result (λ outs. vec_len outs ≡ 64) }
+    ensures count { IfOk result (λ outs. vec_len outs ≡ 64) }
+    ensures new { IfOk result (λ outs. All (λ out. out ≡ []) outs.items) }
 {
     let mut outs = Vec::new(alloc);
     for _ in 0..HOSTS * HOSTS {
@@ -71,11 +81,14 @@ fn outs(alloc: Global) -> Result<Vec<Out>, Memory>
 }
 
 impl World {
+    ghost use Rattle.rds_play.specs.Telling.{Tells, state};
+
     /// So many hosts, of which nothing has happened.
     pub fn new(alloc: Global, count: u8, limit: u32) -> Result<World, Memory>
         requires few { count ≤ 8 }
         requires least { MIN_ENTRIES ≤ limit }
         requires most { limit ≤ MAX_ENTRIES }
+        ensures { IfOk result (λ world. Tells limit count [] (state world)) }
     {
         Ok(World {
             alloc,
@@ -87,23 +100,18 @@ impl World {
             text: String::new(alloc),
         })
     }
+}
 
-    /// Prints the entries of a journal from place `first` on.
-    pub fn print_from(&mut self, host: u8, peer: u8, first: u32) -> Result<(), Memory>
-        requires host { host < 8 }
-        requires peer { peer < 8 }
-    {
-        let link = &mut self.links[place(host, peer)];
-        for i in first..link.conn.journal().len() {
-            let Some(entry) = link.conn.journal().at(i) else {
-                return Ok(());
-            };
-            if let Entry::Accept { .. } = entry {
-                link.accepted = link.accepted.saturating_add(1);
-            }
-            print_entry(&mut self.text, host, peer, link.accepted, entry)?;
-        }
-        Ok(())
+/// Prints the entry at a place of a link's journal, if there is one.
+pub fn print(text: &mut String, link: &Link, at: u32) -> Result<(), Memory>
+    ensures line { OnOk result ((e : Entry) (before after : List Entry) → link.now.conn.log.past ≡ after ++ e ∷ before →
+        at ≡ length before → HasLine link.now.accepted before e →
+        string_bytes text.new ≡ string_bytes text.old ++ entry_line link.now.host link.now.peer before e) }
+    ensures none { length link.now.conn.log.past ≤ at → OnOk result (string_bytes text.new ≡ string_bytes text.old) }
+{
+    match link.conn.journal().at(at) {
+        Some(entry) => print_entry(text, link.host, link.peer, link.accepted, entry),
+        None => Ok(()),
     }
 }
 
@@ -111,6 +119,8 @@ impl World {
 fn print_entry(text: &mut String, host: u8, peer: u8, n: u64, entry: &Entry) -> Result<(), Memory>
     requires host { host < 26 }
     requires peer { peer < 26 }
+    ensures { OnOk result ((before : List Entry) → HasLine n before entry.now →
+        string_bytes text.new ≡ string_bytes text.old ++ entry_line host peer before entry.now) }
 {
     match entry {
         Entry::Accept {

@@ -1,26 +1,106 @@
--- A script that was read is a text that was read to its end.
-use Rattle.std.proofs.Common.{◌≡◌, ℕ, ◌+◌, ◌≤◌, List, length, take, Option, Some, None, ap, arith}
-use Rattle.std.proofs.lemmas.List.{length-take}
+-- What is read of a source is the whole of its text, unless that is too large; and what follows for the answers of a call.
+use Rattle.std.proofs.Common.{◌≡◌, ◌⊎◌, inl, inr, ℕ, ◌+◌, ◌≤◌, List, length, take, Option, Some, None, refl, sym, ap, subst, ◌∙◌, arith}
+use Rattle.std.proofs.lemmas.List.{length-take, take_all}
 use Rattle.rds_link.specs.Told.{HandsFront}
 use Rattle.rds_script.specs.declared.script.TheConstants.{MAX_TEXT}
+use Rattle.rds_script.specs.declared.cause.Cause.{Cause}
+use Rattle.rds_script.specs.declared.cause.Cause.TheVariants as cause
+use Rattle.rds_script.specs.Grammar.{Meaning, Spells}
+use Rattle.rds_script.specs.Refusal.{Refused}
 use Rattle.rds_run.specs.declared.status.Status.{Status}
 use Rattle.rds_run.specs.declared.status.Status.TheVariants as ended
-use Rattle.rds_run.specs.Ends.{IsReadWhole, Plays, Ends}
+use Rattle.rds_run.specs.Ends.{IsSpelled, IsRefusedAt, Refuses, Plays, Ends}
 
--- at most one byte too many was asked for, and fewer came
-pub read_whole : (left : Option (List ℕ)) (text : List ℕ) → HandsFront left (MAX_TEXT + 1) text → length text ≤ MAX_TEXT → IsReadWhole left
-read_whole None text handed within = tt
-read_whole (Some all) text handed within =
-    let count = ap length handed in
-    omega (arith, length-take (MAX_TEXT + 1) all, count)
+-- what is no longer than a script may be was read to its end
+whole : (all text : List ℕ) → text ≡ take (MAX_TEXT + 1) all → length text ≤ MAX_TEXT → text ≡ all
+whole all text handed within =
+    let count = ap length handed ∙ length-take (MAX_TEXT + 1) all in
+    handed ∙ take_all (MAX_TEXT + 1) all (omega (arith, count, within))
 
--- what a played script leaves is how a call may end, where its text was read whole
-pub ends_of_played : (left : Option (List ℕ)) (read_then read_now : ℕ) (held new : Option (List ℕ)) (write_then write_now : ℕ) (s : Status) →
-    IsReadWhole left → Plays held new write_then write_now s → Ends left read_then read_now held new write_then write_now s
-ends_of_played left read_then read_now held new write_then write_now ended.Written whole played = (whole, played)
-ends_of_played left read_then read_now held new write_then write_now ended.Refused whole played = played
-ends_of_played left read_then read_now held new write_then write_now ended.Usage whole played = absurd played
-ends_of_played left read_then read_now held new write_then write_now ended.ReadFault whole played = absurd played
-ends_of_played left read_then read_now held new write_then write_now ended.WriteFault whole played = played
-ends_of_played left read_then read_now held new write_then write_now ended.Memory whole played = tt
-ends_of_played left read_then read_now held new write_then write_now ended.Spent whole played = played
+-- a text is too large, or it is not
+small : (text : List ℕ) (line : ℕ) (why : Cause) → Refused text line why → (why ≡ cause.TooLarge) ⊎ (length text ≤ MAX_TEXT)
+small text line cause.TooLarge r = inl refl
+small text line cause.Lines r = inr r.0
+small text line cause.Text r = inr r.0
+small text line cause.Command r = inr r.0
+small text line cause.Words r = inr r.0
+small text line cause.Host r = inr r.0
+small text line cause.SameHost r = inr r.0
+small text line cause.Number r = inr r.0
+small text line cause.Payload r = inr r.0
+small text line cause.Total r = inr r.0
+small text line cause.Cuts r = inr r.0
+small text line cause.Empty r = inr r.1
+small text line cause.Later r = inr r.0
+
+-- the whole of a text is too large where its front is
+too_large : (all text : List ℕ) (line : ℕ) → text ≡ take (MAX_TEXT + 1) all → Refused text line cause.TooLarge → Refused all line cause.TooLarge
+too_large all text line handed refused =
+    let count = ap length handed ∙ length-take (MAX_TEXT + 1) all in
+    (refused.0, omega (arith, count, refused.1))
+
+refused_whole : (all text : List ℕ) (line : ℕ) (why : Cause) → text ≡ take (MAX_TEXT + 1) all → Refused text line why →
+    (why ≡ cause.TooLarge) ⊎ (length text ≤ MAX_TEXT) → Refused all line why
+refused_whole all text line why handed refused (inl large) =
+    subst (λ c. Refused all line c) (sym large) (too_large all text line handed (subst (λ c. Refused text line c) large refused))
+refused_whole all text line why handed refused (inr within) = subst (λ t. Refused t line why) (whole all text handed within) refused
+
+refused_at : (left : Option (List ℕ)) (text : List ℕ) (line : ℕ) (why : Cause) → HandsFront left (MAX_TEXT + 1) text →
+    Refused text line why → IsRefusedAt left line why
+refused_at None text line why handed refused = tt
+refused_at (Some all) text line why handed refused = inl (refused_whole all text line why handed refused (small text line why refused))
+
+spelled : (left : Option (List ℕ)) (text : List ℕ) (s : Meaning) → HandsFront left (MAX_TEXT + 1) text → Spells text s → IsSpelled left
+spelled None text s handed spells = tt
+spelled (Some all) text s handed spells = (s, subst (λ t. Spells t s) (whole all text handed spells.small) spells)
+
+later_at : (left : Option (List ℕ)) (line : ℕ) → IsSpelled left → IsRefusedAt left line cause.Later
+later_at None line read = tt
+later_at (Some all) line read = inr (refl, read)
+
+-- a line about a command that isn't played yet is how playing may end
+pub plays_of_later : (line : ℕ) (held new : Option (List ℕ)) (write_then write_now : ℕ) (s : Status) →
+    Refuses line cause.Later held new write_then write_now s → Plays held new write_then write_now s
+plays_of_later line held new write_then write_now ended.Written refused = absurd refused
+plays_of_later line held new write_then write_now ended.Refused refused = (line, refused)
+plays_of_later line held new write_then write_now ended.Usage refused = absurd refused
+plays_of_later line held new write_then write_now ended.ReadFault refused = absurd refused
+plays_of_later line held new write_then write_now ended.WriteFault refused = refused
+plays_of_later line held new write_then write_now ended.Memory refused = tt
+plays_of_later line held new write_then write_now ended.Spent refused = absurd refused
+
+ends_of_spelled : (left : Option (List ℕ)) (read_then read_now : ℕ) (held new : Option (List ℕ)) (write_then write_now : ℕ) (s : Status) →
+    IsSpelled left → Plays held new write_then write_now s → Ends left read_then read_now held new write_then write_now s
+ends_of_spelled left read_then read_now held new write_then write_now ended.Written read played = (read, played)
+ends_of_spelled left read_then read_now held new write_then write_now ended.Refused read played =
+    (played.0, cause.Later, later_at left played.0 read, played.1)
+ends_of_spelled left read_then read_now held new write_then write_now ended.Usage read played = absurd played
+ends_of_spelled left read_then read_now held new write_then write_now ended.ReadFault read played = absurd played
+ends_of_spelled left read_then read_now held new write_then write_now ended.WriteFault read played = played
+ends_of_spelled left read_then read_now held new write_then write_now ended.Memory read played = tt
+ends_of_spelled left read_then read_now held new write_then write_now ended.Spent read played = (read, played)
+
+ends_of_refusal : (left : Option (List ℕ)) (line : ℕ) (why : Cause) (read_then read_now : ℕ) (held new : Option (List ℕ))
+    (write_then write_now : ℕ) (s : Status) → IsRefusedAt left line why → Refuses line why held new write_then write_now s →
+    Ends left read_then read_now held new write_then write_now s
+ends_of_refusal left line why read_then read_now held new write_then write_now ended.Written at refused = absurd refused
+ends_of_refusal left line why read_then read_now held new write_then write_now ended.Refused at refused = (line, why, at, refused)
+ends_of_refusal left line why read_then read_now held new write_then write_now ended.Usage at refused = absurd refused
+ends_of_refusal left line why read_then read_now held new write_then write_now ended.ReadFault at refused = absurd refused
+ends_of_refusal left line why read_then read_now held new write_then write_now ended.WriteFault at refused = refused
+ends_of_refusal left line why read_then read_now held new write_then write_now ended.Memory at refused = tt
+ends_of_refusal left line why read_then read_now held new write_then write_now ended.Spent at refused = absurd refused
+
+-- what a played script leaves is how a call may end
+pub ends_of_played : (left : Option (List ℕ)) (text : List ℕ) (m : Meaning) (read_then read_now : ℕ) (held new : Option (List ℕ))
+    (write_then write_now : ℕ) (s : Status) → HandsFront left (MAX_TEXT + 1) text → Spells text m →
+    Plays held new write_then write_now s → Ends left read_then read_now held new write_then write_now s
+ends_of_played left text m read_then read_now held new write_then write_now s handed spells played =
+    ends_of_spelled left read_then read_now held new write_then write_now s (spelled left text m handed spells) played
+
+-- and so is what a refused text leaves
+pub ends_of_refused : (left : Option (List ℕ)) (text : List ℕ) (line : ℕ) (why : Cause) (read_then read_now : ℕ)
+    (held new : Option (List ℕ)) (write_then write_now : ℕ) (s : Status) → HandsFront left (MAX_TEXT + 1) text → Refused text line why →
+    Refuses line why held new write_then write_now s → Ends left read_then read_now held new write_then write_now s
+ends_of_refused left text line why read_then read_now held new write_then write_now s handed refused came =
+    ends_of_refusal left line why read_then read_now held new write_then write_now s (refused_at left text line why handed refused) came

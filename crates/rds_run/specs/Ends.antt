@@ -1,29 +1,50 @@
 -- How a call of the program may end. Source: this project's own.
-use Rattle.std.specs.Prelude.{◌≡◌, ℕ, ◌≤◌, ◌+◌, ◌<◌, Option, List, ◌++◌, length, MatchOption}
+use Rattle.std.specs.Prelude.{◌≡◌, ◌⊎◌, ℕ, Option, List, ◌++◌, MatchOption}
 use Rattle.rds_link.specs.Told.{HasRisen, Takes}
-use Rattle.rds_script.specs.declared.script.TheConstants.{MAX_TEXT}
+use Rattle.rds_script.specs.declared.cause.Cause.{Cause}
+use Rattle.rds_script.specs.declared.cause.Cause.TheVariants.{Later}
+use Rattle.rds_script.specs.Cause.{cause_text}
+use Rattle.rds_script.specs.Grammar.{Meaning, Spells}
+use Rattle.rds_script.specs.Refusal.{Refused}
 use Rattle.rds_run.specs.declared.status.Status.{Status}
 use Rattle.rds_run.specs.declared.status.Status.TheVariants as ended
 use Rattle.rds_history.specs.Lines.{end_line, spent_line}
 use Rattle.rds_run.specs.Texts.{usage_line, read_fault_line, bad_line}
 
--- where the source tells what it has, that was no more than a script may have, so it was read to its end
-abbrev pub IsReadWhole : Option (List ℕ) → Type 0
-IsReadWhole left = MatchOption left (Unit {0}) (λ text. length text ≤ MAX_TEXT)
+-- the text spells a script
+abbrev pub IsScriptText : List ℕ → Type 0
+IsScriptText text = (s : Meaning) × Spells text s
 
--- a line about a refused script was written, or a fault or want of memory kept it from that
-abbrev pub Refuses : Option (List ℕ) → Option (List ℕ) → ℕ → ℕ → Status → Type 0
-Refuses held new faults_then faults_now ended.Refused = (line : ℕ) × (cause : List ℕ) × Takes held new (bad_line line cause)
-Refuses held new faults_then faults_now ended.WriteFault = HasRisen faults_then faults_now
-Refuses held new faults_then faults_now ended.Memory = Unit {0}
-Refuses held new faults_then faults_now _ = ⊥
+-- the text is refused at this line for this cause; or it spells a script that has a command there which isn't played yet
+abbrev pub IsRefusedText : ℕ → Cause → List ℕ → Type 0
+IsRefusedText line cause text = Refused text line cause ⊎ ((cause ≡ Later) × IsScriptText text)
 
--- a script was played: its text was written, or the line of a full journal; or as where it is refused
+-- where the source tells what it has, the whole of that spells a script
+abbrev pub IsSpelled : Option (List ℕ) → Type 0
+IsSpelled left = MatchOption left (Unit {0}) IsScriptText
+
+-- where the source tells what it has, the whole of that is refused at this line for this cause
+abbrev pub IsRefusedAt : Option (List ℕ) → ℕ → Cause → Type 0
+IsRefusedAt left line cause = MatchOption left (Unit {0}) (IsRefusedText line cause)
+
+-- the text of a source is refused, and the line that was written says where and why
+abbrev pub IsRefusal : Option (List ℕ) → Option (List ℕ) → Option (List ℕ) → Type 0
+IsRefusal left held new =
+    (line : ℕ) × (cause : Cause) × IsRefusedAt left line cause × Takes held new (bad_line line (cause_text cause))
+
+-- the line about a refusal was written, or a fault or want of memory kept it from that
+abbrev pub Refuses : ℕ → Cause → Option (List ℕ) → Option (List ℕ) → ℕ → ℕ → Status → Type 0
+Refuses line cause held new faults_then faults_now ended.Refused = Takes held new (bad_line line (cause_text cause))
+Refuses line cause held new faults_then faults_now ended.WriteFault = HasRisen faults_then faults_now
+Refuses line cause held new faults_then faults_now ended.Memory = Unit {0}
+Refuses line cause held new faults_then faults_now _ = ⊥
+
+-- a script was played: its text was written, or the line of a full journal; or it has a command that isn't played yet
 abbrev pub Plays : Option (List ℕ) → Option (List ℕ) → ℕ → ℕ → Status → Type 0
 Plays held new faults_then faults_now ended.Written = (text : List ℕ) × Takes held new (text ++ end_line)
 Plays held new faults_then faults_now ended.Spent =
     (host : ℕ) × (peer : ℕ) × (entries : ℕ) × Takes held new (spent_line host peer entries)
-Plays held new faults_then faults_now ended.Refused = (line : ℕ) × (cause : List ℕ) × Takes held new (bad_line line cause)
+Plays held new faults_then faults_now ended.Refused = (line : ℕ) × Takes held new (bad_line line (cause_text Later))
 Plays held new faults_then faults_now ended.WriteFault = HasRisen faults_then faults_now
 Plays held new faults_then faults_now ended.Memory = Unit {0}
 Plays held new faults_then faults_now _ = ⊥
@@ -32,11 +53,12 @@ Plays held new faults_then faults_now _ = ⊥
 -- before and after, and its faults before and after.
 abbrev pub Ends : Option (List ℕ) → ℕ → ℕ → Option (List ℕ) → Option (List ℕ) → ℕ → ℕ → Status → Type 0
 Ends left read_then read_now held new write_then write_now ended.Written =
-    IsReadWhole left × ((text : List ℕ) × Takes held new (text ++ end_line))
+    IsSpelled left × Plays held new write_then write_now ended.Written
+Ends left read_then read_now held new write_then write_now ended.Spent =
+    IsSpelled left × Plays held new write_then write_now ended.Spent
 Ends left read_then read_now held new write_then write_now ended.ReadFault =
     HasRisen read_then read_now × Takes held new read_fault_line
 Ends left read_then read_now held new write_then write_now ended.Usage = Takes held new usage_line
-Ends left read_then read_now held new write_then write_now ended.Refused = Plays held new write_then write_now ended.Refused
-Ends left read_then read_now held new write_then write_now ended.WriteFault = Plays held new write_then write_now ended.WriteFault
+Ends left read_then read_now held new write_then write_now ended.Refused = IsRefusal left held new
+Ends left read_then read_now held new write_then write_now ended.WriteFault = HasRisen write_then write_now
 Ends left read_then read_now held new write_then write_now ended.Memory = Unit {0}
-Ends left read_then read_now held new write_then write_now ended.Spent = Plays held new write_then write_now ended.Spent

@@ -1,9 +1,9 @@
-ghost use Rattle.std.specs.Prelude.{◌≡◌, ◌≢◌, ◌⊎◌, ◌≤◌, ◌+◌, ◌<◌, ◌++◌, ℕ, List, OnOk, OnErr};
+ghost use Rattle.std.specs.Prelude.{◌≡◌, ◌≢◌, ◌⊎◌, ◌≤◌, ◌++◌, ℕ, List};
 ghost use Rattle.rds_link.specs.Told.{HasRisen, Takes};
 ghost use Rattle.rds_script.specs.Script.{IsScript};
 ghost use Rattle.rds_history.specs.Lines.{end_line, spent_line};
-ghost use Rattle.rds_run.specs.Texts.{ArePlay, usage_line, read_fault_line, bad_line};
-ghost use Rattle.rds_run.specs.Ends.{Ends, Plays, Refuses, IsReadWhole};
+ghost use Rattle.rds_run.specs.Texts.{ArePlay, usage_line, read_fault_line};
+ghost use Rattle.rds_run.specs.Ends.{Ends, Plays, Refuses, IsRefusal, IsSpelled};
 ghost use Rattle.rds_run.specs.declared.status.Status.TheVariants as ended;
 
 use crate::later::first_later;
@@ -35,11 +35,12 @@ pub fn rds_main<S: Source, K: Sink>(
     ensures read_fault_text { result ≡ 3 → Takes (K.held sink.old) (K.held sink.new) read_fault_line }
     ensures write_fault { result ≡ 4 → HasRisen (K.faults sink.old) (K.faults sink.new) }
 
-    // A script is refused by one line, which names a line of the script and a cause.
-    ensures refused { result ≡ 1 → (line : ℕ) × (cause : List ℕ) × Takes (K.held sink.old) (K.held sink.new) (bad_line line cause) }
-    // A text was read to its end, and the whole answer was written.
-    ensures read { result ≡ 0 → IsReadWhole (S.left source.old) }
+    // The text of the source is refused, and the line that was written says where and why.
+    ensures refused { result ≡ 1 → IsRefusal (S.left source.old) (K.held sink.old) (K.held sink.new) }
+    // The text was read to its end and spells a script, and the whole answer was written.
+    ensures read { result ≡ 0 → IsSpelled (S.left source.old) }
     ensures written { result ≡ 0 → (text : List ℕ) × Takes (K.held sink.old) (K.held sink.new) (text ++ end_line) }
+    ensures read_before_spent { result ≡ 7 → IsSpelled (S.left source.old) }
     ensures spent { result ≡ 7 → (host : ℕ) × (peer : ℕ) × (entries : ℕ)
         × Takes (K.held sink.old) (K.held sink.new) (spent_line host peer entries) }
 
@@ -102,7 +103,7 @@ fn play_script<K: Sink>(alloc: Global, script: &Script, sink: &mut K) -> Status
 
 // Says which line is refused, and why.
 fn refuse<K: Sink>(alloc: Global, line: u32, cause: Cause, sink: &mut K) -> Status
-    ensures { Refuses (K.held sink.old) (K.held sink.new) (K.faults sink.old) (K.faults sink.new) result }
+    ensures { Refuses line cause (K.held sink.old) (K.held sink.new) (K.faults sink.old) (K.faults sink.new) result }
 {
     match format!(in alloc; "bad line {line}: {cause}\n") {
         Ok(text) => say(sink, text.as_str(), Status::Refused),

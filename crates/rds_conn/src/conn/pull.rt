@@ -1,4 +1,4 @@
-ghost use Rattle.std.specs.Prelude.{◌≡◌, ◌↔◌, ℕ, ◌<◌, [], ◌∷◌, false, true, None, Some, IfOk, IfErr, IfSome, IsSome, OnErr, List, length};
+ghost use Rattle.std.specs.Prelude.{◌≡◌, ◌↔◌, ℕ, ◌<◌, [], false, true, None, Some, IfOk, IfErr, IfSome, IsSome, OnErr, length};
 ghost use Rattle.rds_wire.specs.declared.frame.Frame.{Frame};
 ghost use Rattle.rds_model.specs.Past.{Accepted, datagram};
 ghost use Rattle.rds_model.specs.Streams.{was_pulled as pulled_before};

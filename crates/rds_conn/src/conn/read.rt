@@ -1,4 +1,4 @@
-ghost use Rattle.std.specs.Prelude.{◌≡◌, ◌≢◌, ℕ, ◌+◌, ◌-◌, ◌<◌, ◌≤◌, ◌^◌, None, Some, [], ◌∷◌, IsSome, IfSome, false, length, sum};
+ghost use Rattle.std.specs.Prelude.{◌≡◌, ℕ, ◌+◌, ◌-◌, ◌<◌, ◌≤◌, ◌^◌, None, Some, IsSome, IfSome, length, sum};
 ghost use Rattle.std.specs.Option.{option_map, option_copied};
 ghost use Rattle.rds_wire.specs.declared.frame.Frame.{Frame};
 ghost use Rattle.rds_model.specs.declared.entry.Entry.TheVariants as entry;
@@ -7,7 +7,7 @@ ghost use Rattle.rds_model.specs.declared.entry.Verdict.TheVariants as verdict;
 ghost use Rattle.rds_model.specs.Legal.{pong_for};
 ghost use Rattle.rds_model.specs.Reading.{verdict_of as verdict_after, Obeys};
 ghost use Rattle.rds_msgs.specs.Held.{bytes_of};
-ghost use Rattle.rds_conn.specs.Connection.{IsReady, held, logged, stream_of};
+ghost use Rattle.rds_conn.specs.Connection.{IsReady, held, stream_of};
 ghost use Rattle.rds_conn.specs.Freeing.{Frees, acknowledged};
 ghost use Rattle.rds_conn.specs.Gone.{gone};
 ghost use Rattle.rds_conn.specs.Passing.{Matches, outcome_of as outcome_after, passed};

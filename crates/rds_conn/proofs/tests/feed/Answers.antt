@@ -1,5 +1,5 @@
 use Rattle.std.proofs.Common.{◌≡◌, ◌∙◌, ℕ, List, Result, Ok, Err, None, refl, ap}
-use Rattle.std.specs.Prelude.{IfOk, ◌↔◌}
+use Rattle.std.specs.Prelude.{IfOk}
 use Rattle.rds_wire.specs.declared.kind.Malformed.{Malformed}
 use Rattle.rds_model.specs.Past.{newest_stream}
 use Rattle.rds_conn.specs.Connection.{Connection, stream_of}

@@ -1,4 +1,4 @@
-use Rattle.std.proofs.Common.{Err, ap, arith}
+use Rattle.std.proofs.Common.{Err, ap}
 use Rattle.rds_play.proofs.Grown.{grows_unfed}
 use Rattle.rds_play.proofs.link.feed.Goals as goal
 

@@ -1,4 +1,4 @@
-use Rattle.std.proofs.Common.{◌≡◌, ◌↔◌, ◌≤◌, ◌<◌, IsTrue, ℕ, List, [], ◌∷◌, Bool, true, get_or, length, map, refl, sym, ap, subst, ◌∙◌, arith, codes, string_bytes, String, eqb}
+use Rattle.std.proofs.Common.{◌≡◌, ◌↔◌, ◌≤◌, ◌<◌, IsTrue, ℕ, List, [], ◌∷◌, Bool, get_or, length, map, sym, ap, ◌∙◌, arith, codes, string_bytes, String, eqb}
 use Rattle.std.specs.Global.{Global}
 use Rattle.std.specs.Cmp.Lexicographic.{pointwise}
 use Rattle.std.proofs.lemmas.Slice.Eq.{bytes_eq-Decides}

@@ -1,4 +1,4 @@
-use Rattle.std.proofs.Common.{◌≤◌, ◌<◌, ap, ◌∙◌, sym, arith}
+use Rattle.std.proofs.Common.{ap, arith}
 use Rattle.rds_model.specs.declared.entry.Target.TheVariants.{All}
 use Rattle.rds_conn.specs.Connection.{Connection}
 use Rattle.rds_conn.proofs.KeepsOrders.{keeps_cancel, frees_cancel, cancel_fits}

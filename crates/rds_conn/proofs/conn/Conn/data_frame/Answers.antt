@@ -1,6 +1,4 @@
 use Rattle.std.proofs.Common.{◌≡◌, Some, None, ap, ◌∙◌, sym, subst}
-use Rattle.rds_model.specs.declared.entry.Entry.{Entry}
-use Rattle.rds_model.specs.declared.entry.Entry.TheVariants.{Accept}
 use Rattle.rds_model.specs.Past.{Accepted, datagram}
 use Rattle.rds_model.specs.Store.{message}
 use Rattle.rds_conn.specs.Choosing.{IsMessage}

@@ -1,4 +1,4 @@
-use Rattle.std.proofs.Common.{◌≡◌, ◌≤◌, ap, ◌∙◌, sym, subst, refl, arith, None, [], ◌∷◌}
+use Rattle.std.proofs.Common.{◌≡◌, ap, subst, refl, arith, None, [], ◌∷◌}
 use Rattle.rds_wire.specs.declared.kind.Malformed.{Malformed}
 use Rattle.rds_model.specs.declared.entry.Entry.TheVariants.{Bad}
 use Rattle.rds_conn.specs.Connection.{Connection, logged}

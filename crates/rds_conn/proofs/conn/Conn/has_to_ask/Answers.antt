@@ -1,5 +1,4 @@
-use Rattle.std.proofs.Common.{◌≡◌, ◌||◌, subst, ap, ◌∙◌, sym, arith, Some, ◌<◌, false, true, nat_le, nat_lt, ◌+◌}
-use Rattle.rds_model.specs.Past.{datagram}
+use Rattle.std.proofs.Common.{◌≡◌, ◌||◌, subst, ap, ◌∙◌, sym, false, nat_le, nat_lt, ◌+◌}
 use Rattle.rds_model.specs.Streams.{was_pulled}
 use Rattle.rds_model.specs.declared.owed.TheConstants.{MAX_UNASKED, MAX_UNASKED_BYTES}
 use Rattle.rds_model.proofs.Due.{least_due}

@@ -1,4 +1,3 @@
-use Rattle.std.proofs.Common.{sym, ap, ◌∙◌}
 use Rattle.rds_conn.proofs.Held.{next_of_held}
 use Rattle.rds_conn.proofs.conn.Conn.next_due.Goals as goal
 

@@ -1,4 +1,4 @@
-use Rattle.std.proofs.Common.{◌≤◌, ap, ◌∙◌, subst, sym, arith}
+use Rattle.std.proofs.Common.{ap, ◌∙◌, arith}
 use Rattle.rds_conn.specs.Connection.{Connection, stream_of}
 use Rattle.rds_model.specs.Past.{newest_stream}
 use Rattle.rds_conn.proofs.KeepsStreams.{keeps_open}

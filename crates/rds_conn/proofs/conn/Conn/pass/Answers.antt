@@ -2,7 +2,7 @@ use Rattle.std.proofs.Common.{◌≡◌, ap, ◌∙◌, sym}
 use Rattle.rds_model.specs.declared.entry.Verdict.{Verdict}
 use Rattle.rds_model.specs.Reading.{verdict_of}
 use Rattle.rds_conn.specs.Passing.{outcome_of}
-use Rattle.rds_conn.proofs.Outcomes.{no_pong, verdict_there}
+use Rattle.rds_conn.proofs.Outcomes.{verdict_there}
 use Rattle.rds_conn.proofs.conn.Conn.pass.Goals as goal
 
 pub returns-in_default-verdict-clause-entry : goal.returns-in_default-verdict-clause-entry

@@ -1,4 +1,4 @@
-use Rattle.std.proofs.Common.{◌≡◌, ◌+◌, ◌<◌, ◌≤◌, ℕ, suc, Some, IfSome, [], List, ap, ◌∙◌, sym, subst, arith}
+use Rattle.std.proofs.Common.{◌≡◌, ◌+◌, ◌<◌, ℕ, suc, Some, IfSome, [], List, ap, ◌∙◌, sym, subst, arith}
 use Rattle.std.specs.Prelude.{All}
 use Rattle.rds_wire.specs.declared.frame.Frame.{Frame}
 use Rattle.rds_model.specs.declared.entry.Msg.{Msg}
@@ -6,8 +6,8 @@ use Rattle.rds_model.specs.declared.entry.Verdict.TheVariants as verdict
 use Rattle.rds_model.specs.Past.{accepted}
 use Rattle.rds_model.specs.Reading.{verdict_of}
 use Rattle.rds_conn.specs.Connection.{Connection}
-use Rattle.rds_conn.proofs.KeepsOrders.{takes_message, TakesMessage}
-use Rattle.rds_conn.proofs.KeepsPassing.{keeps_answered, frees_answered, answer_next, passed_fits, of_some, IsAcknowledged}
+use Rattle.rds_conn.proofs.KeepsOrders.{takes_message}
+use Rattle.rds_conn.proofs.KeepsPassing.{keeps_answered, frees_answered, answer_next, passed_fits, of_some}
 use Rattle.rds_conn.proofs.conn.Conn.pass_ping.Goals as goal
 
 pub acknowledge-requires-clause-fits : goal.acknowledge-requires-clause-fits

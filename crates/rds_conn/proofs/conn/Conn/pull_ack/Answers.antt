@@ -1,11 +1,11 @@
-use Rattle.std.proofs.Common.{◌≡◌, ◌++◌, ◌≤◌, ◌||◌, true, refl, sym, ◌∙◌, ap, subst, arith, List, ℕ, IsSome}
+use Rattle.std.proofs.Common.{◌≡◌, ◌++◌, ◌||◌, true, refl, sym, ◌∙◌, ap, subst, arith, IsSome}
 use Rattle.rds_wire.specs.declared.frame.Frame.{Frame}
 use Rattle.rds_wire.specs.Bytes.{frame_bytes}
 use Rattle.rds_model.specs.Alive.{due}
 use Rattle.rds_model.specs.Owed.{ack_frame, last_map, is_asked, must_ask}
 use Rattle.rds_model.proofs.LawfulFrames.{kind_of_ack_frame}
 use Rattle.rds_conn.specs.Connection.{Connection, stream_of}
-use Rattle.rds_conn.specs.Pulling.{pulled_as, Pulls}
+use Rattle.rds_conn.specs.Pulling.{pulled_as}
 use Rattle.rds_conn.proofs.Owing.{owed_ack}
 use Rattle.rds_conn.proofs.KeepsPulls.{keeps_ack, asking_of}
 use Rattle.rds_conn.proofs.conn.Conn.pull_ack.Goals as goal

@@ -1,17 +1,15 @@
-use Rattle.std.proofs.Common.{◌≡◌, ◌++◌, ◌≤◌, ◌+◌, refl, sym, ◌∙◌, ap, subst, arith, List, ℕ, IsSome, is_some, length, Some}
+use Rattle.std.proofs.Common.{◌≡◌, ◌++◌, refl, sym, ◌∙◌, ap, subst, arith, List, IsSome, is_some, Some}
 use Rattle.rds_wire.specs.declared.frame.Frame.{Frame}
-use Rattle.rds_wire.specs.declared.header.TheConstants.{ACK_REQUIRED, RETRANSMITTED}
 use Rattle.rds_wire.specs.Bytes.{frame_bytes}
 use Rattle.rds_model.specs.declared.entry.Entry.{Entry}
 use Rattle.rds_model.specs.Past.{Accepted, datagram}
-use Rattle.rds_model.specs.Streams.{was_pulled}
-use Rattle.rds_model.specs.Owed.{data_frame, last_map, header_of, flag_if, asks_with}
+use Rattle.rds_model.specs.Owed.{data_frame, last_map, asks_with}
 use Rattle.rds_model.proofs.Due.{least_due}
 use Rattle.rds_model.proofs.Numbers.{number_of_known}
 use Rattle.rds_model.proofs.LawfulFrames.{kind_of_data_frame}
 use Rattle.rds_conn.specs.Choosing.{IsFirstDue}
 use Rattle.rds_conn.specs.Connection.{Connection, stream_of}
-use Rattle.rds_conn.specs.Pulling.{pulled_as, PullsFrame}
+use Rattle.rds_conn.specs.Pulling.{pulled_as}
 use Rattle.rds_conn.proofs.KeepsPulls.{keeps_data, counts_fit, framed_data}
 use Rattle.rds_conn.proofs.conn.Conn.pull_data.Goals as goal
 

@@ -1,4 +1,4 @@
-use Rattle.std.proofs.Common.{◌≤◌, ◌<◌, ap, ◌∙◌, sym, arith}
+use Rattle.std.proofs.Common.{ap, arith}
 use Rattle.rds_conn.specs.Connection.{Connection}
 use Rattle.rds_conn.proofs.KeepsOrders.{keeps_send, takes_message}
 use Rattle.rds_conn.proofs.GoneBytes.{gone_after_accept}

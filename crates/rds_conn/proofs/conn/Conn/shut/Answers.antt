@@ -1,7 +1,6 @@
-use Rattle.std.proofs.Common.{◌≤◌, ap, ◌∙◌, sym, arith}
+use Rattle.std.proofs.Common.{ap, ◌∙◌, sym, arith}
 use Rattle.rds_conn.specs.Connection.{Connection}
 use Rattle.rds_conn.proofs.KeepsStreams.{keeps_shut}
-use Rattle.rds_conn.proofs.KeepsOrders.{keeps_send}
 use Rattle.rds_conn.proofs.conn.Conn.shut.Goals as goal
 
 pub invariant_of-self : goal.invariant_of-self

@@ -1,5 +1,4 @@
 use Rattle.std.proofs.Common.{length, ap, ◌∙◌}
-use Rattle.rds_model.specs.declared.entry.Msg.{Msg}
 use Rattle.rds_conn.proofs.KeepsOrders.{length-alive_messages}
 use Rattle.rds_conn.proofs.conn.Conn.unacked.Goals as goal
 

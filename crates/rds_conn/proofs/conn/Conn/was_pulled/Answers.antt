@@ -1,5 +1,4 @@
-use Rattle.std.proofs.Common.{◌≡◌, true, ap, ◌∙◌, sym, nat_le}
-use Rattle.rds_model.specs.Past.{highest}
+use Rattle.std.proofs.Common.{ap, ◌∙◌, nat_le}
 use Rattle.rds_model.specs.Alive.{is_alive}
 use Rattle.rds_conn.specs.Connection.{Connection}
 use Rattle.rds_conn.proofs.Owing.{again_is}

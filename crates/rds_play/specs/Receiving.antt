@@ -1,0 +1,23 @@
+-- How a socket hands out the datagram that has waited longest. Source: this project's own.
+use Rattle.std.specs.Prelude.{◌≡◌, ℕ, ◌-◌, [], ◌∷◌, ◌++◌, List, length}
+use Rattle.rds_history.specs.Lines.{recv_line}
+use Rattle.rds_play.specs.declared.host.Arrived.{Arrived}
+use Rattle.rds_play.specs.declared.host.Socket.{Socket}
+
+-- the datagram leaves the queue and is kept with those that were handed out, and its line is printed
+pub record HandsOut (h port : ℕ) (a : Arrived) (waiting : List Arrived) (old new : Socket) (text_old text_new : List ℕ) : Type 0 where
+  pub sndbuf_same : new.sndbuf ≡ old.sndbuf
+  pub rcvbuf_same : new.rcvbuf ≡ old.rcvbuf
+  pub queue_is : new.queue.items ≡ waiting
+  pub queued_is : new.queued ≡ old.queued - length a.datagram.payload
+  pub got_is : new.got.items ≡ old.got.items ++ a.datagram ∷ []
+  pub text_is : text_new ≡ text_old ++ recv_line h port a.from a.datagram.sport a.datagram.payload
+
+-- nothing waits, and nothing is printed
+pub record KeepsAll (old new : Socket) (text_old text_new : List ℕ) : Type 0 where
+  pub sndbuf_same : new.sndbuf ≡ old.sndbuf
+  pub rcvbuf_same : new.rcvbuf ≡ old.rcvbuf
+  pub queue_same : new.queue.items ≡ old.queue.items
+  pub queued_same : new.queued ≡ old.queued
+  pub got_same : new.got.items ≡ old.got.items
+  pub text_same : text_new ≡ text_old

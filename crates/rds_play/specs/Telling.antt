@@ -1,0 +1,87 @@
+-- What the fields of a world tell of a past. Source: this project's own.
+use Rattle.std.specs.Prelude.{◌≡◌, ℕ, ◌+◌, ◌*◌, ◌<◌, ◌≤◌, Some, List, [], length, map, get_or, string_bytes}
+use Rattle.std.specs.BTreeMap as tree
+use Rattle.std.specs.Ordering.{nat_cmp}
+use Rattle.rds_cong.specs.Map.{has_port}
+use Rattle.rds_model.specs.Past.{open_stream}
+use Rattle.rds_model.specs.Streams.{wrote}
+use Rattle.rds_history.specs.Events.{Event}
+use Rattle.rds_history.specs.Journals.{journal, fed, in_flight, is_marked, own_map}
+use Rattle.rds_history.specs.Sockets.{binds, holder, send_buffer, receive_buffer, delivered, received, queue, queued}
+use Rattle.rds_history.specs.Transcript.{lines}
+use Rattle.rds_play.specs.declared.host.Arrived.{Arrived}
+use Rattle.rds_play.specs.declared.host.Socket.{Socket}
+use Rattle.rds_play.specs.declared.host.Host.{Host}
+use Rattle.rds_play.specs.declared.link.Link.{Link}
+use Rattle.rds_play.specs.declared.world.World.{World}
+
+-- a link keeps the journal of host h with k, which may have so many entries
+pub record TellsLink (limit h k : ℕ) (past : List Event) (l : Link) : Type 0 where
+  pub host_is : l.host ≡ h
+  pub peer_is : l.peer ≡ k
+  pub journal_is : l.conn.log.past ≡ journal h k past
+  pub limit_is : l.conn.log.limit ≡ limit
+
+-- the bytes are those in flight from h to k
+pub record TellsOut (h k : ℕ) (past : List Event) (out : List ℕ) : Type 0 where
+  pub bytes_are : out ≡ in_flight h k past
+  pub within : (stream : ℕ) → open_stream (journal h k past) ≡ Some stream → fed h k past ≤ length (wrote stream (journal h k past))
+
+-- a socket has its buffers, what waits at it, and what it handed out
+pub record TellsSocket (h slot : ℕ) (past : List Event) (s : Socket) : Type 0 where
+  pub sndbuf_is : s.sndbuf ≡ send_buffer h slot past
+  pub rcvbuf_is : s.rcvbuf ≡ receive_buffer h slot past
+  pub queue_is : map (λ (a : Arrived). a.datagram) s.queue.items ≡ queue h slot past
+  pub queued_is : s.queued ≡ queued h slot past
+  pub got_is : s.got.items ≡ received h slot past
+  pub within : length (received h slot past) ≤ length (delivered h slot past)
+
+-- nothing came to the socket of a slot, or left it
+pub record IsFresh (h slot : ℕ) (past : List Event) : Type 0 where
+  pub none_came : delivered h slot past ≡ []
+  pub none_left : received h slot past ≡ []
+
+-- a host has its sockets, those that hold its ports, and its congestion map
+pub record TellsHost (h : ℕ) (past : List Event) (x : Host) : Type 0 where
+  pub binds_are : length x.sockets.items ≡ binds h past
+  pub holders_are : (port : ℕ) → tree.get nat_cmp x.holders port ≡ holder h port past
+  pub map_is : x.map ≡ own_map h past
+  pub marks_are : (port : ℕ) → has_port x.map port ≡ is_marked h port past
+  pub sockets_are : (slot : ℕ) → slot < binds h past → (s : Socket) → s ≡ get_or x.sockets.items slot s →
+      TellsSocket h slot past s
+  pub fresh : (slot : ℕ) → binds h past ≤ slot → IsFresh h slot past
+
+-- each item of a list tells something, by two hosts and by one
+abbrev pub EachPair : {X : Type 0} → (ℕ → ℕ → X → Type 0) → List X → Type 0
+EachPair tells xs = (h k : ℕ) → h < 8 → k < 8 → (x : _) → x ≡ get_or xs (8 * h + k) x → tells h k x
+
+abbrev pub EachHost : {X : Type 0} → (ℕ → X → Type 0) → List X → Type 0
+EachHost tells xs = (h : ℕ) → h < 8 → (x : _) → x ≡ get_or xs h x → tells h x
+
+-- what contracts see of a world: its limit, its hosts, its text, its links, its bytes in flight, and what hosts have
+pub record State : Type 0 where
+  pub limit : ℕ
+  pub count : ℕ
+  pub text : List ℕ
+  pub links : List Link
+  pub outs : List (List ℕ)
+  pub hosts : List Host
+
+abbrev pub state : World → State
+state w = record {
+  limit = w.limit;
+  count = w.count;
+  text = string_bytes w.text;
+  links = w.links.items;
+  outs = w.outs.items;
+  hosts = w.hosts.items;
+}
+
+-- a world of so many hosts, whose journals may have so many entries, tells a past
+pub record Tells (limit hosts : ℕ) (past : List Event) (s : State) : Type 0 where
+  pub limit_is : s.limit ≡ limit
+  pub count_is : s.count ≡ hosts
+  pub text_is : s.text ≡ lines past
+  pub links_are : EachPair (λ h k l. TellsLink limit h k past l) s.links
+  pub outs_are : EachPair (λ h k out. TellsOut h k past out) s.outs
+  pub hosts_are : EachHost (λ h x. TellsHost h past x) s.hosts
