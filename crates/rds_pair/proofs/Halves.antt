@@ -1,22 +1,17 @@
 -- What the calls of a connection do to one end.
-use Rattle.std.proofs.Common.{◌≡◌, ℕ, Option, Some, None, IfSome, Result, Ok, Err, IfOk, List, [], ◌∷◌, ◌++◌, refl, ◌∙◌, ap}
+use Rattle.std.proofs.Common.{◌≡◌, ℕ, Option, Some, None, IfSome, List, [], ◌∷◌, ◌++◌, refl, ◌∙◌, ap}
 use Rattle.std.specs.Prelude.{IsSome}
 use Rattle.std.specs.Option.{option_map}
 use Rattle.rds_wire.specs.declared.frame.Frame.{Frame}
-use Rattle.rds_wire.specs.declared.kind.Malformed.{Malformed}
 use Rattle.rds_model.specs.declared.entry.Entry.TheVariants.{Read}
 use Rattle.rds_model.specs.declared.entry.Outcome.{Outcome}
 use Rattle.rds_model.specs.declared.entry.Verdict.{Verdict}
 use Rattle.rds_model.specs.Owed.{owed}
 use Rattle.rds_model.specs.Reading.{verdict_of}
 use Rattle.rds_model.specs.Legal.{pong_for}
-use Rattle.rds_conn.specs.declared.conn.ConnError.{ConnError}
-use Rattle.rds_conn.specs.declared.conn.ConnError.TheVariants as errors
-use Rattle.rds_conn.specs.declared.conn.Fed.{Fed}
 use Rattle.rds_conn.specs.declared.conn.Found.{Found}
 use Rattle.rds_conn.specs.declared.conn.Pulled.{Pulled}
 use Rattle.rds_conn.specs.Connection.{Connection, logged, stream_of}
-use Rattle.rds_conn.specs.Feeding.{Feeds, Refuses}
 use Rattle.rds_conn.specs.Pulling.{Pulls}
 use Rattle.rds_conn.specs.Passing.{answering, outcome_of, passed as passed_at}
 use Rattle.rds_pair.specs.Half.{side}
@@ -46,17 +41,12 @@ read_side : (old : Connection) (out freed : List ℕ) (k : ℕ) (f : Frame) (cam
 read_side old out freed k f came None = refl
 read_side old out freed k f came (Some port) = refl
 
-read_slots : (old : Connection) (freed : List ℕ) (k : ℕ) (f : Frame) (came : Outcome) (o : Option ℕ) →
-    (record (answering o (record (logged (Read k f came ∷ []) old) { waiting = None })) { freed = freed }).slots ≡ old.slots
-read_slots old freed k f came None = refl
-read_slots old freed k f came (Some port) = refl
-
 -- the frame that waits was passed, as the slot says
 pub record Passes (old new : Connection) (slot : Option ℕ) : Type 0 where
   pub verdict : Verdict
   pub found : Found
   pub verdict_is : option_map (λ (f : Frame). verdict_of old.log.past f.header) old.waiting ≡ Some verdict
-  pub found_is : found ≡ found_for slot verdict
+  pub found_is : found ≡ found_for old.slots slot verdict
   pub on : IsSome (stream_of old)
   pub entry : (k : ℕ) (f : Frame) → stream_of old ≡ Some k → old.waiting ≡ Some f →
       new ≡ record (passed_at k f (outcome_of (verdict_of old.log.past f.header) found) old) { freed = new.freed }
@@ -72,34 +62,8 @@ passed_side old new out slot p = by_both (stream_of old) old.waiting refl refl p
     by_both (Some k) None open_is waits on is = cc
     by_both (Some k) (Some f) open_is waits on is =
         let verdict : p.verdict ≡ verdict_of old.log.past f.header = cc in
-        let found : p.found ≡ found_for slot (verdict_of old.log.past f.header) = p.found_is ∙ ap (found_for slot) verdict in
+        let found : p.found ≡ found_for old.slots slot (verdict_of old.log.past f.header) = p.found_is ∙ ap (found_for old.slots slot) verdict in
         let came : Found → Outcome = outcome_of (verdict_of old.log.past f.header) in
         ap (λ (c : Connection). side c out) (p.entry k f open_is waits)
         ∙ read_side old out new.freed k f (came p.found) (pong_for (came p.found) f.header.sport)
         ∙ ap (λ (n : Found). read_as k f (came n) (side old out)) found
-
-pub passed_slots : (old new : Connection) (slot : Option ℕ) → Passes old new slot → new.slots ≡ old.slots
-passed_slots old new slot p = by_both (stream_of old) old.waiting refl refl p.on p.verdict_is
-  where
-    by_both : (o : Option ℕ) (w : Option Frame) → stream_of old ≡ o → old.waiting ≡ w → IsSome o →
-        option_map (λ (f : Frame). verdict_of old.log.past f.header) w ≡ Some p.verdict → new.slots ≡ old.slots
-    by_both None w closed waits on is = cc
-    by_both (Some k) None open_is waits on is = cc
-    by_both (Some k) (Some f) open_is waits on is =
-        let came = outcome_of (verdict_of old.log.past f.header) p.found in
-        ap (λ (c : Connection). c.slots) (p.entry k f open_is waits)
-        ∙ read_slots old new.freed k f came (pong_for came f.header.sport)
-
--- a piece of the stream was given, whatever came of it
-pub fed_slots : (piece : List ℕ) (old new : Connection) (came : Result Fed ConnError) → IfOk came (Feeds piece old new) →
-    ((fault : Malformed) → came ≡ Err (errors.Malformed fault) → Refuses piece fault old new) →
-    (came ≡ Err errors.Closed → stream_of old ≡ None) → (stream_of old ≡ None → new ≡ old) →
-    (came ≡ Err errors.Memory → new ≡ old) → ((entries : ℕ) → came ≡ Err (errors.Spent entries) → ⊥) → new.slots ≡ old.slots
-fed_slots piece old new (Ok fed) feeds malformed closed still memory spent = ap (λ (c : Connection). c.slots) feeds.rest_same
-fed_slots piece old new (Err errors.Memory) feeds malformed closed still memory spent = ap (λ (c : Connection). c.slots) (memory refl)
-fed_slots piece old new (Err (errors.Malformed fault)) feeds malformed closed still memory spent =
-    let refused = malformed fault refl in
-    ap (λ (c : Connection). c.slots) refused.entry
-fed_slots piece old new (Err (errors.Spent entries)) feeds malformed closed still memory spent = absurd (spent entries refl)
-fed_slots piece old new (Err errors.Closed) feeds malformed closed still memory spent =
-    ap (λ (c : Connection). c.slots) (still (closed refl))

@@ -90,7 +90,7 @@ still_ordered order.Cut s = record {
 }
 
 pub joined_ordered : (o : Order) (n : ℕ) (a b : Side) → IsJoined n a b → IsWhole (ordered o a).past → IsJoined n (ordered o a) b
-joined_ordered o n a b joined whole = by_test (is_allowed o) whole
+joined_ordered o n a b joined whole = by_test (is_allowed a.slots o) whole
   where
     by_test : (allowed : Bool) → IsWhole (if allowed then record a { past = entries_of o ++ a.past } else a).past →
         IsJoined n (if allowed then record a { past = entries_of o ++ a.past } else a) b
@@ -152,7 +152,7 @@ joined_passed slot n a b joined whole = by_both (open_stream a.past) a.waiting r
     by_both (Some k) None on waits whole = joined
     by_both (Some k) (Some f) on waits whole =
         let verdict = verdict_of a.past f.header in
-        let came = outcome_of verdict (found_for slot verdict) in
+        let came = outcome_of verdict (found_for a.slots slot verdict) in
         joined_read n a b k f came (pong_for came f.header.sport) joined on waits whole
 
 -- the next stream was opened

@@ -14,7 +14,7 @@ use Rattle.rds_model.specs.declared.order.Order.{Order}
 use Rattle.rds_model.specs.declared.order.Order.TheVariants as order
 use Rattle.rds_model.specs.Past.{open_stream, newest_stream}
 use Rattle.rds_model.specs.Owed.{owed}
-use Rattle.rds_model.specs.Reading.{max_slots, verdict_of}
+use Rattle.rds_model.specs.Reading.{verdict_of}
 use Rattle.rds_model.specs.Legal.{pong_for}
 use Rattle.rds_conn.specs.declared.conn.Found.{Found}
 use Rattle.rds_conn.specs.declared.conn.Found.TheVariants as found
@@ -24,11 +24,11 @@ use Rattle.rds_pair.specs.declared.step.End.TheVariants.{First, Second}
 use Rattle.rds_pair.specs.Sides.{Side, Sides, taken}
 
 -- an end takes the order: its slot is one of the host's, its payload isn't too long, and it is no cut
-abbrev pub is_allowed : Order → Bool
-is_allowed (order.Send slot sport dport payload) = nat_lt slot max_slots && nat_le (length payload) MAX_LENGTH
-is_allowed (order.Cancel slot dport) = nat_lt slot max_slots
-is_allowed (order.CloseSocket slot) = nat_lt slot max_slots
-is_allowed order.Cut = false
+abbrev pub is_allowed : ℕ → Order → Bool
+is_allowed slots (order.Send slot sport dport payload) = nat_lt slot slots && nat_le (length payload) MAX_LENGTH
+is_allowed slots (order.Cancel slot dport) = nat_lt slot slots
+is_allowed slots (order.CloseSocket slot) = nat_lt slot slots
+is_allowed slots order.Cut = false
 
 -- the entry of an order
 abbrev pub entries_of : Order → List Entry
@@ -39,7 +39,7 @@ entries_of order.Cut = []
 
 -- an order was given, and was taken if it is allowed
 abbrev pub ordered : Order → Side → Side
-ordered order s = if is_allowed order then record s { past = entries_of order ++ s.past } else s
+ordered order s = if is_allowed s.slots order then record s { past = entries_of order ++ s.past } else s
 
 -- this was owed to stream k, and was pulled
 abbrev pub pulled_as : ℕ → Option Frame → Side → Side
@@ -55,14 +55,14 @@ abbrev pub pulled : List ℕ → Side → Side
 pulled map s = pulled_on (open_stream s.past) map s
 
 -- the socket of this slot holds a datagram's port, or none; no socket has a slot past the last
-abbrev pub holder : Option ℕ → Found
-holder None = found.NoSocket
-holder (Some slot) = if nat_lt slot max_slots then found.Slot slot else found.NoSocket
+abbrev pub holder : ℕ → Option ℕ → Found
+holder slots None = found.NoSocket
+holder slots (Some slot) = if nat_lt slot slots then found.Slot slot else found.NoSocket
 
 -- the port is looked up exactly where the frame is to be delivered
-abbrev pub found_for : Option ℕ → Verdict → Found
-found_for slot (verdict.Deliver dport) = holder slot
-found_for slot _ = found.Unasked
+abbrev pub found_for : ℕ → Option ℕ → Verdict → Found
+found_for slots slot (verdict.Deliver dport) = holder slots slot
+found_for slots slot _ = found.Unasked
 
 -- the acceptance of a pong, if one is owed to a port
 abbrev pub pong : Option ℕ → List Entry
@@ -77,7 +77,7 @@ read_as k f came s =
 abbrev pub passed_on : Option ℕ → Option Frame → Option ℕ → Side → Side
 passed_on (Some k) (Some f) slot s =
     let verdict = verdict_of s.past f.header in
-    read_as k f (outcome_of verdict (found_for slot verdict)) s
+    read_as k f (outcome_of verdict (found_for s.slots slot verdict)) s
 passed_on _ _ slot s = s
 
 -- the frame that waits was passed, if one does: a datagram to the socket of `slot`, or to none

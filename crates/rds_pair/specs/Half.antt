@@ -5,7 +5,7 @@ use Rattle.rds_pair.specs.declared.half.Half.{Half}
 use Rattle.rds_pair.specs.Sides.{Side}
 
 abbrev pub side : Connection → List ℕ → Side
-side c flying = record { past = c.log.past; limit = c.log.limit; waiting = c.waiting; rest = c.rest; flying = flying }
+side c flying = record { slots = c.slots; past = c.log.past; limit = c.log.limit; waiting = c.waiting; rest = c.rest; flying = flying }
 
 abbrev pub side_of : Half → Side
 side_of h = side h.conn h.out

@@ -6,9 +6,11 @@ use Rattle.rds_model.specs.declared.entry.Entry.{Entry}
 use Rattle.rds_pair.specs.declared.step.End.{End}
 use Rattle.rds_pair.specs.declared.step.End.TheVariants.{First, Second}
 
--- One end: its journal, newest entry first, and how many entries that may have; of the open stream the whole frame that waits, and the bytes that are no whole
--- frame yet; and the bytes that it wrote and that are in flight to the other end.
+-- One end: below which number the slots of its sockets are; its journal, newest entry first, and how many entries that may
+-- have; of the open stream the whole frame that waits, and the bytes that are no whole frame yet; and the bytes that it
+-- wrote and that are in flight to the other end.
 pub record Side : Type 0 where
+  pub slots : ℕ
   pub past : List Entry
   pub limit : ℕ
   pub waiting : Option Frame
@@ -21,8 +23,8 @@ pub record Sides : Type 0 where
   pub second : Side
 
 -- nothing has happened
-abbrev pub blank : ℕ → Side
-blank limit = record { past = []; limit = limit; waiting = None; rest = []; flying = [] }
+abbrev pub blank : ℕ → ℕ → Side
+blank slots limit = record { slots = slots; past = []; limit = limit; waiting = None; rest = []; flying = [] }
 
 -- the bytes that were taken of the open stream and not passed
 abbrev pub taken : Side → List ℕ

@@ -1,5 +1,13 @@
-ghost use Rattle.std.specs.Prelude.{◌≡◌};
+ghost use Rattle.std.specs.Prelude.{◌≡◌, ℕ, ◌<◌, ◌≤◌, None, Err, IfOk, OnOk, OnErr};
+ghost use Rattle.rds_model.specs.Past.{open_stream, newest_stream};
 ghost use Rattle.rds_model.specs.Reading.{max_slots};
+ghost use Rattle.rds_model.specs.Legal.{IsWhole};
+ghost use Rattle.rds_model.specs.declared.journal.TheConstants.{MIN_ENTRIES, MAX_ENTRIES};
+ghost use Rattle.rds_conn.specs.Connection.{IsReady};
+ghost use Rattle.rds_pair.specs.declared.error.PairError.TheVariants as errors;
+ghost use Rattle.rds_pair.specs.Sides.{IsFull, blank};
+ghost use Rattle.rds_pair.specs.Half.{side_of};
+ghost use Rattle.rds_pair.specs.Changes.{ordered, pulled, passed, opened, shut, lost};
 
 use crate::error::PairError;
 use crate::found::found_for;
@@ -12,36 +20,23 @@ use rds_wire::Memory;
 use std::alloc::Global;
 use std::sync::ledger::Ledger;
 
-/// How many sockets a host has at most.
-pub const SLOTS: u16 = 1024;
-
 /// One end of a pair: its connection, and the bytes that it wrote and that are in flight to the other end.
 #[derive(Drop)]
 pub(crate) struct Half {
     pub conn: Conn,
     pub out: Out,
-    ghost wide: { conn.slots ≡ max_slots },
 }
 
 impl Half {
-    ghost use Rattle.std.specs.Prelude.{◌≢◌, ◌<◌, ◌≤◌, ◌+◌, ℕ, Some, None, Err, IfOk, OnOk, OnErr, IsSome, length};
-    ghost use Rattle.rds_model.specs.Past.{open_stream, newest_stream};
-    ghost use Rattle.rds_model.specs.Legal.{IsWhole};
-    ghost use Rattle.rds_model.specs.declared.journal.TheConstants.{MIN_ENTRIES, MAX_ENTRIES};
-    ghost use Rattle.rds_conn.specs.Connection.{IsReady};
-    ghost use Rattle.rds_pair.specs.declared.error.PairError.TheVariants as errors;
-    ghost use Rattle.rds_pair.specs.Sides.{IsFull, blank};
-    ghost use Rattle.rds_pair.specs.Half.{side_of};
-    ghost use Rattle.rds_pair.specs.Changes.{ordered, pulled, passed, opened, shut, lost};
-
     /// The end of the host `me` to `peer`, of which nothing has happened.
-    pub fn new(alloc: Global, me: u32, peer: u32, limit: u32) -> Result<Half, Memory>
+    pub fn new(alloc: Global, me: u32, peer: u32, slots: u16, limit: u32) -> Result<Half, Memory>
+        requires slots { slots ≤ max_slots }
         requires least { MIN_ENTRIES ≤ limit }
         requires most { limit ≤ MAX_ENTRIES }
-        ensures { IfOk result (λ half. side_of half ≡ blank limit) }
+        ensures { IfOk result (λ half. side_of half ≡ blank slots limit) }
     {
         Ok(Half {
-            conn: Conn::new(alloc, me, peer, SLOTS, limit)?,
+            conn: Conn::new(alloc, me, peer, slots, limit)?,
             out: Out::new(alloc)?,
         })
     }
@@ -72,7 +67,7 @@ impl Half {
         ensures spent { (entries : ℕ) → result ≡ Err (errors.Spent entries) → IsFull entries (side_of self.old) }
         ensures whole { IsWhole self.new.conn.log.past }
     {
-        if !is_allowed(order) {
+        if !is_allowed(self.conn.slots(), order) {
             self.conn.known();
             return Ok(());
         }
@@ -115,7 +110,8 @@ impl Half {
         let Some(verdict) = self.conn.verdict() else {
             return Ok(());
         };
-        self.conn.pass(found_for(verdict, slot), visited);
+        self.conn
+            .pass(found_for(self.conn.slots(), verdict, slot), visited);
         self.conn.known();
         Ok(())
     }
@@ -129,7 +125,7 @@ impl Half {
         ensures whole { IsWhole self.new.conn.log.past }
     {
         self.conn.open(stream);
-        self.out.wipe();
+        self.lose();
         self.conn.known();
     }
 

@@ -12,7 +12,6 @@ mod run;
 mod step;
 
 pub use error::PairError;
-pub use half::SLOTS;
 pub use pair::Pair;
 pub use step::{End, Step};
 

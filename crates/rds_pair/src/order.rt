@@ -1,18 +1,17 @@
 ghost use Rattle.std.specs.Prelude.{◌≡◌, IfOk};
 ghost use Rattle.rds_pair.specs.Changes.{is_allowed as allows};
 
-use crate::half::SLOTS;
 use rds_model::Order;
 use rds_wire::{MAX_LENGTH, Memory};
 
-/// Whether an end takes the order.
-pub(crate) fn is_allowed(order: &Order) -> bool
-    ensures { result ≡ allows order.now }
+/// Whether an end with so many slots takes the order.
+pub(crate) fn is_allowed(slots: u16, order: &Order) -> bool
+    ensures { result ≡ allows slots order.now }
 {
     match order {
-        Order::Send { slot, payload, .. } => *slot < SLOTS && payload.len() <= MAX_LENGTH,
-        Order::Cancel { slot, .. } => *slot < SLOTS,
-        Order::CloseSocket { slot } => *slot < SLOTS,
+        Order::Send { slot, payload, .. } => *slot < slots && payload.len() <= MAX_LENGTH,
+        Order::Cancel { slot, .. } => *slot < slots,
+        Order::CloseSocket { slot } => *slot < slots,
         Order::Cut => false,
     }
 }

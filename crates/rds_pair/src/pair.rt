@@ -40,6 +40,7 @@ impl Model for Pair {
 
 impl Pair {
     ghost use Rattle.std.specs.Prelude.{◌≤◌, IfOk};
+    ghost use Rattle.rds_model.specs.Reading.{max_slots};
     ghost use Rattle.rds_model.specs.Legal.{IsLegal};
     ghost use Rattle.rds_model.specs.Honest.{IsHonest};
     ghost use Rattle.rds_model.specs.Fifo.{HasNoBad};
@@ -49,16 +50,23 @@ impl Pair {
     ghost use Rattle.rds_pair.specs.Joined.{Flows};
     ghost use Rattle.rds_pair.specs.Changes.{ordered, pulled, passed, opened_at_both, shut_at, cut, MovesTo};
 
-    /// Two ends of a connection between two hosts, given by their IPv4 addresses, of which nothing has happened. Each
-    /// journal may have `limit` entries.
-    pub fn new(alloc: Global, first: u32, second: u32, limit: u32) -> Result<Pair, Memory>
+    /// Two ends of a connection between two hosts, given by their IPv4 addresses, of which nothing has happened. The slots
+    /// of sockets are below `slots`, and each journal may have `limit` entries.
+    pub fn new(
+        alloc: Global,
+        first: u32,
+        second: u32,
+        slots: u16,
+        limit: u32,
+    ) -> Result<Pair, Memory>
+        requires slots { slots ≤ max_slots }
         requires least { MIN_ENTRIES ≤ limit }
         requires most { limit ≤ MAX_ENTRIES }
-        ensures { IfOk result (λ pair. pair ≡ record { first = blank limit; second = blank limit }) }
+        ensures { IfOk result (λ pair. pair ≡ record { first = blank slots limit; second = blank slots limit }) }
     {
         Ok(Pair {
-            first: Half::new(alloc, first, second, limit)?,
-            second: Half::new(alloc, second, first, limit)?,
+            first: Half::new(alloc, first, second, slots, limit)?,
+            second: Half::new(alloc, second, first, slots, limit)?,
             streams: 0,
         })
     }

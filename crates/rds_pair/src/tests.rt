@@ -32,7 +32,7 @@ fn counted<L: Ledger>(
     requires whole { 0 < L.parts }
 {
     let mut visited: Steps<L> = Steps::new(blank);
-    let mut pair = Pair::new(alloc, 1, 2, limit)?;
+    let mut pair = Pair::new(alloc, 1, 2, 4, limit)?;
     let ran = pair.run(steps, &mut visited);
     Ok((pair, ran))
 }

@@ -3,16 +3,8 @@ use Rattle.std.proofs.lemmas.List.{take-append-drop}
 use Rattle.rds_pair.specs.Sides.{Side}
 use Rattle.rds_pair.specs.Half.{side_of}
 use Rattle.rds_pair.specs.Joined.{Flows}
-use Rattle.rds_pair.proofs.Halves.{fed_slots}
 use Rattle.rds_pair.proofs.Refusing.{honest_refused, never_refused}
 use Rattle.rds_pair.proofs.moving.move_bytes.Goals as goal
-
-pub invariant_of-reader : goal.invariant_of-reader
-invariant_of-reader c = record {
-  wide = fed_slots _ c.ready.new.self.conn c.feed.new.self c.feed.result c.feed.ensures.ok c.feed.ensures.malformed
-      c.feed.ensures.closed.0 c.feed.ensures.closed_still c.feed.ensures.memory c.feed.ensures.spent
-      ∙ c.ready.new.self.wide;
-}
 
 pub no_bad-requires-clause-honest : goal.no_bad-requires-clause-honest
 no_bad-requires-clause-honest c =

@@ -1,19 +1,7 @@
 use Rattle.std.proofs.Common.{◌∙◌, sym, ap}
-use Rattle.rds_pair.specs.Changes.{passed}
-use Rattle.rds_pair.proofs.Halves.{Passes, passed_side, passed_slots}
+use Rattle.rds_pair.specs.Changes.{found_for, passed}
+use Rattle.rds_pair.proofs.Halves.{Passes, passed_side}
 use Rattle.rds_pair.proofs.half.Half.pass.Goals as goal
-
-pub invariant_of-self : goal.invariant_of-self
-invariant_of-self g c =
-    let passes : Passes c.ready.new.self.conn c.pass.new.self c.args.slot = record {
-      verdict = c.in-Some.verdict;
-      found = c.found_for.result;
-      verdict_is = sym c.in-Some.ensures;
-      found_is = c.found_for.ensures.found;
-      on = c.pass.ensures.on;
-      entry = c.pass.ensures.entry;
-    } in
-    record { wide = passed_slots c.ready.new.self.conn c.pass.new.self c.args.slot passes ∙ c.ready.new.self.wide }
 
 pub returns-clause-ok : goal.returns-clause-ok
 returns-clause-ok g c =
@@ -21,7 +9,7 @@ returns-clause-ok g c =
       verdict = c.in-Some.verdict;
       found = c.found_for.result;
       verdict_is = sym c.in-Some.ensures;
-      found_is = c.found_for.ensures.found;
+      found_is = c.found_for.ensures.found ∙ ap (λ n. found_for n c.args.slot c.in-Some.verdict) c.slots.ensures;
       on = c.pass.ensures.on;
       entry = c.pass.ensures.entry;
     } in
