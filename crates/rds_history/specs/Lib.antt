@@ -22,5 +22,4 @@ pub mod Items
 pub mod Tally
 pub mod Walks
 pub mod History
-pub mod Known
 pub mod Rows

@@ -9,7 +9,7 @@ use Rattle.rds_script.specs.Grammar.{Meaning, Spells}
 use Rattle.rds_script.specs.Refusal.{Refused}
 use Rattle.rds_run.specs.declared.status.Status.{Status}
 use Rattle.rds_run.specs.declared.status.Status.TheVariants as ended
-use Rattle.rds_run.specs.Ends.{IsSpelled, IsRefusedAt, Refuses, Plays, Ends}
+use Rattle.rds_run.specs.Ends.{IsSpelled, IsRefusedAt, IsToldRefused, Refuses, Plays, Ends}
 
 -- what is no longer than a script may be was read to its end
 whole : (all text : List ℕ) → text ≡ take (MAX_TEXT + 1) all → length text ≤ MAX_TEXT → text ≡ all
@@ -31,7 +31,6 @@ small text line cause.Payload r = inr r.0
 small text line cause.Total r = inr r.0
 small text line cause.Cuts r = inr r.0
 small text line cause.Empty r = inr r.1
-small text line cause.Later r = inr r.0
 
 -- the whole of a text is too large where its front is
 too_large : (all text : List ℕ) (line : ℕ) → text ≡ take (MAX_TEXT + 1) all → Refused text line cause.TooLarge → Refused all line cause.TooLarge
@@ -48,32 +47,39 @@ refused_whole all text line why handed refused (inr within) = subst (λ t. Refus
 refused_at : (left : Option (List ℕ)) (text : List ℕ) (line : ℕ) (why : Cause) → HandsFront left (MAX_TEXT + 1) text →
     Refused text line why → IsRefusedAt left line why
 refused_at None text line why handed refused = tt
-refused_at (Some all) text line why handed refused = inl (refused_whole all text line why handed refused (small text line why refused))
+refused_at (Some all) text line why handed refused = refused_whole all text line why handed refused (small text line why refused)
+
+-- and so is its front where the whole is
+refused_front : (all text : List ℕ) (line : ℕ) (why : Cause) → text ≡ take (MAX_TEXT + 1) all → Refused all line why →
+    (why ≡ cause.TooLarge) ⊎ (length all ≤ MAX_TEXT) → Refused text line why
+refused_front all text line why handed refused (inl large) =
+    let whole_refused = subst (λ c. Refused all line c) large refused in
+    let count = ap length handed ∙ length-take (MAX_TEXT + 1) all in
+    subst (λ c. Refused text line c) (sym large) (whole_refused.0, omega (arith, count, whole_refused.1))
+refused_front all text line why handed refused (inr within) =
+    subst (λ t. Refused t line why) (sym (handed ∙ take_all (MAX_TEXT + 1) all (omega (arith, within)))) refused
+
+-- what is read of a refused text is refused
+pub refused_told : (left : Option (List ℕ)) (text : List ℕ) (line : ℕ) (why : Cause) → HandsFront left (MAX_TEXT + 1) text →
+    IsToldRefused left line why → Refused text line why
+refused_told None text line why handed refused = absurd refused
+refused_told (Some all) text line why handed refused = refused_front all text line why handed refused (small all line why refused)
+
+-- the line of the refusal that was found is that of any refusal
+pub refuses_same : (l line : ℕ) (c why : Cause) (held new : Option (List ℕ)) (write_then write_now : ℕ) (s : Status) →
+    (l ≡ line) × (c ≡ why) → Refuses l c held new write_then write_now s → Refuses line why held new write_then write_now s
+refuses_same l line c why held new write_then write_now s same came =
+    subst (λ k. Refuses line k held new write_then write_now s) same.1
+    (subst (λ n. Refuses n c held new write_then write_now s) same.0 came)
 
 spelled : (left : Option (List ℕ)) (text : List ℕ) (s : Meaning) → HandsFront left (MAX_TEXT + 1) text → Spells text s → IsSpelled left
 spelled None text s handed spells = tt
 spelled (Some all) text s handed spells = (s, subst (λ t. Spells t s) (whole all text handed spells.small) spells)
 
-later_at : (left : Option (List ℕ)) (line : ℕ) → IsSpelled left → IsRefusedAt left line cause.Later
-later_at None line read = tt
-later_at (Some all) line read = inr (refl, read)
-
--- a line about a command that isn't played yet is how playing may end
-pub plays_of_later : (line : ℕ) (held new : Option (List ℕ)) (write_then write_now : ℕ) (s : Status) →
-    Refuses line cause.Later held new write_then write_now s → Plays held new write_then write_now s
-plays_of_later line held new write_then write_now ended.Written refused = absurd refused
-plays_of_later line held new write_then write_now ended.Refused refused = (line, refused)
-plays_of_later line held new write_then write_now ended.Usage refused = absurd refused
-plays_of_later line held new write_then write_now ended.ReadFault refused = absurd refused
-plays_of_later line held new write_then write_now ended.WriteFault refused = refused
-plays_of_later line held new write_then write_now ended.Memory refused = tt
-plays_of_later line held new write_then write_now ended.Spent refused = absurd refused
-
 ends_of_spelled : (left : Option (List ℕ)) (read_then read_now : ℕ) (held new : Option (List ℕ)) (write_then write_now : ℕ) (s : Status) →
     IsSpelled left → Plays held new write_then write_now s → Ends left read_then read_now held new write_then write_now s
 ends_of_spelled left read_then read_now held new write_then write_now ended.Written read played = (read, played)
-ends_of_spelled left read_then read_now held new write_then write_now ended.Refused read played =
-    (played.0, cause.Later, later_at left played.0 read, played.1)
+ends_of_spelled left read_then read_now held new write_then write_now ended.Refused read played = absurd played
 ends_of_spelled left read_then read_now held new write_then write_now ended.Usage read played = absurd played
 ends_of_spelled left read_then read_now held new write_then write_now ended.ReadFault read played = absurd played
 ends_of_spelled left read_then read_now held new write_then write_now ended.WriteFault read played = played

@@ -1,8 +1,7 @@
 -- How a call of the program may end. Source: this project's own.
-use Rattle.std.specs.Prelude.{◌≡◌, ◌⊎◌, ℕ, Option, List, ◌++◌, MatchOption}
+use Rattle.std.specs.Prelude.{ℕ, Option, List, ◌++◌, MatchOption, IsSomeAnd}
 use Rattle.rds_link.specs.Told.{HasRisen, Takes}
 use Rattle.rds_script.specs.declared.cause.Cause.{Cause}
-use Rattle.rds_script.specs.declared.cause.Cause.TheVariants.{Later}
 use Rattle.rds_script.specs.Cause.{cause_text}
 use Rattle.rds_script.specs.Grammar.{Meaning, Spells}
 use Rattle.rds_script.specs.Refusal.{Refused}
@@ -15,22 +14,22 @@ use Rattle.rds_run.specs.Texts.{usage_line, read_fault_line, bad_line}
 abbrev pub IsScriptText : List ℕ → Type 0
 IsScriptText text = (s : Meaning) × Spells text s
 
--- the text is refused at this line for this cause; or it spells a script that has a command there which isn't played yet
-abbrev pub IsRefusedText : ℕ → Cause → List ℕ → Type 0
-IsRefusedText line cause text = Refused text line cause ⊎ ((cause ≡ Later) × IsScriptText text)
-
 -- where the source tells what it has, the whole of that spells a script
 abbrev pub IsSpelled : Option (List ℕ) → Type 0
 IsSpelled left = MatchOption left (Unit {0}) IsScriptText
 
 -- where the source tells what it has, the whole of that is refused at this line for this cause
 abbrev pub IsRefusedAt : Option (List ℕ) → ℕ → Cause → Type 0
-IsRefusedAt left line cause = MatchOption left (Unit {0}) (IsRefusedText line cause)
+IsRefusedAt left line cause = MatchOption left (Unit {0}) (λ text. Refused text line cause)
 
 -- the text of a source is refused, and the line that was written says where and why
 abbrev pub IsRefusal : Option (List ℕ) → Option (List ℕ) → Option (List ℕ) → Type 0
 IsRefusal left held new =
     (line : ℕ) × (cause : Cause) × IsRefusedAt left line cause × Takes held new (bad_line line (cause_text cause))
+
+-- the source tells what it has, and the whole of that is refused at this line for this cause
+abbrev pub IsToldRefused : Option (List ℕ) → ℕ → Cause → Type 0
+IsToldRefused left line cause = IsSomeAnd left (λ text. Refused text line cause)
 
 -- the line about a refusal was written, or a fault or want of memory kept it from that
 abbrev pub Refuses : ℕ → Cause → Option (List ℕ) → Option (List ℕ) → ℕ → ℕ → Status → Type 0
@@ -39,12 +38,11 @@ Refuses line cause held new faults_then faults_now ended.WriteFault = HasRisen f
 Refuses line cause held new faults_then faults_now ended.Memory = Unit {0}
 Refuses line cause held new faults_then faults_now _ = ⊥
 
--- a script was played: its text was written, or the line of a full journal; or it has a command that isn't played yet
+-- a script was played: its text was written, or the line of a full journal
 abbrev pub Plays : Option (List ℕ) → Option (List ℕ) → ℕ → ℕ → Status → Type 0
 Plays held new faults_then faults_now ended.Written = (text : List ℕ) × Takes held new (text ++ end_line)
 Plays held new faults_then faults_now ended.Spent =
     (host : ℕ) × (peer : ℕ) × (entries : ℕ) × Takes held new (spent_line host peer entries)
-Plays held new faults_then faults_now ended.Refused = (line : ℕ) × Takes held new (bad_line line (cause_text Later))
 Plays held new faults_then faults_now ended.WriteFault = HasRisen faults_then faults_now
 Plays held new faults_then faults_now ended.Memory = Unit {0}
 Plays held new faults_then faults_now _ = ⊥

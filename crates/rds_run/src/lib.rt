@@ -1,7 +1,6 @@
 //! The program: from the words of the command line to the status.
 #![tactic(auto)]
 
-mod later;
 mod main_call;
 mod status;
 mod words;

@@ -2,32 +2,34 @@ ghost use Rattle.std.specs.Prelude.{◌≡◌, ◌≢◌, ◌⊎◌, ◌≤◌, 
 ghost use Rattle.rds_link.specs.Told.{HasRisen, Takes};
 ghost use Rattle.rds_script.specs.Script.{IsScript};
 ghost use Rattle.rds_history.specs.Lines.{end_line, spent_line};
-ghost use Rattle.rds_run.specs.Texts.{ArePlay, usage_line, read_fault_line};
-ghost use Rattle.rds_run.specs.Ends.{Ends, Plays, Refuses, IsRefusal, IsSpelled};
+ghost use Rattle.rds_script.specs.declared.cause.Cause.{Cause as Why};
+ghost use Rattle.rds_script.specs.Cause.{cause_text};
+ghost use Rattle.rds_run.specs.Texts.{ArePlay, usage_line, read_fault_line, bad_line};
+ghost use Rattle.rds_run.specs.Ends.{Ends, Plays, Refuses, IsRefusal, IsSpelled, IsToldRefused};
 ghost use Rattle.rds_run.specs.declared.status.Status.TheVariants as ended;
 
-use crate::later::first_later;
 use crate::status::Status;
 use crate::words::is_play;
 use rds_link::{ReadError, Sink, Source, read_all, write_all};
 use rds_model::MAX_ENTRIES;
 use rds_play::{PlayEnd, play};
 use rds_script::{Cause, MAX_TEXT, Script, ScriptError, read};
+use rds_wire::Memory;
 use std::alloc::Global;
 
 const USAGE: &str = "usage: rds play | rds run [--wire memory|tcp] | rds gen N SEED\n";
 
 const READ_FAULT: &str = "read fault\n";
 
-/// Runs the program on the words behind its name, and answers its status. It knows the one word `play`, which reads a
-/// script from the source and writes its transcript and its report to the sink.
+/// Runs the program on the words behind its name, and answers its status (docs/SCRIPT.md has the table). It knows the
+/// command `play`, which reads a script from the source, and writes its transcript and its report to the sink.
 pub fn rds_main<S: Source, K: Sink>(
     alloc: Global,
     words: &[String],
     source: &mut S,
     sink: &mut K,
 ) -> u8
-    ensures usage { (ArePlay words.now → ⊥) → (result ≡ 2) ⊎ (result ≡ 4) }
+    ensures usage { (ArePlay words.now → ⊥) → (result ≡ 2) ⊎ ((result ≡ 4) ⊎ (result ≡ 6)) }
     ensures usage_only { result ≡ 2 → ArePlay words.now → ⊥ }
     ensures usage_text { result ≡ 2 → Takes (K.held sink.old) (K.held sink.new) usage_line }
 
@@ -37,6 +39,10 @@ pub fn rds_main<S: Source, K: Sink>(
 
     // The text of the source is refused, and the line that was written says where and why.
     ensures refused { result ≡ 1 → IsRefusal (S.left source.old) (K.held sink.old) (K.held sink.new) }
+    // A text that is refused is answered so, unless the source or the sink fails or memory runs out.
+    ensures refuses { ArePlay words.now → (line : ℕ) → (cause : Why) → IsToldRefused (S.left source.old) line cause →
+        (result ≡ 1 × Takes (K.held sink.old) (K.held sink.new) (bad_line line (cause_text cause)))
+        ⊎ ((result ≡ 3) ⊎ ((result ≡ 4) ⊎ (result ≡ 6))) }
     // The text was read to its end and spells a script, and the whole answer was written.
     ensures read { result ≡ 0 → IsSpelled (S.left source.old) }
     ensures written { result ≡ 0 → (text : List ℕ) × Takes (K.held sink.old) (K.held sink.new) (text ++ end_line) }
@@ -46,12 +52,11 @@ pub fn rds_main<S: Source, K: Sink>(
 
     ensures known { (result ≤ 4) ⊎ ((result ≡ 6) ⊎ (result ≡ 7)) }
 {
-    let status = if is_play(words) {
-        play_text(alloc, source, sink)
-    } else {
-        say(sink, USAGE, Status::Usage)
-    };
-    status as u8
+    match is_play(alloc, words) {
+        Ok(true) => play_text(alloc, source, sink) as u8,
+        Ok(false) => say(sink, USAGE, Status::Usage) as u8,
+        Err(Memory) => Status::Memory as u8,
+    }
 }
 
 // Writes a line that is the whole text, and answers the status that goes with it, unless the sink fails.
@@ -69,6 +74,9 @@ fn say<K: Sink>(sink: &mut K, line: &str, status: Status) -> Status
 fn play_text<S: Source, K: Sink>(alloc: Global, source: &mut S, sink: &mut K) -> Status
     ensures ends { Ends (S.left source.old) (S.faults source.old) (S.faults source.new)
         (K.held sink.old) (K.held sink.new) (K.faults sink.old) (K.faults sink.new) result }
+    ensures refuses { (line : ℕ) → (cause : Why) → IsToldRefused (S.left source.old) line cause →
+        Refuses line cause (K.held sink.old) (K.held sink.new) (K.faults sink.old) (K.faults sink.new) result
+        ⊎ (result ≡ ended.ReadFault) }
     ensures play { result ≢ ended.Usage }
 {
     let text = match read_all(alloc, source, MAX_TEXT + 1) {
@@ -83,16 +91,11 @@ fn play_text<S: Source, K: Sink>(alloc: Global, source: &mut S, sink: &mut K) ->
     }
 }
 
-// Plays a script, where all of it is known.
+// Plays a script.
 fn play_script<K: Sink>(alloc: Global, script: &Script, sink: &mut K) -> Status
     requires { IsScript script.now }
     ensures { Plays (K.held sink.old) (K.held sink.new) (K.faults sink.old) (K.faults sink.new) result }
 {
-    match first_later(alloc, script) {
-        Ok(None) => {}
-        Ok(Some(line)) => return refuse(alloc, line, Cause::Later, sink),
-        Err(_) => return Status::Memory,
-    }
     match play(alloc, script, MAX_ENTRIES, sink) {
         PlayEnd::Ok => Status::Written,
         PlayEnd::Spent { .. } => Status::Spent,

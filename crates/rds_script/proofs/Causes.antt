@@ -125,7 +125,6 @@ module _ (s : Meaning) (k : ℕ) (line : List ℕ) where
   clear r le number text command count word total cause.Total lt h = total lt h
   clear r le number text command count word total cause.Cuts lt h = absurd (omega arith)
   clear r le number text command count word total cause.Empty lt h = h
-  clear r le number text command count word total cause.Later lt h = h
 
   -- a word that fails, where nothing above stands
   pub word_cause : (c : Cause) → IsTrue (has_command (words line)) → WordFails s.hosts (words line) c → ((above : Cause) → rank above < 5 → Holds s k line above → ⊥) → IsFirstCause s k line c

@@ -27,10 +27,10 @@ use Rattle.rds_script.proofs.OneLine.{AddsHosts, AddsCommand, Goes, line_result,
 
 -- the cause of a row, where it has one alone
 cause_at : ℕ → Cause
-cause_at n = at (eqb n 0) (eqb n 1) (eqb n 2) (eqb n 3) (eqb n 4) (eqb n 6) (eqb n 7) (eqb n 8)
+cause_at n = at (eqb n 0) (eqb n 1) (eqb n 2) (eqb n 3) (eqb n 4) (eqb n 6) (eqb n 7)
   where
-    at : (a b c d e f g h : Bool) → Cause
-    at a b c d e f g h = cond a cause.TooLarge (cond b cause.Lines (cond c cause.Text (cond d cause.Command (cond e cause.Words (cond f cause.Total (cond g cause.Cuts (cond h cause.Empty cause.Later)))))))
+    at : (a b c d e f g : Bool) → Cause
+    at a b c d e f g = cond a cause.TooLarge (cond b cause.Lines (cond c cause.Text (cond d cause.Command (cond e cause.Words (cond f cause.Total (cond g cause.Cuts cause.Empty))))))
 
 cause_at-rank : (c : Cause) → rank c ≢ 5 → cause_at (rank c) ≡ c
 unfolding cause_at
@@ -46,7 +46,6 @@ cause_at-rank cause.Payload h = absurd (h refl)
 cause_at-rank cause.Total h = refl
 cause_at-rank cause.Cuts h = refl
 cause_at-rank cause.Empty h = refl
-cause_at-rank cause.Later h = refl
 
 same_word : (hosts : ℕ) (ws : List (List ℕ)) (c d : Cause) → WordFails hosts ws c → WordFails hosts ws d → c ≡ d
 same_word hosts ws c d f g = go (places (first_of ws)) f g
@@ -72,7 +71,6 @@ word_row s k line cause.Payload e h = h.1
 word_row s k line cause.Total e h = absurd (omega arith)
 word_row s k line cause.Cuts e h = absurd (omega arith)
 word_row s k line cause.Empty e h = absurd h
-word_row s k line cause.Later e h = absurd h
 
 pub one_cause : (s : Meaning) (k : ℕ) (line : List ℕ) (c d : Cause) → IsFirstCause s k line c → IsFirstCause s k line d → c ≡ d
 one_cause s k line c d f g = elim (cases_order (rank c) (rank d)) [
@@ -129,7 +127,6 @@ module _ (s : Meaning) (k : ℕ) (line : List ℕ) (cuts : cut_total s.commands 
   skipped_clear has cause.Total h = let t = spelled_has s.hosts (words line) h.0 h.1 in cc
   skipped_clear has cause.Cuts h = let t = spelled_has s.hosts (words line) (command.Cut h.0 h.1) h.2 in cc
   skipped_clear has cause.Empty h = h
-  skipped_clear has cause.Later h = h
 
   module _ (w : List ℕ) (args : List (List ℕ)) (parts : words line ≡ w ∷ args) (has : is_named w ≡ true) where
     module _ (n : Name) (w-is : w ≡ word_of n) (is-due : beq (is_hosts n) (eqb s.hosts 0) ≡ true) (len : length args ≡ length (places_of n)) where
@@ -150,7 +147,6 @@ module _ (s : Meaning) (k : ℕ) (line : List ℕ) (cuts : cut_total s.commands 
       line_clear vs stand no_total no_cuts cause.Total h = no_total h
       line_clear vs stand no_total no_cuts cause.Cuts h = no_cuts h
       line_clear vs stand no_total no_cuts cause.Empty h = h
-      line_clear vs stand no_total no_cuts cause.Later h = h
 
     at_words : (c : Command) → SpellsCommand s.hosts (words line) c → SpellsCommand s.hosts (w ∷ args) c
     at_words c h = subst (λ (ws : List (List ℕ)). SpellsCommand s.hosts ws c) parts h

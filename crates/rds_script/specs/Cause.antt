@@ -1,7 +1,7 @@
 -- The text of each cause. The texts are this project's own.
 use Rattle.std.specs.Prelude.{ℕ, List, codes}
 use Rattle.rds_script.specs.declared.cause.Cause.{Cause}
-use Rattle.rds_script.specs.declared.cause.Cause.TheVariants.{TooLarge, Lines, Text, Command, Words, Host, SameHost, Number, Payload, Total, Cuts, Empty, Later}
+use Rattle.rds_script.specs.declared.cause.Cause.TheVariants.{TooLarge, Lines, Text, Command, Words, Host, SameHost, Number, Payload, Total, Cuts, Empty}
 
 abbrev pub cause_text : Cause → List ℕ
 cause_text TooLarge = codes "too large"
@@ -16,4 +16,3 @@ cause_text Payload = codes "payload"
 cause_text Total = codes "total"
 cause_text Cuts = codes "cuts"
 cause_text Empty = codes "empty"
-cause_text Later = codes "later"

@@ -70,7 +70,6 @@ rank cause.Payload = 5
 rank cause.Total = 6
 rank cause.Cuts = 7
 rank cause.Empty = 8
-rank cause.Later = 9
 
 -- the cause stands at the line, and none above it in the table does
 pub record IsFirstCause (s : Meaning) (before : ℕ) (line : List ℕ) (why : Cause) : Type 0 where

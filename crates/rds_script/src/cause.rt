@@ -30,8 +30,6 @@ pub enum Cause {
     Cuts,
     /// The text has no command.
     Empty,
-    /// Whoever plays the script doesn't know this command yet. `read` never answers it.
-    Later,
 }
 
 impl fmt::Display for Cause {
@@ -51,7 +49,6 @@ impl fmt::Display for Cause {
             Cause::Total => "total",
             Cause::Cuts => "cuts",
             Cause::Empty => "empty",
-            Cause::Later => "later",
         })
     }
 }

@@ -1,21 +1,25 @@
-use Rattle.std.proofs.Common.{◌≡◌, ◌↔◌, ◌≤◌, ◌<◌, IsTrue, ℕ, List, [], ◌∷◌, Bool, get_or, length, map, sym, ap, ◌∙◌, arith, codes, string_bytes, String, eqb}
+use Rattle.std.proofs.Common.{◌≡◌, ◌↔◌, [], IsTrue, IfOk, ℕ, List, Bool, true, eqb, map, Some, Result, Ok, Err, option_map, slice_get, sym, ap, ◌∙◌, codes, string_bytes, String}
 use Rattle.std.specs.Global.{Global}
 use Rattle.std.specs.Cmp.Lexicographic.{pointwise}
 use Rattle.std.proofs.lemmas.Slice.Eq.{bytes_eq-Decides}
-use Rattle.rds_run.specs.Texts.{ArePlay}
+use Rattle.std.proofs.lemmas.Option.{slice_get-map}
+use Rattle.rds_run.specs.Texts.{play_faults}
+use Rattle.rds_wire.specs.declared.memory.Memory.{Memory}
 use Rattle.rds_run.proofs.words.is_play.Goals as goal
 
-only_item : {s t : List ℕ} → s ∷ [] ≡ t ∷ [] → s ≡ t
-only_item e = cc
+-- where the first word reads `play`, the texts of the words begin with that
+named : (words : List (String Global)) (w : String Global) (text : List ℕ) (r : Bool) → r ≡ pointwise eqb text (codes "play") →
+    r ≡ true → text ≡ string_bytes w → Some w ≡ slice_get words 0 → slice_get (map string_bytes words) 0 ≡ Some (codes "play")
+named words w text r test equal reads is =
+    let same : text ≡ codes "play" = (bytes_eq-Decides text (codes "play")).0 (sym test ∙ equal) in
+    slice_get-map string_bytes words 0 ∙ (ap (option_map string_bytes) (sym is) ∙ ap Some (sym reads ∙ same))
 
--- the test of the only word decides
-only_word : (words : List (String Global)) (w : String Global) (text : List ℕ) (r : Bool) → r ≡ pointwise eqb text (codes "play") → text ≡ string_bytes w → w ≡ get_or words 0 w → 1 ≤ length words → length words < 2 → IsTrue r ↔ ArePlay words
-only_word [] w text r test reads is low high = absurd (omega arith)
-only_word (v ∷ []) w text r test reads is low high =
-    let same : map string_bytes (v ∷ []) ≡ text ∷ [] = ap (λ (s : String Global). string_bytes s ∷ []) (sym is) ∙ ap (λ (t : List ℕ). t ∷ []) (sym reads) in
-    let decides = bytes_eq-Decides text (codes "play") in
-    (λ yes. same ∙ ap (λ (t : List ℕ). t ∷ []) (decides.0 (sym test ∙ yes)), λ play. test ∙ decides.1 (only_item (sym same ∙ play)))
-only_word (v ∷ x ∷ rest) w text r test reads is low high = absurd (omega arith)
+-- a test that decides B decides both, where A holds
+with_name : (A B : Type 0) (r : Result Bool Memory) → A → IfOk r (λ plays. IsTrue plays ↔ B) → IfOk r (λ plays. IsTrue plays ↔ (A × B))
+with_name A B (Ok plays) a decides = (λ t. (a, decides.0 t), λ both. decides.1 both.1)
+with_name A B (Err e) a decides = decides
 
-pub returns-in-len1 : goal.returns-in-len1
-returns-in-len1 c = only_word c.args.words.now c.word-item.result c.as_str.result.now c.eq.result c.eq.ensures c.as_str.ensures.value c.word-item.is c.in-len1.len_at_least c.in-len1.len_below
+pub returns-in-Some : goal.returns-in-Some
+returns-in-Some c =
+    let first = named _ _ _ _ c.eq.ensures c.if-eq.true c.as_str.ensures.value c.in-Some.ensures.value in
+    with_name _ (play_faults (map string_bytes c.args.words.now) ≡ []) _ first c.stands_alone.ensures

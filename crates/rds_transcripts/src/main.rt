@@ -1,0 +1,94 @@
+//! Plays the scripts of `data/`, and compares what is printed with the whole text that stands beside each of them.
+//!
+//! The texts were made by another program, from the documents of the script language alone.
+#![tactic(auto)]
+
+mod case;
+mod expected;
+mod playing;
+mod tally;
+
+use crate::case::cases;
+use crate::expected::expanded;
+use crate::playing::{answer_to, printed};
+use crate::tally::Tally;
+use std::alloc::Global;
+use std::fs;
+use std::io::Print;
+use std::process::ExitCode;
+use std::rt::Files;
+
+/// The files of cases, each named for what its scripts show.
+const FILES: [&str; 13] = [
+    "binds.cases",
+    "sends.cases",
+    "receives.cases",
+    "moves.cases",
+    "cuts.cases",
+    "cut_at_each_byte.cases",
+    "cancellations.cases",
+    "closes.cases",
+    "congestion.cases",
+    "pings.cases",
+    "hosts.cases",
+    "full_journals.cases",
+    "refused_texts.cases",
+];
+
+/// The examples, each a script `NAME.rds` with its printed text `NAME.txt`.
+const EXAMPLES: [&str; 7] = [
+    "hello",
+    "retransmission",
+    "cancellation",
+    "congestion",
+    "ping",
+    "three_hosts",
+    "full_send_buffer",
+];
+
+fn main(rt: HostRuntime) -> anyhow::Result<ExitCode> {
+    let mut tally = Tally::default();
+    for file in FILES {
+        try_cases(&rt, rt.alloc(), file, &mut tally)?;
+    }
+    for name in EXAMPLES {
+        try_example(&rt, rt.alloc(), name, &mut tally)?;
+    }
+    println!(rt; "{tally}")?;
+    Ok(tally.status())
+}
+
+// Plays each case of a file.
+fn try_cases<R: Files + Print>(
+    rt: &R,
+    alloc: Global,
+    file: &str,
+    tally: &mut Tally,
+) -> anyhow::Result<()>
+where
+    R: AllocGlobal,
+{
+    let text = fs::read_to_string(rt, file)?;
+    for case in cases(alloc, text.as_str())? {
+        let found = printed(alloc, &case)?;
+        let expected = expanded(alloc, case.expected)?;
+        tally.count(rt, file, case.name, &found, expected.as_str())?;
+    }
+    Ok(())
+}
+
+// Plays an example by the program's own call.
+fn try_example<R: Files + Print>(
+    rt: &R,
+    alloc: Global,
+    name: &str,
+    tally: &mut Tally,
+) -> anyhow::Result<()>
+where
+    R: AllocGlobal,
+{
+    let script = fs::read_to_string(rt, format!(in alloc; "examples/{name}.rds")?)?;
+    let expected = fs::read_to_string(rt, format!(in alloc; "examples/{name}.txt")?)?;
+    let found = answer_to(alloc, script.as_bytes())?;
+    tally.count(rt, "examples", name, &found, expected.as_str())
+}

@@ -1,0 +1,43 @@
+use crate::case::Case;
+use rds_link::{MemSink, MemSource};
+use rds_model::MIN_ENTRIES;
+use rds_play::{PlayEnd, play};
+use rds_run::rds_main;
+use rds_script::{Script, ScriptError, read};
+use std::alloc::Global;
+
+/// What playing a case prints: by the program's own call, or by `play` where the case has a limit of its own.
+pub fn printed(alloc: Global, case: &Case<'_>) -> anyhow::Result<Vec<u8>> {
+    match case.limit {
+        None => answer_to(alloc, case.script.as_bytes()),
+        Some(limit) => played_within(alloc, case.script.as_bytes(), limit),
+    }
+}
+
+/// What `rds play` prints where a script comes on its input.
+pub fn answer_to(alloc: Global, script: &[u8]) -> anyhow::Result<Vec<u8>> {
+    let mut words = Vec::new(alloc);
+    words.push(String::from_str(alloc, "play")?)?;
+    let mut source = MemSource::new(script.to_vec(alloc)?, Vec::new(alloc));
+    let mut sink = MemSink::new(alloc, Vec::new(alloc));
+    let status = rds_main(alloc, &words, &mut source, &mut sink);
+    told(alloc, &sink, status == 6)
+}
+
+// What `play` prints where a journal holds at most so many entries.
+fn played_within(alloc: Global, text: &[u8], limit: u32) -> anyhow::Result<Vec<u8>> {
+    let Ok(script) = read(alloc, text) else {
+        return Err(anyhow::anyhow!("a refused script with a limit"));
+    };
+    let mut sink = MemSink::new(alloc, Vec::new(alloc));
+    let end = play(alloc, &script, limit.max(MIN_ENTRIES), &mut sink);
+    told(alloc, &sink, end == PlayEnd::Memory)
+}
+
+// The bytes that a sink holds.
+fn told(alloc: Global, sink: &MemSink, is_out_of_memory: bool) -> anyhow::Result<Vec<u8>> {
+    if is_out_of_memory {
+        return Err(anyhow::anyhow!("out of memory"));
+    }
+    Ok(sink.held().to_vec(alloc)?)
+}
