@@ -1,10 +1,8 @@
 -- What a walk back over a journal knows, entry by entry.
-use Rattle.std.proofs.Common.{◌≡◌, ◌<◌, ◌≤◌, ◌+◌, inl, inr, ℕ, suc, Bool, true, false, not, ◌&&◌, ◌||◌, ◌==◌, nat_lt, if◌then◌else◌, Option, Some, None, is_some, List, [], ◌∷◌, length, length-append, arith, refl, sym, ap, ◌∙◌}
+use Rattle.std.proofs.Common.{◌≡◌, ◌<◌, inl, inr, ℕ, suc, Bool, true, false, not, ◌&&◌, ◌||◌, ◌==◌, nat_lt, if◌then◌else◌, Option, Some, None, is_some, List, [], ◌∷◌, length, length-append, arith, refl, sym, ap, ◌∙◌}
 use Rattle.std.proofs.lemmas.Bool.{true≢false, cases_Bool, cases_eq, cases_lt, lt-ltb, le-ltb, ne_eqb, eq-eqb}
-use Rattle.rds_wire.specs.declared.frame.Frame.{Frame}
 use Rattle.rds_model.specs.declared.entry.Entry.{Entry}
 use Rattle.rds_model.specs.declared.entry.Entry.TheVariants.{Accept, Cancel, Open, Pull, Read, Shut, Bad}
-use Rattle.rds_model.specs.declared.entry.Outcome.{Outcome}
 use Rattle.rds_model.specs.declared.entry.Target.{Target}
 use Rattle.rds_model.specs.Past.{Accepted, accepted, datagram, acked, passes, number}
 use Rattle.rds_model.specs.Streams.{was_passed}
@@ -15,7 +13,7 @@ use Rattle.rds_history.specs.declared.reporting.taken.Walk.{Walk}
 use Rattle.rds_history.specs.declared.reporting.cancellations.Cancellations.{Cancellations}
 use Rattle.rds_history.specs.Items.{flags, passes_number}
 use Rattle.rds_history.specs.Walks.{IsWalk, takes, acknowledgements}
-use Rattle.rds_history.proofs.Flags.{flags_same, flags_more}
+use Rattle.rds_history.proofs.Flags.{flags_same}
 
 -- numbers beyond the accepted ones
 

@@ -1,7 +1,5 @@
-use Rattle.std.proofs.Common.{◌≡◌, ◌≤◌, ◌<◌, ◌+◌, ◌-◌, ◌∙◌, ◌∷◌, ℕ, Some, List, length, reverse, slice_get, arith, sym, ap, subst}
-use Rattle.std.proofs.lemmas.List.{length-reverse, same_from_push}
-use Rattle.std.proofs.lemmas.Option.{slice_get_cases}
-use Rattle.rds_model.specs.declared.entry.Entry.{Entry}
+use Rattle.std.proofs.Common.{◌≡◌, ◌+◌, ◌-◌, ◌∙◌, ◌∷◌, ℕ, length, arith, sym, ap, subst}
+use Rattle.std.proofs.lemmas.List.{same_from_push}
 use Rattle.rds_history.specs.Walks.{IsWalk, before, acknowledgements}
 use Rattle.rds_history.proofs.Steps.{before_none, before_more, before_all}
 use Rattle.rds_history.proofs.Walked.{walk_end, length-acknowledgements}

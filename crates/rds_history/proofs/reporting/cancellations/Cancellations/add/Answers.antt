@@ -45,8 +45,8 @@ swap false false false = refl
 
 -- the value of one pair is lowered
 module _ (f g : ℕ × ℕ → Option ℕ) (slot port acked v : ℕ)
-  (now : (q : ℕ × ℕ) → g q ≡ cond (is_eq (pair_cmp (slot, port) q)) (Some v) (f q))
-  (least : (n : ℕ) → nat_lt v n ≡ (is_above (f (slot, port)) n || nat_lt acked n)) where
+    (now : (q : ℕ × ℕ) → g q ≡ cond (is_eq (pair_cmp (slot, port) q)) (Some v) (f q))
+    (least : (n : ℕ) → nat_lt v n ≡ (is_above (f (slot, port)) n || nat_lt acked n)) where
   and_false : (x : Bool) → (x && false) ≡ false
   and_false true = refl
   and_false false = refl

@@ -1,4 +1,4 @@
-use Rattle.std.proofs.Common.{◌≡◌, ◌∙◌, ◌++◌, ◌==◌, ◌&&◌, ◌∷◌, nat_lt, if◌then◌else◌, ℕ, suc, Bool, List, take, drop, length, arith, refl, ap}
+use Rattle.std.proofs.Common.{◌≡◌, ◌∙◌, ◌++◌, ◌==◌, ◌&&◌, nat_lt, if◌then◌else◌, ℕ, suc, Bool, List, take, drop, length, arith, refl, ap}
 use Rattle.std.proofs.lemmas.List.{take-append-le, take_all}
 use Rattle.rds_model.specs.Past.{accepted}
 use Rattle.rds_model.specs.Alive.{was_taken_back}

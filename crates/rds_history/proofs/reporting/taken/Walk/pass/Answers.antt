@@ -1,4 +1,4 @@
-use Rattle.std.proofs.Common.{◌≡◌, ◌∙◌, ◌∷◌, ◌||◌, ◌&&◌, ◌==◌, nat_lt, ℕ, List, refl, ap, subst}
+use Rattle.std.proofs.Common.{◌∙◌, ◌∷◌, ◌||◌, ◌&&◌, ◌==◌, nat_lt, ℕ, refl, ap, subst}
 use Rattle.std.proofs.lemmas.Result.{on_ok_weaker}
 use Rattle.rds_model.specs.declared.entry.Entry.{Entry}
 use Rattle.rds_model.specs.Alive.{aims_at}
