@@ -1,33 +1,40 @@
--- A walk over a journal, from its oldest entry on. Source: this project's own.
-use Rattle.std.specs.Prelude.{◌≡◌, ℕ, ◌==◌, ◌&&◌, nat_lt, Bool, false, Option, Some, None, List, ◌-◌, length, drop}
-use Rattle.std.specs.List.{list_any}
+-- Walks over a journal. Source: this project's own.
+use Rattle.std.specs.Prelude.{◌≡◌, ℕ, ◌-◌, ◌&&◌, ◌||◌, nat_lt, Bool, false, Option, Some, None, List, [], ◌∷◌, ◌++◌, length, drop}
+use Rattle.std.specs.BTreeMap as tree
+use Rattle.std.specs.Ordering.{nat_cmp, ordering_then}
+use Rattle.std.specs.declared.cmp.Ordering.{Ordering}
 use Rattle.rds_model.specs.declared.entry.Entry.{Entry}
-use Rattle.rds_model.specs.declared.entry.Target.{Target}
 use Rattle.rds_model.specs.Past.{Accepted, accepted, datagram, acked}
-use Rattle.rds_model.specs.Alive.{aims_at, is_alive, was_taken_back}
-use Rattle.rds_history.specs.declared.reporting.taken.Uncovered.{Uncovered}
+use Rattle.rds_model.specs.Alive.{was_taken_back}
+use Rattle.rds_history.specs.declared.reporting.cancellations.Cancellations.{Cancellations}
+use Rattle.rds_history.specs.declared.reporting.taken.Walk.{Walk}
 use Rattle.rds_history.specs.Items.{flags}
 
 -- the past after the first i entries
 abbrev pub before : ℕ → List Entry → List Entry
 before i past = drop (length past - i) past
 
--- a cancellation covers a datagram that isn't acknowledged
-abbrev pub takes : (acked slot : ℕ) → Target → Uncovered → Bool
-takes acked slot target u = nat_lt acked u.number && (slot == u.slot && aims_at target u.dport)
+-- what was acknowledged before each entry, by the oldest first
+abbrev pub acknowledgements : List Entry → List ℕ
+acknowledgements [] = []
+acknowledgements (e ∷ past) = acknowledgements past ++ acked past ∷ []
 
--- a datagram that isn't acknowledged passes a test
-abbrev pub stands : (acked n : ℕ) → (Uncovered → Bool) → Uncovered → Bool
-stands acked n test u = u.number == n && (nat_lt acked u.number && test u)
+-- a number is above the acknowledged one, where there is one
+abbrev pub is_above : Option ℕ → ℕ → Bool
+is_above None n = false
+is_above (Some acked) n = nat_lt acked n
 
--- the datagram of a number passes a test
-abbrev pub holds : ℕ → (Uncovered → Bool) → Option Accepted → Bool
-holds n test None = false
-holds n test (Some d) = test (record { number = n; slot = d.slot; dport = d.dport })
+-- pairs of a slot and a port, by the slot and then the port
+abbrev pub pair_cmp : ℕ × ℕ → ℕ × ℕ → Ordering
+pair_cmp a b = ordering_then (nat_cmp a.0 b.0) (nat_cmp a.1 b.1)
 
--- what a walk knows of the past: which numbers were taken back, the datagrams that are alive, and what is acknowledged
-pub record IsWalk (taken : List Bool) (open' : List Uncovered) (ack : ℕ) (past : List Entry) : Type 0 where
-  pub numbers : taken ≡ flags (was_taken_back past) (accepted past)
-  pub acknowledged : ack ≡ acked past
-  pub alive : (n : ℕ) (test : Uncovered → Bool) →
-      list_any (stands ack n test) open' ≡ is_alive past n && holds n test (datagram past n)
+-- one of the cancellations takes back number n, which a slot sent to a port
+abbrev pub takes : Cancellations → (slot dport n : ℕ) → Bool
+takes c slot dport n = is_above (tree.get pair_cmp c.ports (slot, dport)) n || is_above (tree.get nat_cmp c.slots slot) n
+
+-- what a walk back knows, over all entries, where these are left
+pub record IsWalk (all : List Entry) (w : Walk) (past : List Entry) : Type 0 where
+  pub flagged : w.taken.items ≡ flags (λ n. nat_lt (accepted past) n && was_taken_back all n) (accepted all)
+  pub number : w.accepted ≡ accepted past
+  pub covered : (n : ℕ) (d : Accepted) → datagram past n ≡ Some d →
+      was_taken_back all n ≡ was_taken_back past n || takes w.cancellations d.slot d.dport n

@@ -1,3 +1,5 @@
+mod acknowledgements;
+mod cancellations;
 mod collect;
 mod counts;
 mod flags;

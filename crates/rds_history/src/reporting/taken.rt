@@ -1,146 +1,101 @@
-ghost use Rattle.std.specs.Prelude.{◌≡◌, ◌||◌, ◌&&◌, nat_lt, max, not, ℕ, Bool, List, IfOk, OnOk, filter, ◌∷◌};
-ghost use Rattle.std.specs.List.{list_any};
+ghost use Rattle.std.specs.Prelude.{◌≡◌, ◌∷◌, ℕ, false, List, IfOk, OnOk};
 ghost use Rattle.rds_model.specs.declared.entry.Entry.{Entry as Event};
 ghost use Rattle.rds_model.specs.declared.entry.Entry.TheVariants as entries;
-ghost use Rattle.rds_model.specs.Past.{accepted};
+ghost use Rattle.rds_model.specs.Past.{accepted, acked as acked_in};
 ghost use Rattle.rds_model.specs.Alive.{was_taken_back};
 ghost use Rattle.rds_history.specs.Items.{flags};
-ghost use Rattle.rds_history.specs.declared.reporting.taken.Uncovered.{Uncovered as Seen};
-ghost use Rattle.rds_history.specs.Walks.{IsWalk, takes as takes_it, stands};
+ghost use Rattle.rds_history.specs.Walks.{IsWalk};
 
+use super::acknowledgements::acknowledgements;
+use super::cancellations::Cancellations;
 use super::flags::set_flag;
-use rds_model::{Entry, Journal, Target};
+use rds_model::{Entry, Journal};
 use rds_wire::Memory;
 use std::alloc::Global;
 
-/// A datagram that was accepted and that no cancellation has covered.
-#[derive(Clone, Copy)]
-pub struct Uncovered {
-    pub number: u64,
-    pub slot: u16,
-    pub dport: u16,
-}
-
-// A walk over a journal, from its oldest entry on.
+// A walk over a journal, from its newest entry back. It holds how many datagrams were accepted up to where it is, the
+// cancellations behind that, and which of the later numbers were taken back.
 #[derive(Drop)]
-struct Walk {
-    taken: Vec<bool>,
-    uncovered: Vec<Uncovered>,
-    acked: u64,
+pub struct Walk {
+    pub taken: Vec<bool>,
+    pub accepted: u64,
+    pub cancellations: Cancellations,
 }
 
 /// For each number of a journal from 1 on, whether a cancellation covered it while it was alive.
 pub fn taken_back(alloc: Global, journal: &Journal) -> Result<Vec<bool>, Memory>
     ensures { IfOk result (λ taken. taken.items ≡ flags (was_taken_back journal.now.past) (accepted journal.now.past)) }
 {
-    let mut walk = Walk {
-        taken: Vec::new(alloc),
-        uncovered: Vec::new(alloc),
-        acked: 0,
-    };
-    for i in 0..journal.len() {
+    let mut walk = start(alloc, journal)?;
+    let mut acks = acknowledgements(alloc, journal)?;
+    let mut i = journal.len();
+    while let Some(acked) = acks.pop() {
+        i -= 1;
         let Some(entry) = journal.at(i) else {
             unreachable!()
         };
-        walk.pass(alloc, entry)?;
+        walk.pass(entry, acked)?;
     }
     Ok(walk.taken)
 }
 
+// The walk before its first step.
+fn start(alloc: Global, journal: &Journal) -> Result<Walk, Memory>
+    ensures { IfOk result (λ walk. IsWalk journal.now.past walk journal.now.past) }
+{
+    let taken = none(alloc, journal)?;
+    Ok(Walk {
+        accepted: taken.len() as u64,
+        taken,
+        cancellations: Cancellations::new(alloc),
+    })
+}
+
+// A flag that isn't set for each number of a journal.
+fn none(alloc: Global, journal: &Journal) -> Result<Vec<bool>, Memory>
+    ensures { IfOk result (λ none. none.items ≡ flags (λ n. false) (accepted journal.now.past)) }
+{
+    let mut none = Vec::new(alloc);
+    for i in 0..journal.len() {
+        let Some(entry) = journal.at(i) else {
+            unreachable!()
+        };
+        count(&mut none, entry)?;
+    }
+    Ok(none)
+}
+
+// One flag more, where an entry is an acceptance.
+fn count(none: &mut Vec<bool>, entry: &Entry) -> Result<(), Memory>
+    ensures { OnOk result ((past : List Event) → none.old.items ≡ flags (λ n. false) (accepted past) →
+        none.new.items ≡ flags (λ n. false) (accepted (entry.now ∷ past))) }
+{
+    if let Entry::Accept { .. } = entry {
+        none.push(false)?;
+    }
+    Ok(())
+}
+
 impl Walk {
-    fn pass(&mut self, alloc: Global, entry: &Entry) -> Result<(), Memory>
-        ensures { OnOk result ((past : List Event) → IsWalk self.old.taken.items self.old.uncovered.items self.old.acked past →
-            IsWalk self.new.taken.items self.new.uncovered.items self.new.acked (entry.now ∷ past)) }
+    // A step back over an entry, before which the numbers up to `acked` were acknowledged.
+    fn pass(&mut self, entry: &Entry, acked: u64) -> Result<(), Memory>
+        ensures { OnOk result ((all past : List Event) → IsWalk all self.old (entry.now ∷ past) → acked ≡ acked_in past → IsWalk all self.new past) }
     {
         match entry {
-            Entry::Accept { slot, dport, .. } => self.accept(*slot, *dport),
-            Entry::Read { frame, .. } => {
-                self.acknowledge(frame.header.ack);
+            Entry::Accept { slot, dport, .. } => {
+                self.accept(*slot, *dport);
                 Ok(())
             }
-            Entry::Cancel { slot, target } => self.cancel(alloc, *slot, *target),
+            Entry::Cancel { slot, target } => self.cancellations.add(*slot, *target, acked),
             _ => Ok(()),
         }
     }
 
-    fn accept(&mut self, slot: u16, dport: u16) -> Result<(), Memory>
-        ensures { OnOk result ((past : List Event) → IsWalk self.old.taken.items self.old.uncovered.items self.old.acked past →
-            (sport : ℕ) (payload : List ℕ) → IsWalk self.new.taken.items self.new.uncovered.items self.new.acked (entries.Accept slot sport dport payload ∷ past)) }
+    fn accept(&mut self, slot: u16, dport: u16)
+        ensures { (all past : List Event) (sport : ℕ) (payload : List ℕ) → IsWalk all self.old (entries.Accept slot sport dport payload ∷ past) → IsWalk all self.new past }
     {
-        self.taken.push(false)?;
-        let number = self.taken.len() as u64;
-        self.uncovered.push(Uncovered {
-            number,
-            slot,
-            dport,
-        })?;
-        Ok(())
+        let is_taken = self.cancellations.take(slot, dport, self.accepted);
+        set_flag(&mut self.taken, self.accepted, is_taken);
+        self.accepted = self.accepted.saturating_sub(1);
     }
-
-    fn acknowledge(&mut self, ack: u64)
-        ensures taken { self.new.taken.items ≡ self.old.taken.items }
-        ensures uncovered { self.new.uncovered.items ≡ self.old.uncovered.items }
-        ensures acked { self.new.acked ≡ max self.old.acked ack }
-    {
-        self.acked = self.acked.max(ack);
-    }
-
-    fn cancel(&mut self, alloc: Global, slot: u16, target: Target) -> Result<(), Memory>
-        ensures { OnOk result ((past : List Event) → IsWalk self.old.taken.items self.old.uncovered.items self.old.acked past →
-            IsWalk self.new.taken.items self.new.uncovered.items self.new.acked (entries.Cancel slot target ∷ past)) }
-    {
-        mark_covered(&mut self.taken, &self.uncovered, self.acked, slot, target);
-        self.uncovered = left(alloc, &self.uncovered, self.acked, slot, target)?;
-        Ok(())
-    }
-}
-
-// Whether a cancellation takes a datagram back.
-fn takes(acked: u64, slot: u16, target: Target, datagram: &Uncovered) -> bool
-    ensures { result ≡ takes_it acked slot target datagram.now }
-{
-    acked < datagram.number
-        && slot == datagram.slot
-        && match target {
-            Target::Port(port) => port == datagram.dport,
-            Target::All => true,
-        }
-}
-
-// Marks the datagrams that a cancellation takes back.
-fn mark_covered(taken: &mut [bool], uncovered: &[Uncovered], acked: u64, slot: u16, target: Target)
-    ensures { (test : ℕ → Bool) (m : ℕ) → taken.old ≡ flags test m →
-        taken.new ≡ flags (λ n. test n || list_any (stands acked n (takes_it acked slot target)) uncovered.now) m }
-{
-    for datagram in uncovered {
-        mark(taken, acked, slot, target, datagram);
-    }
-}
-
-// Marks a datagram, where a cancellation takes it back.
-fn mark(taken: &mut [bool], acked: u64, slot: u16, target: Target, datagram: &Uncovered)
-    ensures { (test : ℕ → Bool) (m : ℕ) → taken.old ≡ flags test m →
-        taken.new ≡ flags (λ n. test n || stands acked n (takes_it acked slot target) datagram.now) m }
-{
-    if takes(acked, slot, target, datagram) {
-        set_flag(taken, datagram.number, true);
-    }
-}
-
-// The datagrams that a cancellation leaves, without those that are acknowledged.
-fn left(
-    alloc: Global,
-    uncovered: &[Uncovered],
-    acked: u64,
-    slot: u16,
-    target: Target,
-) -> Result<Vec<Uncovered>, Memory>
-    ensures { IfOk result (λ left. left.items ≡ filter (λ (u : Seen). nat_lt acked u.number && not (takes_it acked slot target u)) uncovered.now) }
-{
-    let left = uncovered
-        .iter()
-        .copied()
-        .filter(|datagram| acked < datagram.number && !takes(acked, slot, target, datagram))
-        .collect(alloc)?;
-    Ok(left)
 }

@@ -1,5 +1,14 @@
-use Rattle.rds_history.specs.Walks.{IsWalk, before}
+use Rattle.std.proofs.Common.{◌≡◌, ◌≤◌, vec_len, length}
+use Rattle.rds_history.specs.Walks.{IsWalk, before, acknowledgements}
 use Rattle.rds_history.proofs.reporting.taken.taken_back.Given as goal
 
-abbrev pub invariant-loop-i : goal.invariant-loop-i
-invariant-loop-i l = IsWalk l.walk.taken.items l.walk.uncovered.items l.walk.acked (before l.i l.journal.past)
+abbrev pub invariant-loop-acked : goal.invariant-loop-acked
+invariant-loop-acked l = record {
+  walked : IsWalk l.journal.past l.walk (before l.i l.journal.past);
+  acks : l.acks.items ≡ acknowledgements (before l.i l.journal.past);
+  count : vec_len l.acks ≡ l.i;
+  few : l.i ≤ length l.journal.past;
+}
+
+abbrev pub decreases-loop-acked : goal.decreases-loop-acked
+decreases-loop-acked l = l.i
