@@ -1,61 +1,65 @@
-use std::alloc::Global;
+use crate::expected::push_line;
+use std::alloc::{AllocError, Global};
 
 /// A script and the whole text that playing it prints.
 #[derive(Drop)]
-pub struct Case<'a> {
+pub struct Case {
     /// What the script shows.
-    pub name: &'a str,
+    pub name: String,
     /// At how many entries a journal is full, where that isn't the program's own limit.
     pub limit: Option<u32>,
-    pub script: &'a str,
-    /// The text, with its last line's end.
-    pub expected: &'a str,
+    pub script: String,
+    pub expected: String,
+    // Whether the lines that come belong to the text.
+    is_text: bool,
 }
 
 /// The cases of a file. Each begins with a line `== NAME` or `== NAME LIMIT`; its script follows, then a line `--`, then
 /// the text. What stands before the first case is a remark.
-pub fn cases<'a>(alloc: Global, text: &'a str) -> anyhow::Result<Vec<Case<'a>>> {
+pub fn cases(alloc: Global, text: &str) -> anyhow::Result<Vec<Case>> {
     let mut found = Vec::new(alloc);
-    let mut rest = after_mark(text);
-    while let Some(here) = rest {
-        let (block, next) = block_of(here);
-        found.push(case_of(alloc, block)?)?;
-        rest = next;
+    for line in text.lines() {
+        match line.strip_prefix("== ") {
+            Some(head) => found.push(Case::named(alloc, head)?)?,
+            None => add_line(&mut found, line)?,
+        }
     }
     Ok(found)
 }
 
-// What stands behind the first mark of a case.
-fn after_mark(text: &str) -> Option<&str> {
-    match text.split_once("== ") {
-        Some((_, rest)) => Some(rest),
-        None => None,
+// A further line of the last case.
+fn add_line(cases: &mut Vec<Case>, line: &str) -> Result<(), AllocError> {
+    match cases.last_mut() {
+        Some(case) => case.add(line),
+        None => Ok(()),
     }
 }
 
-// A case, and what stands behind the mark of the next.
-fn block_of(text: &str) -> (&str, Option<&str>) {
-    match text.split_once("\n== ") {
-        Some((block, rest)) => (block, Some(rest)),
-        None => (text, None),
+impl Case {
+    // A case without lines, from what stands behind its mark.
+    fn named(alloc: Global, head: &str) -> anyhow::Result<Case> {
+        let (name, limit) = match head.split_once(" ") {
+            Some((name, limit)) => (name, Some(limit.parse::<u32>()?)),
+            None => (head, None),
+        };
+        Ok(Case {
+            name: String::from_str(alloc, name)?,
+            limit,
+            script: String::new(alloc),
+            expected: String::new(alloc),
+            is_text: false,
+        })
     }
-}
 
-fn case_of<'a>(alloc: Global, block: &'a str) -> anyhow::Result<Case<'a>> {
-    let Some((head, body)) = block.split_once("\n") else {
-        return Err(anyhow::anyhow!("a case without a script"));
-    };
-    let Some((script, expected)) = body.split_once("--\n") else {
-        return Err(anyhow::anyhow!("a case without a text"));
-    };
-    let (name, limit) = match head.split_once(" ") {
-        Some((name, limit)) => (name, Some(limit.parse::<u32>()?)),
-        None => (head, None),
-    };
-    Ok(Case {
-        name,
-        limit,
-        script,
-        expected,
-    })
+    fn add(&mut self, line: &str) -> Result<(), AllocError> {
+        if self.is_text {
+            return push_line(&mut self.expected, line);
+        }
+        if line == "--" {
+            self.is_text = true;
+            return Ok(());
+        }
+        self.script.push_str(line)?;
+        self.script.push('\n')
+    }
 }

@@ -1,22 +1,25 @@
-use std::alloc::{AllocError, Global};
+use std::alloc::AllocError;
 
-/// The text that an expected text stands for: `{f:N}` is short for the hexadecimal digits of N bytes that count up from
-/// 0, each modulo 256.
-pub fn expanded(alloc: Global, text: &str) -> Result<String, AllocError> {
-    let mut whole = String::new(alloc);
-    let mut rest = text;
-    while let Some((front, after)) = rest.split_once("{f:") {
-        whole.push_str(front)?;
-        rest = match after.split_once("}") {
-            Some((number, next)) => {
-                push_counting_bytes(&mut whole, number.parse::<u32>().unwrap_or(0))?;
-                next
-            }
-            None => "",
-        };
+/// Adds a line of an expected text with its end. In it `{f:N}` is short for the hexadecimal digits of N bytes that count
+/// up from 0, each modulo 256.
+pub fn push_line(text: &mut String, line: &str) -> Result<(), AllocError> {
+    match line.split_once("{f:") {
+        Some((front, rest)) => {
+            text.push_str(front)?;
+            push_short(text, rest)?;
+        }
+        None => text.push_str(line)?,
     }
-    whole.push_str(rest)?;
-    Ok(whole)
+    text.push('\n')
+}
+
+// Adds what `N}` and the rest of its line stand for.
+fn push_short(text: &mut String, short: &str) -> Result<(), AllocError> {
+    let Some((number, rest)) = short.split_once("}") else {
+        return text.push_str(short);
+    };
+    push_counting_bytes(text, number.parse::<u32>().unwrap_or(0))?;
+    text.push_str(rest)
 }
 
 fn push_counting_bytes(text: &mut String, count: u32) -> Result<(), AllocError> {

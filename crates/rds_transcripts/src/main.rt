@@ -9,7 +9,6 @@ mod playing;
 mod tally;
 
 use crate::case::cases;
-use crate::expected::expanded;
 use crate::playing::{answer_to, printed};
 use crate::tally::Tally;
 use std::alloc::Global;
@@ -71,8 +70,7 @@ where
     let text = fs::read_to_string(rt, file)?;
     for case in cases(alloc, text.as_str())? {
         let found = printed(alloc, &case)?;
-        let expected = expanded(alloc, case.expected)?;
-        tally.count(rt, file, case.name, &found, expected.as_str())?;
+        tally.count(rt, file, case.name.as_str(), &found, case.expected.as_str())?;
     }
     Ok(())
 }

@@ -1,13 +1,16 @@
+ghost use Rattle.std.specs.Prelude.{◌≤◌};
+ghost use Rattle.rds_model.specs.declared.journal.TheConstants.{MIN_ENTRIES, MAX_ENTRIES};
+
 use crate::case::Case;
 use rds_link::{MemSink, MemSource};
-use rds_model::MIN_ENTRIES;
+use rds_model::{MAX_ENTRIES, MIN_ENTRIES};
 use rds_play::{PlayEnd, play};
 use rds_run::rds_main;
 use rds_script::{Script, ScriptError, read};
 use std::alloc::Global;
 
 /// What playing a case prints: by the program's own call, or by `play` where the case has a limit of its own.
-pub fn printed(alloc: Global, case: &Case<'_>) -> anyhow::Result<Vec<u8>> {
+pub fn printed(alloc: Global, case: &Case) -> anyhow::Result<Vec<u8>> {
     match case.limit {
         None => answer_to(alloc, case.script.as_bytes()),
         Some(limit) => played_within(alloc, case.script.as_bytes(), limit),
@@ -30,8 +33,16 @@ fn played_within(alloc: Global, text: &[u8], limit: u32) -> anyhow::Result<Vec<u
         return Err(anyhow::anyhow!("a refused script with a limit"));
     };
     let mut sink = MemSink::new(alloc, Vec::new(alloc));
-    let end = play(alloc, &script, limit.max(MIN_ENTRIES), &mut sink);
+    let end = play(alloc, &script, lawful(limit), &mut sink);
     told(alloc, &sink, end == PlayEnd::Memory)
+}
+
+// The nearest limit that a journal may have.
+fn lawful(limit: u32) -> u32
+    ensures least { MIN_ENTRIES ≤ result }
+    ensures most { result ≤ MAX_ENTRIES }
+{
+    limit.min(MAX_ENTRIES).max(MIN_ENTRIES)
 }
 
 // The bytes that a sink holds.

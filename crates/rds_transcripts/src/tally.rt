@@ -19,7 +19,7 @@ impl Tally {
         found: &[u8],
         expected: &str,
     ) -> anyhow::Result<()> {
-        if is_same(found, expected.as_bytes()) {
+        if found == expected.as_bytes() {
             self.same = self.same.saturating_add(1);
             return Ok(());
         }
@@ -41,13 +41,5 @@ impl Tally {
 impl fmt::Display for Tally {
     fn fmt<W: fmt::Write>(&self, f: &mut fmt::Formatter<W>) -> fmt::Result {
         write!(f, "{} texts as expected, {} not", self.same, self.different)
-    }
-}
-
-// Whether the bytes are those of the text; the last line of a text in a file of cases may lack its end.
-fn is_same(found: &[u8], expected: &[u8]) -> bool {
-    match found.split_last() {
-        Some((last, front)) => found == expected || (*last == b'\n' && front == expected),
-        None => false,
     }
 }
