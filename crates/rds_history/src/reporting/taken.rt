@@ -13,8 +13,8 @@ use rds_model::{Entry, Journal};
 use rds_wire::Memory;
 use std::alloc::Global;
 
-// A walk over a journal, from its newest entry back. It holds how many datagrams were accepted up to where it is, the
-// cancellations behind that, and which of the later numbers were taken back.
+/// A walk over a journal, from its newest entry back. It holds how many datagrams were accepted up to where it is, the
+/// cancellations behind that, and which of the later numbers were taken back.
 #[derive(Drop)]
 pub struct Walk {
     pub taken: Vec<bool>,
@@ -22,7 +22,8 @@ pub struct Walk {
     pub cancellations: Cancellations,
 }
 
-/// For each number of a journal from 1 on, whether a cancellation covered it while it was alive.
+/// For each number of a journal from 1 on, whether a cancellation covered it while it was alive. The first
+/// cancellation behind it that covers it decides, since what is acknowledged only rises.
 pub fn taken_back(alloc: Global, journal: &Journal) -> Result<Vec<bool>, Memory>
     ensures { IfOk result (λ taken. taken.items ≡ flags (was_taken_back journal.now.past) (accepted journal.now.past)) }
 {
