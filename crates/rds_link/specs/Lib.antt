@@ -1,1 +1,4 @@
 pub mod Told
+pub mod Seats
+pub mod Rule
+pub mod Plays

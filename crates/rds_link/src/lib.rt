@@ -5,11 +5,13 @@ mod memory;
 mod sink;
 mod source;
 mod standard;
+mod words;
 
 pub use memory::{MemSink, MemSource};
 pub use sink::{Sink, write_all};
 pub use source::{ReadError, Source, read_all};
 pub use standard::{StdSink, StdSource};
+pub use words::{EndSeat, View};
 use std::fmt;
 
 /// A read or a write failed, and the count of faults has risen.
