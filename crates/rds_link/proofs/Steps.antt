@@ -1,11 +1,11 @@
 -- Each step on the two words of a stream keeps what holds of them.
-use Rattle.std.proofs.Common.{◌≡◌, ◌≢◌, ◌⊎◌, ℕ, zero, suc, ◌+◌, ◌-◌, ◌%◌, ◌<◌, ◌≤◌, List, [], ◌∷◌, ◌++◌, length, set, max, eqb, cond, Bool, true, false, refl, sym, ap, ◌∙◌, subst, inl, inr, ⊎_elim, arith, eq-eqb, ne_eqb}
-use Rattle.std.proofs.Math.Nat.{mod-eq_of_lt, max-eq_left, max-eq_right}
+use Rattle.std.proofs.Common.{◌≡◌, ◌≢◌, ◌⊎◌, ℕ, zero, suc, ◌+◌, ◌-◌, ◌%◌, ◌<◌, ◌≤◌, List, [], ◌∷◌, ◌++◌, length, set, eqb, cond, Bool, true, false, refl, sym, ap, ◌∙◌, subst, inl, inr, ⊎_elim, arith, eq-eqb, ne_eqb}
+use Rattle.std.proofs.Math.Nat.{mod-eq_of_lt}
 use Rattle.std.proofs.lemmas.List.{get_or-set_same, get_or-set_other, length-set, set-get_or}
 use Rattle.std.specs.Prelude.{slice_index}
 use mathlib.Core.Logic.{dite}
 use mathlib.Core.Option.{some-ne-none, some-injective}
-use native.Mathlib.Decide.{ℕ_discrete, dec_le}
+use native.Mathlib.Decide.{ℕ_discrete}
 use prog.Atomic.{either}
 use lib.ListN.{get_elem?}
 use Rattle.atomic_table.specs.Seated.{TableId}
@@ -101,7 +101,7 @@ quiet words views id v w h here draws number fits = changed words words views id
 
 -- what stands in the second word fits what a view knows
 pub found_there : (words : List ℕ) (views : List View) (id : ℕ) (v : View) → Shared words views → At views id v → Found v (first_in words)
-found_there words views id v h here = let f = h.fits id v here in record { few = let d = h.drawn in let m = h.named in omega arith; same = λ some. sym (f.known some); own = f.own }
+found_there words views id v h here = let f = h.fits id v here in record { few = let d = h.drawn in let m = h.named in omega arith; same = λ some. sym (f.known some); told = λ some. sym (f.told some); own = f.own }
 
 pub looks : (homes id : ℕ) (me : Me (Unit {0}) View) → Allows Ruled homes id me 1 (λ n. n) (λ found now. (now ≡ (after_look me.0 found, me.1)) × Found me.0 found)
 looks homes id me s h size here small =
@@ -111,7 +111,7 @@ looks homes id me s h size here small =
       w,
       keeps,
       tt,
-      subst (λ ws. Shared ws (set s.views id w)) (sym (set-get_or s.words 1 0)) (quiet s.words s.views id me.0 w h here refl refl record { number = f.number; floor = f.floor; known = λ some. refl; own = f.own }),
+      subst (λ ws. Shared ws (set s.views id w)) (sym (set-get_or s.words 1 0)) (quiet s.words s.views id me.0 w h here refl refl record { number = f.number; floor = f.floor; known = λ some. refl; told = f.told; own = f.own }),
       (refl, found_there s.words s.views id me.0 h here),
     )
 
@@ -137,15 +137,15 @@ draws homes id me none some s h size here small =
     let after = set s.words 0 (n + 1) in
     let now : drawn_in after ≡ n + 1 = get_or-set_same s.words 0 (n + 1) 0 (omega arith) in
     let stays : first_in after ≡ first_in s.words = get_or-set_other s.words 0 1 (n + 1) 0 (λ e. omega arith) in
-    let fits : (u : View) → u.number ≤ n + 1 → u.floor ≤ n + 1 → (1 ≤ u.first → u.first ≡ first_in s.words) → (1 ≤ u.number → u.number ≡ first_in s.words → u.shut ≡ true) → Fits (drawn_in after) (first_in after) u =
-    λ u a b e g. record { number = omega arith; floor = omega arith; known = λ k. e k ∙ sym stays; own = λ k q. g k (q ∙ stays) } in
+    let fits : (u : View) → u.number ≤ n + 1 → u.floor ≤ n + 1 → (1 ≤ u.first → u.first ≡ first_in s.words) → (1 ≤ u.told → u.told ≡ first_in s.words) → (1 ≤ u.number → u.number ≡ first_in s.words → u.shut ≡ true) → Fits (drawn_in after) (first_in after) u =
+    λ u a b e t g. record { number = omega arith; floor = omega arith; known = λ k. e k ∙ sym stays; told = λ k. t k ∙ sym stays; own = λ k q. g k (q ∙ stays) } in
     let done : Shared after (set s.views id w) = changed s.words after s.views id me.0 w h here record {
       size = length-set s.words 0 (n + 1) ∙ z;
       named = let m = h.named in omega arith;
       draws = omega arith;
       number = inr (omega arith);
-      others = λ j u apart at. let g = h.fits j u at in let a = g.number in let b = g.floor in fits u (omega arith) (omega arith) g.known g.own;
-      own = fits w (omega arith) (let b = f.floor in omega arith) f.known (λ k q. absurd (let m = h.named in omega arith));
+      others = λ j u apart at. let g = h.fits j u at in let a = g.number in let b = g.floor in fits u (omega arith) (omega arith) g.known g.told g.own;
+      own = fits w (omega arith) (let b = f.floor in omega arith) f.known f.told (λ k q. absurd (let m = h.named in omega arith));
     } in
     (w, keeps, tt, subst (λ k. Shared (set s.words 0 k) (set s.views id w)) (sym next) done, (refl, f.floor, omega arith))
 
@@ -170,13 +170,14 @@ module _ (words : List ℕ) (views : List View) (id : ℕ) (v : View) (h : Share
           number = let a = g.number in omega arith;
           floor = let a = g.floor in omega arith;
           known = λ k. absurd (let e = g.known k in omega arith);
+          told = λ k. absurd (let e = g.told k in omega arith);
           own = λ k q. absurd (apart (h.apart j id u v at here k (sym (q ∙ now))));
         };
-        own = record { number = (let a = f.number in omega arith); floor = (let a = f.floor in omega arith); known = λ k. sym now; own = λ k q. refl };
+        own = record { number = (let a = f.number in omega arith); floor = (let a = f.floor in omega arith); known = λ k. sym now; told = λ k. absurd (let e = f.told k in omega arith); own = λ k q. refl };
       }
 
   pub comes_second : Shared words (set views id (record v { first = first_in words; shut = true }))
-  comes_second = let f = h.fits id v here in quiet words views id v (record v { first = first_in words; shut = true }) h here refl refl record { number = f.number; floor = f.floor; known = λ k. refl; own = λ k q. refl }
+  comes_second = let f = h.fits id v here in quiet words views id v (record v { first = first_in words; shut = true }) h here refl refl record { number = f.number; floor = f.floor; known = λ k. refl; told = f.told; own = λ k q. refl }
 
 if_zero : (n a : ℕ) → n ≡ 0 → cond (eqb n 0) a n ≡ a
 if_zero n a e = ap (λ b. cond b a n) (eq-eqb n 0 e)
@@ -209,8 +210,8 @@ halves id v some s h here =
     let u = given_half v in
     let f = h.fits id v here in
     let left = set s.views id w in
-    let mine : Fits (drawn_in s.words) (first_in s.words) w = record { number = f.number; floor = f.floor; known = f.known; own = f.own } in
-    let its : Fits (drawn_in s.words) (first_in s.words) u = record { number = omega arith; floor = f.number; known = λ k. absurd (omega arith); own = λ k q. absurd (omega arith) } in
+    let mine : Fits (drawn_in s.words) (first_in s.words) w = record { number = f.number; floor = f.floor; known = f.known; told = f.told; own = f.own } in
+    let its : Fits (drawn_in s.words) (first_in s.words) u = record { number = omega arith; floor = f.number; known = λ k. absurd (omega arith); told = λ k. absurd (omega arith); own = λ k q. absurd (omega arith) } in
     record {
       size = h.size;
       drawn = let t = total_snoc (λ (x : View). x.draws) left u in let r = total_set (λ (x : View). x.draws) s.views id v w here in let d = h.drawn in omega arith;
@@ -229,21 +230,15 @@ pub notes : (id : ℕ) (v : View) → Splits Ruled id v v (note_of v)
 notes id v s h here =
     let f = h.fits id v here in
     subst (λ l. Shared s.words (l ++ note_of v ∷ [])) (sym (set_again s.views id v here))
-    (added s.words s.views (note_of v) h refl refl record { number = omega arith; floor = omega arith; known = f.known; own = λ k q. absurd (omega arith) })
-
--- the greater of two numbers of which each is 0 or n
-greater_known : (a b n : ℕ) → (1 ≤ a → a ≡ n) → (1 ≤ b → b ≡ n) → 1 ≤ max a b → max a b ≡ n
-greater_known a b n p q some = dite (dec_le a b)
-    (λ below. let e : max a b ≡ b = max-eq_right below in e ∙ q (omega arith))
-    (λ above. let e : max a b ≡ a = max-eq_left (omega arith) in e ∙ p (omega arith))
+    (added s.words s.views (note_of v) h refl refl record { number = omega arith; floor = omega arith; known = f.known; told = λ k. absurd (omega arith); own = λ k q. absurd (omega arith) })
 
 pub hears : (id other : ℕ) (v : View) {w : View} → w.number ≡ 0 → w.draws ≡ 0 → Joins Ruled id v other w (heard v w) spent
 hears id other v {w} none no_draws s h here apart there =
     let old : At s.views other w = sym (set_else s.views id other (heard v w) apart) ∙ there in
     let f = h.fits id v here in
     let g = h.fits other w old in
-    let mid = quiet s.words s.views id v (heard v w) h here refl refl record { number = f.number; floor = f.floor; known = greater_known v.first w.first (first_in s.words) f.known g.known; own = f.own } in
-    quiet s.words (set s.views id (heard v w)) other w spent mid there (sym no_draws) (sym none) record { number = omega arith; floor = omega arith; known = λ k. absurd (omega arith); own = λ k q. absurd (omega arith) }
+    let mid = quiet s.words s.views id v (heard v w) h here refl refl record { number = f.number; floor = f.floor; known = f.known; told = g.known; own = f.own } in
+    quiet s.words (set s.views id (heard v w)) other w spent mid there (sym no_draws) (sym none) record { number = omega arith; floor = omega arith; known = λ k. absurd (omega arith); told = λ k. absurd (omega arith); own = λ k q. absurd (omega arith) }
 
 pub opens : Ruled record { words = 0 ∷ 0 ∷ []; homes = []; views = first_view ∷ [] }
 opens = record {
@@ -251,7 +246,7 @@ opens = record {
   drawn = refl;
   apart = λ i j a b at bt some same. absurd (let e = alone (λ u. u.number ≡ 0) refl i a at in omega arith);
   named = omega arith;
-  fits = λ j u at. alone (Fits 0 0) record { number = omega arith; floor = omega arith; known = λ k. absurd (omega arith); own = λ k q. absurd (omega arith) } j u at;
+  fits = λ j u at. alone (Fits 0 0) record { number = omega arith; floor = omega arith; known = λ k. absurd (omega arith); told = λ k. absurd (omega arith); own = λ k q. absurd (omega arith) } j u at;
 }
   where
     alone : (P : View → Type 0) → P first_view → (j : ℕ) (u : View) → At (first_view ∷ []) j u → P u

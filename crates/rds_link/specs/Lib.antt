@@ -2,3 +2,4 @@ pub mod Told
 pub mod Seats
 pub mod Rule
 pub mod Plays
+pub mod Stands

@@ -11,6 +11,7 @@ pub record Fits (drawn first : ℕ) (v : View) : Type 0 where
   pub floor : v.floor ≤ drawn
   -- what it knows of the second word is what stands there
   pub known : 1 ≤ v.first → v.first ≡ first
+  pub told : 1 ≤ v.told → v.told ≡ first
   -- the end that shut first has shut
   pub own : 1 ≤ v.number → v.number ≡ first → v.shut ≡ true
 

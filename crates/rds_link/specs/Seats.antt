@@ -1,5 +1,5 @@
 -- What an end knows of the two words of its stream, and what each of its steps leaves it with. This project's own.
-use Rattle.std.specs.Prelude.{◌≡◌, ◌≢◌, ℕ, ◌+◌, ◌-◌, ◌≤◌, ◌==◌, if◌then◌else◌, max, true, false}
+use Rattle.std.specs.Prelude.{◌≡◌, ◌≢◌, ℕ, ◌+◌, ◌-◌, ◌≤◌, ◌==◌, if◌then◌else◌, true, false}
 use Rattle.atomic_table.specs.Seated.{TableId}
 use Rattle.rds_link.specs.declared.words.view.View.{View}
 
@@ -14,7 +14,7 @@ knowing s w = record { words = s.words; view = w }
 
 -- a view of these two words that knows of no shut
 abbrev pub fresh : ℕ → ℕ → ℕ → View
-fresh number draws floor = record { number = number; draws = draws; floor = floor; first = 0; shut = false }
+fresh number draws floor = record { number = number; draws = draws; floor = floor; first = 0; told = 0; shut = false }
 
 -- the first view may draw twice
 abbrev pub first_view : View
@@ -42,11 +42,11 @@ after_shut v found = record v { first = if found == 0 then v.number else found; 
 
 -- what an end tells of the end that shut first
 abbrev pub note_of : View → View
-note_of v = record { number = 0; draws = 0; floor = 0; first = v.first; shut = false }
+note_of v = record { number = 0; draws = 0; floor = 0; first = v.first; told = 0; shut = false }
 
 -- an end that was told
 abbrev pub heard : View → View → View
-heard v w = record v { first = max v.first w.first }
+heard v w = record v { told = w.first }
 
 -- what is left of a view that was joined into another
 abbrev pub spent : View
@@ -58,8 +58,13 @@ pub record Found (v : View) (found : ℕ) : Type 0 where
   pub few : found ≤ 2
   -- it never changes once it isn't 0
   pub same : 1 ≤ v.first → found ≡ v.first
+  pub told : 1 ≤ v.told → found ≡ v.told
   -- it is the end's own only where the end has shut
   pub own : 1 ≤ v.number → v.number ≡ found → v.shut ≡ true
+
+-- what every end of a stream knows: its number, and one of an end that has shut where it has
+abbrev pub IsEnd : View → Type 0
+IsEnd v = (1 ≤ v.number) × (v.number ≤ 2) × (v.shut ≡ true → 1 ≤ v.first)
 
 -- the end knows that the other end shut first
 abbrev pub KnowsOther : View → Type 0

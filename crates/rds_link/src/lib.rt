@@ -5,12 +5,14 @@ mod memory;
 mod sink;
 mod source;
 mod standard;
+mod standing;
 mod words;
 
 pub use memory::{MemSink, MemSource};
 pub use sink::{Sink, write_all};
 pub use source::{ReadError, Source, read_all};
 pub use standard::{StdSink, StdSource};
+pub use standing::Standing;
 pub use words::{EndSeat, View};
 use std::fmt;
 

@@ -1,6 +1,6 @@
 //! What two ends tell each other once one caller has both.
-ghost use Rattle.std.specs.Prelude.{◌≡◌, ◌≤◌};
-ghost use Rattle.rds_link.specs.Seats.{knowing, heard, Found};
+ghost use Rattle.std.specs.Prelude.{◌≡◌, ℕ};
+ghost use Rattle.rds_link.specs.Seats.{knowing, heard, Found, IsEnd};
 
 use crate::words::plays::{Hearing, Learn, Noting};
 use crate::words::seat::{EndSeat, FIRST};
@@ -11,8 +11,9 @@ impl EndSeat {
         requires { a.old.words ≡ b.old.words }
         ensures first { a.new ≡ knowing a.old (heard a.old.view b.old.view) }
         ensures second { b.new ≡ knowing b.old (heard b.old.view a.old.view) }
-        ensures known { a.new.view.first ≡ b.new.view.first }
-        ensures fits { 1 ≤ a.new.view.first → Found a.new.view a.new.view.first × Found b.new.view a.new.view.first }
+        ensures there { (n : ℕ) × Found a.new.view n }
+        ensures back { (n : ℕ) × Found b.new.view n }
+        ensures ends { IsEnd a.new.view × IsEnd b.new.view }
     {
         a.hear(b);
         b.hear(a);
@@ -31,10 +32,11 @@ impl EndSeat {
         shared.join_seat::<Hearing>(&mut self.seat, note);
     }
 
-    // A load that changes nothing, after which what it knows is known to fit.
+    // A load that changes nothing, and finds a number that fits what the end knows.
     fn learn(&mut self)
         ensures same { self.new ≡ self.old }
-        ensures fits { 1 ≤ self.old.view.first → Found self.old.view self.old.view.first }
+        ensures found { (n : ℕ) × Found self.old.view n }
+        ensures end { IsEnd self.old.view }
     {
         let shared = &self.words.shared;
         shared.load::<Learn>(&mut self.seat, FIRST);

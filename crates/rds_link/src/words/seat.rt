@@ -89,6 +89,7 @@ impl EndSeat {
     pub fn shut(&mut self)
         ensures seat { self.new ≡ knowing self.old (record self.old.view { first = self.new.view.first; shut = true }) }
         ensures found { (n : ℕ) × (self.new.view ≡ after_shut self.old.view n) × Found self.old.view n }
+        ensures again { self.old.view.shut ≡ true → self.new ≡ self.old }
     {
         let shared = &self.words.shared;
         shared.compare_exchange::<Shut>(&mut self.seat, FIRST, 0, self.number);

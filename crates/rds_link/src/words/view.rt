@@ -8,6 +8,8 @@ pub struct View {
     pub floor: u64,
     /// The number of the end that shut first, or 0 where it knows of none.
     pub first: u64,
+    /// The number that the other end told it to have shut first, or 0.
+    pub told: u64,
     /// Whether it has made its exchange.
     pub shut: bool,
 }
