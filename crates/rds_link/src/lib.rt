@@ -1,18 +1,29 @@
 //! Where bytes come from and go to: sources and sinks that count their faults.
 #![tactic(auto)]
 
+mod calls;
+mod end;
+mod gate;
 mod memory;
+mod memory_end;
+mod memory_wire;
 mod sink;
 mod source;
 mod standard;
 mod standing;
+mod wire;
 mod words;
 
+pub use end::{End, Got, Put};
+pub use gate::{Gate, OpenGate};
 pub use memory::{MemSink, MemSource};
+pub use memory_end::MemEnd;
+pub use memory_wire::{MemWire, ROOM};
 pub use sink::{Sink, write_all};
 pub use source::{ReadError, Source, read_all};
 pub use standard::{StdSink, StdSource};
 pub use standing::Standing;
+pub use wire::{Wire, WireError};
 pub use words::{EndSeat, View};
 use std::fmt;
 
