@@ -193,14 +193,14 @@ shuts homes id number me is some s h size here small =
       keeps,
       tt,
       dite (ℕ_discrete n 0)
-      (λ nothing.
-      subst (λ (k : ℕ). Shared (set s.words 1 k) (set s.views id (after_shut me.0 n))) (sym (ap (λ b. either b number n) (eq-eqb n 0 nothing)))
-      (subst (λ (k : ℕ). Shared (set s.words 1 number) (set s.views id (record me.0 { first = k; shut = true }))) (sym (if_zero n me.0.number nothing))
-      (subst (λ (k : ℕ). Shared (set s.words 1 k) (set s.views id (record me.0 { first = me.0.number; shut = true }))) (sym is) (wins s.words s.views id me.0 h here (omega arith) nothing))))
-      (λ other.
-      subst (λ (k : ℕ). Shared (set s.words 1 k) (set s.views id (after_shut me.0 n))) (sym (ap (λ b. either b number n) (ne_eqb n 0 other)))
-      (subst (λ ws. Shared ws (set s.views id (after_shut me.0 n))) (sym (set-get_or s.words 1 0))
-      (subst (λ (k : ℕ). Shared s.words (set s.views id (record me.0 { first = k; shut = true }))) (sym (if_other n me.0.number other)) (comes_second s.words s.views id me.0 h here (omega arith))))),
+          (λ nothing.
+          subst (λ (k : ℕ). Shared (set s.words 1 k) (set s.views id (after_shut me.0 n))) (sym (ap (λ b. either b number n) (eq-eqb n 0 nothing)))
+          (subst (λ (k : ℕ). Shared (set s.words 1 number) (set s.views id (record me.0 { first = k; shut = true }))) (sym (if_zero n me.0.number nothing))
+          (subst (λ (k : ℕ). Shared (set s.words 1 k) (set s.views id (record me.0 { first = me.0.number; shut = true }))) (sym is) (wins s.words s.views id me.0 h here (omega arith) nothing))))
+          (λ other.
+          subst (λ (k : ℕ). Shared (set s.words 1 k) (set s.views id (after_shut me.0 n))) (sym (ap (λ b. either b number n) (ne_eqb n 0 other)))
+          (subst (λ ws. Shared ws (set s.views id (after_shut me.0 n))) (sym (set-get_or s.words 1 0))
+          (subst (λ (k : ℕ). Shared s.words (set s.views id (record me.0 { first = k; shut = true }))) (sym (if_other n me.0.number other)) (comes_second s.words s.views id me.0 h here (omega arith))))),
       (refl, found_there s.words s.views id me.0 h here),
     )
 

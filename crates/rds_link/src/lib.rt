@@ -23,9 +23,9 @@ pub use sink::{Sink, write_all};
 pub use source::{ReadError, Source, read_all};
 pub use standard::{StdSink, StdSource};
 pub use standing::Standing;
+use std::fmt;
 pub use wire::{Wire, WireError};
 pub use words::{EndSeat, View};
-use std::fmt;
 
 /// A read or a write failed, and the count of faults has risen.
 #[derive(Clone, Copy, Debug, PartialEq, Eq)]

@@ -12,6 +12,7 @@ use std::sync::Arc;
 
 // The word that numbers the ends, and the word that says which end shut first: 0 or its number.
 const DRAWN: usize = 0;
+
 pub(crate) const FIRST: usize = 1;
 
 pub(crate) type Words = Table<(), View, (), StreamRule, Global>;
