@@ -40,4 +40,6 @@ impl fmt::Display for Failed {
 impl std::error::Error for Failed {}
 
 #[cfg(test)]
+mod stream_tests;
+#[cfg(test)]
 mod tests;

@@ -1,4 +1,4 @@
-ghost use Rattle.std.specs.Prelude.{◌≡◌, ◌↔◌, ◌++◌, [], Some, min, length, take, IfOk, OnOk, OnErr, IsErr};
+ghost use Rattle.std.specs.Prelude.{◌≡◌, ◌<◌, ◌≤◌, ◌↔◌, ◌++◌, [], Some, min, length, take, IfOk, OnOk, OnErr, IsErr, Ok};
 ghost use Rattle.rds_link.specs.Failing.{next_call, NextFails};
 ghost use Rattle.rds_link.specs.Told.{HasRisen};
 
@@ -54,11 +54,14 @@ impl Source for MemSource {
     ghost faults = { λ s. s.faults };
 
     fn read(&mut self, buf: &mut [u8]) -> Result<usize, Failed>
+        requires { 0 < length buf.old }
         ensures count { IfOk result (λ n. n ≡ min (length buf.old) (length self.old.left)) }
         ensures bytes { IfOk result (λ n. self.old.left ≡ take n buf.new ++ self.new.left) }
+        ensures end { result ≡ Ok 0 → self.old.left ≡ [] }
         ensures kept { OnErr result (self.new.left ≡ self.old.left) }
         ensures failed { OnErr result (HasRisen self.old.faults self.new.faults) }
         ensures faults { OnOk result (self.new.faults ≡ self.old.faults) }
+        ensures counts { self.old.faults ≤ self.new.faults }
         ensures number { IsErr result ↔ NextFails self.old.calls.fail self.old.calls.made }
         ensures calls { self.new.calls ≡ record self.old.calls { made = next_call self.old.calls.made } }
     {
@@ -132,11 +135,13 @@ impl Sink for MemSink {
     ghost faults = { λ s. s.faults };
 
     fn write(&mut self, piece: &[u8]) -> Result<usize, Failed>
+        requires { 0 < length piece.now }
         ensures count { IfOk result (λ n. n ≡ length piece.now) }
         ensures bytes { OnOk result (self.new.held ≡ self.old.held ++ piece.now) }
         ensures kept { OnErr result (self.new.held ≡ self.old.held) }
         ensures failed { OnErr result (HasRisen self.old.faults self.new.faults) }
         ensures faults { OnOk result (self.new.faults ≡ self.old.faults) }
+        ensures counts { self.old.faults ≤ self.new.faults }
         ensures number { NextFails self.old.calls.fail self.old.calls.made → IsErr result }
         ensures calls { self.new.calls ≡ record self.old.calls { made = next_call self.old.calls.made } }
     {
