@@ -5,20 +5,19 @@
 mod pumping;
 mod ways;
 
+ghost use Rattle.std.specs.Prelude.{◌<◌};
+
 use pumping::{by_one, by_two};
 use rds_link::{MemWire, ROOM, Wire};
 use rtrb::RingBuffer;
 use std::alloc::{AllocError, Global};
-use std::env;
-use std::io;
 use std::io::Print;
 use std::net::{Net, TcpListener, TcpStream};
 use std::sync::Wait;
 use std::thread::Threads;
 use std::time::{Clock, Instant};
+use std::{env, io};
 use ways::{Gets, Sends, Socket, Stream};
-
-ghost use Rattle.std.specs.Prelude.{◌<◌};
 
 // What is moved: so many bytes, in pieces of one size, by one thread or by two.
 #[derive(Clone, Copy, Drop)]

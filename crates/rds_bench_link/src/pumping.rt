@@ -95,12 +95,8 @@ pub fn by_two<S: Sends + Send, G: Gets + Send, R: Wait + Threads + Sync>(
 {
     let (_, got) = thread::join(
         rt,
-        move || -> u64
-            requires { 0 < length piece.now }
-        { send_all(rt, from, piece, total) },
-        move || -> u64
-            requires { 0 < length buf.entry.now }
-        { get_all(rt, to, buf, total) },
+        move || send_all(rt, from, piece, total),
+        move || get_all(rt, to, buf, total),
     );
     got
 }
