@@ -3,4 +3,4 @@
 set -eu
 cd "$(dirname "$0")/../crates/rds_bench_link"
 [ -x out/rds_bench_link ] || rt run >/dev/null
-out/rds_bench_link "${1:-1000000000}"
+out/rds_bench_link "${1:-300000000}"

@@ -102,7 +102,7 @@ fn tell<R: Print + Clock>(
     let millions = u128::from(done) * 1000 / nanos;
     let threads = if load.two { 2 } else { 1 };
     let size = load.size;
-    println!(rt; "{way}, pieces of {size}, {threads} threads: {millions} MB a second")?;
+    println!(rt; "{way}, pieces of {size}, threads {threads}: {millions} MB a second")?;
     Ok(())
 }
 
