@@ -1,7 +1,7 @@
 -- What the loops over a sink and a source keep, and how one turn keeps it.
-use Rattle.std.proofs.Common.{◌≡◌, ℕ, ◌+◌, ◌≤◌, List, ◌++◌, length, take, drop, Option, Some, None, sym, ap, subst, ◌∙◌, append_assoc}
-use Rattle.std.proofs.lemmas.List.{drop-drop, take-append-drop}
-use Rattle.rds_link.specs.Told.{Hands, Takes}
+use Rattle.std.proofs.Common.{◌≡◌, ℕ, ◌+◌, ◌≤◌, List, [], ◌++◌, length, take, drop, Option, Some, None, sym, ap, subst, ◌∙◌, append_assoc}
+use Rattle.std.proofs.lemmas.List.{drop-drop, take-append-drop, append-nil}
+use Rattle.rds_link.specs.Told.{Hands, HandsAll, IsAtEnd, Takes}
 
 -- the first `written` bytes went to the sink
 pub record Written (held_then held_now : Option (List ℕ)) (faults_then faults_now : ℕ) (bytes : List ℕ) (written : ℕ) : Type 0 where
@@ -37,3 +37,13 @@ front_handed text copied taken n is =
     sym (take-append-drop n (drop taken text))
     ∙ ap (λ (w : List ℕ). w ++ drop n (drop taken text)) (sym is)
     ∙ ap (λ (w : List ℕ). take n copied ++ w) (drop-drop n taken text)
+
+-- a source whose end of input was reached has handed out all, and has nothing left
+pub at_end : (old mid new : Option (List ℕ)) (bytes piece : List ℕ) (count : ℕ) → count ≡ 0 → Hands old mid bytes → IsAtEnd mid → Hands mid new (take count piece) → HandsAll old new bytes
+at_end None mid new bytes piece count none handed ended read = tt
+at_end (Some all) None new bytes piece count none handed ended read = absurd handed
+at_end (Some all) (Some rest) None bytes piece count none handed ended read = absurd read
+at_end (Some all) (Some rest) (Some left) bytes piece count none handed ended read = (
+  handed ∙ (ap (λ (w : List ℕ). bytes ++ w) ended ∙ append-nil bytes),
+  ap Some (ap (λ (n : ℕ). take n piece ++ left) (sym none) ∙ (sym read ∙ ended)),
+)

@@ -1,1 +1,9 @@
 pub mod Told
+pub mod Seats
+pub mod Rule
+pub mod Plays
+pub mod Stands
+pub mod Ends
+pub mod Answers
+pub mod Failing
+pub mod Memory

@@ -1,5 +1,6 @@
 -- What sources and sinks tell of the bytes that they hold, and how they count faults. Source: this project's own.
 use Rattle.std.specs.Prelude.{◌≡◌, ◌⊎◌, ℕ, ◌<◌, ◌^◌, ◌-◌, Option, Some, None, MatchOption, List, [], ◌++◌, take}
+use Rattle.rds_link.specs.Failing.{CallsView}
 
 -- A count of faults rose. It stands still at the last value of a u64, and counts as risen there.
 abbrev pub HasRisen : ℕ → ℕ → Type 0
@@ -18,6 +19,10 @@ IsAtEnd left = MatchOption left (Unit {0}) (λ rest. rest ≡ [])
 abbrev pub HandsFront : Option (List ℕ) → ℕ → List ℕ → Type 0
 HandsFront left most bytes = MatchOption left (Unit {0}) (λ all. bytes ≡ take most all)
 
+-- where a source tells what it has left, these bytes are all of it, and nothing is left
+abbrev pub HandsAll : Option (List ℕ) → Option (List ℕ) → List ℕ → Type 0
+HandsAll old new bytes = MatchOption old (Unit {0}) (λ all. (all ≡ bytes) × (new ≡ Some []))
+
 -- where a sink tells what it holds, it took these bytes at the end
 abbrev pub Takes : Option (List ℕ) → Option (List ℕ) → List ℕ → Type 0
 Takes None new bytes = Unit {0}
@@ -27,12 +32,14 @@ Takes (Some old) new bytes = new ≡ Some (old ++ bytes)
 abbrev pub TakesFront : Option (List ℕ) → Option (List ℕ) → List ℕ → Type 0
 TakesFront old new bytes = (n : ℕ) × Takes old new (take n bytes)
 
--- a source in memory: what is left, and how often it has failed
+-- a source in memory: what is left, how often it has failed, and which of its reads fail
 pub record Supply : Type 0 where
   pub left : List ℕ
   pub faults : ℕ
+  pub calls : CallsView
 
--- a sink in memory: what it holds, and how often it has failed
+-- a sink in memory: what it holds, how often it has failed, and which of its writes fail
 pub record Pile : Type 0 where
   pub held : List ℕ
   pub faults : ℕ
+  pub calls : CallsView

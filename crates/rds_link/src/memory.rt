@@ -1,5 +1,8 @@
-ghost use Rattle.std.specs.Prelude.{◌≡◌, [], Some, min, length, take};
+ghost use Rattle.std.specs.Prelude.{◌≡◌, ◌<◌, ◌≤◌, ◌↔◌, ◌++◌, [], Some, min, length, take, IfOk, OnOk, OnErr, IsErr, Ok};
+ghost use Rattle.rds_link.specs.Failing.{next_call, NextFails};
+ghost use Rattle.rds_link.specs.Told.{HasRisen};
 
+use crate::calls::Calls;
 use crate::{Failed, Sink, Source};
 use std::alloc::Global;
 use std::marker::Model;
@@ -9,8 +12,7 @@ use std::marker::Model;
 pub struct MemSource {
     text: Vec<u8>,
     taken: usize,
-    fail: Vec<u32>,
-    calls: u32,
+    calls: Calls,
     faults: u64,
 }
 
@@ -20,7 +22,7 @@ impl Model for MemSource {
 
     ghost Value = { Supply };
 
-    ghost view = { λ s. record { left = drop s.taken s.text.items; faults = s.faults } };
+    ghost view = { λ s. record { left = drop s.taken s.text.items; faults = s.faults; calls = s.calls } };
 
     ghost invariant = { λ s. s.taken ≤ length s.text.items };
 }
@@ -28,13 +30,12 @@ impl Model for MemSource {
 impl MemSource {
     /// A source of `text`. The reads whose numbers, from 1, stand in `fail` fail.
     pub fn new(text: Vec<u8>, fail: Vec<u32>) -> MemSource
-        ensures { result ≡ record { left = text.items; faults = 0 } }
+        ensures { result ≡ record { left = text.items; faults = 0; calls = record { fail = fail.items; made = 0 } } }
     {
         MemSource {
             text,
             taken: 0,
-            fail,
-            calls: 0,
+            calls: Calls::new(fail),
             faults: 0,
         }
     }
@@ -52,9 +53,19 @@ impl Source for MemSource {
 
     ghost faults = { λ s. s.faults };
 
-    fn read(&mut self, buf: &mut [u8]) -> Result<usize, Failed> {
-        self.calls = self.calls.saturating_add(1);
-        if self.fail.contains(&self.calls) {
+    fn read(&mut self, buf: &mut [u8]) -> Result<usize, Failed>
+        requires { 0 < length buf.old }
+        ensures count { IfOk result (λ n. n ≡ min (length buf.old) (length self.old.left)) }
+        ensures bytes { IfOk result (λ n. self.old.left ≡ take n buf.new ++ self.new.left) }
+        ensures end { result ≡ Ok 0 → self.old.left ≡ [] }
+        ensures kept { OnErr result (self.new.left ≡ self.old.left) }
+        ensures failed { OnErr result (HasRisen self.old.faults self.new.faults) }
+        ensures faults { OnOk result (self.new.faults ≡ self.old.faults) }
+        ensures counts { self.old.faults ≤ self.new.faults }
+        ensures number { IsErr result ↔ NextFails self.old.calls.fail self.old.calls.made }
+        ensures calls { self.new.calls ≡ record self.old.calls { made = next_call self.old.calls.made } }
+    {
+        if self.calls.fails() {
             self.faults = self.faults.saturating_add(1);
             return Err(Failed);
         }
@@ -79,8 +90,7 @@ fn copy_front(from: &[u8], to: &mut [u8]) -> usize
 #[derive(Drop)]
 pub struct MemSink {
     held: Vec<u8>,
-    fail: Vec<u32>,
-    calls: u32,
+    calls: Calls,
     faults: u64,
 }
 
@@ -89,18 +99,17 @@ impl Model for MemSink {
 
     ghost Value = { Pile };
 
-    ghost view = { λ s. record { held = s.held.items; faults = s.faults } };
+    ghost view = { λ s. record { held = s.held.items; faults = s.faults; calls = s.calls } };
 }
 
 impl MemSink {
     /// A sink that holds nothing. The writes whose numbers, from 1, stand in `fail` fail.
     pub fn new(alloc: Global, fail: Vec<u32>) -> MemSink
-        ensures { result ≡ record { held = []; faults = 0 } }
+        ensures { result ≡ record { held = []; faults = 0; calls = record { fail = fail.items; made = 0 } } }
     {
         MemSink {
             held: Vec::new(alloc),
-            fail,
-            calls: 0,
+            calls: Calls::new(fail),
             faults: 0,
         }
     }
@@ -125,9 +134,18 @@ impl Sink for MemSink {
 
     ghost faults = { λ s. s.faults };
 
-    fn write(&mut self, piece: &[u8]) -> Result<usize, Failed> {
-        self.calls = self.calls.saturating_add(1);
-        if self.fail.contains(&self.calls) || self.held.extend_from_slice(piece).is_err() {
+    fn write(&mut self, piece: &[u8]) -> Result<usize, Failed>
+        requires { 0 < length piece.now }
+        ensures count { IfOk result (λ n. n ≡ length piece.now) }
+        ensures bytes { OnOk result (self.new.held ≡ self.old.held ++ piece.now) }
+        ensures kept { OnErr result (self.new.held ≡ self.old.held) }
+        ensures failed { OnErr result (HasRisen self.old.faults self.new.faults) }
+        ensures faults { OnOk result (self.new.faults ≡ self.old.faults) }
+        ensures counts { self.old.faults ≤ self.new.faults }
+        ensures number { NextFails self.old.calls.fail self.old.calls.made → IsErr result }
+        ensures calls { self.new.calls ≡ record self.old.calls { made = next_call self.old.calls.made } }
+    {
+        if self.calls.fails() || self.held.extend_from_slice(piece).is_err() {
             self.faults = self.faults.saturating_add(1);
             return Err(Failed);
         }

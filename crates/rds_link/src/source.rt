@@ -1,5 +1,5 @@
 ghost use Rattle.std.specs.Prelude.{◌≡◌, ◌≤◌, ◌<◌, List, ℕ, Option, length, take, IfOk, OnErr, IsErrOf};
-ghost use Rattle.rds_link.specs.Told.{HasRisen, Hands, HandsFront, IsAtEnd};
+ghost use Rattle.rds_link.specs.Told.{HasRisen, Hands, HandsFront, HandsAll, IsAtEnd};
 ghost use Rattle.rds_link.specs.declared.source.ReadError.TheVariants as errors;
 
 use crate::Failed;
@@ -34,9 +34,11 @@ pub enum ReadError {
 /// How many bytes one read asks for at most.
 const PIECE: usize = 65_536;
 
-/// Reads a source to its end, but stops after `most` bytes.
+/// Reads a source to its end, but stops after `most` bytes. Fewer than that are all that the source had.
 pub fn read_all<S: Source>(alloc: Global, source: &mut S, most: usize) -> Result<Vec<u8>, ReadError>
     ensures bytes { IfOk result (λ v. HandsFront (S.left source.old) most v.items) }
+    ensures left { IfOk result (λ v. Hands (S.left source.old) (S.left source.new) v.items) }
+    ensures end { IfOk result (λ v. length v.items < most → HandsAll (S.left source.old) (S.left source.new) v.items) }
     ensures failed { IsErrOf result errors.Failed → HasRisen (S.faults source.old) (S.faults source.new) }
     ensures counts { S.faults source.old ≤ S.faults source.new }
 {

@@ -1,0 +1,30 @@
+-- What contracts see of an end of a stream in memory. This project's own.
+use Rattle.std.specs.Prelude.{◌≡◌, ℕ, List, true}
+use Rattle.rtrb.specs.Ring.{sent, received, known_items, known_free, IsPair}
+use Rattle.rds_link.specs.declared.memory_end.MemEnd.{MemEnd}
+use Rattle.rds_link.specs.Ends.{Means}
+use Rattle.rds_link.specs.Failing.{CallsView}
+use Rattle.rds_link.specs.Stands.{IsPaired}
+
+abbrev pub memory_means : Means MemEnd
+memory_means = record {
+  tells = true;
+  sent = λ e. sent e.out;
+  got = λ e. received e.inp;
+  known = λ e. known_items e.inp;
+  room = λ e. known_free e.out;
+  calls = λ e. e.calls.made;
+  fail = λ e. e.calls.fail;
+  stand = λ e. e.standing.stand;
+  nothings = λ e. e.nothings;
+  fulls = λ e. e.fulls;
+  meets = λ a b. IsPair a.out b.inp × IsPair b.out a.inp × IsPaired a.standing b.standing;
+}
+
+-- a wire in memory: which openings fail and how many were made, which calls of its ends fail, and its three counts
+pub record WireView : Type 0 where
+  pub openings : CallsView
+  pub fail_end : List ℕ
+  pub faults : ℕ
+  pub nothings : ℕ
+  pub fulls : ℕ

@@ -1,0 +1,100 @@
+//! An end of a stream whose bytes stay in memory.
+ghost use Rattle.std.specs.Prelude.{◌≡◌, ◌↔◌, false, IsTrue, IsFalse};
+ghost use Rattle.rds_link.specs.Failing.{next_call, NextFails};
+ghost use Rattle.rds_link.specs.Stands.{standing as standing_of, IsOver, GoesOn, Failed};
+
+use crate::calls::Calls;
+use crate::{End, Got, Put, Standing};
+use rtrb::{Consumer, Producer};
+use std::sync::Wait;
+use std::thread;
+
+/// An end of a stream in memory.
+#[derive(Drop)]
+pub struct MemEnd {
+    pub(crate) out: Producer<u8>,
+    pub(crate) inp: Consumer<u8>,
+    pub(crate) standing: Standing,
+    pub(crate) calls: Calls,
+    pub(crate) nothings: u64,
+    pub(crate) fulls: u64,
+}
+
+impl MemEnd {
+    pub(crate) fn new(
+        out: Producer<u8>,
+        inp: Consumer<u8>,
+        standing: Standing,
+        fail: Vec<u32>,
+    ) -> MemEnd
+        ensures { result ≡ record { out = out; inp = inp; standing = standing; calls = record { fail = fail.items; made = 0 }; nothings = 0; fulls = 0 } }
+    {
+        MemEnd {
+            out,
+            inp,
+            standing,
+            calls: Calls::new(fail),
+            nothings: 0,
+            fulls: 0,
+        }
+    }
+
+    // Counts a read or a write, and whether the stream is over.
+    fn is_over(&mut self) -> bool
+        ensures same { self.new ≡ record self.old { standing = self.new.standing; calls = self.new.calls } }
+        ensures stream { self.new.standing ≡ standing_of self.old.standing self.new.standing.stand }
+        ensures over { IsTrue result → IsOver self.old.standing.stand self.new.standing.stand }
+        ensures goes { IsFalse result → GoesOn self.old.standing.stand self.new.standing.stand }
+        ensures calls { self.new.calls ≡ record self.old.calls { made = next_call self.old.calls.made } }
+        ensures fails { self.old.standing.stand.is_shut ≡ false → NextFails self.old.calls.fail self.old.calls.made ↔ Failed self.old.standing.stand self.new.standing.stand }
+    {
+        let fails = self.calls.fails();
+        if fails && !self.standing.is_shut() {
+            self.standing.fail();
+            return true;
+        }
+        self.standing.is_over()
+    }
+}
+
+impl End for MemEnd {
+    ghost use Rattle.rds_link.specs.Memory.{memory_means};
+
+    ghost means = { memory_means };
+
+    fn read(&mut self, buf: &mut [u8]) -> Got {
+        if self.is_over() {
+            return Got::Over;
+        }
+        let count = self.inp.pop_partial_slice(buf);
+        if count == 0 {
+            self.nothings = self.nothings.saturating_add(1);
+            return Got::Nothing;
+        }
+        Got::Bytes(count)
+    }
+
+    fn write(&mut self, piece: &[u8]) -> Put {
+        if self.is_over() {
+            return Put::Over;
+        }
+        let (taken, _) = self.out.push_partial_slice(piece);
+        if taken.is_empty() {
+            self.fulls = self.fulls.saturating_add(1);
+            return Put::Full;
+        }
+        Put::Took(taken.len())
+    }
+
+    fn shut(&mut self) {
+        self.standing.shut();
+    }
+
+    fn finish<R: Wait>(mut self, _rt: &R) {
+        self.standing.shut();
+    }
+
+    fn rest<R: Wait>(&self, _rt: &R) {
+        thread::yield_now();
+    }
+}

@@ -1,0 +1,69 @@
+ghost use Rattle.std.specs.Prelude.{◌≡◌, ◌≤◌, ℕ, IfOk, IsErrOf};
+ghost use Rattle.rds_link.specs.Ends.{Remains, MovesNothing, CountsStay, IsFresh, HasAll, RisesBy};
+ghost use Rattle.rds_link.specs.Stands.{IsTold, HaveCause, HaveFirst};
+ghost use Rattle.rds_link.specs.Told.{HasRisen};
+ghost use Rattle.rds_link.specs.declared.wire.WireError.TheVariants as errors;
+
+use crate::End;
+use std::net::Net;
+use std::sync::Wait;
+use std::thread::Threads;
+
+/// Why a stream wasn't opened.
+#[derive(Clone, Copy, Debug, PartialEq, Eq)]
+pub enum WireError {
+    Fault,
+    Memory,
+}
+
+/// What opens streams between hosts.
+pub trait Wire {
+    /// The ends of its streams.
+    type End: End;
+
+    /// How many faults there were, of openings and of ends that were given back.
+    ghost faults: { Self → ℕ };
+
+    /// How many answers `Nothing` and `Full` the ends that were given back had counted.
+    ghost nothings: { Self → ℕ };
+
+    ghost fulls: { Self → ℕ };
+
+    /// Whether its ends tell their bytes.
+    fn tells(&self) -> bool
+        ensures { result ≡ Self.End.means.tells };
+
+    /// Opens the stream with this number between two hosts, the lower of which gets the first end.
+    fn open<R: Threads + Wait + Net>(
+        &mut self,
+        rt: &R,
+        low: u32,
+        high: u32,
+        stream: u32,
+    ) -> Result<(Self::End, Self::End), WireError>
+        ensures fresh { IfOk result (λ ends. IsFresh Self.End.means ends.0 × IsFresh Self.End.means ends.1) }
+        ensures pair { IfOk result (λ ends. Self.End.means.meets ends.0 ends.1) }
+        ensures fault { IsErrOf result errors.Fault → HasRisen (faults self.old) (faults self.new) }
+        ensures faults { faults self.old ≤ faults self.new }
+        ensures nothings { nothings self.new ≡ nothings self.old }
+        ensures fulls { fulls self.new ≡ fulls self.old };
+
+    /// Each of the two ends of a stream is told all that the other sent and whether it has shut.
+    fn meet(a: &mut Self::End, b: &mut Self::End)
+        requires { Self.End.means.meets a.old b.old }
+        ensures pair { Self.End.means.meets a.new b.new }
+        ensures first { IsTold (Self.End.means.stand a.old) (Self.End.means.stand a.new) (Self.End.means.stand b.old) }
+        ensures second { IsTold (Self.End.means.stand b.old) (Self.End.means.stand b.new) (Self.End.means.stand a.old) }
+        ensures causes { HaveCause (Self.End.means.stand a.new) (Self.End.means.stand b.new) }
+        ensures order { HaveFirst (Self.End.means.stand a.new) (Self.End.means.stand b.new) }
+        ensures one { MovesNothing Self.End.means a.old a.new × CountsStay Self.End.means a.old a.new × Remains Self.End.means a.old a.new }
+        ensures other { MovesNothing Self.End.means b.old b.new × CountsStay Self.End.means b.old b.new × Remains Self.End.means b.old b.new }
+        ensures there { HasAll Self.End.means a.new b.new }
+        ensures back { HasAll Self.End.means b.new a.new };
+
+    /// Takes an end back and finishes it. The wire's counts grow by the end's.
+    fn give_back<R: Wait>(&mut self, rt: &R, end: Self::End)
+        ensures faults { RisesBy (Self.End.means.stand end).faults (faults self.old) (faults self.new) }
+        ensures nothings { RisesBy (Self.End.means.nothings end) (nothings self.old) (nothings self.new) }
+        ensures fulls { RisesBy (Self.End.means.fulls end) (fulls self.old) (fulls self.new) };
+}
