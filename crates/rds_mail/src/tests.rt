@@ -1,0 +1,2 @@
+use crate::Mail;
+use std::test::Fail;
