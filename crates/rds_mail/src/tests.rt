@@ -1,2 +1,4 @@
-use crate::Mail;
-use std::test::Fail;
+mod gathering;
+mod polled;
+mod single;
+mod threads;
