@@ -1,11 +1,11 @@
 -- What was got with one key, where each putter has a key of its own.
-use Rattle.std.proofs.Common.{◌≡◌, ◌≢◌, ◌⊎◌, ℕ, zero, suc, ◌==◌, Bool, true, false, true≢false, cond, List, [], ◌∷◌, ◌++◌, Option, Some, None, refl, sym, ap, subst, ◌∙◌, ⊎_elim, arith}
+use Rattle.std.proofs.Common.{◌≡◌, ◌⊎◌, ℕ, zero, suc, Bool, true, false, true≢false, cond, List, [], ◌∷◌, ◌++◌, Option, Some, None, refl, sym, ap, subst, ◌∙◌, ⊎_elim}
 use Rattle.std.proofs.lemmas.Bool.{cases_Bool, cond-true, cond-false, eqb-true}
 use mathlib.Core.Option.{some-injective, some-ne-none}
-use Rattle.rds_words.specs.Views.{At, Each, Has}
+use Rattle.rds_words.specs.Views.{At, Each}
 use Rattle.rds_mail.specs.declared.view.Account.{Account}
-use Rattle.rds_mail.specs.Numbers.{Number, Numbered, same_number, items_of, items, Begins}
-use Rattle.rds_mail.specs.Merging.{AllBegin, HasNumber, IsMerged, is_key, by_key, IsKeyed, KeysBegin}
+use Rattle.rds_mail.specs.Numbers.{Number, Numbered, same_number, items_of, items}
+use Rattle.rds_mail.specs.Merging.{IsMerged, is_key, by_key, IsKeyed, KeysBegin}
 use Rattle.rds_mail.proofs.Numbers.{same_here}
 use Rattle.rds_mail.proofs.Places.{some_same, some_not}
 
