@@ -4,3 +4,4 @@ pub mod Putting
 pub mod Steps
 pub mod Seats
 pub mod Publication
+pub mod Copies

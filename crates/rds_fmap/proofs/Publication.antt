@@ -9,7 +9,7 @@ use Rattle.rds_cong.proofs.Ports.{same_maps}
 use Rattle.rds_fmap.specs.Halves.{IsHalf, HasPortsAt, bytes_of_halves}
 use Rattle.rds_fmap.specs.Views.{version_in, maps_begun, after_put}
 use Rattle.rds_fmap.specs.Versions.{IsSeenIn}
-use Rattle.rds_fmap.specs.Sides.{seen_in}
+use Rattle.rds_fmap.specs.Readers.{seen_in}
 use Rattle.rds_fmap.specs.Shared.{IsWordOf}
 use Rattle.rds_fmap.specs.declared.words.view.View.{View}
 use Rattle.rds_fmap.specs.declared.seen.Seen.{Seen}

@@ -3,6 +3,9 @@
 
 mod maps;
 mod seen;
+pub mod sides;
+#[cfg(test)]
+mod tests;
 mod words;
 
 pub use maps::{MapReader, MapWriter};

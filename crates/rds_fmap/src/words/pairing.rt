@@ -1,7 +1,7 @@
 //! How a pair is made, and what is known once a reader is joined into its writer.
 ghost use Rattle.std.specs.Prelude.{◌≡◌, ℕ, ◌≤◌, [], replicate, IfOk};
 ghost use Rattle.std.specs.Arc.{arc_value};
-ghost use Rattle.rds_fmap.specs.Sides.{Watching, Looked};
+ghost use Rattle.rds_fmap.specs.Readers.{Watching, Looked};
 ghost use Rattle.rds_fmap.specs.Versions.{IsSeenIn};
 ghost use Rattle.rds_fmap.specs.declared.seen.Seen.{Seen};
 

@@ -1,5 +1,5 @@
 ghost use Rattle.std.specs.Prelude.{◌≡◌};
-ghost use Rattle.rds_fmap.specs.Sides.{Watching, Looked, Looks};
+ghost use Rattle.rds_fmap.specs.Readers.{Watching, Looked, Looks};
 ghost use Rattle.rds_fmap.specs.declared.words.view.Look.{Look};
 
 use super::PORTS;
@@ -22,7 +22,7 @@ pub struct Reader {
 impl Model for Reader {
     ghost use Rattle.std.specs.Prelude.{◌≡◌, [], false};
     ghost use Rattle.std.specs.Arc.{arc_value};
-    ghost use Rattle.rds_fmap.specs.Sides.{Watching, watching};
+    ghost use Rattle.rds_fmap.specs.Readers.{Watching, watching};
 
     ghost Value = { Watching };
 
@@ -32,7 +32,7 @@ impl Model for Reader {
 }
 
 impl MapReader for Reader {
-    ghost use Rattle.rds_fmap.specs.Sides.{Looked, Looks};
+    ghost use Rattle.rds_fmap.specs.Readers.{Looked, Looks};
     ghost use Rattle.atomic_table.specs.Seated.{TableId};
 
     ghost Pair = { TableId };

@@ -24,7 +24,7 @@ pub struct Writer {
 impl Model for Writer {
     ghost use Rattle.std.specs.Prelude.{◌≡◌, [], length, true};
     ghost use Rattle.std.specs.Arc.{arc_value};
-    ghost use Rattle.rds_fmap.specs.Sides.{Writing, writing};
+    ghost use Rattle.rds_fmap.specs.Readers.{Writing, writing};
 
     ghost Value = { Writing };
 

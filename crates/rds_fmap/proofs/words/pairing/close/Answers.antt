@@ -2,7 +2,7 @@ use Rattle.std.proofs.Common.{◌≡◌, ◌/◌, true, refl, sym, ap, ◌∙◌
 use Rattle.std.specs.Prelude.{Contains}
 use Rattle.std.proofs.lemmas.List.Elements.{Contains-append_right}
 use Rattle.atomic_table.specs.Seated.{TableId}
-use Rattle.rds_fmap.specs.Sides.{Writing, Watching}
+use Rattle.rds_fmap.specs.Readers.{Writing, Watching}
 use Rattle.rds_fmap.specs.Views.{joined, maps_begun}
 use Rattle.rds_fmap.specs.Versions.{IsSeenIn}
 use Rattle.rds_fmap.specs.Shared.{IsWordOf}

@@ -2,7 +2,7 @@ use Rattle.std.proofs.Common.{◌≡◌, [], ◌∷◌, sym, ap, ◌∙◌, subs
 use Rattle.std.specs.Prelude.{Contains}
 use Rattle.std.proofs.lemmas.List.Elements.{Contains-append_left}
 use Rattle.atomic_table.specs.Seated.{TableId}
-use Rattle.rds_fmap.specs.Sides.{Watching, Looked, word_of}
+use Rattle.rds_fmap.specs.Readers.{Watching, Looked, word_of}
 use Rattle.rds_fmap.specs.declared.words.view.View.{View}
 use Rattle.rds_fmap.specs.declared.words.view.Look.{Look}
 use Rattle.rds_fmap.proofs.Steps.{looks}
