@@ -1,16 +1,15 @@
 -- An entry and a publication keep the rule of two copies.
-use Rattle.std.proofs.Common.{◌≡◌, ◌≢◌, ◌⊎◌, Bool, ℕ, zero, suc, ◌+◌, ◌<◌, ◌≤◌, List, [], ◌∷◌, ◌++◌, length, set, slice_get, Some, refl, sym, ap, ◌∙◌, subst, ⊎_elim, inl, inr, arith}
+use Rattle.std.proofs.Common.{◌≡◌, Bool, ℕ, zero, suc, ◌+◌, ◌≤◌, List, [], ◌∷◌, ◌++◌, length, set, slice_get, Some, refl, sym, ap, ◌∙◌, subst, ⊎_elim, inl, inr, arith}
 use Rattle.std.proofs.lemmas.List.{append_assoc, length-append, append-nil}
 use Rattle.std.proofs.lemmas.List.Elements.{Contains-push_cases, Contains-push, Contains-append_left}
 use Rattle.std.specs.Prelude.{Contains, Result, Ok, Err, IsOk, MatchResult, is_err, false}
 use mathlib.Core.Option.{some-ne-none, some-injective}
-use lib.ListN.{get_elem?}
 use Rattle.crossbeam_utils.specs.Register.{Admits, TurnsAt}
-use Rattle.rds_words.specs.Views.{At, Each}
+use Rattle.rds_words.specs.Views.{Each}
 use Rattle.rds_words.proofs.Views.{each_set, each_snoc}
 use Rattle.rds_cong.specs.Map.{no_ports, has_port}
 use Rattle.rds_fmap.specs.Versions.{IsVersion}
-use Rattle.rds_fmap.specs.Entries.{newcomer, first_shown, entered, published, IsFound, IsLatest, IsLook, Takes, Taking, taking, seen_of}
+use Rattle.rds_fmap.specs.Entries.{newcomer, first_shown, entered, published, IsFound, IsLatest, IsLook, Takes, taking, seen_of}
 use Rattle.rds_fmap.specs.Sided.{Sided}
 use Rattle.rds_fmap.specs.declared.seen.Seen.{Seen}
 use Rattle.rds_fmap.specs.declared.sides.shown.Shown.{Shown}
@@ -64,9 +63,9 @@ enters seat v x views h at =
         last = h.last;
         first = each_set (First h.maps) (First h.maps) views seat w h.first (λ u p. p) (h.first seat v at);
         found = each_set (Fits h.maps x.version) (Fits h.maps x.version) views seat w h.found (λ u p. p) (λ e m. ⊎_elim
-          (h.found seat v at e)
-          (λ (same : x ≡ e). subst (λ (y : Shown). (y.version ≤ x.version) × IsVersion h.maps y.version y.map) same (omega arith, h.last))
-          (Contains-push_cases v.found x e m));
+            (h.found seat v at e)
+            (λ (same : x ≡ e). subst (λ (y : Shown). (y.version ≤ x.version) × IsVersion h.maps y.version y.map) same (omega arith, h.last))
+            (Contains-push_cases v.found x e m));
       },
       (
         refl,

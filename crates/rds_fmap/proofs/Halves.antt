@@ -10,7 +10,7 @@ use Rattle.rds_wire.specs.Bytes.{IsBytes}
 use Rattle.rds_cong.specs.Map.{has_port, IsMap, no_ports}
 use Rattle.rds_cong.specs.declared.map.TheConstants.{MAP_BYTES}
 use Rattle.rds_cong.proofs.Digits.{byte-zero, byte_below, bit-byte}
-use Rattle.rds_fmap.specs.Halves.{HasPortsAt, IsHalf, bytes_of_halves}
+use Rattle.rds_fmap.specs.Halves.{IsHalf, bytes_of_halves}
 
 pub length-halves : (halves : List ℕ) → length (bytes_of_halves halves) ≡ 4 * length halves
 length-halves [] = refl

@@ -1,12 +1,12 @@
 -- How far a publication has come, and what a pair knows of its looks at the end.
-use Rattle.std.proofs.Common.{◌≡◌, ◌≢◌, ℕ, ◌+◌, ◌-◌, ◌*◌, ◌/◌, ◌%◌, ◌^◌, ◌<◌, ◌≤◌, ◌==◌, nat_eq, true, false, Bool, cond, List, [], ◌∷◌, ◌++◌, length, slice_get, Some, refl, sym, ap, ◌∙◌, subst, ⊎_elim, arith}
+use Rattle.std.proofs.Common.{◌≡◌, ℕ, ◌+◌, ◌-◌, ◌*◌, ◌/◌, ◌%◌, ◌^◌, ◌<◌, ◌≤◌, ◌==◌, nat_eq, true, false, Bool, cond, List, [], ◌∷◌, ◌++◌, length, slice_get, Some, refl, sym, ap, ◌∙◌, subst, ⊎_elim, arith}
 use Rattle.std.proofs.lemmas.Bool.{cases_lt, eqb-true, eqb-false}
-use Rattle.std.proofs.lemmas.List.{get_or_push, length-append}
+use Rattle.std.proofs.lemmas.List.{get_or_push}
 use Rattle.std.proofs.Math.Nat.{mod-eq_of_lt}
 use Rattle.std.specs.Int.{bit_at}
 use Rattle.rds_cong.specs.Map.{no_ports, has_port, IsMap}
 use Rattle.rds_cong.proofs.Ports.{same_maps}
-use Rattle.rds_fmap.specs.Halves.{IsHalf, HasPortsAt, bytes_of_halves}
+use Rattle.rds_fmap.specs.Halves.{IsHalf, bytes_of_halves}
 use Rattle.rds_fmap.specs.Views.{version_in, maps_begun, after_put}
 use Rattle.rds_fmap.specs.Versions.{IsSeenIn}
 use Rattle.rds_fmap.specs.Readers.{seen_in}

@@ -1,5 +1,5 @@
 -- What a view has after a word was put.
-use Rattle.std.proofs.Common.{◌≡◌, ◌≢◌, ℕ, ◌+◌, ◌*◌, ◌%◌, ◌/◌, ◌^◌, ◌<◌, ◌≤◌, ◌==◌, nat_eq, nat_lt, Bool, true, false, cond, List, [], ◌∷◌, ◌++◌, length, slice_index, refl, sym, ap, ◌∙◌, subst, arith}
+use Rattle.std.proofs.Common.{◌≡◌, ◌≢◌, ℕ, ◌+◌, ◌%◌, ◌^◌, ◌<◌, ◌≤◌, ◌==◌, nat_eq, nat_lt, Bool, true, false, cond, List, [], ◌∷◌, ◌++◌, length, refl, sym, ap, ◌∙◌, subst, arith}
 use Rattle.std.proofs.lemmas.Bool.{lt-ltb, le-ltb, ltb-true, ltb-false, eqb-true, eqb-false}
 use Rattle.std.proofs.lemmas.List.{append_assoc, length-append, get_or_push}
 use Rattle.std.proofs.lemmas.List.Concat.{flat_map-append}
@@ -49,8 +49,8 @@ module _ (v : View) (n : ℕ) (version : version_in n ≡ length v.published + 1
     version = get_at before post (bytes_of_halves (longer v n)) (version_in n) (omega arith);
     put = (let a = length-halves (longer v n) in let b = longer_length v n in omega arith);
     ports = λ b h. sym (port-halves (longer v n) (length v.part) b h
-      ∙ ap (λ x. bit_at x b == 1) (get_or_push v.part (n % 2 ^ 32) 0 (length v.part) refl)
-      ∙ ap (λ x. x == 1) (bit-low n b h));
+        ∙ ap (λ x. bit_at x b == 1) (get_or_push v.part (n % 2 ^ 32) 0 (length v.part) refl)
+        ∙ ap (λ x. x == 1) (bit-low n b h));
   }
 
   -- a word of the map in progress

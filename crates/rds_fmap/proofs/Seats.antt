@@ -1,11 +1,10 @@
 -- A new pair keeps the rule, and so do a seat that is split off and one that is joined into the writer's.
-use Rattle.std.proofs.Common.{◌≡◌, ◌≢◌, ℕ, zero, suc, ◌+◌, ◌*◌, ◌/◌, ◌<◌, ◌==◌, true, false, List, [], ◌∷◌, ◌++◌, length, replicate, set, refl, sym, ap, ◌∙◌, subst, ⊎_elim, arith}
+use Rattle.std.proofs.Common.{◌≡◌, ◌≢◌, ℕ, zero, suc, ◌+◌, ◌*◌, ◌<◌, ◌==◌, true, false, List, [], ◌∷◌, ◌++◌, length, replicate, set, refl, sym, ap, ◌∙◌, subst, ⊎_elim, arith}
 use Rattle.std.proofs.lemmas.List.{length-replicate}
 use Rattle.std.proofs.lemmas.List.Elements.{Contains-append_cases}
 use Rattle.std.proofs.lemmas.Nat.Bits.{bit_at-zero}
 use Rattle.std.specs.Prelude.{Contains, slice_index}
 use mathlib.Core.Option.{some-ne-none, some-injective}
-use lib.ListN.{get_elem?}
 use Rattle.atomic_table.specs.Table.{Joins, Splits}
 use Rattle.atomic_table.proofs.Lists.{at_set, at_snoc, at_longer, set_again, set_else}
 use Rattle.rds_words.specs.Views.{At, Each}
@@ -13,7 +12,7 @@ use Rattle.rds_words.proofs.Views.{at_here, at_there, each_set, each_snoc}
 use Rattle.rds_cong.specs.Map.{no_ports}
 use Rattle.rds_cong.specs.declared.map.TheConstants.{MAP_BYTES}
 use Rattle.rds_fmap.specs.Views.{version_in, maps_begun, first_view, as_before, newcomer, joined, spent}
-use Rattle.rds_fmap.specs.Shared.{Shared, Ruled, IsWordOf, IsLookOf}
+use Rattle.rds_fmap.specs.Shared.{Shared, Ruled, IsWordOf}
 use Rattle.rds_fmap.specs.declared.words.view.View.{View}
 use Rattle.rds_fmap.specs.declared.words.view.Look.{Look}
 use Rattle.rds_fmap.proofs.Halves.{none_is, none_length, port-zeros}
@@ -68,16 +67,19 @@ opens_zeros n words count zeros = opens words (ap length zeros ∙ (length-repli
 pub splits_off : (id : ℕ) (v : View) → Splits Ruled id v (as_before v) (newcomer v)
 splits_off id v s h here =
     let same = set_again s.views id v here in
-    let k = h.2 in
-    (h.0, h.1, subst (λ vs. Shared s.words (vs ++ spent ∷ []) h.0 h.1) (sym same) record {
-      size = k.size;
-      here = at_longer s.views (spent ∷ []) h.0 h.1 k.here;
-      writes = k.writes;
-      one = λ i u at writes. ⊎_elim (λ was. k.one i u was writes) (λ (e : spent ≡ u). not_both (sym writes ∙ ap (λ (x : View). x.writes) (sym e))) (at_snoc s.views spent u i at);
-      unfinished = k.unfinished;
-      words_are = k.words_are;
-      looks_are = each_snoc (Found s.words (maps_begun h.1)) (Found s.words (maps_begun h.1)) s.views spent k.looks_are (λ u p. p) (λ l m. absurd (nothing_in l m));
-    })
+    let k = h.2 in (
+      h.0,
+      h.1,
+      subst (λ vs. Shared s.words (vs ++ spent ∷ []) h.0 h.1) (sym same) record {
+        size = k.size;
+        here = at_longer s.views (spent ∷ []) h.0 h.1 k.here;
+        writes = k.writes;
+        one = λ i u at writes. ⊎_elim (λ was. k.one i u was writes) (λ (e : spent ≡ u). not_both (sym writes ∙ ap (λ (x : View). x.writes) (sym e))) (at_snoc s.views spent u i at);
+        unfinished = k.unfinished;
+        words_are = k.words_are;
+        looks_are = each_snoc (Found s.words (maps_begun h.1)) (Found s.words (maps_begun h.1)) s.views spent k.looks_are (λ u p. p) (λ l m. absurd (nothing_in l m));
+      },
+    )
 
 module _ (words : List ℕ) (views : List View) (id other : ℕ) (v w : View) (h : Shared words views id v) (apart : other ≢ id) (there : At views other w) where
   abbrev both : View

@@ -1,5 +1,5 @@
 -- A put, a look and a load that teaches keep the rule.
-use Rattle.std.proofs.Common.{◌≡◌, ◌≢◌, ℕ, ◌+◌, ◌<◌, ◌≤◌, true, false, List, [], ◌∷◌, ◌++◌, length, set, refl, sym, ap, ◌∙◌, subst, ⊎_elim, arith}
+use Rattle.std.proofs.Common.{◌≡◌, ◌≢◌, ℕ, ◌+◌, ◌<◌, ◌≤◌, true, false, List, length, set, refl, sym, ap, ◌∙◌, subst, ⊎_elim, arith}
 use Rattle.std.proofs.lemmas.List.{get_or-set_same, get_or-set_other, length-set, set-get_or}
 use Rattle.std.proofs.lemmas.List.Elements.{Contains-push_cases}
 use Rattle.std.specs.Prelude.{Contains, slice_index}
@@ -9,13 +9,13 @@ use native.Mathlib.Decide.{ℕ_discrete}
 use lib.ListN.{get_elem?}
 use Rattle.atomic_table.specs.Table.{Me, Allows, keeps}
 use Rattle.atomic_table.proofs.Lists.{at_set, set_again}
-use Rattle.rds_words.specs.Views.{At, Each}
+use Rattle.rds_words.specs.Views.{At}
 use Rattle.rds_words.proofs.Views.{at_here, at_there, each_set}
 use Rattle.rds_fmap.specs.Views.{version_in, maps_begun, after_put, after_look}
 use Rattle.rds_fmap.specs.Shared.{Shared, Ruled, IsWordOf, IsLookOf, version_at}
 use Rattle.rds_fmap.specs.declared.words.view.View.{View}
 use Rattle.rds_fmap.specs.declared.words.view.Look.{Look}
-use Rattle.rds_fmap.proofs.Growth.{Grows, word_grows}
+use Rattle.rds_fmap.proofs.Growth.{word_grows}
 use Rattle.rds_fmap.proofs.Putting.{Put, puts_word, version_left}
 
 -- the looks of a view found words of these maps

@@ -48,7 +48,11 @@ impl<R: Wait + Drop> MapWriter for Writer<R> {
         let mut next = Shown::new(self.alloc)?;
         next.version = version;
         next.map.copy_from(map);
-        replace_with(&mut self.writer, (next, rt), |side, (next, rt)| show(side, next, rt))?;
+        replace_with(
+            &mut self.writer,
+            (next, rt),
+            |side, (next, rt)| show(side, next, rt),
+        )?;
         Ok(version)
     }
 }

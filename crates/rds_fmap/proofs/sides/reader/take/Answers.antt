@@ -1,6 +1,6 @@
 use Rattle.std.proofs.Common.{◌≡◌, sym, ap, ◌∙◌, subst}
 use Rattle.left_right.specs.Sides.{view}
-use Rattle.rds_fmap.specs.Entries.{Takes, entered}
+use Rattle.rds_fmap.specs.Entries.{entered}
 use Rattle.rds_fmap.specs.declared.sides.shown.Shown.{Shown}
 use Rattle.rds_fmap.specs.declared.sides.view.View.{View}
 use Rattle.rds_fmap.proofs.Copies.{enters, took, same_copy, refused}

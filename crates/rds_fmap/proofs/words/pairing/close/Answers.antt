@@ -1,4 +1,4 @@
-use Rattle.std.proofs.Common.{◌≡◌, ◌/◌, true, refl, sym, ap, ◌∙◌, subst, arith}
+use Rattle.std.proofs.Common.{◌≡◌, ◌/◌, sym, ap, ◌∙◌, subst, arith}
 use Rattle.std.specs.Prelude.{Contains}
 use Rattle.std.proofs.lemmas.List.Elements.{Contains-append_right}
 use Rattle.atomic_table.specs.Seated.{TableId}
@@ -39,5 +39,5 @@ returns-clause-seen c port seen k =
     let look : Look = record { word = port / 32; number = k.0 } in
     let mine : Contains second.looks look = subst (λ (x : Watching). Contains x.found look) (sym c.reader.view_is) k.1 in
     let told : IsWordOf (maps_begun (joined first second)) (port / 32) k.0 = subst (λ (v : View). IsWordOf (maps_begun v) (port / 32) k.0) both
-        (c.load.ensures.2.1 (ap (λ (v : View). v.writes) both ∙ w.3) look (subst (λ (v : View). Contains v.looks look) (sym both) (Contains-append_right first.looks second.looks look mine))) in
+    (c.load.ensures.2.1 (ap (λ (v : View). v.writes) both ∙ w.3) look (subst (λ (v : View). Contains v.looks look) (sym both) (Contains-append_right first.looks second.looks look mine))) in
     subst (λ (v : View). IsSeenIn v.published port seen) (sym after) (look_is_bit (joined first second) port k.0 seen w.4 told k.2)

@@ -1,7 +1,6 @@
-use Rattle.std.proofs.Common.{◌≡◌, ◌+◌, ◌<◌, true, length, refl, ap, ◌∙◌, sym, subst, arith}
+use Rattle.std.proofs.Common.{◌≡◌, ◌+◌, true, length, refl, ap, ◌∙◌, sym, subst, arith}
 use Rattle.atomic_table.specs.Seated.{TableId}
 use Rattle.rds_fmap.specs.declared.words.view.View.{View}
-use Rattle.rds_fmap.specs.Views.{after_put}
 use Rattle.rds_fmap.proofs.Publication.{Publishing, begins, puts_more, number_is}
 use Rattle.rds_fmap.proofs.Steps.{puts}
 use Rattle.rds_fmap.proofs.words.writer.put_all.Goals as goal
