@@ -10,7 +10,7 @@ loop-j-init c = record { table = refl; view = begins c.args.map.now c.args.seat.
 
 pub store-requires : goal.store-requires
 store-requires c =
-    let on = c.loop-j.invariant.view.on c.loop-j-test.true in
+    let on = c.loop-j.invariant.view.on (let t = c.loop-j-test.true in omega arith) in
     let table = c.requires.table in
     let same : c.loop-j.seat.table_id ≡ c.args.words.now.shared.table_id = c.loop-j.invariant.table ∙ table.0 in
     let size : c.args.words.now.shared.table_id.words ≡ 2048 = ap (λ (z : TableId). z.words) (sym table.0) ∙ table.1 in
@@ -30,6 +30,6 @@ loop-j-preserved c =
     record {
       table = done.0 ∙ c.loop-j.invariant.table;
       view = subst (λ (v : View). Publishing c.args.map.now c.args.seat.now.me.0 v (c.loop-j.j + 1)) (sym (ap (λ m. m.0) done.2))
-          (puts_more c.args.map.now c.args.seat.now.me.0 c.loop-j.seat.me.0 c.loop-j.j c.half.result _ is c.loop-j-test.true c.requires.writer.2 c.half.ensures (number.1 ∙ c.from.ensures) c.loop-j.invariant.view);
+          (puts_more c.args.map.now c.args.seat.now.me.0 c.loop-j.seat.me.0 c.loop-j.j c.half.result _ is (let t = c.loop-j-test.true in omega arith) c.requires.writer.2 c.half.ensures (number.1 ∙ c.from.ensures) c.loop-j.invariant.view);
       slots = ap (λ m. m.1) done.2 ∙ c.loop-j.invariant.slots;
     }
