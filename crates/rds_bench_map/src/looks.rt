@@ -3,7 +3,7 @@ ghost use Rattle.std.specs.Prelude.{◌≡◌, ◌*◌, ◌≤◌, IfSome};
 
 use crate::plain::Plain;
 use rds_cong::PortMap;
-use rds_fmap::{MapReader, MapWriter, Reader, pair, sides};
+use rds_fmap::{MapReader, MapWriter, Reader, pair, copies};
 use std::alloc::Global;
 use std::sync::Wait;
 use std::thread;
@@ -73,7 +73,7 @@ pub fn of_words_by_four<R: Threads + Wait + Sync>(
 
 /// The same of one thread over the two copies.
 pub fn of_copies<R: Wait>(rt: &R, alloc: Global, map: &PortMap, rounds: u32) -> Option<u64> {
-    let (mut writer, mut readers) = sides::pair(alloc, rt, 1).ok()?;
+    let (mut writer, mut readers) = copies::pair(alloc, rt, 1).ok()?;
     writer.publish(rt, map).ok()?;
     let reader = readers.first_mut()?;
     Some(looks(reader, rounds))

@@ -3,7 +3,7 @@ ghost use Rattle.std.specs.Prelude.{◌≡◌, ◌≤◌, []};
 
 use crate::plain::Plain;
 use rds_cong::PortMap;
-use rds_fmap::{MapWriter, pair, sides};
+use rds_fmap::{MapWriter, pair, copies};
 use std::alloc::Global;
 use std::sync::Wait;
 
@@ -36,7 +36,7 @@ pub fn of_words(rt: &impl Wait, alloc: Global, map: &PortMap, rounds: u32) -> Op
 pub fn of_copies<R: Wait>(rt: &R, alloc: Global, map: &PortMap, rounds: u32) -> Option<u64>
     requires { rounds ≤ 4294967 }
 {
-    let (mut writer, _readers) = sides::pair(alloc, rt, 1).ok()?;
+    let (mut writer, _readers) = copies::pair(alloc, rt, 1).ok()?;
     publications(rt, &mut writer, map, rounds)
 }
 

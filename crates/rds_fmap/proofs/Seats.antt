@@ -3,24 +3,21 @@ use Rattle.std.proofs.Common.{◌≡◌, ◌≢◌, ℕ, zero, suc, ◌+◌, ◌
 use Rattle.std.proofs.lemmas.List.{length-replicate}
 use Rattle.std.proofs.lemmas.List.Elements.{Contains-append_cases}
 use Rattle.std.proofs.lemmas.Nat.Bits.{bit_at-zero}
-use Rattle.std.specs.Prelude.{Contains, slice_index}
-use mathlib.Core.Option.{some-ne-none, some-injective}
+use Rattle.std.specs.Prelude.{slice_index}
+use mathlib.Core.Option.{some-ne-none}
 use Rattle.atomic_table.specs.Table.{Joins, Splits}
 use Rattle.atomic_table.proofs.Lists.{at_set, at_snoc, at_longer, set_again, set_else}
-use Rattle.rds_words.specs.Views.{At, Each}
+use Rattle.rds_words.specs.Views.{At}
 use Rattle.rds_words.proofs.Views.{at_here, at_there, each_set, each_snoc}
 use Rattle.rds_cong.specs.Map.{no_ports}
 use Rattle.rds_cong.specs.declared.map.TheConstants.{MAP_BYTES}
 use Rattle.rds_fmap.specs.Views.{version_in, maps_begun, first_view, as_before, newcomer, joined, spent}
 use Rattle.rds_fmap.specs.Shared.{Shared, Ruled, IsWordOf}
 use Rattle.rds_fmap.specs.declared.words.view.View.{View}
-use Rattle.rds_fmap.specs.declared.words.view.Look.{Look}
+use Rattle.rds_fmap.proofs.Lists.{nothing_in, each_of_one}
 use Rattle.rds_fmap.proofs.Halves.{none_is, none_length, port-zeros}
 use Rattle.rds_fmap.proofs.Putting.{version_left}
 use Rattle.rds_fmap.proofs.Steps.{Found, as_writer}
-
-nothing_in : (l : Look) → Contains [] l → ⊥
-nothing_in l m = let k = m.1 in omega arith
 
 not_both : {A : Type 0} → true ≡ false → A
 not_both e = absurd (cc)
@@ -36,10 +33,6 @@ zero_word rest j small = record {
 
 zero_version : (n : ℕ) → n ≡ 0 → version_in n ≡ 0
 zero_version n e = omega arith
-
-each_of_one : (P : View → Type 0) (v : View) → P v → Each (v ∷ []) P
-each_of_one P v p zero u at = subst P (some-injective _ _ at) p
-each_of_one P v p (suc j) u at = absurd (some-ne-none u (sym at))
 
 only_place : (v : View) (i : ℕ) (u : View) → At (v ∷ []) i u → i ≡ 0
 only_place v zero u at = refl

@@ -2,8 +2,8 @@
 use Rattle.std.specs.Prelude.{◌≡◌, ◌⊎◌, ℕ, ◌≤◌, List, [], ◌∷◌, ◌++◌, Contains}
 use Rattle.rds_cong.specs.Map.{no_ports, has_port}
 use Rattle.rds_fmap.specs.declared.seen.Seen.{Seen}
-use Rattle.rds_fmap.specs.declared.sides.shown.Shown.{Shown}
-use Rattle.rds_fmap.specs.declared.sides.view.View.{View}
+use Rattle.rds_fmap.specs.declared.copies.shown.Shown.{Shown}
+use Rattle.rds_fmap.specs.declared.copies.view.View.{View}
 
 -- who has published nothing and entered nowhere
 abbrev pub newcomer : View
@@ -22,12 +22,12 @@ abbrev pub published : View → Shown → Shown → View → Type 0
 published v x y w = w ≡ record v { published = v.published ++ y.map ∷ [] }
 
 -- a reader: what its entries have found, and its copy
-pub record Taking : Type 0 where
+pub record CopyReaderView : Type 0 where
   pub found : List Shown
   pub copy : Shown
 
-abbrev pub taking : View → Shown → Taking
-taking v copy = record { found = v.found; copy = copy }
+abbrev pub copy_reader_view : View → Shown → CopyReaderView
+copy_reader_view v copy = record { found = v.found; copy = copy }
 
 -- version 0 or one that an entry has found
 abbrev pub IsFound : List Shown → Shown → Type 0
@@ -48,16 +48,16 @@ pub record Takes (v : View) (old : Shown) (w : View) (new : Shown) : Type 0 wher
 abbrev pub seen_of : Shown → ℕ → Seen
 seen_of e port = record { version = e.version; set = has_port e.map port }
 
-abbrev pub Looked : Taking → ℕ → Seen → Type 0
-Looked r port seen = (e : Shown) × IsFound r.found e × (seen ≡ seen_of e port)
+abbrev pub HasSeen : CopyReaderView → ℕ → Seen → Type 0
+HasSeen r port seen = (e : Shown) × IsFound r.found e × (seen ≡ seen_of e port)
 
 -- one entry, which found what is then the copy, or was refused; the answer is the copy's
-abbrev pub Looks : Taking → Taking → ℕ → Seen → Type 0
-Looks old new port seen = ((new.found ≡ old.found ++ new.copy ∷ []) ⊎ (new ≡ old)) × (seen ≡ seen_of new.copy port)
+abbrev pub IsLook : CopyReaderView → CopyReaderView → ℕ → Seen → Type 0
+IsLook old new port seen = ((new.found ≡ old.found ++ new.copy ∷ []) ⊎ (new ≡ old)) × (seen ≡ seen_of new.copy port)
 
 -- what a look leaves a reader with, and answers
-pub record IsLook (old new : Taking) (port : ℕ) (seen : Seen) : Type 0 where
-  pub look : Looks old new port seen
-  pub now : Looked new port seen
-  pub kept : (p : ℕ) (s : Seen) → Looked old p s → Looked new p s
-  pub later : (p : ℕ) (s : Seen) → Looked old p s → s.version ≤ seen.version
+pub record LookDone (old new : CopyReaderView) (port : ℕ) (seen : Seen) : Type 0 where
+  pub look : IsLook old new port seen
+  pub now : HasSeen new port seen
+  pub kept : (p : ℕ) (s : Seen) → HasSeen old p s → HasSeen new p s
+  pub later : (p : ℕ) (s : Seen) → HasSeen old p s → s.version ≤ seen.version

@@ -5,5 +5,5 @@ pub mod Readers
 pub mod Shared
 pub mod Plays
 pub mod Entries
-pub mod Sided
+pub mod TwoCopies
 pub mod Settled

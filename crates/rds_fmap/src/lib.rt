@@ -1,9 +1,9 @@
 //! The congestion maps of a host's peers, which one thread publishes and others look up without a lock.
 #![tactic(auto)]
 
+pub mod copies;
 mod maps;
 mod seen;
-pub mod sides;
 #[cfg(test)]
 mod tests;
 mod words;

@@ -40,16 +40,16 @@ pub trait MapReader: Drop {
     ghost pair: { Self → Pair };
 
     /// Whether a look of the reader has found this of a port.
-    ghost looked: { Self → ℕ → Seen → Type 0 };
+    ghost has_seen: { Self → ℕ → Seen → Type 0 };
 
     /// Of a reader before and after one look at a port, and what that look found.
-    ghost looks: { Self → Self → ℕ → Seen → Type 0 };
+    ghost is_look: { Self → Self → ℕ → Seen → Type 0 };
 
     /// The port's bit in the version that one look finds. For one port and reader the version never falls.
     fn bit(&mut self, port: u16) -> Seen
         ensures pair { pair self.new ≡ pair self.old }
-        ensures look { looks self.old self.new port result }
-        ensures now { looked self.new port result }
-        ensures kept { (p : ℕ) (seen : Seen) → looked self.old p seen → looked self.new p seen }
-        ensures later { (seen : Seen) → looked self.old port seen → seen.version ≤ result.version };
+        ensures look { is_look self.old self.new port result }
+        ensures now { has_seen self.new port result }
+        ensures kept { (p : ℕ) (seen : Seen) → has_seen self.old p seen → has_seen self.new p seen }
+        ensures later { (seen : Seen) → has_seen self.old port seen → seen.version ≤ result.version };
 }

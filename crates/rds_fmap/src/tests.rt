@@ -1,6 +1,6 @@
 ghost use Rattle.std.specs.Prelude.{◌≡◌, []};
 
-use crate::{MapReader, MapWriter, Reader, Seen, Writer, close, pair, sides};
+use crate::{MapReader, MapWriter, Reader, Seen, Writer, close, copies, pair};
 use rds_cong::PortMap;
 use rds_wire::Memory;
 use std::sync::Wait;
@@ -58,7 +58,7 @@ fn bits_of_words_have_versions(rt: HostRuntime) -> Result<(), Fail> {
 
 #[test]
 fn bits_of_copies_have_versions(rt: HostRuntime) -> Result<(), Fail> {
-    let (mut writer, mut readers) = sides::pair(rt.alloc(), &rt, 2)?;
+    let (mut writer, mut readers) = copies::pair(rt.alloc(), &rt, 2)?;
     let mut map = PortMap::new(rt.alloc())?;
     let mut reader = readers.pop().unwrap();
     let found = map_versions(&rt, &mut writer, &mut reader, &mut map)?;
@@ -78,7 +78,7 @@ fn publishes(rt: &impl Wait, mut writer: Writer, map: &PortMap) -> Writer
     writer
 }
 
-// Looks the last port up, and answers how often it was set.
+// IsLook the last port up, and answers how often it was set.
 fn looks(mut reader: Reader) -> (Reader, u64)
     ensures { result.0.pair ≡ reader.pair }
 {

@@ -1,7 +1,7 @@
 //! How a pair is made, and what is known once a reader is joined into its writer.
 ghost use Rattle.std.specs.Prelude.{◌≡◌, ℕ, ◌≤◌, [], replicate, IfOk};
 ghost use Rattle.std.specs.Arc.{arc_value};
-ghost use Rattle.rds_fmap.specs.Readers.{Watching, Looked};
+ghost use Rattle.rds_fmap.specs.Readers.{ReaderView, HasSeen};
 ghost use Rattle.rds_fmap.specs.Versions.{IsSeenIn};
 ghost use Rattle.rds_fmap.specs.declared.seen.Seen.{Seen};
 
@@ -57,7 +57,7 @@ impl Writer {
 pub fn close(writer: &mut Writer, reader: Reader)
     requires { reader.pair ≡ writer.old.pair }
     ensures same { writer.new ≡ writer.old }
-    ensures seen { (port : ℕ) (seen : Seen) → Looked reader port seen → IsSeenIn writer.new.published port seen }
+    ensures seen { (port : ℕ) (seen : Seen) → HasSeen reader port seen → IsSeenIn writer.new.published port seen }
 {
     let Reader { seat, .. } = reader;
     let shared = &writer.words.shared;

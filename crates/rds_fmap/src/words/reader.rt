@@ -1,5 +1,5 @@
 ghost use Rattle.std.specs.Prelude.{◌≡◌};
-ghost use Rattle.rds_fmap.specs.Readers.{Watching, Looked, Looks};
+ghost use Rattle.rds_fmap.specs.Readers.{ReaderView, HasSeen, IsLook};
 ghost use Rattle.rds_fmap.specs.declared.words.view.Look.{Look};
 
 use super::PORTS;
@@ -22,26 +22,26 @@ pub struct Reader {
 impl Model for Reader {
     ghost use Rattle.std.specs.Prelude.{◌≡◌, [], false};
     ghost use Rattle.std.specs.Arc.{arc_value};
-    ghost use Rattle.rds_fmap.specs.Readers.{Watching, watching};
+    ghost use Rattle.rds_fmap.specs.Readers.{ReaderView, reader_view};
 
-    ghost Value = { Watching };
+    ghost Value = { ReaderView };
 
-    ghost view = { λ r. watching r.seat.table_id r.seat.me.0 };
+    ghost view = { λ r. reader_view r.seat.table_id r.seat.me.0 };
 
     ghost invariant = { λ r. (r.seat.table_id ≡ (arc_value r.words).shared.table_id) × (r.seat.table_id.words ≡ 2048) × (r.seat.me.1 ≡ []) × (r.seat.me.0.writes ≡ false) };
 }
 
 impl MapReader for Reader {
-    ghost use Rattle.rds_fmap.specs.Readers.{Looked, Looks};
+    ghost use Rattle.rds_fmap.specs.Readers.{HasSeen, IsLook};
     ghost use Rattle.atomic_table.specs.Seated.{TableId};
 
     ghost Pair = { TableId };
 
     ghost pair = { λ r. r.pair };
 
-    ghost looked = { Looked };
+    ghost has_seen = { HasSeen };
 
-    ghost looks = { Looks };
+    ghost is_look = { IsLook };
 
     fn bit(&mut self, port: u16) -> Seen {
         let word = usize::from(port / PORTS);

@@ -24,11 +24,11 @@ pub struct Writer {
 impl Model for Writer {
     ghost use Rattle.std.specs.Prelude.{◌≡◌, [], length, true};
     ghost use Rattle.std.specs.Arc.{arc_value};
-    ghost use Rattle.rds_fmap.specs.Readers.{Writing, writing};
+    ghost use Rattle.rds_fmap.specs.Readers.{WriterView, writer_view};
 
-    ghost Value = { Writing };
+    ghost Value = { WriterView };
 
-    ghost view = { λ w. writing w.seat.table_id w.seat.me.0 };
+    ghost view = { λ w. writer_view w.seat.table_id w.seat.me.0 };
 
     ghost invariant = { λ w. (w.seat.table_id ≡ (arc_value w.words).shared.table_id) × (w.seat.table_id.words ≡ 2048) × (w.seat.me.1 ≡ []) × (w.seat.me.0.writes ≡ true) × (w.seat.me.0.part ≡ []) × (w.version ≡ length w.seat.me.0.published) };
 }

@@ -11,13 +11,13 @@ pub struct View {
 }
 
 // What holds of the map that is shown and of all views at any moment.
-pub(crate) struct SideRule;
+pub(crate) struct CopyRule;
 
-impl Protocol<Shown, View> for SideRule {
-    ghost use Rattle.rds_fmap.specs.Sided.{Sided};
+impl Protocol<Shown, View> for CopyRule {
+    ghost use Rattle.rds_fmap.specs.TwoCopies.{IsShown};
     ghost use Rattle.rds_fmap.specs.Entries.{newcomer};
 
-    ghost holds = { Sided };
+    ghost holds = { IsShown };
 
     ghost first = { newcomer };
 }

@@ -2,11 +2,11 @@
 use Rattle.std.specs.Prelude.{◌≡◌, ℕ, ◌≤◌, List, ◌++◌, length, Contains}
 use Rattle.rds_words.specs.Views.{Each}
 use Rattle.rds_fmap.specs.Versions.{IsVersion}
-use Rattle.rds_fmap.specs.declared.sides.shown.Shown.{Shown}
-use Rattle.rds_fmap.specs.declared.sides.view.View.{View}
+use Rattle.rds_fmap.specs.declared.copies.shown.Shown.{Shown}
+use Rattle.rds_fmap.specs.declared.copies.view.View.{View}
 
 -- the map that is shown, and all views
-pub record Sided (shown : Shown) (views : List View) : Type 0 where
+pub record IsShown (shown : Shown) (views : List View) : Type 0 where
   -- the maps that were published
   pub maps : List (List ℕ)
   pub count : length maps ≡ shown.version

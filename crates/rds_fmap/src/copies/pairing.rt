@@ -28,9 +28,9 @@ pub fn pair<R: Wait + Drop>(
     };
     let mut all = Vec::with_capacity(alloc, readers as usize)?;
     for _ in 0..readers {
-        let side = writer.writer.factory().reader()?;
+        let ruled = writer.writer.factory().reader()?;
         let copy = Shown::new(alloc)?;
-        all.push(Reader { side, copy })?;
+        all.push(Reader { ruled, copy })?;
     }
     Ok((writer, all))
 }

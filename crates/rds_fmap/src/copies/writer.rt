@@ -4,7 +4,7 @@ ghost use Rattle.rds_fmap.specs.Settled.{IsSettled};
 
 use super::plays::Publish;
 use super::shown::Shown;
-use super::view::{SideRule, View};
+use super::view::{CopyRule, View};
 use crate::maps::MapWriter;
 use core::mem::replace_with;
 use left_right::writer;
@@ -14,12 +14,12 @@ use std::alloc::Global;
 use std::marker::Model;
 use std::sync::Wait;
 
-type Side = writer::Writer<Shown, Shown, View, SideRule>;
+type RuledWriter = writer::Writer<Shown, Shown, View, CopyRule>;
 
 /// The writer of the two copies. It keeps the handle, since its end waits for the readers. Contracts see the maps that it has
 /// published.
 pub struct Writer<R: Wait + Drop> {
-    pub(crate) writer: Side,
+    pub(crate) writer: RuledWriter,
     pub(crate) alloc: Global,
     pub(crate) rt: R,
 }
@@ -51,25 +51,25 @@ impl<R: Wait + Drop> MapWriter for Writer<R> {
         replace_with(
             &mut self.writer,
             (next, rt),
-            |side, (next, rt)| show(side, next, rt),
+            |ruled, (next, rt)| show(ruled, next, rt),
         )?;
         Ok(version)
     }
 }
 
 // Shows the next map to readers.
-fn show<T: Wait>(mut side: Side, next: Shown, rt: &T) -> (Side, Result<(), Memory>)
-    requires side { IsSettled side }
-    requires next { next.version ≡ side.desk.shown.value.version + 1 }
-    ensures side { IsSettled result.0 }
-    ensures ok { IfOk result.1 (λ _. (view result.0.desk.place).published ≡ (view side.desk.place).published ++ next.map ∷ []) }
-    ensures err { OnErr result.1 ((view result.0.desk.place).published ≡ (view side.desk.place).published) }
+fn show<T: Wait>(mut ruled: RuledWriter, next: Shown, rt: &T) -> (RuledWriter, Result<(), Memory>)
+    requires settled { IsSettled ruled }
+    requires next { next.version ≡ ruled.desk.shown.value.version + 1 }
+    ensures settled { IsSettled result.0 }
+    ensures ok { IfOk result.1 (λ _. (view result.0.desk.place).published ≡ (view ruled.desk.place).published ++ next.map ∷ []) }
+    ensures err { OnErr result.1 ((view result.0.desk.place).published ≡ (view ruled.desk.place).published) }
 {
-    if side.append(next).is_err() {
-        return (side, Err(Memory));
+    if ruled.append(next).is_err() {
+        return (ruled, Err(Memory));
     }
-    let (side, done) = side.publish_as::<Publish, T>(rt);
-    (side, done.map_err(Memory::from))
+    let (ruled, done) = ruled.publish_as::<Publish, T>(rt);
+    (ruled, done.map_err(Memory::from))
 }
 
 impl<R: Wait + Drop> Drop for Writer<R> {

@@ -3,21 +3,17 @@ use Rattle.std.proofs.Common.{◌≡◌, Bool, ℕ, zero, suc, ◌+◌, ◌≤�
 use Rattle.std.proofs.lemmas.List.{append_assoc, length-append, append-nil}
 use Rattle.std.proofs.lemmas.List.Elements.{Contains-push_cases, Contains-push, Contains-append_left}
 use Rattle.std.specs.Prelude.{Contains, Result, Ok, Err, IsOk, MatchResult, is_err, false}
-use mathlib.Core.Option.{some-ne-none, some-injective}
 use Rattle.crossbeam_utils.specs.Register.{Admits, TurnsAt}
-use Rattle.rds_words.specs.Views.{Each}
 use Rattle.rds_words.proofs.Views.{each_set, each_snoc}
 use Rattle.rds_cong.specs.Map.{no_ports, has_port}
 use Rattle.rds_fmap.specs.Versions.{IsVersion}
-use Rattle.rds_fmap.specs.Entries.{newcomer, first_shown, entered, published, IsFound, IsLatest, IsLook, Takes, taking, seen_of}
-use Rattle.rds_fmap.specs.Sided.{Sided}
+use Rattle.rds_fmap.specs.Entries.{newcomer, first_shown, entered, published, IsFound, IsLatest, LookDone, Takes, copy_reader_view, seen_of}
+use Rattle.rds_fmap.specs.TwoCopies.{IsShown}
 use Rattle.rds_fmap.specs.declared.seen.Seen.{Seen}
-use Rattle.rds_fmap.specs.declared.sides.shown.Shown.{Shown}
-use Rattle.rds_fmap.specs.declared.sides.view.View.{View}
+use Rattle.rds_fmap.specs.declared.copies.shown.Shown.{Shown}
+use Rattle.rds_fmap.specs.declared.copies.view.View.{View}
+use Rattle.rds_fmap.proofs.Lists.{nothing_in, each_of_one}
 use Rattle.rds_fmap.proofs.Growth.{get_at}
-
-nothing_in : {X : Type 0} (x : X) → Contains [] x → ⊥
-nothing_in x m = let k = m.1 in omega arith
 
 abbrev First : List (List ℕ) → View → Type 0
 First maps v = (rest : List (List ℕ)) × (maps ≡ v.published ++ rest)
@@ -25,7 +21,7 @@ First maps v = (rest : List (List ℕ)) × (maps ≡ v.published ++ rest)
 abbrev Fits : List (List ℕ) → ℕ → View → Type 0
 Fits maps version v = (e : Shown) → Contains v.found e → (e.version ≤ version) × IsVersion maps e.version e.map
 
-pub admits : Admits Sided newcomer
+pub admits : Admits IsShown newcomer
 admits x views h = record {
   maps = h.maps;
   count = h.count;
@@ -34,12 +30,8 @@ admits x views h = record {
   found = each_snoc (Fits h.maps x.version) (Fits h.maps x.version) views newcomer h.found (λ v p. p) (λ e m. absurd (nothing_in e m));
 }
 
-each_of_one : (P : View → Type 0) (v : View) → P v → Each (v ∷ []) P
-each_of_one P v p zero u at = subst P (some-injective _ _ at) p
-each_of_one P v p (suc j) u at = absurd (some-ne-none u (sym at))
-
-pub opens : (x : Shown) → x ≡ first_shown → Sided x (newcomer ∷ [])
-opens x is = subst (λ (s : Shown). Sided s (newcomer ∷ [])) (sym is) record {
+pub opens : (x : Shown) → x ≡ first_shown → IsShown x (newcomer ∷ [])
+opens x is = subst (λ (s : Shown). IsShown s (newcomer ∷ [])) (sym is) record {
   maps = [];
   count = refl;
   last = refl;
@@ -53,7 +45,7 @@ same_map maps version other map old is was e =
     let same : Some map ≡ Some old = sym is ∙ (ap (slice_get (no_ports ∷ maps)) (sym e) ∙ was) in
     cc
 
-pub enters : (seat : ℕ) (v : View) (x : Shown) → TurnsAt Sided seat v x x entered
+pub enters : (seat : ℕ) (v : View) (x : Shown) → TurnsAt IsShown seat v x x entered
 enters seat v x views h at =
     let w : View = record v { found = v.found ++ x ∷ [] } in (
       w,
@@ -86,7 +78,7 @@ empty : (xs : List (List ℕ)) → length xs ≡ 0 → xs ≡ []
 empty [] e = refl
 empty (x ∷ xs) e = absurd (omega arith)
 
-pub publishes : (seat : ℕ) (v : View) (x y : Shown) → x.version ≡ length v.published → y.version ≡ x.version + 1 → TurnsAt Sided seat v x y published
+pub publishes : (seat : ℕ) (v : View) (x y : Shown) → x.version ≡ length v.published → y.version ≡ x.version + 1 → TurnsAt IsShown seat v x y published
 publishes seat v x y count next views h at =
     let w : View = record v { published = v.published ++ y.map ∷ [] } in
     let mine = h.first seat v at in
@@ -148,7 +140,7 @@ still_found v w old new t e k = ⊎_elim
     t.step
 
 pub looks_by : (v w : View) (old new : Shown) (port : ℕ) (set : Bool) → Takes v old w new → set ≡ has_port new.map port
-    → IsLook (taking v old) (taking w new) port (record { version = new.version; set = set })
+    → LookDone (copy_reader_view v old) (copy_reader_view w new) port (record { version = new.version; set = set })
 looks_by v w old new port set t is =
     let seen : Seen = record { version = new.version; set = set } in
     let answer : seen ≡ seen_of new port = λ i. record { version = new.version; set = is i } in
@@ -156,7 +148,7 @@ looks_by v w old new port set t is =
       look = (
         ⊎_elim
             (λ (step : w ≡ record v { found = v.found ++ new ∷ [] }). inl (ap (λ (x : View). x.found) step))
-            (λ (step : (w ≡ v) × (new ≡ old)). inr (λ i. taking (step.0 i) (step.1 i)))
+            (λ (step : (w ≡ v) × (new ≡ old)). inr (λ i. copy_reader_view (step.0 i) (step.1 i)))
             t.step,
         answer,
       );
