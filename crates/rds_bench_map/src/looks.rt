@@ -3,7 +3,7 @@ ghost use Rattle.std.specs.Prelude.{◌≡◌, ◌*◌, ◌≤◌, IfSome};
 
 use crate::plain::Plain;
 use rds_cong::PortMap;
-use rds_fmap::{MapReader, MapWriter, Reader, pair, copies};
+use rds_fmap::{MapReader, MapWriter, Reader, copies, pair};
 use std::alloc::Global;
 use std::sync::Wait;
 use std::thread;

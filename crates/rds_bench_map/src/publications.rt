@@ -3,7 +3,7 @@ ghost use Rattle.std.specs.Prelude.{◌≡◌, ◌≤◌, []};
 
 use crate::plain::Plain;
 use rds_cong::PortMap;
-use rds_fmap::{MapWriter, pair, copies};
+use rds_fmap::{MapWriter, copies, pair};
 use std::alloc::Global;
 use std::sync::Wait;
 

@@ -165,3 +165,7 @@ kept_ok P Q (Err e) is m = absurd (cc)
 pub kept_done : {A E : Type 0} (P : A → Type 0) (Q : E → Type 0) (r : Result A E) → IsOk r → MatchResult r P Q → (a : A) × P a
 kept_done P Q (Ok a) is m = (a, m)
 kept_done P Q (Err e) is m = absurd (cc)
+
+-- where nothing waited, one that was added is all that waits
+pub one_waits : (before after : List Shown) (next : Shown) → after ≡ before ++ next ∷ [] → before ≡ [] → after ≡ next ∷ []
+one_waits before after next is none = is ∙ ap (λ (l : List Shown). l ++ next ∷ []) none
