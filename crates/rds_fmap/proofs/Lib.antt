@@ -1,0 +1,8 @@
+pub mod Lists
+pub mod Halves
+pub mod Growth
+pub mod Putting
+pub mod Steps
+pub mod Seats
+pub mod Publication
+pub mod Entering
