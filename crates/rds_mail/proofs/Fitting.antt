@@ -1,12 +1,12 @@
 -- What a pass knows goes on to be so, where the putters and the list change.
-use Rattle.std.proofs.Common.{◌≡◌, ◌≢◌, ◌⊎◌, ℕ, zero, suc, true, List, [], ◌∷◌, ◌++◌, length, set, Some, None, inl, inr, refl, sym, ap, subst, ◌∙◌, ⊎_elim, append_assoc, arith}
+use Rattle.std.proofs.Common.{◌≡◌, ◌≢◌, ◌⊎◌, ℕ, zero, suc, true, List, [], ◌∷◌, ◌++◌, length, set, Some, inl, inr, refl, sym, ap, subst, ◌∙◌, ⊎_elim, append_assoc, arith}
 use Rattle.std.proofs.lemmas.List.{append-nil}
 use mathlib.Core.Option.{some-injective, some-ne-none}
-use Rattle.atomic_table.proofs.Lists.{at_set, at_snoc}
+use Rattle.atomic_table.proofs.Lists.{at_set}
 use Rattle.rds_words.specs.Views.{At, Each}
 use Rattle.rds_mail.specs.declared.view.View.{View}
 use Rattle.rds_mail.specs.declared.view.Account.{Account}
-use Rattle.rds_mail.specs.Numbers.{Number, Numbered, items_of, Begins}
+use Rattle.rds_mail.specs.Numbers.{Number, Numbered, items_of}
 use Rattle.rds_mail.specs.Shared.{Places, IsWhole, IsPart, Stands, Fits}
 use Rattle.rds_mail.proofs.Numbers.{items_of-append, of_other}
 use Rattle.rds_mail.proofs.Places.{some_same}

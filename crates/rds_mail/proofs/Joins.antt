@@ -1,14 +1,13 @@
 -- A note that the getter is told, and a putter that is joined into it, keep the rule.
-use Rattle.std.proofs.Common.{◌≡◌, ◌≢◌, ◌⊎◌, ℕ, suc, true, false, true≢false, List, [], ◌∷◌, ◌++◌, set, Option, Some, None, inl, inr, refl, sym, ap, subst, ◌∙◌, ⊎_elim, arith}
+use Rattle.std.proofs.Common.{◌≡◌, ◌≢◌, ℕ, suc, true, true≢false, List, ◌∷◌, ◌++◌, set, Some, None, sym, ap, ◌∙◌, ⊎_elim, arith}
 use Rattle.crossbeam_queue.specs.Fifo.{Merges}
 use Rattle.atomic_table.proofs.Lists.{at_set}
-use Rattle.rds_words.specs.Views.{At, Each}
+use Rattle.rds_words.specs.Views.{At}
 use Rattle.rds_mail.specs.declared.view.View.{View}
 use Rattle.rds_mail.specs.declared.view.Account.{Account}
 use Rattle.rds_mail.specs.Numbers.{Number, Numbered}
 use Rattle.rds_mail.specs.Views.{told, joined, spent}
-use Rattle.rds_mail.specs.Shared.{Places, IsWhole, IsPart, Stands, Fits, IsMailed}
-use Rattle.rds_mail.proofs.Numbers.{longer}
+use Rattle.rds_mail.specs.Shared.{Places, IsPart, Stands, Fits, IsMailed}
 use Rattle.rds_mail.proofs.Places.{placed, placed_here, placed_else, unplaced, some_same, not_none}
 use Rattle.rds_mail.proofs.Fitting.{all_set, each_nil, each_snoc, not_place, fits_on}
 

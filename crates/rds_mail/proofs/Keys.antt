@@ -1,11 +1,11 @@
 -- What was got with one key, where each putter has a key of its own.
-use Rattle.std.proofs.Common.{◌≡◌, ◌≢◌, ◌⊎◌, ℕ, zero, suc, ◌==◌, Bool, true, false, true≢false, cond, List, [], ◌∷◌, ◌++◌, Option, Some, None, refl, sym, ap, subst, ◌∙◌, ⊎_elim, arith}
+use Rattle.std.proofs.Common.{◌≡◌, ◌⊎◌, ℕ, zero, suc, Bool, true, false, true≢false, cond, List, [], ◌∷◌, ◌++◌, Option, Some, None, refl, sym, ap, subst, ◌∙◌, ⊎_elim}
 use Rattle.std.proofs.lemmas.Bool.{cases_Bool, cond-true, cond-false, eqb-true}
 use mathlib.Core.Option.{some-injective, some-ne-none}
-use Rattle.rds_words.specs.Views.{At, Each, Has}
+use Rattle.rds_words.specs.Views.{At, Each}
 use Rattle.rds_mail.specs.declared.view.Account.{Account}
-use Rattle.rds_mail.specs.Numbers.{Number, Numbered, same_number, items_of, items, Begins}
-use Rattle.rds_mail.specs.Merging.{AllBegin, HasNumber, IsMerged, is_key, by_key, IsKeyed, KeysBegin}
+use Rattle.rds_mail.specs.Numbers.{Number, Numbered, same_number, items_of, items}
+use Rattle.rds_mail.specs.Merging.{IsMerged, is_key, by_key, IsKeyed, KeysBegin}
 use Rattle.rds_mail.proofs.Numbers.{same_here}
 use Rattle.rds_mail.proofs.Places.{some_same, some_not}
 
@@ -66,15 +66,15 @@ module _ {T : Type 0} where
   keyed key mark got puts merged keys i a at =
       let m : ℕ = mark a.number in
       let own : Each got (λ e. key e.1 ≡ Some m → e.0 ≡ a.number) = λ j e at' is.
-          let h = merged.numbers j e at' in
-          let b : Account T = h.1 in
-          let begin = merged.begin h.0 b h.2 in
-          let P : T → Type 0 = λ x. (key x ≡ None) ⊎ (key x ≡ Some (mark b.number)) in
-          let all : Each (items_of e.0 got ++ begin.0) P = subst (λ q. Each (items_of q got ++ begin.0) P) h.3 (subst (λ l. Each l P) begin.1 (keys.own h.0 b h.2)) in
-          ⊎_elim
-          (λ (none : key e.1 ≡ None). absurd (some_not m (sym is ∙ none)))
-          (λ (marked : key e.1 ≡ Some (mark b.number)). sym h.3 ∙ keys.apart h.0 b h.2 i a at (some_same (mark b.number) m (sym marked ∙ is)))
-          (of_each P got begin.0 j e at' all) in
+      let h = merged.numbers j e at' in
+      let b : Account T = h.1 in
+      let begin = merged.begin h.0 b h.2 in
+      let P : T → Type 0 = λ x. (key x ≡ None) ⊎ (key x ≡ Some (mark b.number)) in
+      let all : Each (items_of e.0 got ++ begin.0) P = subst (λ q. Each (items_of q got ++ begin.0) P) h.3 (subst (λ l. Each l P) begin.1 (keys.own h.0 b h.2)) in
+      ⊎_elim
+      (λ (none : key e.1 ≡ None). absurd (some_not m (sym is ∙ none)))
+      (λ (marked : key e.1 ≡ Some (mark b.number)). sym h.3 ∙ keys.apart h.0 b h.2 i a at (some_same (mark b.number) m (sym marked ∙ is)))
+      (of_each P got begin.0 j e at' all) in
       let begin = merged.begin i a at in (
         by_key key m begin.0,
         ap (by_key key m) begin.1 ∙ (by_key-append key m (items_of a.number got) begin.0 ∙ ap (λ l. l ++ by_key key m begin.0) (sym (only_own key m a.number got own))),

@@ -1,13 +1,13 @@
 -- What the rule shows of putters that have ended.
-use Rattle.std.proofs.Common.{◌≡◌, ◌≢◌, ◌⊎◌, ℕ, suc, ◌<◌, ◌≤◌, true, List, [], ◌∷◌, ◌++◌, Option, Some, None, refl, sym, ap, subst, ◌∙◌, ⊎_elim, arith}
+use Rattle.std.proofs.Common.{◌≡◌, ◌≢◌, ℕ, ◌<◌, ◌≤◌, true, List, [], ◌∷◌, ◌++◌, None, refl, sym, ap, subst, ◌∙◌, ⊎_elim}
 use Rattle.std.proofs.lemmas.Bool.{cases_lt}
 use Rattle.crossbeam_queue.specs.Fifo.{Learns}
-use Rattle.rds_words.specs.Views.{At, Each, Has}
+use Rattle.rds_words.specs.Views.{At, Each}
 use Rattle.rds_mail.specs.declared.view.View.{View}
 use Rattle.rds_mail.specs.declared.view.Account.{Account}
-use Rattle.rds_mail.specs.Numbers.{Number, Numbered, items_of, Begins}
-use Rattle.rds_mail.specs.Shared.{Places, Stands, Fits, IsMailed}
-use Rattle.rds_mail.specs.Merging.{AllBegin, HasNumber, AreAll, IsMerged}
+use Rattle.rds_mail.specs.Numbers.{Number, Numbered, items_of}
+use Rattle.rds_mail.specs.Shared.{Places, Stands, IsMailed}
+use Rattle.rds_mail.specs.Merging.{AllBegin, HasNumber, AreAll}
 use Rattle.rds_mail.specs.Plays.{Compared}
 use Rattle.rds_mail.proofs.Numbers.{items_of-append, has_some}
 

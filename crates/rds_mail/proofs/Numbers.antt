@@ -1,11 +1,11 @@
 -- Numbers of putters compared, and what a list has of each.
-use Rattle.std.proofs.Common.{◌≡◌, ◌≢◌, ◌⊎◌, ℕ, zero, suc, ◌==◌, Bool, true, false, cond, List, [], ◌∷◌, ◌++◌, length, inl, inr, refl, sym, ap, ◌∙◌, ⊎_elim, append_assoc, arith}
+use Rattle.std.proofs.Common.{◌≡◌, ◌≢◌, ◌⊎◌, ℕ, zero, suc, ◌==◌, Bool, true, false, cond, List, [], ◌∷◌, ◌++◌, length, inl, inr, refl, sym, ap, ◌∙◌, ⊎_elim, arith}
 use Rattle.std.proofs.lemmas.Bool.{cases_eq, cases_Bool, cond-true, cond-false, eq-eqb, ne_eqb}
 use Rattle.std.proofs.lemmas.List.{append-nil}
 use mathlib.Core.List.{cons≢nil}
 use mathlib.Core.Option.{some-injective, some-ne-none}
 use Rattle.rds_words.specs.Views.{At}
-use Rattle.rds_mail.specs.Numbers.{Number, Numbered, same_number, items_of, items, Begins}
+use Rattle.rds_mail.specs.Numbers.{Number, Numbered, same_number, items_of, items}
 
 module _ {A : Type 0} where
   abbrev head_or : A → List A → A

@@ -1,9 +1,9 @@
 -- Where putters are, after one of them was placed.
-use Rattle.std.proofs.Common.{◌≡◌, ◌≢◌, ◌⊎◌, ℕ, suc, cond, [], ◌∷◌, Option, Some, None, refl, sym, ap, ◌∙◌, ⊎_elim}
+use Rattle.std.proofs.Common.{◌≡◌, ◌≢◌, ℕ, cond, Option, Some, None, sym, ap, ◌∙◌}
 use Rattle.std.proofs.lemmas.Bool.{cond-true, cond-false}
 use Rattle.rds_mail.specs.Numbers.{Number, same_number}
 use Rattle.rds_mail.specs.Shared.{Places}
-use Rattle.rds_mail.proofs.Numbers.{same_here, same_not, number_cases}
+use Rattle.rds_mail.proofs.Numbers.{same_here, same_not}
 
 pub some_same : (a b : ℕ) → Some a ≡ Some b → a ≡ b
 some_same a b e = cc

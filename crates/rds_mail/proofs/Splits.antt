@@ -1,15 +1,14 @@
 -- A pass that is cut off another keeps the rule.
-use Rattle.std.proofs.Common.{◌≡◌, ◌≢◌, ◌⊎◌, ℕ, suc, ◌+◌, ◌≤◌, true, false, true≢false, List, [], ◌∷◌, ◌++◌, length, set, Option, Some, None, inl, inr, refl, sym, ap, subst, ◌∙◌, ⊎_elim, arith}
+use Rattle.std.proofs.Common.{◌≡◌, ◌≢◌, ℕ, suc, true, true≢false, List, ◌∷◌, ◌++◌, length, set, Some, None, refl, sym, ap, ◌∙◌, arith}
 use Rattle.crossbeam_queue.specs.Fifo.{Forks}
-use Rattle.rds_words.specs.Views.{At, Each}
 use Rattle.rds_mail.specs.declared.view.View.{View}
 use Rattle.rds_mail.specs.declared.view.Account.{Account}
-use Rattle.rds_mail.specs.Numbers.{Number, Numbered, items_of}
-use Rattle.rds_mail.specs.Views.{fresh, putting, getting, after_split, newcomer, next_number, note_of}
-use Rattle.rds_mail.specs.Shared.{Places, IsWhole, IsPart, Stands, Fits, IsMailed}
-use Rattle.rds_mail.proofs.Numbers.{longer, cons_head, cons_tail, number_cases}
+use Rattle.rds_mail.specs.Numbers.{Number, Numbered}
+use Rattle.rds_mail.specs.Views.{putting, getting, after_split, newcomer, next_number, note_of}
+use Rattle.rds_mail.specs.Shared.{Places, IsPart, Stands, Fits, IsMailed}
+use Rattle.rds_mail.proofs.Numbers.{longer, cons_head, cons_tail}
 use Rattle.rds_mail.proofs.Places.{placed, placed_here, placed_else, unplaced, some_same, not_none}
-use Rattle.rds_mail.proofs.Fitting.{all_set, all_snoc, each_nil, not_place, AllFit, part_whole, fits_on}
+use Rattle.rds_mail.proofs.Fitting.{all_set, all_snoc, each_nil, not_place, part_whole, fits_on}
 
 module _ {T : Type 0} where
   pub roles : (id : ℕ) (v : View T) → v.puts ≡ true → v.gets ≡ true → Forks IsMailed id v (putting v) (getting v)

@@ -1,12 +1,10 @@
 -- A new mailbox keeps the rule, and so do a put and a get. What an empty queue shows.
-use Rattle.std.proofs.Common.{◌≡◌, ◌≢◌, ◌⊎◌, ℕ, zero, suc, true, false, true≢false, List, [], ◌∷◌, ◌++◌, set, Option, Some, None, inl, inr, refl, sym, ap, subst, ◌∙◌, ⊎_elim, append_assoc, arith}
+use Rattle.std.proofs.Common.{◌≡◌, ℕ, suc, true, true≢false, List, [], ◌∷◌, ◌++◌, set, Some, None, refl, sym, ap, subst, ◌∙◌, append_assoc, arith}
 use Rattle.std.proofs.lemmas.List.{append-nil}
-use mathlib.Core.Option.{some-injective, some-ne-none}
+use mathlib.Core.Option.{some-ne-none}
 use Rattle.crossbeam_queue.specs.Fifo.{Pushes, Pops, Learns}
-use Rattle.rds_words.specs.Views.{At, Each}
 use Rattle.rds_mail.specs.declared.view.View.{View}
-use Rattle.rds_mail.specs.declared.view.Account.{Account}
-use Rattle.rds_mail.specs.Numbers.{Number, Numbered, items_of, items}
+use Rattle.rds_mail.specs.Numbers.{Number, Numbered, items_of}
 use Rattle.rds_mail.specs.Views.{first_view, after_put, after_get}
 use Rattle.rds_mail.specs.Shared.{Places, IsWhole, IsPart, Stands, Fits, IsMailed}
 use Rattle.rds_mail.specs.Plays.{Puts, Gets, Emptied}

@@ -1,5 +1,5 @@
 -- What a pass of a mailbox knows, and what each of its steps leaves it with. This project's own.
-use Rattle.std.specs.Prelude.{ℕ, ◌+◌, true, false, List, [], ◌∷◌, ◌++◌}
+use Rattle.std.specs.Prelude.{◌+◌, true, false, [], ◌∷◌, ◌++◌}
 use Rattle.rds_mail.specs.declared.view.View.{View}
 use Rattle.rds_mail.specs.declared.view.Account.{Account}
 use Rattle.rds_mail.specs.Numbers.{Number}

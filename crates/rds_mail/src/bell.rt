@@ -1,4 +1,5 @@
-ghost use Rattle.std.specs.Prelude.{OnOk};
+ghost use Rattle.std.specs.Prelude.{OnOk, OnErr, None};
+ghost use Rattle.futures.specs.Slot.{IsLeftIn};
 ghost use Rattle.futures.specs.Task.{IsArmed, Hears, Keeps};
 
 use futures::task::{Context, Source, Waker};
@@ -30,10 +31,12 @@ impl Bell {
         }
     }
 
-    /// Leaves the task's waker in the bell's slot. `Memory` where no waker could be made, and then the slot is empty.
+    /// Leaves the task's waker in the bell's slot, where another task's waker that stood there wakes it. `Memory` only where
+    /// no waker could be made, and then the slot is empty.
     pub fn register<R: Wait>(&self, rt: &R, cx: &mut Context<'_>) -> Result<(), Memory>
         ensures armed { OnOk result (IsArmed cx.new) }
         ensures heard { OnOk result (Hears cx.new self.now) }
+        ensures memory { OnErr result (IsLeftIn cx.old cx.new None) }
         ensures kept { Keeps cx.old cx.new }
     {
         let mut slot = self.slot.lock(rt);

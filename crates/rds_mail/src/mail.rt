@@ -39,7 +39,11 @@ impl<T: Drop> Mail<T> {
         let (queue, mut pass) = RuledSegQueue::with_rule(alloc)?;
         let get = queue.another::<Roles>(&mut pass);
         let bell = Bell::new();
-        Ok((Mail { queue, bell }, PutPass { pass }, GetPass { pass: get }))
+        Ok((
+            Mail { queue, bell },
+            PutPass { pass },
+            GetPass { pass: get },
+        ))
     }
 
     /// A new putter, which has put nothing.

@@ -1,6 +1,7 @@
 //! Getting by a task that is polled.
-ghost use Rattle.std.specs.Prelude.{◌≡◌, IfOk, IfErr};
+ghost use Rattle.std.specs.Prelude.{◌≡◌, IfOk, IfErr, OnErr, None};
 ghost use Rattle.futures.specs.Poll.{IfReady, OnPending};
+ghost use Rattle.futures.specs.Slot.{IsLeftIn};
 ghost use Rattle.futures.specs.Task.{IsArmed, Hears, Keeps};
 ghost use Rattle.rds_mail.specs.Passes.{after_get};
 ghost use Rattle.rds_mail.specs.Learning.{AllGot};
@@ -23,7 +24,8 @@ impl<T: Drop> Mail<T> {
     ) -> Poll<Result<T, Memory>>
         requires { get.old.mail ≡ self.now.line }
         ensures got { IfReady result (λ r. IfOk r (λ item. (number : Number) × (get.new ≡ after_get get.old number item))) }
-        ensures memory { IfReady result (λ r. IfErr r (λ _. get.new ≡ get.old)) }
+        ensures memory { IfReady result (λ r. OnErr r (IsLeftIn cx.old cx.new None)) }
+        ensures untaken { IfReady result (λ r. IfErr r (λ _. get.new ≡ get.old)) }
         ensures same { OnPending result (get.new ≡ get.old) }
         ensures empty { OnPending result (AllGot get.old) }
         ensures armed { OnPending result (IsArmed cx.new) }

@@ -32,6 +32,16 @@ fn orders_are_items(rt: HostRuntime) -> Result<(), Fail> {
     assert!(rt; mail.put(&rt, &mut put, Asked::new(order)).is_ok());
     assert!(rt; mail.put(&rt, &mut put, Asked::new(Order::Cut)).is_ok());
     let first = mail.get(&rt, &mut get).expect(&rt, "an order").order();
-    assert!(rt; matches!(&first, Order::Send { slot: 1023, sport: 4000, dport: 4001, .. }));
+    assert!(rt;
+        matches!(
+            &first,
+            Order::Send {
+                slot: 1023,
+                sport: 4000,
+                dport: 4001,
+                ..
+            }
+        )
+    );
     Ok(())
 }

@@ -35,7 +35,11 @@ fn next_item(rt: &impl Wait, mail: &Mail<u32>, get: &mut GetPass<u32>) -> u32
 
 // The number after the next one, where that is the item.
 fn after(next: u32, item: u32) -> u32 {
-    if item == next { next.wrapping_add(1) } else { next }
+    if item == next {
+        next.wrapping_add(1)
+    } else {
+        next
+    }
 }
 
 // Which item of each putter would come next, where all came in order.

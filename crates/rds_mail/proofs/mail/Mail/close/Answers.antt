@@ -1,4 +1,4 @@
-use Rattle.std.proofs.Common.{◌≡◌, List, [], ◌∷◌, ◌++◌, ℕ, All, map, length, refl, sym, ap, subst, ◌∙◌, append_assoc, append-nil, arith}
+use Rattle.std.proofs.Common.{◌≡◌, List, [], ◌∷◌, ◌++◌, All, map, length, refl, sym, ap, subst, ◌∙◌, append_assoc, append-nil, arith}
 use Rattle.std.proofs.lemmas.List.{map-append}
 use Rattle.std.proofs.lemmas.List.Elements.{All-tail}
 use Rattle.std.specs.Vec.Iter.{into_iter_items}
@@ -12,6 +12,10 @@ joined_more {T} g old ys x is =
     ap (λ (h : Getter T). after_join h x) is
     ∙ ap (λ (l : List (Account T)). record old { joined = l }) (append_assoc old.joined (map account_of ys) (account_of x ∷ []) ∙ ap (λ l. old.joined ++ l) (sym (map-append account_of ys (x ∷ []))))
 
+-- an item that was taken from the rest stands behind those taken before
+yielded_more : {X : Type 0} (ys : List X) (x : X) (old rest all : List X) → old ≡ x ∷ rest → ys ++ old ≡ all → ys ++ x ∷ [] ++ rest ≡ all
+yielded_more ys x old rest all steps is = append_assoc ys (x ∷ []) rest ∙ (ap (λ l. ys ++ l) (sym steps) ∙ is)
+
 nothing_left : {X : Type 0} (l : List X) → length l ≡ 0 → l ≡ []
 nothing_left [] h = refl
 nothing_left (x ∷ xs) h = absurd (omega arith)
@@ -21,7 +25,7 @@ loop-put-preserved g c =
     let at = c.loop-put in
     let x = c.in-Some.put in
     let steps : into_iter_items at.put-iterator ≡ x ∷ into_iter_items c.next.new.self = c.in-Some.ensures.steps.0 in (
-      append_assoc at.yielded (x ∷ []) _ ∙ rw (← steps) at.invariant.0,
+      yielded_more at.yielded x _ _ _ steps at.invariant.0,
       (let was = at.invariant.1 in
           let gone = c.in-Some.ensures.steps.1 in
           let short = ap length steps in

@@ -28,7 +28,7 @@ gather_keyed-requires-clause-all g c =
     let a : Account ℕ = account_of c.args.first in
     let b : Account ℕ = account_of c.args.second in
     let all : AreAll (a ∷ b ∷ []) = two_are_all a b (ap (λ (p : Putter ℕ). p.number) c.requires.first) (ap (λ (p : Putter ℕ). p.splits) c.requires.first)
-        (ap (λ (p : Putter ℕ). p.number) c.requires.second) (ap (λ (p : Putter ℕ). p.splits) c.requires.second) in
+    (ap (λ (p : Putter ℕ). p.number) c.requires.second) (ap (λ (p : Putter ℕ). p.splits) c.requires.second) in
     let none : c.args.get.now.joined ≡ [] = ap (λ (h : Getter ℕ). h.joined) c.requires.get in
     let are : map account_of c.in_ok-puts.puts.items ≡ a ∷ b ∷ [] = ap (map account_of) c.in_ok-puts.ensures.items in
     subst (λ (l : List (Account ℕ)). AreAll l) (sym (ap (λ l. l ++ map account_of c.in_ok-puts.puts.items) none ∙ are)) all
