@@ -1,0 +1,4 @@
+mod gathering;
+mod polled;
+mod single;
+mod threads;
