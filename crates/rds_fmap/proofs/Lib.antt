@@ -1,0 +1,7 @@
+pub mod Halves
+pub mod Growth
+pub mod Putting
+pub mod Steps
+pub mod Seats
+pub mod Publication
+pub mod Copies

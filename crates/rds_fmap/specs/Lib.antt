@@ -1,0 +1,9 @@
+pub mod Versions
+pub mod Halves
+pub mod Views
+pub mod Readers
+pub mod Shared
+pub mod Plays
+pub mod Entries
+pub mod Sided
+pub mod Settled

@@ -1,0 +1,40 @@
+-- A writer and a reader of words, as contracts see them. This project's own.
+use Rattle.std.specs.Prelude.{◌≡◌, ℕ, ◌/◌, ◌%◌, ◌==◌, List, [], ◌∷◌, ◌++◌, Contains}
+use Rattle.std.specs.Int.{bit_at}
+use Rattle.atomic_table.specs.Seated.{TableId}
+use Rattle.rds_fmap.specs.declared.seen.Seen.{Seen}
+use Rattle.rds_fmap.specs.declared.words.view.View.{View}
+use Rattle.rds_fmap.specs.declared.words.view.Look.{Look}
+use Rattle.rds_fmap.specs.Views.{version_in}
+
+-- a writer: its pair and the maps that it has published
+pub record Writing : Type 0 where
+  pub pair : TableId
+  pub published : List (List ℕ)
+
+-- a reader: its pair and what its loads have found
+pub record Watching : Type 0 where
+  pub pair : TableId
+  pub found : List Look
+
+abbrev pub writing : TableId → View → Writing
+writing id v = record { pair = id; published = v.published }
+
+abbrev pub watching : TableId → View → Watching
+watching id v = record { pair = id; found = v.looks }
+
+-- the word that has a port
+abbrev pub word_of : ℕ → ℕ
+word_of port = port / 32
+
+-- what a number found in the port's word says of the port
+abbrev pub seen_in : ℕ → ℕ → Seen
+seen_in number port = record { version = version_in number; set = bit_at number (port % 32) == 1 }
+
+-- some look has found this of the port
+abbrev pub Looked : Watching → ℕ → Seen → Type 0
+Looked r port seen = (number : ℕ) × Contains r.found (record { word = word_of port; number = number }) × (seen ≡ seen_in number port)
+
+-- one load of the port's word, and what it says of the port
+abbrev pub Looks : Watching → Watching → ℕ → Seen → Type 0
+Looks old new port seen = (number : ℕ) × (new ≡ record old { found = old.found ++ record { word = word_of port; number = number } ∷ [] }) × (seen ≡ seen_in number port)
