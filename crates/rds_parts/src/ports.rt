@@ -1,9 +1,9 @@
 //! The steps of a slot on the port table.
-ghost use Rattle.std.specs.Prelude.{◌≡◌, IsSome, None};
+ghost use Rattle.std.specs.Prelude.{◌≡◌, ◌≤◌, IsSome, None};
 ghost use Rattle.std.specs.Arc.{arc_value};
 ghost use Rattle.rds_bindtab.specs.Seats.{knowing, after_release, note_of};
 ghost use Rattle.rds_bindtab.specs.Answers.{ClaimFits, after_claim};
-ghost use Rattle.rds_parts.specs.Ports.{first_port, SearchFits};
+ghost use Rattle.rds_parts.specs.Ports.{first_port, port_after, SearchFits};
 
 use rds_bindtab::{BindError, BindNote, BindSeat, BindTable};
 use std::marker::Model;
@@ -92,6 +92,9 @@ impl Ports {
 }
 
 // The port that a search claims after this one.
-fn next_port(port: u16) -> u16 {
+fn next_port(port: u16) -> u16
+    requires { 2 ≤ port }
+    ensures { result ≡ port_after port 1 }
+{
     if port == u16::MAX { 2 } else { port + 1 }
 }

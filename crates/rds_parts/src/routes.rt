@@ -1,5 +1,5 @@
 //! The routes of a socket to its host's peers.
-ghost use Rattle.std.specs.Prelude.{◌≡◌, ◌<◌, ◌≤◌, ℕ, length, IfOk, IfErr, OnOk, OnErr, IfSome, IfNone};
+ghost use Rattle.std.specs.Prelude.{◌≡◌, ◌<◌, ◌≤◌, ◌==◌, ℕ, length, position, IfOk, IfErr, OnOk, OnErr, IfSome, IfNone};
 ghost use Rattle.rds_model.specs.declared.order.Order.TheVariants as order;
 ghost use Rattle.rds_parts.specs.Refusals.{AskRefused};
 ghost use Rattle.rds_parts.specs.Lanes.{LeadsTo, NoneTo, IsPutAt, IsPutTo, ArePut, IsLookAt, IsLookTo, HasSeen, RoutesStay, At, Lane};
@@ -50,6 +50,13 @@ impl<R: MapReader> Routes<R> {
     /// The place of the route to a peer.
     pub fn find(&self, peer: u32) -> Option<usize>
         ensures found { IfSome result (LeadsTo self.now peer) }
+        ensures none { IfNone result (NoneTo self.now peer) }
+    {
+        self.position_of(peer)
+    }
+
+    fn position_of(&self, peer: u32) -> Option<usize>
+        ensures place { result ≡ position (λ lane. lane.peer == peer) self.now }
         ensures none { IfNone result (NoneTo self.now peer) }
     {
         self.routes.iter().position(|route| route.peer == peer)

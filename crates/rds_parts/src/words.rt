@@ -23,7 +23,7 @@ pub struct Words {
 }
 
 impl Model for Words {
-    ghost use Rattle.std.specs.Prelude.{◌≡◌, ◌<◌, Some};
+    ghost use Rattle.std.specs.Prelude.{◌≡◌, ◌<◌, ◌≤◌, Some};
     ghost use Rattle.std.specs.Arc.{arc_value};
     ghost use Rattle.rds_meter.specs.Places.{taken_word, part};
     ghost use Rattle.rds_parts.specs.Words.{Purse};
@@ -32,7 +32,7 @@ impl Model for Words {
 
     ghost view = { λ w. record { slot = w.slot; seat = w.seat } };
 
-    ghost invariant = { λ w. (w.seat.table ≡ arc_value w.meter) × (w.seat.slot ≡ Some w.slot) × (w.slot < 1024) × (w.added ≡ part (taken_word w.slot) w.seat.view.steps) };
+    ghost invariant = { λ w. (w.seat.table ≡ arc_value w.meter) × (w.seat.slot ≡ Some w.slot) × (w.slot < 1024) × (w.added ≡ part (taken_word w.slot) w.seat.view.steps) × (w.added ≤ 4503599627370496) };
 }
 
 impl Words {
