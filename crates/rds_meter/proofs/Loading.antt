@@ -16,7 +16,7 @@ use Rattle.rds_meter.specs.Places.{part, taken_word}
 use Rattle.rds_meter.specs.Seats.{after_load, stage_after, completed, opening, closing, must_raise}
 use Rattle.rds_meter.specs.Shared.{Shared, Ruled, Taught, Alone, HasStored, HasRaised, IsLimit, BitsFit, Found, StageFits}
 use Rattle.rds_meter.proofs.Facts.{nothing_in, has_on, limit_on, bits_on}
-use Rattle.rds_meter.proofs.Steps.{stepped_one, plain_counts, part_within}
+use Rattle.rds_meter.proofs.Steps.{stepped_one, plain_counts, part_within, totals_fit}
 use Rattle.rds_meter.proofs.Opening.{alone}
 
 only_one : {X : Type 0} (x y : X) → Contains (x ∷ []) y → x ≡ y
@@ -112,10 +112,10 @@ module _ (words : List ℕ) (views : List View) (id q : ℕ) (v : View) (h : Sha
       }
 
 pub loads : (homes id q : ℕ) (me : Me (Unit {0}) View) → 1 ≤ me.0.weight
-    → Allows Ruled homes id me q (λ n. n) (λ found now. (now ≡ (after_load me.0 q found, me.1)) × (1024 ≤ q → q < 4096 → part q me.0.steps ≤ found))
+    → Allows Ruled homes id me q (λ n. n) (λ found now. (now ≡ (after_load me.0 q found, me.1)) × (1024 ≤ q → q < 4096 → part q me.0.steps ≤ found) × (1024 ≤ q → q < 4096 → found ≤ 18442240474082181120))
 loads homes id q me living s h homed here fits =
     let w = after_load me.0 q (slice_index s.words q) in
-    (w, keeps, tt, subst (λ ws. Shared ws (set s.views id w)) (sym (set-get_or s.words q 0)) (loads_at s.words s.views id q me.0 h here living), (refl, λ low high. part_within s.words s.views id q me.0 h here low high))
+    (w, keeps, tt, subst (λ ws. Shared ws (set s.views id w)) (sym (set-get_or s.words q 0)) (loads_at s.words s.views id q me.0 h here living), (refl, (λ low high. part_within s.words s.views id q me.0 h here low high), (λ low high. subst (λ n. n ≤ 18442240474082181120) (sym (h.sums q low high)) (totals_fit s.views q h.few h.seated))))
 
 pub learns : (homes id : ℕ) (me : Me (Unit {0}) View) → Allows Ruled homes id me 0 (λ n. n) (λ found now. (now ≡ me) × Taught me.0 × (me.0.weight + me.0.splits ≡ 4095 → Alone me.0))
 learns homes id me s h homed here fits = (

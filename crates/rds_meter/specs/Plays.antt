@@ -16,8 +16,9 @@ added s me found now = (now ≡ (after_add me.0 s.word s.first (found + s.first)
 abbrev pub stored : Step (Unit {0}) → Seated → ℕ → Seated → Type 0
 stored s me found now = now ≡ (after_store me.0 s.word s.first, me.1)
 
+-- a word freed, put or taken counts the seat's own part, and is at most 4,095 parts of 2^52
 abbrev pub loaded : Step (Unit {0}) → Seated → ℕ → Seated → Type 0
-loaded s me found now = (now ≡ (after_load me.0 s.word found, me.1)) × (1024 ≤ s.word → s.word < 4096 → part s.word me.0.steps ≤ found)
+loaded s me found now = (now ≡ (after_load me.0 s.word found, me.1)) × (1024 ≤ s.word → s.word < 4096 → part s.word me.0.steps ≤ found) × (1024 ≤ s.word → s.word < 4096 → found ≤ 18442240474082181120)
 
 -- the port is the one whose word and bit these are
 abbrev pub raised : Step (Unit {0}) → Seated → ℕ → Seated → Type 0

@@ -14,6 +14,7 @@ impl Meter {
         requires word { word < 5121 }
         ensures seat { seat.new ≡ knowing seat.old (after_load seat.old.view word result) }
         ensures part { 1024 ≤ word → word < 4096 → part word seat.old.view.steps ≤ result }
+        ensures most { 1024 ≤ word → word < 4096 → result ≤ 18442240474082181120 }
     {
         let shared = &self.table.shared;
         shared.load::<Load>(&mut seat.seat, word)
@@ -34,6 +35,7 @@ impl Meter {
         requires slot { slot < 1024 }
         ensures seat { seat.new ≡ knowing seat.old (after_load seat.old.view (freed_word slot) result) }
         ensures part { part (freed_word slot) seat.old.view.steps ≤ result }
+        ensures most { result ≤ 18442240474082181120 }
     {
         self.load(seat, FREED + usize::from(slot))
     }
@@ -44,6 +46,7 @@ impl Meter {
         requires slot { slot < 1024 }
         ensures seat { seat.new ≡ knowing seat.old (after_load seat.old.view (put_word slot) result) }
         ensures part { part (put_word slot) seat.old.view.steps ≤ result }
+        ensures most { result ≤ 18442240474082181120 }
     {
         self.load(seat, PUT + usize::from(slot))
     }
@@ -54,6 +57,7 @@ impl Meter {
         requires slot { slot < 1024 }
         ensures seat { seat.new ≡ knowing seat.old (after_load seat.old.view (taken_word slot) result) }
         ensures part { part (taken_word slot) seat.old.view.steps ≤ result }
+        ensures most { result ≤ 18442240474082181120 }
     {
         self.load(seat, TAKEN + usize::from(slot))
     }

@@ -1,0 +1,5 @@
+pub mod Ports
+pub mod Words
+pub mod Lanes
+pub mod Boxes
+pub mod Refusals

@@ -1,0 +1,55 @@
+-- What contracts see of a slot without a port, of a socket and of one that has ended. This project's own.
+use Rattle.std.specs.Prelude.{◌≡◌, ◌≤◌, ℕ, List, length, Option, Some, None, MatchOption, unwrap_or, is_some}
+use Rattle.rds_bindtab.specs.Seats as seats
+use Rattle.rds_parts.specs.Ports.{HasClaimedOnly}
+use Rattle.rds_parts.specs.Words.{Purse, IsQuiet}
+use Rattle.rds_parts.specs.Boxes.{Box}
+use Rattle.rds_parts.specs.Lanes.{Lane, ArePutOf}
+
+-- what each of them holds: its seat at the port table, its words, its mailbox, its routes, and the bytes that it has sent in all
+pub record Holding (R : Type 0) : Type 0 where
+  pub ports : seats.Held
+  pub words : Purse
+  pub inbox : Box
+  pub routes : List (Lane R)
+  pub total : ℕ
+
+-- a socket: its port and buffers, how many peers were told that it closes, where it is closing, and what it holds
+pub record Open (R : Type 0) : Type 0 where
+  pub port : ℕ
+  pub sndbuf : ℕ
+  pub rcvbuf : ℕ
+  pub told : Option ℕ
+  pub own : Holding R
+
+-- Both seats are of one slot, each port that it claimed is this one, its meter seat is quiet, its queues hold only orders of
+-- its slot and cuts, and its total leaves room for one send more.
+pub record IsHeld {R : Type 0} (port : Option ℕ) (h : Holding R) : Type 0 where
+  pub slot : h.ports.view.slot ≡ Some h.words.slot
+  pub claimed : HasClaimedOnly port h.ports.view
+  pub quiet : IsQuiet h.words.slot h.words.seat.view
+  pub orders : ArePutOf h.words.slot h.routes
+  pub total : h.total ≤ 18442240474098958336
+
+module _ {R : Type 0} where
+  -- how many peers were told that the socket closes
+  abbrev pub told_of : Open R → ℕ
+  told_of o = unwrap_or o.told 0
+
+  -- a vacant slot holds no port and has claimed none
+  pub record IsVacant (h : Holding R) : Type 0 where
+    pub port : h.ports.view.port ≡ None
+    pub held : IsHeld None h
+
+  -- a socket holds its port
+  pub record IsOpen (o : Open R) : Type 0 where
+    pub port : o.own.ports.view.port ≡ Some o.port
+    pub held : IsHeld (Some o.port) o.own
+    pub sndbuf : (1 ≤ o.sndbuf) × (o.sndbuf ≤ 16777216)
+    pub rcvbuf : (2 ≤ o.rcvbuf) × (o.rcvbuf ≤ 16777216)
+    pub told : told_of o ≤ length o.own.routes
+
+  -- a slot whose use has ended has had one port at most
+  pub record IsEnded (h : Holding R) : Type 0 where
+    pub port : Option ℕ
+    pub held : IsHeld port h

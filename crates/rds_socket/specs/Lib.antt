@@ -1,0 +1,5 @@
+pub mod Holding
+pub mod Stays
+pub mod Binds
+pub mod Sends
+pub mod Calls
