@@ -65,9 +65,9 @@ impl<R: MapReader> Routes<R> {
     /// Looks a port up in the map of the peer at this place.
     pub fn look(&mut self, place: usize, port: u16) -> Seen
         requires { place < length self.old }
-        ensures look { IsLookAt R.looks place port result self.old self.new }
-        ensures seen { HasSeen R.looked self.new place port result }
-        ensures stay { RoutesStay R.pair R.looked self.old self.new }
+        ensures look { IsLookAt R.is_look place port result self.old self.new }
+        ensures seen { HasSeen R.has_seen self.new place port result }
+        ensures stay { RoutesStay R.pair R.has_seen self.old self.new }
     {
         let route = &mut self.routes[place];
         route.map.bit(port)
@@ -75,9 +75,9 @@ impl<R: MapReader> Routes<R> {
 
     /// Looks a port up in a peer's map.
     pub fn look_up(&mut self, peer: u32, port: u16) -> Result<Seen, NoRoute>
-        ensures look { IfOk result (λ seen. IsLookTo R.looks peer port seen self.old self.new) }
+        ensures look { IfOk result (λ seen. IsLookTo R.is_look peer port seen self.old self.new) }
         ensures none { IfErr result (λ e. (e.peer ≡ peer) × NoneTo self.old peer × (self.new ≡ self.old)) }
-        ensures stay { RoutesStay R.pair R.looked self.old self.new }
+        ensures stay { RoutesStay R.pair R.has_seen self.old self.new }
     {
         let Some(place) = self.find(peer) else {
             return Err(NoRoute { peer });
@@ -91,7 +91,7 @@ impl<R: MapReader> Routes<R> {
         ensures put { OnOk result (IsPutAt place item self.old self.new) }
         ensures same { OnErr result (self.new ≡ self.old) }
         ensures back { IfErr result (λ back. back ≡ item) }
-        ensures stay { RoutesStay R.pair R.looked self.old self.new }
+        ensures stay { RoutesStay R.pair R.has_seen self.old self.new }
     {
         let route = &mut self.routes[place];
         match route.orders.put(rt, &mut route.pass, item) {
@@ -104,7 +104,7 @@ impl<R: MapReader> Routes<R> {
     pub fn ask<W: Wait>(&mut self, rt: &W, peer: u32, item: Asked) -> Result<(), CancelError>
         ensures put { OnOk result (IsPutTo peer item self.old self.new) }
         ensures refused { IfErr result (λ e. AskRefused peer self.old e × (self.new ≡ self.old)) }
-        ensures stay { RoutesStay R.pair R.looked self.old self.new }
+        ensures stay { RoutesStay R.pair R.has_seen self.old self.new }
     {
         let Some(place) = self.find(peer) else {
             return Err(CancelError::NoRoute { peer });
@@ -122,7 +122,7 @@ impl<R: MapReader> Routes<R> {
         requires slot { slot < 1024 }
         ensures all { OnOk result (ArePut from (length self.old) (order.CloseSocket slot) self.old self.new) }
         ensures some { IfErr result (λ upto. (from ≤ upto) × (upto < length self.old) × ArePut from upto (order.CloseSocket slot) self.old self.new) }
-        ensures stay { RoutesStay R.pair R.looked self.old self.new }
+        ensures stay { RoutesStay R.pair R.has_seen self.old self.new }
     {
         for place in from..self.routes.len() {
             let item = Asked::new(Order::CloseSocket { slot });

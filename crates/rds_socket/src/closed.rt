@@ -61,7 +61,7 @@ impl<R: MapReader> Closed<R> {
         ensures got { IfSome result (λ item. (number : Number) × (self.new ≡ with_inbox self.old (after_taking_out self.old.inbox number item))) }
         ensures same { IfNone result (self.new ≡ self.old) }
         ensures empty { IfNone result (AllGot self.old.inbox.get) }
-        ensures stays { HoldingStays R.pair R.looked self.old self.new }
+        ensures stays { HoldingStays R.pair R.has_seen self.old self.new }
     {
         self.inbox.get(rt)
     }
@@ -72,7 +72,7 @@ impl<R: MapReader> Closed<R> {
         ensures refused { IfErr result (AskRefused peer self.old.routes) }
         ensures same { OnErr result (self.new ≡ self.old) }
         ensures rest { self.new ≡ with_routes self.old self.new.routes }
-        ensures stays { HoldingStays R.pair R.looked self.old self.new }
+        ensures stays { HoldingStays R.pair R.has_seen self.old self.new }
     {
         self.routes.ask(rt, peer, Asked::new(Order::Cut))
     }
@@ -90,7 +90,7 @@ impl<R: MapReader> Closed<R> {
     pub fn hear(&mut self, note: Note<Datagram>)
         requires { note.mail ≡ self.old.inbox.get.mail }
         ensures told { self.new ≡ with_inbox self.old (record self.old.inbox { get = after_note self.old.inbox.get note }) }
-        ensures stays { HoldingStays R.pair R.looked self.old self.new }
+        ensures stays { HoldingStays R.pair R.has_seen self.old self.new }
     {
         self.inbox.hear(note);
     }

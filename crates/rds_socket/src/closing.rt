@@ -15,9 +15,9 @@ impl<R: MapReader> Socket<R> {
     /// wasn't told.
     pub fn close<W: Wait>(self, rt: &W) -> Result<Closed<R>, (Socket<R>, Memory)>
         ensures closed { IfOk result (IsClosed self) }
-        ensures stay { IfOk result (λ closed. RoutesStay R.pair R.looked self.own.routes closed.routes) }
+        ensures stay { IfOk result (λ closed. RoutesStay R.pair R.has_seen self.own.routes closed.routes) }
         ensures closing { IfErr result (λ r. IsClosing self r.0) }
-        ensures still { IfErr result (λ r. RoutesStay R.pair R.looked self.own.routes r.0.own.routes) }
+        ensures still { IfErr result (λ r. RoutesStay R.pair R.has_seen self.own.routes r.0.own.routes) }
     {
         let Socket {
             port,

@@ -19,7 +19,7 @@ impl<R: MapReader> Socket<R> {
         ensures received { IfSome result (λ item. IsReceived item self.old self.new) }
         ensures same { IfNone result (self.new ≡ self.old) }
         ensures empty { IfNone result (AllGot self.old.own.inbox.get) }
-        ensures stays { Stays R.pair R.looked self.old self.new }
+        ensures stays { Stays R.pair R.has_seen self.old self.new }
     {
         let item = self.inbox.get(rt)?;
         self.words
@@ -42,7 +42,7 @@ impl<R: MapReader> Socket<R> {
         ensures armed { OnPending result (IsArmed cx.new) }
         ensures heard { OnPending result (Hears cx.new self.old.own.inbox.bell) }
         ensures kept { Keeps cx.old cx.new }
-        ensures stays { Stays R.pair R.looked self.old self.new }
+        ensures stays { Stays R.pair R.has_seen self.old self.new }
     {
         match self.inbox.poll_get(rt, cx) {
             Poll::Ready(Ok(item)) => {

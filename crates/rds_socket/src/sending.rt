@@ -26,8 +26,8 @@ impl<R: MapReader> Socket<R> {
         payload: Payload,
     ) -> Result<(), (Payload, SendError)>
         requires { self.old.told ≡ None }
-        ensures answer { SendFits R.looks peer dport payload self.old result self.new }
-        ensures stays { Stays R.pair R.looked self.old self.new }
+        ensures answer { SendFits R.is_look peer dport payload self.old result self.new }
+        ensures stays { Stays R.pair R.has_seen self.old self.new }
     {
         let place = match self.check(peer, dport, &payload) {
             Ok(place) => place,
@@ -38,11 +38,11 @@ impl<R: MapReader> Socket<R> {
 
     // The place of the peer's route, where a datagram to the port would be accepted.
     fn check(&mut self, peer: u32, dport: u16, payload: &Payload) -> Result<usize, SendError>
-        ensures clear { IfOk result (λ place. IsClear R.looks peer dport payload.now self.old self.new.own.routes) }
+        ensures clear { IfOk result (λ place. IsClear R.is_look peer dport payload.now self.old self.new.own.routes) }
         ensures place { IfOk result (λ place. LeadsTo self.new.own.routes peer place) }
         ensures fits { IfOk result (λ place. (freed : ℕ) × (self.old.own.total - freed + length payload.now ≤ self.old.sndbuf) × (self.new.own.total + length payload.now ≤ 18442240474098958336) × (self.new ≡ after_load self.old self.new.own.routes freed)) }
-        ensures refused { IfErr result (λ e. RefusalFits R.looks peer dport payload.now self.old e self.new) }
-        ensures stays { Stays R.pair R.looked self.old self.new }
+        ensures refused { IfErr result (λ e. RefusalFits R.is_look peer dport payload.now self.old e self.new) }
+        ensures stays { Stays R.pair R.has_seen self.old self.new }
     {
         let len = payload.len();
         let limit = self.sndbuf.min(MAX_LENGTH);
@@ -83,7 +83,7 @@ impl<R: MapReader> Socket<R> {
         ensures counted { OnOk result (self.new ≡ with_own self.old (with_total (with_routes self.old.own self.new.own.routes) (self.old.own.total + length payload))) }
         ensures back { IfErr result (λ r. (r.0 ≡ payload) × (r.1 ≡ refusal.Memory)) }
         ensures same { OnErr result (self.new ≡ self.old) }
-        ensures stays { Stays R.pair R.looked self.old self.new }
+        ensures stays { Stays R.pair R.has_seen self.old self.new }
     {
         let len = payload.len();
         let item = Asked::new(Order::Send {

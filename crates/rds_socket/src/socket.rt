@@ -73,7 +73,7 @@ impl<R: MapReader> Socket<R> {
         ensures refused { IfErr result (AskRefused peer self.old.own.routes) }
         ensures same { OnErr result (self.new ≡ self.old) }
         ensures rest { self.new ≡ with_own self.old (with_routes self.old.own self.new.own.routes) }
-        ensures stays { Stays R.pair R.looked self.old self.new }
+        ensures stays { Stays R.pair R.has_seen self.old self.new }
     {
         let slot = self.words.slot();
         let item = Asked::new(Order::Cancel { slot, dport });
@@ -86,7 +86,7 @@ impl<R: MapReader> Socket<R> {
         ensures refused { IfErr result (AskRefused peer self.old.own.routes) }
         ensures same { OnErr result (self.new ≡ self.old) }
         ensures rest { self.new ≡ with_own self.old (with_routes self.old.own self.new.own.routes) }
-        ensures stays { Stays R.pair R.looked self.old self.new }
+        ensures stays { Stays R.pair R.has_seen self.old self.new }
     {
         self.routes.ask(rt, peer, Asked::new(Order::Cut))
     }
@@ -94,7 +94,7 @@ impl<R: MapReader> Socket<R> {
     /// Whether fewer bytes than the send buffer holds are sent and not yet freed.
     pub fn writable(&mut self) -> bool
         ensures answer { (freed : ℕ) × (result ≡ nat_lt (self.old.own.total - freed) self.old.sndbuf) × (self.new ≡ with_own self.old (with_words self.old.own (after_freed self.old.own.words freed))) }
-        ensures stays { Stays R.pair R.looked self.old self.new }
+        ensures stays { Stays R.pair R.has_seen self.old self.new }
     {
         let freed = self.words.freed();
         self.total.saturating_sub(freed) < u64::from(self.sndbuf)
@@ -102,11 +102,11 @@ impl<R: MapReader> Socket<R> {
 
     /// What one look finds of a port of the peer.
     pub fn congested(&mut self, peer: u32, port: u16) -> Result<Seen, NoRoute>
-        ensures look { IfOk result (λ seen. IsLookTo R.looks peer port seen self.old.own.routes self.new.own.routes) }
+        ensures look { IfOk result (λ seen. IsLookTo R.is_look peer port seen self.old.own.routes self.new.own.routes) }
         ensures none { IfErr result (λ e. (e.peer ≡ peer) × NoneTo self.old.own.routes peer) }
         ensures same { OnErr result (self.new ≡ self.old) }
         ensures rest { self.new ≡ with_own self.old (with_routes self.old.own self.new.own.routes) }
-        ensures stays { Stays R.pair R.looked self.old self.new }
+        ensures stays { Stays R.pair R.has_seen self.old self.new }
     {
         self.routes.look_up(peer, port)
     }
@@ -145,7 +145,7 @@ impl<R: MapReader> Socket<R> {
     pub fn hear(&mut self, note: Note<Datagram>)
         requires { note.mail ≡ self.old.own.inbox.get.mail }
         ensures told { self.new ≡ with_own self.old (with_inbox self.old.own (record self.old.own.inbox { get = after_note self.old.own.inbox.get note })) }
-        ensures stays { Stays R.pair R.looked self.old self.new }
+        ensures stays { Stays R.pair R.has_seen self.old self.new }
     {
         self.inbox.hear(note);
     }

@@ -112,7 +112,7 @@ impl<R: MapReader> Vacant<R> {
         ensures refused { IfErr result (AskRefused peer self.old.routes) }
         ensures same { OnErr result (self.new ≡ self.old) }
         ensures rest { self.new ≡ with_routes self.old self.new.routes }
-        ensures stays { HoldingStays R.pair R.looked self.old self.new }
+        ensures stays { HoldingStays R.pair R.has_seen self.old self.new }
     {
         self.routes.ask(rt, peer, Asked::new(Order::Cut))
     }

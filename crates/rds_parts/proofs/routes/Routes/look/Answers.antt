@@ -24,5 +24,5 @@ returns-clause-stay g c =
     let r = c.route.inside in
     let was : Lane g.row.R.Denot = record { peer = r.peer; pass = r.pass; reader = r.map } in
     let at : At c.args.self.now c.args.place was = at_read _ _ c.args.place was _ c.self.view_is c.requires c.route.view_is c.index_mut-route.ensures.value in
-    stay_in g.R.MapReader.pair g.R.MapReader.looked _ _ c.args.place was (with_reader was c.bit.new.self) c.self.view_is at c.requires
+    stay_in g.R.MapReader.pair g.R.MapReader.has_seen _ _ c.args.place was (with_reader was c.bit.new.self) c.self.view_is at c.requires
     (ap (λ p. record { peer = r.peer; mail = r.pass.mail; number = r.pass.number; splits = r.pass.splits; pair = p }) c.bit.ensures.pair) c.bit.ensures.kept

@@ -15,7 +15,7 @@ invariant_of-self g c =
     ended_routes _ c.ask.new.self (of_ask slot (AskRefused c.args.peer c.self.inside.routes) c.ask.result c.args.peer _ _ _ (subst (λ (o : Order). IsOf slot o) (sym c.new.ensures) tt) c.ask.ensures.put c.ask.ensures.refused c.self.invariant.held.orders) c.self.invariant
 
 pub returns-clause-stays : goal.returns-clause-stays
-returns-clause-stays g c = holds_routes g.R.MapReader.pair g.R.MapReader.looked _ _ c.ask.new.self c.self.view_is c.ask.ensures.stay
+returns-clause-stays g c = holds_routes g.R.MapReader.pair g.R.MapReader.has_seen _ _ c.ask.new.self c.self.view_is c.ask.ensures.stay
 
 pub returns-clause-put : goal.returns-clause-put
 returns-clause-put g c = put_seen c.ask.result c.args.peer _ _ _ _ _ c.new.ensures (ap (λ (h : Holding g.row.R.Denot). h.routes) c.self.view_is) c.ask.ensures.put

@@ -7,7 +7,7 @@ pub invariant_of-socket : goal.invariant_of-socket
 invariant_of-socket g c =
     let told = c.in-Err.ensures.some in
     let within : c.in-Err.upto ≤ length c.self.inside.routes = (let l = told.1 in omega arith) in
-    closing_open _ c.in-Err.upto c.tell.new.self within (routes_length g.R.MapReader.pair g.R.MapReader.looked _ _ c.tell.ensures.stay)
+    closing_open _ c.in-Err.upto c.tell.new.self within (routes_length g.R.MapReader.pair g.R.MapReader.has_seen _ _ c.tell.ensures.stay)
     (of_tell c.self.inside.words.slot c.unwrap_or-from.result c.in-Err.upto _ _ _ c.slot.ensures.slot told.2 c.self.invariant.held.orders) c.self.invariant
 
 pub returns-in-Err-clause-closing : goal.returns-in-Err-clause-closing

@@ -7,7 +7,7 @@ use Rattle.rds_socket.proofs.socket.Socket.recv.Goals as goal
 pub returns-in_err-item-clause-stays : goal.returns-in_err-item-clause-stays
 returns-in_err-item-clause-stays g c =
     let same = c.in_err-item.ensures.same in
-    stays_inbox g.R.MapReader.pair g.R.MapReader.looked _ _ c.get.new.self c.self.view_is (ap (λ (b : Box). b.bell) same) (ap (λ (b : Box). b.get.mail) same)
+    stays_inbox g.R.MapReader.pair g.R.MapReader.has_seen _ _ c.get.new.self c.self.view_is (ap (λ (b : Box). b.bell) same) (ap (λ (b : Box). b.get.mail) same)
 
 pub invariant_of-self-2 : goal.invariant_of-self-2
 invariant_of-self-2 g c = received_open _ c.get.new.self c.receive.new.self c.len.result c.receive.ensures c.self.invariant
@@ -20,4 +20,4 @@ returns-clause-received g c =
 pub returns-clause-stays : goal.returns-clause-stays
 returns-clause-stays g c =
     let got = c.in_ok-item.ensures.got in
-    received_stays _ c.get.new.self c.receive.new.self c.len.result c.receive.ensures g.R.MapReader.pair g.R.MapReader.looked _ got.0 c.in_ok-item.item c.self.view_is got.1
+    received_stays _ c.get.new.self c.receive.new.self c.len.result c.receive.ensures g.R.MapReader.pair g.R.MapReader.has_seen _ got.0 c.in_ok-item.item c.self.view_is got.1
