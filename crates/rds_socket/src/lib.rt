@@ -8,6 +8,8 @@ mod error;
 mod polling;
 mod sending;
 mod socket;
+#[cfg(test)]
+mod tests;
 mod vacant;
 
 pub use closed::{Closed, SocketParts};
