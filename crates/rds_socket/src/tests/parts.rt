@@ -1,7 +1,7 @@
 //! The parts of a socket, made by hand: one slot, and one route to the peer 10.0.0.2.
 ghost use Rattle.std.specs.Prelude.{◌≡◌, Some, None, IfOk};
 ghost use Rattle.std.specs.Arc.{arc_value};
-ghost use Rattle.rds_meter.specs.Seats as meter;
+ghost use Rattle.rds_meter.specs.Seats.{fresh};
 ghost use Rattle.rds_parts.specs.Ports.{HasClaimedOnly};
 
 use crate::{Route, Vacant};
@@ -33,8 +33,8 @@ fn ports(alloc: Global) -> Result<(Arc<BindTable>, BindSeat), Memory>
 
 /// A meter, the seat that owns its one slot, and the seat of a line.
 pub(crate) fn words(alloc: Global) -> Result<(Arc<Meter>, MeterSeat, MeterSeat), Memory>
-    ensures own { IfOk result (λ r. (r.1.table ≡ arc_value r.0) × (r.1.slot ≡ Some 0) × (r.1.view ≡ meter.fresh 1 1 0)) }
-    ensures line { IfOk result (λ r. (r.2.table ≡ arc_value r.0) × (r.2.view ≡ meter.fresh 1 1 4093)) }
+    ensures own { IfOk result (λ r. (r.1.table ≡ arc_value r.0) × (r.1.slot ≡ Some 0) × (r.1.view ≡ fresh 1 1 0)) }
+    ensures line { IfOk result (λ r. (r.2.table ≡ arc_value r.0) × (r.2.view ≡ fresh 1 1 4093)) }
 {
     let (meter, mut line) = Meter::new(alloc, 1)?;
     let mut own = meter.split(&mut line);
@@ -50,7 +50,7 @@ pub(crate) fn vacant(
     map: Reader,
 ) -> Result<Vacant<Reader>, Memory>
     requires meter { words.1.table ≡ arc_value words.0 }
-    requires own { (words.1.slot ≡ Some 0) × (words.1.view ≡ meter.fresh 1 1 0) }
+    requires own { (words.1.slot ≡ Some 0) × (words.1.view ≡ fresh 1 1 0) }
     requires mail { inbox.1.mail ≡ (arc_value inbox.0).line }
 {
     let (table, seat) = ports(alloc)?;

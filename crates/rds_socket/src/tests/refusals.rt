@@ -1,6 +1,6 @@
 //! A send is refused by what its own steps found.
 ghost use Rattle.std.specs.Prelude.{◌≡◌, ◌≤◌, ◌<◌, [], None, length};
-ghost use Rattle.rds_meter.specs.Seats as meter;
+ghost use Rattle.rds_meter.specs.Seats.{fresh};
 
 use crate::tests::parts::{PEER, vacant, words};
 use crate::{SendError, Socket};
@@ -42,7 +42,7 @@ fn fills(
     line: &mut MeterSeat,
 ) -> Result<[Result<(), SendError>; 3], Memory>
     requires told { socket.old.told ≡ None }
-    requires line { (line.old.table ≡ meter.now) × (line.old.view ≡ meter.fresh 1 1 4093) }
+    requires line { (line.old.table ≡ meter.now) × (line.old.view ≡ fresh 1 1 4093) }
     ensures { socket.new.told ≡ None }
 {
     let first = sent(rt, alloc, socket, PEER, 6)?;
