@@ -6,3 +6,4 @@ pub mod Staying
 pub mod Ends
 pub mod Receipts
 pub mod Sends
+pub mod Joins

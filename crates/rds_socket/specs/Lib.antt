@@ -3,3 +3,4 @@ pub mod Stays
 pub mod Binds
 pub mod Sends
 pub mod Calls
+pub mod Joins

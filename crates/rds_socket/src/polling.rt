@@ -46,8 +46,8 @@ impl<R: MapReader> Socket<R> {
     {
         match self.inbox.poll_get(rt, cx) {
             Poll::Ready(Ok(item)) => {
-                self.words
-                    .receive(self.port, self.rcvbuf, item.payload.len());
+                let n = item.payload.len();
+                self.words.receive(self.port, self.rcvbuf, n);
                 Poll::Ready(Ok(item))
             }
             Poll::Ready(Err(memory)) => Poll::Ready(Err(memory)),

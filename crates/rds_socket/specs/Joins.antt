@@ -1,0 +1,39 @@
+-- What passes that were joined show of a line's order queue and of a slot's mailbox. This project's own.
+use Rattle.std.specs.Prelude.{◌≡◌, ℕ, List, All, Option, Some, None}
+use Rattle.rds_words.specs.Views.{Has, Each}
+use Rattle.rds_model.specs.declared.order.Order.{Order}
+use Rattle.rds_model.specs.declared.order.Order.TheVariants as order
+use Rattle.rds_model.specs.declared.order.Datagram.{Datagram}
+use Rattle.rds_mail.specs.declared.view.Account.{Account}
+use Rattle.rds_mail.specs.Numbers.{Number, Numbered, items}
+use Rattle.rds_mail.specs.Merging.{by_key}
+use Rattle.rds_parts.specs.Lanes.{IsOf}
+
+-- the slot of an order, which a cut has not
+abbrev pub slot_in : Order → Option ℕ
+slot_in (order.Send slot sport dport payload) = Some slot
+slot_in (order.Cancel slot dport) = Some slot
+slot_in (order.CloseSocket slot) = Some slot
+slot_in order.Cut = None
+
+-- the host that sent a datagram
+abbrev pub sender_in : Datagram → Option ℕ
+sender_in item = Some item.from
+
+-- the datagram is of this host
+abbrev pub IsFrom : ℕ → Datagram → Type 0
+IsFrom host item = item.from ≡ host
+
+module _ {T : Type 0} where
+  -- each putter has put only items of its own mark, by this relation, and no two putters have one mark
+  pub record AreMarked (Own : ℕ → T → Type 0) (mark : Number → ℕ) (puts : List (Account T)) : Type 0 where
+    pub own : Each puts (λ a. All (Own (mark a.number)) a.put)
+    pub apart : Each puts (λ a. Each puts (λ b. mark a.number ≡ mark b.number → a.number ≡ b.number))
+
+  -- the getter was told of all that each putter has put
+  abbrev pub AreTold : List (Account T) → List (Account T) → Type 0
+  AreTold told puts = Each puts (λ a. Has told (λ t. (t.number ≡ a.number) × (t.put ≡ a.put)))
+
+  -- what was got with each putter's mark is what it put with that mark
+  abbrev pub KeysAre : (T → Option ℕ) → (Number → ℕ) → List (Numbered T) → List (Account T) → Type 0
+  KeysAre key mark got puts = Each puts (λ a. by_key key (mark a.number) (items got) ≡ by_key key (mark a.number) a.put)

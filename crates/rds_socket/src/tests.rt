@@ -1,0 +1,4 @@
+mod closing;
+mod parts;
+mod polling;
+mod refusals;

@@ -1,0 +1,97 @@
+//! A send is refused by what its own steps found.
+ghost use Rattle.std.specs.Prelude.{◌≡◌, ◌≤◌, ◌<◌, [], None, length};
+ghost use Rattle.rds_meter.specs.Seats.{fresh};
+
+use crate::tests::parts::{PEER, vacant, words};
+use crate::{SendError, Socket};
+use rds_cong::PortMap;
+use rds_fmap::{MapWriter, Reader, Writer, pair};
+use rds_mail::Mail;
+use rds_meter::{Meter, MeterSeat};
+use rds_wire::{Memory, Payload};
+use std::alloc::Global;
+use std::sync::{Arc, Wait};
+use std::test::Fail;
+
+/// What a send of so many bytes to port 4001 answers.
+fn sent(
+    rt: &impl Wait,
+    alloc: Global,
+    socket: &mut Socket<Reader>,
+    peer: u32,
+    len: usize,
+) -> Result<Result<(), SendError>, Memory>
+    requires told { socket.old.told ≡ None }
+    requires len { len ≤ 16 }
+    ensures { socket.new.told ≡ None }
+{
+    let bytes = [7; 16];
+    let payload = Payload::copy_of(alloc, &bytes[..len])?;
+    match socket.send(rt, peer, 4001, payload) {
+        Ok(()) => Ok(Ok(())),
+        Err((_, error)) => Ok(Err(error)),
+    }
+}
+
+/// A full send buffer, and then room in it.
+fn fills(
+    rt: &impl Wait,
+    alloc: Global,
+    socket: &mut Socket<Reader>,
+    meter: &Meter,
+    line: &mut MeterSeat,
+) -> Result<[Result<(), SendError>; 3], Memory>
+    requires told { socket.old.told ≡ None }
+    requires line { (line.old.table ≡ meter.now) × (line.old.view ≡ fresh 1 1 4093) }
+    ensures { socket.new.told ≡ None }
+{
+    let first = sent(rt, alloc, socket, PEER, 6)?;
+    let full = sent(rt, alloc, socket, PEER, 5)?;
+    meter.free_add(line, 0, 6);
+    Ok([first, full, sent(rt, alloc, socket, PEER, 5)?])
+}
+
+/// A peer without a route, a port that is congested, and a datagram that is too long.
+fn refuses(
+    rt: &impl Wait,
+    alloc: Global,
+    socket: &mut Socket<Reader>,
+    writer: &mut Writer,
+) -> Result<[Result<(), SendError>; 3], Memory>
+    requires told { socket.old.told ≡ None }
+    requires writer { writer.old.published ≡ [] }
+{
+    let mut map = PortMap::new(alloc)?;
+    map.set(4001);
+    writer.publish(rt, &map)?;
+    let nobody = sent(rt, alloc, socket, 7, 1)?;
+    let congested = sent(rt, alloc, socket, PEER, 1)?;
+    Ok([nobody, congested, sent(rt, alloc, socket, 7, 11)?])
+}
+
+#[test]
+fn sends_are_refused_by_what_they_found(rt: HostRuntime) -> Result<(), Fail> {
+    let (meter, own, mut line) = words(rt.alloc())?;
+    let (mut writer, mut readers) = pair(rt.alloc(), 1)?;
+    let (inbox, _put, get) = Mail::new(rt.alloc())?;
+    let inbox = Arc::new(rt.alloc(), inbox)?;
+    let shared = Arc::try_clone(&meter)?;
+    let vacant = vacant(rt.alloc(), (shared, own), (inbox, get), readers.pop().unwrap())?;
+    let mut socket = vacant.bind(4000, 10, 100).ok().expect(&rt, "a port");
+    let filled = fills(&rt, rt.alloc(), &mut socket, &meter, &mut line)?;
+    let full = SendError::SendFull {
+        queued: 6,
+        len: 5,
+        limit: 10,
+    };
+    assert_eq!(rt; filled, [Ok(()), Err(full), Ok(())]);
+    let refused = refuses(&rt, rt.alloc(), &mut socket, &mut writer)?;
+    let nobody = SendError::NoRoute { peer: 7 };
+    let congested = SendError::Congested {
+        port: 4001,
+        version: 1,
+    };
+    let long = SendError::TooLong { len: 11, limit: 10 };
+    assert_eq!(rt; refused, [Err(nobody), Err(congested), Err(long)]);
+    Ok(())
+}
