@@ -4,6 +4,7 @@ ghost use Rattle.rds_parts.specs.Lanes.{LeadsTo, IsPutAt};
 ghost use Rattle.rds_socket.specs.Sends.{SendFits, RefusalFits, IsClear, after_load, order_of, IsSend, IsSendOf};
 ghost use Rattle.rds_socket.specs.Calls.{with_own, with_routes, with_total};
 ghost use Rattle.rds_socket.specs.Stays.{Stays};
+ghost use Rattle.rds_socket.specs.declared.error.SendError.TheVariants as refusal;
 
 use crate::error::SendError;
 use crate::socket::Socket;
@@ -60,7 +61,8 @@ impl<R: MapReader> Socket<R> {
         }
         let queued = self.total.saturating_sub(self.words.freed());
         let limit = self.sndbuf;
-        if queued + u64::from(len) > u64::from(limit) {
+        let is_full = queued + u64::from(len) > u64::from(limit);
+        if is_full {
             return Err(SendError::SendFull { queued, len, limit });
         }
         Ok(place)
@@ -79,7 +81,7 @@ impl<R: MapReader> Socket<R> {
         requires total { self.old.own.total + length payload ≤ 18442240474098958336 }
         ensures put { OnOk result (IsPutAt place (order_of self.old dport payload) self.old.own.routes self.new.own.routes) }
         ensures counted { OnOk result (self.new ≡ with_own self.old (with_total (with_routes self.old.own self.new.own.routes) (self.old.own.total + length payload))) }
-        ensures back { IfErr result (λ r. (r.0 ≡ payload) × (r.1 ≡ Memory)) }
+        ensures back { IfErr result (λ r. (r.0 ≡ payload) × (r.1 ≡ refusal.Memory)) }
         ensures same { OnErr result (self.new ≡ self.old) }
         ensures stays { Stays R.pair R.looked self.old self.new }
     {

@@ -68,11 +68,15 @@ impl<R: MapReader> Vacant<R> {
         }
     {
         let slot = seat.slot().unwrap_or(0);
+        let ports = Ports::new(table, seat);
+        let words = Words::new(meter, own, slot);
+        let inbox = Inbox::new(inbox, get);
+        let routes = Routes::new(routes);
         Vacant {
-            ports: Ports::new(table, seat),
-            words: Words::new(meter, own, slot),
-            inbox: Inbox::new(inbox, get),
-            routes: Routes::new(routes),
+            ports,
+            words,
+            inbox,
+            routes,
         }
     }
 

@@ -1,0 +1,54 @@
+-- What no call changes.
+use Rattle.std.proofs.Common.{◌≡◌, ℕ, List, refl, sym, ap, subst, ◌∙◌}
+use Rattle.rds_meter.specs.declared.view.View.{View}
+use Rattle.rds_fmap.specs.declared.seen.Seen.{Seen}
+use Rattle.rds_parts.specs.Words.{Purse, purse_with}
+use Rattle.rds_parts.specs.Boxes.{Box}
+use Rattle.rds_parts.specs.Lanes.{Lane, RoutesStay}
+use Rattle.rds_parts.proofs.Changes.{stay_same}
+use Rattle.rds_socket.specs.Holding.{Holding, Open}
+use Rattle.rds_socket.specs.Calls.{with_own}
+use Rattle.rds_socket.specs.Stays.{HoldingStays, Stays}
+use Rattle.rds_socket.proofs.Kept.{moved}
+
+module _ {R P : Type 0} (pair : R → P) (looked : R → ℕ → Seen → Type 0) where
+  holds_on : (h : Holding R) (words : Purse) (w : View) (inbox : Box) (routes : List (Lane R)) (total : ℕ) → words ≡ purse_with h.words w → inbox.bell ≡ h.inbox.bell → inbox.get.mail ≡ h.inbox.get.mail
+      → RoutesStay pair looked h.routes routes → HoldingStays pair looked h (moved h words inbox routes total)
+  holds_on h words w inbox routes total is bell mail stay = record {
+    slot = ap (λ (p : Purse). p.slot) is;
+    table = refl;
+    meter = ap (λ (p : Purse). p.seat.table) is;
+    bell = bell;
+    mail = mail;
+    routes = stay;
+  }
+
+  stays_on : (v z : Open R) (words : Purse) (w : View) (inbox : Box) (routes : List (Lane R)) (total : ℕ) → v ≡ z → words ≡ purse_with v.own.words w → inbox.bell ≡ v.own.inbox.bell → inbox.get.mail ≡ v.own.inbox.get.mail
+      → RoutesStay pair looked v.own.routes routes → Stays pair looked z (with_own v (moved v.own words inbox routes total))
+  stays_on v z words w inbox routes total view_is is bell mail stay =
+      subst (λ (o : Open R). Stays pair looked o (with_own v (moved v.own words inbox routes total))) view_is
+      (record { port = refl; sndbuf = refl; rcvbuf = refl; told = refl; own = holds_on v.own words w inbox routes total is bell mail stay })
+
+  pub stays_all : (v z : Open R) (words : Purse) (w : View) (inbox : Box) (routes : List (Lane R)) (total : ℕ) → v ≡ z → words ≡ purse_with v.own.words w → inbox.bell ≡ v.own.inbox.bell → inbox.get.mail ≡ v.own.inbox.get.mail
+      → RoutesStay pair looked v.own.routes routes → Stays pair looked z (with_own v (moved v.own words inbox routes total))
+  stays_all = stays_on
+
+  pub stays_routes : (v z : Open R) (routes : List (Lane R)) → v ≡ z → RoutesStay pair looked v.own.routes routes → Stays pair looked z (with_own v (moved v.own v.own.words v.own.inbox routes v.own.total))
+  stays_routes v z routes view_is stay = stays_on v z v.own.words v.own.words.seat.view v.own.inbox routes v.own.total view_is refl refl refl stay
+
+  pub stays_words : (v z : Open R) (words : Purse) (w : View) → v ≡ z → words ≡ purse_with v.own.words w → Stays pair looked z (with_own v (moved v.own words v.own.inbox v.own.routes v.own.total))
+  stays_words v z words w view_is is = stays_on v z words w v.own.inbox v.own.routes v.own.total view_is is refl refl (stay_same pair looked v.own.routes)
+
+  pub stays_inbox : (v z : Open R) (inbox : Box) → v ≡ z → inbox.bell ≡ v.own.inbox.bell → inbox.get.mail ≡ v.own.inbox.get.mail → Stays pair looked z (with_own v (moved v.own v.own.words inbox v.own.routes v.own.total))
+  stays_inbox v z inbox view_is bell mail = stays_on v z v.own.words v.own.words.seat.view inbox v.own.routes v.own.total view_is refl bell mail (stay_same pair looked v.own.routes)
+
+  pub stays_same : (o : Open R) → Stays pair looked o o
+  stays_same o = stays_routes o o o.own.routes refl (stay_same pair looked o.own.routes)
+
+  pub holds_routes : (v z : Holding R) (routes : List (Lane R)) → v ≡ z → RoutesStay pair looked v.routes routes → HoldingStays pair looked z (moved v v.words v.inbox routes v.total)
+  holds_routes v z routes view_is stay =
+      subst (λ (o : Holding R). HoldingStays pair looked o (moved v v.words v.inbox routes v.total)) view_is (holds_on v v.words v.words.seat.view v.inbox routes v.total refl refl refl stay)
+
+  pub holds_inbox : (v z : Holding R) (inbox : Box) → v ≡ z → inbox.bell ≡ v.inbox.bell → inbox.get.mail ≡ v.inbox.get.mail → HoldingStays pair looked z (moved v v.words inbox v.routes v.total)
+  holds_inbox v z inbox view_is bell mail =
+      subst (λ (o : Holding R). HoldingStays pair looked o (moved v v.words inbox v.routes v.total)) view_is (holds_on v v.words v.words.seat.view inbox v.routes v.total refl bell mail (stay_same pair looked v.routes))
