@@ -73,7 +73,9 @@ fn meter(alloc: Global) -> Result<(Arc<Meter>, MeterSeat), Memory>
     Ok((Arc::new(alloc, meter)?, seat))
 }
 
-fn mailbox(alloc: Global) -> Result<(Arc<Mail<Datagram>>, PutPass<Datagram>, GetPass<Datagram>), Memory>
+fn mailbox(
+    alloc: Global,
+) -> Result<(Arc<Mail<Datagram>>, PutPass<Datagram>, GetPass<Datagram>), Memory>
     ensures put { IfOk result (λ r. r.1.mail ≡ (arc_value r.0).line) }
     ensures get { IfOk result (λ r. r.2.mail ≡ (arc_value r.0).line) }
 {

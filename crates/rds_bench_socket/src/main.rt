@@ -55,7 +55,12 @@ fn measure<R: Print + Wait + Clock + AllocGlobal + RandomSource>(
     tell(rt, "poll_recv that finds nothing", done, start.elapsed(rt)?)?;
     let start = Instant::now(rt)?;
     let done = plain::passed(rt, rounds).ok_or(AllocError)?;
-    tell(rt, "push and pop of the plain queue", done, start.elapsed(rt)?)
+    tell(
+        rt,
+        "push and pop of the plain queue",
+        done,
+        start.elapsed(rt)?,
+    )
 }
 
 // One kind alone, for a program that counts its allocations.

@@ -11,12 +11,7 @@ use std::random::RandomSource;
 use std::sync::Wait;
 
 // How many of so many polls find nothing.
-fn polls(
-    rt: &impl Wait,
-    socket: &mut Socket<Reader>,
-    cx: &mut Context<'_>,
-    rounds: u32,
-) -> u32
+fn polls(rt: &impl Wait, socket: &mut Socket<Reader>, cx: &mut Context<'_>, rounds: u32) -> u32
     ensures { result ≤ rounds }
 {
     let mut pending = 0;

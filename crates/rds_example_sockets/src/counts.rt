@@ -1,5 +1,5 @@
 //! What a line holds of a host's meter.
-ghost use Rattle.std.specs.Prelude.{◌≡◌, ◌≤◌, ℕ, None, IfOk};
+ghost use Rattle.std.specs.Prelude.{◌≡◌, ◌+◌, ◌≤◌, ℕ, nat_le, None, IfOk};
 ghost use Rattle.std.specs.Arc.{arc_value};
 ghost use Rattle.rds_meter.specs.Places.{part};
 ghost use Rattle.rds_meter.specs.Seats.{after_split, first_view};
@@ -63,6 +63,6 @@ impl Counts {
     fn has_room(&self, bytes: u32) -> bool
         ensures { result ≡ nat_le (self.now.added + bytes) 4503599627370496 }
     {
-        self.added + u64::from(bytes) <= MOST
+        self.added <= MOST - u64::from(bytes)
     }
 }

@@ -25,6 +25,7 @@ use waiting::NextDatagram;
 
 /// The two hosts, by their IPv4 addresses.
 const A: u32 = 0x0a00_0001;
+
 const B: u32 = 0x0a00_0002;
 
 fn main(rt: HostRuntime) -> anyhow::Result<()> {
@@ -35,7 +36,9 @@ fn main(rt: HostRuntime) -> anyhow::Result<()> {
     } = make_host(rt.alloc(), A, B)?;
     let mut a = bind(&rt, "A", vacant, 4000)?;
     let Host {
-        vacant, end: far, ..
+        vacant,
+        end: far,
+        ..
     } = make_host(rt.alloc(), B, A)?;
     let mut b = bind(&rt, "B", vacant, 4001)?;
     let mut line = Line::new(near, far);
