@@ -7,13 +7,14 @@ use Rattle.rds_meter.specs.Seats.{after_store}
 use Rattle.rds_parts.specs.Ports.{HasClaimedOnly, port_after, after_claims, IsTaken}
 use Rattle.rds_parts.specs.Words.{Purse, purse_with, IsQuiet, after_clearing}
 use Rattle.rds_parts.specs.Boxes.{Box}
-use Rattle.rds_parts.specs.Lanes.{Lane, ArePutOf}
+use Rattle.rds_parts.specs.Lanes.{Lane, ArePut, ArePutOf}
+use Rattle.rds_model.specs.declared.order.Order.TheVariants as order
 use Rattle.rds_bindtab.specs.Answers.{ClaimFits, after_claim}
 use Rattle.rds_bindtab.specs.declared.error.BindError.{BindError}
 use Rattle.rds_bindtab.specs.declared.error.BindError.TheVariants.{Reserved, InUse, NoneFree}
 use Rattle.std.proofs.lemmas.List.Elements.{All-nil, All-cons}
 use Rattle.rds_socket.specs.Holding.{Holding, Open, IsHeld, IsVacant, IsOpen, IsEnded, told_of}
-use Rattle.rds_socket.specs.Calls.{with_own, with_routes}
+use Rattle.rds_socket.specs.Calls.{with_own, with_routes, IsClosing}
 use Rattle.rds_socket.proofs.Claims.{claims_first, claims_none, claims_many, claims_slot, claims_port, claims_released}
 use Rattle.rds_socket.proofs.Quiet.{quiet_store, quiet_clear}
 use Rattle.rds_socket.proofs.Kept.{moved, held_on}
@@ -87,3 +88,11 @@ module _ {R : Type 0} where
     held = held_at (Some o.port) (Some o.port) o.own ports (seats.after_release o.own.ports.view) words (after_clearing o.own.words.seat.view o.port change) routes o.own.total at refl
         (claims_released o.own.ports.view (Some o.port) k.held.claimed) is (quiet_clear o.own.words.slot o.own.words.seat.view o.port change k.held.quiet) orders k.held.total k.held;
   }
+
+  pub closing_is : (v z : Open R) (from slot upto : ℕ) (routes : List (Lane R)) → v ≡ z → from ≡ told_of v → slot ≡ v.own.words.slot → (from ≤ upto) × (upto < length v.own.routes) × ArePut from upto (order.CloseSocket slot) v.own.routes routes
+      → IsClosing z (record { port = v.port; sndbuf = v.sndbuf; rcvbuf = v.rcvbuf; told = Some upto; own = with_routes v.own routes })
+  closing_is v z from slot upto routes view_is began mine told =
+      let now : Open R = record { port = v.port; sndbuf = v.sndbuf; rcvbuf = v.rcvbuf; told = Some upto; own = with_routes v.own routes } in
+      let put : ArePut (told_of v) upto (order.CloseSocket v.own.words.slot) v.own.routes routes =
+      subst (λ s. ArePut (told_of v) upto (order.CloseSocket s) v.own.routes routes) mine (subst (λ n. ArePut n upto (order.CloseSocket slot) v.own.routes routes) began told.2) in
+      subst (λ (o : Open R). IsClosing o now) view_is (upto, told.1, (subst (λ n. n ≤ upto) began told.0, put), refl)

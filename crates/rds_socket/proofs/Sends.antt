@@ -2,6 +2,7 @@
 use Rattle.std.proofs.Common.{◌≡◌, ◌+◌, ◌-◌, ◌<◌, ◌≤◌, ℕ, List, [], ◌∷◌, length, Option, Some, Bool, true, false, Result, Ok, Err, OnOk, OnErr, IfErr, refl, sym, ap, subst, ◌∙◌, arith}
 use Rattle.rds_meter.specs.Places.{freed_word}
 use Rattle.rds_meter.specs.Seats as meter
+use Rattle.rds_model.specs.declared.order.Order.{Order}
 use Rattle.rds_fmap.specs.declared.seen.Seen.{Seen}
 use Rattle.rds_parts.specs.Words.{Purse}
 use Rattle.rds_parts.specs.Lanes.{Lane, At, LeadsTo, NoneTo, IsLookAt, IsLookTo, IsPutAt, IsPutTo, ArePutOf, RoutesStay, with_reader}
@@ -60,7 +61,7 @@ module _ {R : Type 0} (looks : R → R → ℕ → Seen → Type 0) (peer dport 
       is_loaded = ap (λ (p : Purse). with_own v (moved v.own p v.own.inbox routes v.own.total)) loaded
 
       pub send_full : (queued len limit : ℕ) → seen.set ≡ false → queued ≡ v.own.total - freed → len ≡ length payload → limit ≡ v.sndbuf → limit < queued + len → RefusalFits looks peer dport payload z (refusal.SendFull queued len limit) now
-      send_full queued len limit set a b c d = fits_on (refusal.SendFull queued len limit) now (clear set, freed, a, b, c, d, is_loaded)
+      send_full queued len limit set a b c d = fits_on (refusal.SendFull queued len limit) now (clear set, (freed, a, b, c, d, is_loaded))
 
       pub loaded_at : now ≡ after_load z routes freed
       loaded_at = is_loaded ∙ ap (λ (o : Open R). after_load o routes freed) view_is
@@ -82,4 +83,7 @@ module _ {R : Type 0} (looks : R → R → ℕ → Seen → Type 0) (peer dport 
         counted ∙ ap (λ (o : Open R). with_own o (with_total (with_routes o.own new.own.routes) (o.own.total + length payload))) is)
   send_answer (Err e) new put counted back same =
       (back.0, subst (λ (why : SendError). RefusalFits looks peer dport payload old why new) (sym back.1)
-        (subst (λ (o : Open R). RefusalFits looks peer dport payload old refusal.Memory o) (sym same) (clear, freed, room, is)))
+        (subst (λ (o : Open R). RefusalFits looks peer dport payload old refusal.Memory o) (sym same) (clear, (freed, room, is))))
+
+pub put_at_seen : {R : Type 0} (place : ℕ) (item order : Order) (xs z new : List (Lane R)) → item ≡ order → xs ≡ z → IsPutAt place item xs new → IsPutAt place order z new
+put_at_seen place item order xs z new of is p = subst (λ ys. IsPutAt place order ys new) is (subst (λ i. IsPutAt place i xs new) of p)

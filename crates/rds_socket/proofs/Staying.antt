@@ -1,13 +1,15 @@
 -- What no call changes.
-use Rattle.std.proofs.Common.{◌≡◌, ℕ, List, refl, sym, ap, subst, ◌∙◌}
+use Rattle.std.proofs.Common.{◌≡◌, ℕ, List, Option, Some, None, IfSome, IfNone, refl, sym, ap, subst, ◌∙◌}
 use Rattle.rds_meter.specs.declared.view.View.{View}
+use Rattle.rds_model.specs.declared.order.Datagram.{Datagram}
+use Rattle.rds_mail.specs.Numbers.{Number}
 use Rattle.rds_fmap.specs.declared.seen.Seen.{Seen}
 use Rattle.rds_parts.specs.Words.{Purse, purse_with}
 use Rattle.rds_parts.specs.Boxes.{Box}
 use Rattle.rds_parts.specs.Lanes.{Lane, RoutesStay}
-use Rattle.rds_parts.proofs.Changes.{stay_same}
+use Rattle.rds_parts.proofs.Changes.{stay_same, stay_on}
 use Rattle.rds_socket.specs.Holding.{Holding, Open}
-use Rattle.rds_socket.specs.Calls.{with_own}
+use Rattle.rds_socket.specs.Calls.{with_own, after_taking_out}
 use Rattle.rds_socket.specs.Stays.{HoldingStays, Stays}
 use Rattle.rds_socket.proofs.Kept.{moved}
 
@@ -42,6 +44,23 @@ module _ {R P : Type 0} (pair : R → P) (looked : R → ℕ → Seen → Type 0
   pub stays_inbox : (v z : Open R) (inbox : Box) → v ≡ z → inbox.bell ≡ v.own.inbox.bell → inbox.get.mail ≡ v.own.inbox.get.mail → Stays pair looked z (with_own v (moved v.own v.own.words inbox v.own.routes v.own.total))
   stays_inbox v z inbox view_is bell mail = stays_on v z v.own.words v.own.words.seat.view inbox v.own.routes v.own.total view_is refl bell mail (stay_same pair looked v.own.routes)
 
+  -- one call after another
+  pub stays_then : (a b c : Open R) → Stays pair looked a b → Stays pair looked b c → Stays pair looked a c
+  stays_then a b c x y = record {
+    port = y.port ∙ x.port;
+    sndbuf = y.sndbuf ∙ x.sndbuf;
+    rcvbuf = y.rcvbuf ∙ x.rcvbuf;
+    told = y.told ∙ x.told;
+    own = record {
+      slot = y.own.slot ∙ x.own.slot;
+      table = y.own.table ∙ x.own.table;
+      meter = y.own.meter ∙ x.own.meter;
+      bell = y.own.bell ∙ x.own.bell;
+      mail = y.own.mail ∙ x.own.mail;
+      routes = stay_on pair looked a.own.routes b.own.routes c.own.routes x.own.routes y.own.routes;
+    };
+  }
+
   pub stays_same : (o : Open R) → Stays pair looked o o
   stays_same o = stays_routes o o o.own.routes refl (stay_same pair looked o.own.routes)
 
@@ -52,3 +71,8 @@ module _ {R P : Type 0} (pair : R → P) (looked : R → ℕ → Seen → Type 0
   pub holds_inbox : (v z : Holding R) (inbox : Box) → v ≡ z → inbox.bell ≡ v.inbox.bell → inbox.get.mail ≡ v.inbox.get.mail → HoldingStays pair looked z (moved v v.words inbox v.routes v.total)
   holds_inbox v z inbox view_is bell mail =
       subst (λ (o : Holding R). HoldingStays pair looked o (moved v v.words inbox v.routes v.total)) view_is (holds_on v v.words v.words.seat.view inbox v.routes v.total refl bell mail (stay_same pair looked v.routes))
+
+-- a mailbox from which an item was taken, or none, has its bell and its queue
+pub got_bell : (r : Option Datagram) (old new : Box) → IfSome r (λ item. (number : Number) × (new ≡ after_taking_out old number item)) → IfNone r (new ≡ old) → (new.bell ≡ old.bell) × (new.get.mail ≡ old.get.mail)
+got_bell (Some item) old new got none = (ap (λ (b : Box). b.bell) got.1, ap (λ (b : Box). b.get.mail) got.1)
+got_bell None old new got none = (ap (λ (b : Box). b.bell) none, ap (λ (b : Box). b.get.mail) none)
