@@ -39,7 +39,7 @@ within from upto place e low = and_true (nat_le from place) (nat_lt place (upto 
 elsewhere : (upto place : ℕ) → place ≢ upto → nat_lt place upto ≡ nat_lt place (upto + 1)
 elsewhere upto place ne =
     let go : (t : Bool) → nat_lt place upto ≡ t → t ≡ nat_lt place (upto + 1) = elim [
-      true ↦ (λ e. let l = ltb-true place upto e in sym (lt-ltb place (upto + 1) (omega arith)))
+      | true ↦ (λ e. let l = ltb-true place upto e in sym (lt-ltb place (upto + 1) (omega arith)))
       | false ↦ (λ e. let l = ltb-false place upto e in sym (le-ltb place (upto + 1) (omega arith)))
     ] in go (nat_lt place upto) refl
 
@@ -63,8 +63,11 @@ module _ {R : Type 0} where
     stay_at routes i was now at l same kept = record {
       fixed_parts = map_same (fixed pair) routes i was now at same;
       seen = λ place port s k. either_way place i
-          (λ e. (now, subst (λ j. At (set routes i now) j now) (sym e) (here routes i now l),
-              kept port s (subst (λ (lane : Lane R). looked lane.reader port s) (same_Some k.0 was (sym k.1 ∙ subst (λ j. At routes j was) (sym e) at)) k.2)))
+          (λ e. (
+            now,
+            subst (λ j. At (set routes i now) j now) (sym e) (here routes i now l),
+            kept port s (subst (λ (lane : Lane R). looked lane.reader port s) (same_Some k.0 was (sym k.1 ∙ subst (λ j. At routes j was) (sym e) at)) k.2),
+          ))
           (λ ne. (k.0, there routes i place now ne ∙ k.1, k.2));
     }
 
@@ -85,15 +88,16 @@ module _ {R : Type 0} where
   -- one order more was put
   pub put_more : (from upto : ℕ) (item : Order) (old mid new : List (Lane R)) → from ≤ upto → upto < length old → ArePut from upto item old mid → IsPutAt upto item mid new → ArePut from (upto + 1) item old new
   put_more from upto item old mid new low high before one =
-      let size : upto < length mid = let e = before.0 in omega arith in
-      (ap length one.2 ∙ (length-set mid upto (with_order one.0 item) ∙ before.0),
-      λ place lane at. either_way place upto
-          (λ e. let was : At mid place lane = before.1 place lane at ∙ ap (λ (b : Bool). Some (cond b (with_order lane item) lane)) (beyond from upto place e) in
-              let same : lane ≡ one.0 = same_Some lane one.0 (sym was ∙ subst (λ j. At mid j one.0) (sym e) one.1) in
-              subst (λ l. At l place (cond (nat_le from place && nat_lt place (upto + 1)) (with_order lane item) lane)) (sym one.2)
-              (subst (λ j. At (set mid upto (with_order one.0 item)) j (with_order one.0 item)) (sym e) (here mid upto (with_order one.0 item) size)
-              ∙ ap (λ (x : Lane R). Some (with_order x item)) (sym same)
-              ∙ ap (λ (b : Bool). Some (cond b (with_order lane item) lane)) (sym (within from upto place e low))))
-          (λ ne. subst (λ l. At l place (cond (nat_le from place && nat_lt place (upto + 1)) (with_order lane item) lane)) (sym one.2)
-              (there mid upto place (with_order one.0 item) ne ∙ (before.1 place lane at
-              ∙ ap (λ (b : Bool). Some (cond (nat_le from place && b) (with_order lane item) lane)) (elsewhere upto place ne)))))
+      let size : upto < length mid = let e = before.0 in omega arith in (
+        ap length one.2 ∙ (length-set mid upto (with_order one.0 item) ∙ before.0),
+        λ place lane at. either_way place upto
+            (λ e. let was : At mid place lane = before.1 place lane at ∙ ap (λ (b : Bool). Some (cond b (with_order lane item) lane)) (beyond from upto place e) in
+            let same : lane ≡ one.0 = same_Some lane one.0 (sym was ∙ subst (λ j. At mid j one.0) (sym e) one.1) in
+            subst (λ l. At l place (cond (nat_le from place && nat_lt place (upto + 1)) (with_order lane item) lane)) (sym one.2)
+            (subst (λ j. At (set mid upto (with_order one.0 item)) j (with_order one.0 item)) (sym e) (here mid upto (with_order one.0 item) size)
+            ∙ ap (λ (x : Lane R). Some (with_order x item)) (sym same)
+            ∙ ap (λ (b : Bool). Some (cond b (with_order lane item) lane)) (sym (within from upto place e low))))
+            (λ ne. subst (λ l. At l place (cond (nat_le from place && nat_lt place (upto + 1)) (with_order lane item) lane)) (sym one.2)
+            (there mid upto place (with_order one.0 item) ne ∙ (before.1 place lane at
+            ∙ ap (λ (b : Bool). Some (cond (nat_le from place && b) (with_order lane item) lane)) (elsewhere upto place ne)))),
+      )

@@ -38,11 +38,12 @@ search_more old self now p counter port next words r size all at is slot fits no
     let one : now ≡ knowing self (after_exchange self.view port k.0) = made ∙ ap (knowing self) k.2 in
     let place : port ≡ port_after p (0 + length words) = at ∙ ap (port_after p) (omega arith) in
     let before : View = after_claims old.view p 0 words in
-    let free : (if_zero : Bool) → if_zero ≡ false → cond if_zero (Some port) None ≡ None = λ b e. ap (λ (t : Bool). cond t (Some port) None) e in
-    (words ++ k.0 ∷ [],
+    let free : (if_zero : Bool) → if_zero ≡ false → cond if_zero (Some port) None ≡ None = λ b e. ap (λ (t : Bool). cond t (Some port) None) e in (
+      words ++ k.0 ∷ [],
       length_push words k.0 ∙ ap (λ n. n + 1) size,
       All-push IsTaken words k.0 all k.1,
       then ∙ port_next p counter port at,
       one ∙ ap (λ (h : Held). knowing h (after_exchange h.view port k.0)) is ∙ ap (λ q. knowing old (after_exchange before q k.0)) place ∙ sym (ap (knowing old) (claims_more old.view p 0 words k.0)),
       subst (λ (h : Held). IsSome h.view.slot) (sym one) slot,
-      ap (λ (h : Held). h.view.port) one ∙ free (eqb k.0 0) (ne_eqb k.0 0 k.1))
+      ap (λ (h : Held). h.view.port) one ∙ free (eqb k.0 0) (ne_eqb k.0 0 k.1),
+    )

@@ -27,7 +27,7 @@ module _ {R : Type 0} where
   held_at old port h ports v words w routes total at slot claimed is quiet orders most k =
       subst (λ (q : seats.Held). IsHeld port (record { ports = q; words = words; inbox = h.inbox; routes = routes; total = total })) (sym at)
       (subst (λ (p : Purse). IsHeld port (record { ports = seats.knowing h.ports v; words = p; inbox = h.inbox; routes = routes; total = total })) (sym is)
-        (record { slot = slot ∙ k.slot; claimed = claimed; quiet = quiet; orders = orders; total = most }))
+      (record { slot = slot ∙ k.slot; claimed = claimed; quiet = quiet; orders = orders; total = most }))
 
   module _ (h : Holding R) (vacant : IsVacant h) (rcvbuf : ℕ) (words : Purse) (set : words ≡ purse_with h.words (after_store h.words.seat.view h.words.slot rcvbuf)) where
     quiet : IsQuiet h.words.slot (after_store h.words.seat.view h.words.slot rcvbuf)

@@ -73,17 +73,24 @@ module _ {R : Type 0} (v : Open R) (words : Purse) (freed : ℕ) (routes : List 
 
 -- what a send answers, by what it found and whether the order was put
 module _ {R : Type 0} (looks : R → R → ℕ → Seen → Type 0) (peer dport place freed : ℕ) (payload : List ℕ) (old mid : Open R) (clear : IsClear looks peer dport payload old mid.own.routes)
-  (leads : LeadsTo mid.own.routes peer place) (room : old.own.total - freed + length payload ≤ old.sndbuf) (is : mid ≡ after_load old mid.own.routes freed) where
+    (leads : LeadsTo mid.own.routes peer place) (room : old.own.total - freed + length payload ≤ old.sndbuf) (is : mid ≡ after_load old mid.own.routes freed) where
   pub send_answer : (r : Result (Unit {0}) (List ℕ × SendError)) (new : Open R)
       → OnOk r (IsPutAt place (order_of mid dport payload) mid.own.routes new.own.routes)
       → OnOk r (new ≡ with_own mid (with_total (with_routes mid.own new.own.routes) (mid.own.total + length payload)))
       → IfErr r (λ e. (e.0 ≡ payload) × (e.1 ≡ refusal.Memory)) → OnErr r (new ≡ mid) → SendFits looks peer dport payload old r new
-  send_answer (Ok u) new put counted back same =
-      (mid.own.routes, freed, clear, room, (place, leads, subst (λ (o : Open R). IsPutAt place (order_of o dport payload) mid.own.routes new.own.routes) is put),
-        counted ∙ ap (λ (o : Open R). with_own o (with_total (with_routes o.own new.own.routes) (o.own.total + length payload))) is)
-  send_answer (Err e) new put counted back same =
-      (back.0, subst (λ (why : SendError). RefusalFits looks peer dport payload old why new) (sym back.1)
-        (subst (λ (o : Open R). RefusalFits looks peer dport payload old refusal.Memory o) (sym same) (clear, (freed, room, is))))
+  send_answer (Ok u) new put counted back same = (
+    mid.own.routes,
+    freed,
+    clear,
+    room,
+    (place, leads, subst (λ (o : Open R). IsPutAt place (order_of o dport payload) mid.own.routes new.own.routes) is put),
+    counted ∙ ap (λ (o : Open R). with_own o (with_total (with_routes o.own new.own.routes) (o.own.total + length payload))) is,
+  )
+  send_answer (Err e) new put counted back same = (
+    back.0,
+    subst (λ (why : SendError). RefusalFits looks peer dport payload old why new) (sym back.1)
+        (subst (λ (o : Open R). RefusalFits looks peer dport payload old refusal.Memory o) (sym same) (clear, (freed, room, is))),
+  )
 
 pub put_at_seen : {R : Type 0} (place : ℕ) (item order : Order) (xs z new : List (Lane R)) → item ≡ order → xs ≡ z → IsPutAt place item xs new → IsPutAt place order z new
 put_at_seen place item order xs z new of is p = subst (λ ys. IsPutAt place order ys new) is (subst (λ i. IsPutAt place i xs new) of p)

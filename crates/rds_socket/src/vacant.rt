@@ -61,11 +61,9 @@ impl<R: MapReader> Vacant<R> {
         requires parts { (word : ℕ) → part word own.view.steps ≡ 0 }
         requires orders { ArePutOf (slot_of seat.view) routes.items }
         requires ascend { Ascend (peers_of routes.items) }
-        ensures {
-            let words : Purse = record { slot = slot_of seat.view; seat = own } in
+        ensures { let words : Purse = record { slot = slot_of seat.view; seat = own } in
             let box : Box = record { bell = (arc_value inbox).bell; get = get } in
-            result ≡ record { ports = seat; words = words; inbox = box; routes = routes.items; total = 0 }
-        }
+            result ≡ record { ports = seat; words = words; inbox = box; routes = routes.items; total = 0 } }
     {
         let slot = seat.slot().unwrap_or(0);
         let ports = Ports::new(table, seat);

@@ -1,10 +1,9 @@
 //! A socket from its bind to its parts.
-use crate::tests::parts::{PEER, vacant, words};
+use crate::tests::parts::{PEER, slot};
 use crate::{BindError, CancelError, Closed, Socket, Vacant};
-use rds_fmap::{Reader, pair};
-use rds_mail::Mail;
+use rds_fmap::Reader;
 use rds_wire::Memory;
-use std::sync::{Arc, Wait};
+use std::sync::Wait;
 use std::test::Fail;
 
 /// A slot that is refused port 1, and then takes the first that is free from there on.
@@ -33,11 +32,7 @@ fn ends(rt: &impl Wait, mut closed: Closed<Reader>) -> (bool, Result<(), CancelE
 
 #[test]
 fn a_socket_is_bound_and_closed(rt: HostRuntime) -> Result<(), Fail> {
-    let (meter, own, _line) = words(rt.alloc())?;
-    let (_writer, mut readers) = pair(rt.alloc(), 1)?;
-    let (inbox, _put, get) = Mail::new(rt.alloc())?;
-    let inbox = Arc::new(rt.alloc(), inbox)?;
-    let vacant = vacant(rt.alloc(), (meter, own), (inbox, get), readers.pop().unwrap())?;
+    let (vacant, _outside) = slot(rt.alloc())?;
     assert_eq!(rt; vacant.slot(), 0);
     let (mut socket, error) = bound(vacant)?;
     assert_eq!(rt; error, BindError::Reserved { port: 1 });

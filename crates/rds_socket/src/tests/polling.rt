@@ -1,17 +1,18 @@
 //! A socket that is polled, and whose answers follow the state just written.
 ghost use Rattle.std.specs.Prelude.{◌≡◌, []};
+ghost use Rattle.std.specs.Arc.{arc_value};
 
-use crate::tests::parts::{PEER, vacant, words};
+use crate::tests::parts::{Outside, PEER, slot};
 use crate::{NoRoute, Socket};
 use futures::task::Poll;
 use futures::test::MockTask;
 use rds_cong::PortMap;
-use rds_fmap::{MapWriter, Reader, Seen, Writer, pair};
+use rds_fmap::{MapWriter, Reader, Seen, Writer};
 use rds_mail::{Mail, PutPass};
 use rds_model::Datagram;
 use rds_wire::{Memory, Payload};
 use std::alloc::Global;
-use std::sync::{Arc, Wait};
+use std::sync::Wait;
 use std::test::Fail;
 
 /// Puts one datagram of two bytes and rings.
@@ -62,21 +63,31 @@ fn looks(
     Ok([clear, socket.congested(PEER, 4001)])
 }
 
+/// What polls find before and after a delivery, and whether the task was woken by then.
+fn polls(
+    rt: &impl Wait,
+    alloc: Global,
+    task: &MockTask,
+    socket: &mut Socket<Reader>,
+    outside: &mut Outside,
+) -> Result<(Option<(u16, u32)>, bool, bool, Option<(u16, u32)>), Memory>
+    requires { outside.old.put.mail ≡ (arc_value outside.old.inbox).line }
+    ensures { outside.new.map ≡ outside.old.map }
+{
+    let before = polled(rt, task, socket);
+    let early = task.is_woken();
+    delivers(rt, alloc, &outside.inbox, &mut outside.put)?;
+    let woken = task.is_woken();
+    Ok((before, early, woken, polled(rt, task, socket)))
+}
+
 #[test]
 fn polls_and_looks_follow_what_was_written(rt: HostRuntime) -> Result<(), Fail> {
-    let (meter, own, _line) = words(rt.alloc())?;
-    let (mut writer, mut readers) = pair(rt.alloc(), 1)?;
-    let (inbox, mut put, get) = Mail::new(rt.alloc())?;
-    let inbox = Arc::new(rt.alloc(), inbox)?;
-    let shared = Arc::try_clone(&inbox)?;
-    let vacant = vacant(rt.alloc(), (meter, own), (shared, get), readers.pop().unwrap())?;
+    let (vacant, mut outside) = slot(rt.alloc())?;
     let mut socket = vacant.bind(4000, 10, 100).ok().expect(&rt, "a port");
     let task = MockTask::new(&rt)?;
-    assert_eq!(rt; polled(&rt, &task, &mut socket), None);
-    assert!(rt; !task.is_woken());
-    delivers(&rt, rt.alloc(), &inbox, &mut put)?;
-    assert!(rt; task.is_woken());
-    assert_eq!(rt; polled(&rt, &task, &mut socket), Some((5, 2)));
+    let polls = polls(&rt, rt.alloc(), &task, &mut socket, &mut outside)?;
+    assert_eq!(rt; polls, (None, false, true, Some((5, 2))));
     assert!(rt; socket.recv(&rt).is_none());
     assert!(rt; socket.writable());
     let clear = Seen {
@@ -87,6 +98,7 @@ fn polls_and_looks_follow_what_was_written(rt: HostRuntime) -> Result<(), Fail> 
         version: 1,
         set: true,
     };
-    assert_eq!(rt; looks(&rt, rt.alloc(), &mut socket, &mut writer)?, [Ok(clear), Ok(set)]);
+    let seen = looks(&rt, rt.alloc(), &mut socket, &mut outside.map)?;
+    assert_eq!(rt; seen, [Ok(clear), Ok(set)]);
     Ok(())
 }

@@ -1,16 +1,16 @@
 //! A send is refused by what its own steps found.
 ghost use Rattle.std.specs.Prelude.{◌≡◌, ◌≤◌, ◌<◌, [], None, length};
+ghost use Rattle.std.specs.Arc.{arc_value};
 ghost use Rattle.rds_meter.specs.Seats.{fresh};
 
-use crate::tests::parts::{PEER, vacant, words};
-use crate::{SendError, Socket};
+use crate::tests::parts::{Outside, PEER, slot};
+use crate::{SendError, Socket, Vacant};
 use rds_cong::PortMap;
-use rds_fmap::{MapWriter, Reader, Writer, pair};
-use rds_mail::Mail;
+use rds_fmap::{MapWriter, Reader, Writer};
 use rds_meter::{Meter, MeterSeat};
 use rds_wire::{Memory, Payload};
 use std::alloc::Global;
-use std::sync::{Arc, Wait};
+use std::sync::Wait;
 use std::test::Fail;
 
 /// What a send of so many bytes to port 4001 answers.
@@ -69,23 +69,34 @@ fn refuses(
     Ok([nobody, congested, sent(rt, alloc, socket, 7, 11)?])
 }
 
+/// What the sends of a socket with a send buffer of 10 bytes answer.
+fn answers(
+    rt: &impl Wait,
+    alloc: Global,
+    vacant: Vacant<Reader>,
+    outside: &mut Outside,
+) -> Result<([Result<(), SendError>; 3], [Result<(), SendError>; 3]), Memory>
+    requires line { (outside.old.line.table ≡ arc_value outside.old.meter) × (outside.old.line.view ≡ fresh 1 1 4093) }
+    requires map { outside.old.map.published ≡ [] }
+{
+    let Ok(mut socket) = vacant.bind(4000, 10, 100) else {
+        return Err(Memory);
+    };
+    let filled = fills(rt, alloc, &mut socket, &outside.meter, &mut outside.line)?;
+    let refused = refuses(rt, alloc, &mut socket, &mut outside.map)?;
+    Ok((filled, refused))
+}
+
 #[test]
 fn sends_are_refused_by_what_they_found(rt: HostRuntime) -> Result<(), Fail> {
-    let (meter, own, mut line) = words(rt.alloc())?;
-    let (mut writer, mut readers) = pair(rt.alloc(), 1)?;
-    let (inbox, _put, get) = Mail::new(rt.alloc())?;
-    let inbox = Arc::new(rt.alloc(), inbox)?;
-    let shared = Arc::try_clone(&meter)?;
-    let vacant = vacant(rt.alloc(), (shared, own), (inbox, get), readers.pop().unwrap())?;
-    let mut socket = vacant.bind(4000, 10, 100).ok().expect(&rt, "a port");
-    let filled = fills(&rt, rt.alloc(), &mut socket, &meter, &mut line)?;
+    let (vacant, mut outside) = slot(rt.alloc())?;
+    let (filled, refused) = answers(&rt, rt.alloc(), vacant, &mut outside)?;
     let full = SendError::SendFull {
         queued: 6,
         len: 5,
         limit: 10,
     };
     assert_eq!(rt; filled, [Ok(()), Err(full), Ok(())]);
-    let refused = refuses(&rt, rt.alloc(), &mut socket, &mut writer)?;
     let nobody = SendError::NoRoute { peer: 7 };
     let congested = SendError::Congested {
         port: 4001,

@@ -12,10 +12,13 @@ returns-clause-put g c =
     let was : Lane g.row.R.Denot = record { peer = r.peer; pass = r.pass; reader = r.map } in
     let at : At c.args.self.now c.args.place was = at_read _ _ c.args.place was _ c.self.view_is c.requires c.route.view_is c.index_mut-route.ensures.value in
     elim c.match-put.branch [
-      in-Ok w ↦
-          rw w.result-is (was, at,
+      | in-Ok w ↦
+          rw w.result-is (
+            was,
+            at,
             (ap (λ (q : Putter Order). set c.self.inside.routes.items c.args.place (record { peer = r.peer; pass = q; reader = r.map })) w.in-Ok.ensures.put)
-            ∙ ap (λ (l : List (Lane g.row.R.Denot)). set l c.args.place (with_order was c.args.item)) c.self.view_is)
+                ∙ ap (λ (l : List (Lane g.row.R.Denot)). set l c.args.place (with_order was c.args.item)) c.self.view_is,
+          )
       | in-Err w ↦ rw w.result-is tt
     ]
 
@@ -25,6 +28,6 @@ returns-clause-stay g c =
     let was : Lane g.row.R.Denot = record { peer = r.peer; pass = r.pass; reader = r.map } in
     let at : At c.args.self.now c.args.place was = at_read _ _ c.args.place was _ c.self.view_is c.requires c.route.view_is c.index_mut-route.ensures.value in
     elim c.match-put.branch [
-      in-Ok w ↦ stay_put g.R.MapReader.pair g.R.MapReader.has_seen _ _ c.args.place was c.put.new.pass (r.pass.put ++ c.args.item ∷ []) c.self.view_is at c.requires w.in-Ok.ensures.put
+      | in-Ok w ↦ stay_put g.R.MapReader.pair g.R.MapReader.has_seen _ _ c.args.place was c.put.new.pass (r.pass.put ++ c.args.item ∷ []) c.self.view_is at c.requires w.in-Ok.ensures.put
       | in-Err w ↦ stay_put g.R.MapReader.pair g.R.MapReader.has_seen _ _ c.args.place was c.put.new.pass r.pass.put c.self.view_is at c.requires w.in-Err.ensures.same
     ]

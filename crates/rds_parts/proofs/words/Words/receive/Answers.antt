@@ -18,16 +18,24 @@ pub returns-then-is_below_half : goal.returns-then-is_below_half
 returns-then-is_below_half c =
     let s = c.self.inside in
     let below : nat_lt c.put-put.result (c.take-taken.result + c.args.limit / 2) ≡ true =
-    ap (λ k. nat_lt c.put-put.result (c.take-taken.result + k / 2)) (sym c.from-limit.ensures) ∙ (sym c.is_below_half.ensures ∙ c.if-is_below_half.true) in
-    (c.take-taken.result, c.put-put.result, c.relieve.ensures.0, c.relieve.ensures.1,
+    ap (λ k. nat_lt c.put-put.result (c.take-taken.result + k / 2)) (sym c.from-limit.ensures) ∙ (sym c.is_below_half.ensures ∙ c.if-is_below_half.true) in (
+      c.take-taken.result,
+      c.put-put.result,
+      c.relieve.ensures.0,
+      c.relieve.ensures.1,
       received_low c.args.self.now (record { slot = s.slot; seat = s.seat }) c.put-put.new.seat c.args.port c.args.limit c.args.n c.take-taken.result c.put-put.result
-      (c.self.view_is ∙ c.take-taken.ensures) c.put-put.ensures.seat _ c.relieve.ensures.0 c.relieve.ensures.1 below c.relieve.ensures.2)
+          (c.self.view_is ∙ c.take-taken.ensures) c.put-put.ensures.seat _ c.relieve.ensures.0 c.relieve.ensures.1 below c.relieve.ensures.2,
+    )
 
 pub returns-else-is_below_half : goal.returns-else-is_below_half
 returns-else-is_below_half c =
     let s = c.self.inside in
     let below : nat_lt c.put-put.result (c.take-taken.result + c.args.limit / 2) ≡ false =
-    ap (λ k. nat_lt c.put-put.result (c.take-taken.result + k / 2)) (sym c.from-limit.ensures) ∙ (sym c.is_below_half.ensures ∙ c.if-is_below_half.false) in
-    (c.take-taken.result, c.put-put.result, 0, 0,
+    ap (λ k. nat_lt c.put-put.result (c.take-taken.result + k / 2)) (sym c.from-limit.ensures) ∙ (sym c.is_below_half.ensures ∙ c.if-is_below_half.false) in (
+      c.take-taken.result,
+      c.put-put.result,
+      0,
+      0,
       received_high c.args.self.now (record { slot = s.slot; seat = s.seat }) c.put-put.new.seat c.args.port c.args.limit c.args.n c.take-taken.result c.put-put.result
-      (c.self.view_is ∙ c.take-taken.ensures) c.put-put.ensures.seat below)
+          (c.self.view_is ∙ c.take-taken.ensures) c.put-put.ensures.seat below,
+    )
