@@ -36,7 +36,10 @@ fn a_socket_is_bound_and_closed(rt: HostRuntime) -> Result<(), Fail> {
     assert_eq!(rt; vacant.slot(), 0);
     let (mut socket, error) = bound(vacant)?;
     assert_eq!(rt; error, BindError::Reserved { port: 1 });
-    assert_eq!(rt; (socket.port(), socket.slot(), socket.closing()), (2, 0, false));
+    assert_eq!(rt;
+        (socket.port(), socket.slot(), socket.closing()),
+        (2, 0, false)
+    );
     let asked = asks(&rt, &mut socket);
     assert_eq!(rt; asked, [Ok(()), Err(CancelError::NoRoute { peer: 7 })]);
     let closed = socket.close(&rt).ok().expect(&rt, "memory");
