@@ -9,8 +9,6 @@ mod joining;
 mod polling;
 mod sending;
 mod socket;
-#[cfg(test)]
-mod tests;
 mod vacant;
 
 pub use closed::{Closed, SocketParts};

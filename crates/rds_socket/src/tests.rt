@@ -1,4 +1,0 @@
-mod closing;
-mod parts;
-mod polling;
-mod refusals;
