@@ -33,9 +33,9 @@ fn next_item(rt: &impl Wait, mail: &Mail<u32>, get: &mut GetPass<u32>) -> u32
     unreachable!()
 }
 
-// The number after the next one, where that is the item.
-fn after(next: u32, item: u32) -> u32 {
-    if item == next {
+// The number after the next one, where that is the item and below the end.
+fn after(next: u32, end: u32, item: u32) -> u32 {
+    if item == next && next < end {
         next.wrapping_add(1)
     } else {
         next
@@ -51,8 +51,8 @@ fn gets(rt: &impl Wait, mail: &Mail<u32>, mut get: GetPass<u32>) -> (GetPass<u32
     let mut second = EACH;
     for _ in 0..2 * EACH {
         let item = next_item(rt, mail, &mut get);
-        first = after(first, item);
-        second = after(second, item);
+        first = after(first, EACH, item);
+        second = after(second, 2 * EACH, item);
     }
     (get, (first, second))
 }
