@@ -9,7 +9,7 @@ use Rattle.rds_model.specs.Streams.{pulled_on, read_frames, refused_bytes}
 use Rattle.rds_model.specs.Alive.{is_alive, alive_numbers, due_numbers}
 use Rattle.rds_model.specs.Owed.{asks, is_map, wants_answer, last_map, unasked, is_asked, must_ask}
 use Rattle.rds_model.specs.Legal.{IsLegal}
-use Rattle.rds_model.specs.LegalityLaws.{lawful_open, lawful_pull, lawful_read, lawful_bad}
+use Rattle.rds_model.specs.LegalityLaws.{lawful_open, lawful_pull, lawful_read, lawful_bad, open_is_newest}
 use Rattle.rds_conn.proofs.Filters.{filter_none_done}
 
 pub record Untouched (s : ℕ) (past : List Entry) : Type 0 where
@@ -20,17 +20,6 @@ pub record Untouched (s : ℕ) (past : List Entry) : Type 0 where
   pub must : must_ask s past ≡ false
   pub reads : read_frames s past ≡ []
   pub refused : refused_bytes s past ≡ []
-
--- the open stream is the newest
-pub open_is_newest : (past : List Entry) → IsLegal past → (s : ℕ) → open_stream past ≡ Some s → newest_stream past ≡ s
-open_is_newest [] legal s is = cc
-open_is_newest (Open stream ∷ past) legal s is = cc
-open_is_newest (Shut stream ∷ past) legal s is = cc
-open_is_newest (Bad stream header cause ∷ past) legal s is = cc
-open_is_newest (Accept slot sport dport payload ∷ past) legal s is = open_is_newest past legal.1 s is
-open_is_newest (Cancel slot target ∷ past) legal s is = open_is_newest past legal.1 s is
-open_is_newest (Pull stream frame ∷ past) legal s is = open_is_newest past legal.1 s is
-open_is_newest (Read stream frame outcome ∷ past) legal s is = open_is_newest past legal.1 s is
 
 -- nothing was done on a stream above all others
 pub untouched : (past : List Entry) → IsLegal past → (s : ℕ) → newest_stream past < s → Untouched s past

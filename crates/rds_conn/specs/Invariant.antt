@@ -8,7 +8,7 @@ use Rattle.rds_model.specs.declared.journal.TheConstants.{MAX_ENTRIES}
 use Rattle.rds_model.specs.Log.{Log}
 use Rattle.rds_model.specs.Past.{open_stream, accepted, highest_pulled, last_passed}
 use Rattle.rds_model.specs.Owed.{last_map}
-use Rattle.rds_model.specs.Reading.{max_slots}
+use Rattle.rds_model.specs.declared.entry.TheConstants.{MAX_SLOTS}
 use Rattle.rds_model.specs.Legal.{IsWhole}
 use Rattle.rds_model.specs.Store.{HoldsMessages}
 use Rattle.rds_msgs.specs.Messages.{StoreView, bytes_of}
@@ -47,7 +47,7 @@ pub record IsStored (past : List Entry) (store : StoreView) (slots : ℕ) : Type
   pub holds : HoldsMessages store.messages store.mark past
   pub marked : store.mark ≤ length store.messages
   pub slots_are : store.slots ≡ slots
-  pub few : slots ≤ max_slots
+  pub few : slots ≤ MAX_SLOTS
 
 -- for each slot its freed bytes are held, and no more bytes are freed or alive than were accepted
 pub record IsFreed (past : List Entry) (store : StoreView) (freed : List ℕ) (slots : ℕ) : Type 0 where

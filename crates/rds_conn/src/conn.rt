@@ -115,7 +115,7 @@ impl Conn {
     ghost use Rattle.rds_model.specs.Streams.{was_pulled};
     ghost use Rattle.rds_model.specs.Legal.{IsWhole};
     ghost use Rattle.rds_frame.specs.Splitting.{IsClear, IsPartial, IsSound};
-    ghost use Rattle.rds_model.specs.Reading.{max_slots};
+    ghost use Rattle.rds_model.specs.declared.entry.TheConstants.{MAX_SLOTS};
     ghost use Rattle.rds_model.specs.declared.journal.TheConstants.{MIN_ENTRIES, MAX_ENTRIES};
     ghost use Rattle.rds_conn.specs.Connection.{stream_of, taken_bytes};
     ghost use Rattle.rds_conn.specs.Freeing.{HandsOutFreed};
@@ -123,7 +123,7 @@ impl Conn {
     /// A connection of the host `me` with `peer`, both IPv4 addresses: an empty journal of at most `limit` entries, and
     /// no stream.
     pub fn new(alloc: Global, me: u32, peer: u32, slots: u16, limit: u32) -> Result<Conn, Memory>
-        requires slots { slots ≤ max_slots }
+        requires slots { slots ≤ MAX_SLOTS }
         requires least { MIN_ENTRIES ≤ limit }
         requires most { limit ≤ MAX_ENTRIES }
         ensures empty { IfOk result (λ c. c ≡ record {
@@ -186,7 +186,7 @@ impl Conn {
         ensures whole { IsWhole self.now.log.past }
         ensures room { length self.now.log.past + self.now.log.spare ≤ self.now.log.limit }
         ensures limit { self.now.log.limit ≤ MAX_ENTRIES }
-        ensures slots { self.now.slots ≤ max_slots }
+        ensures slots { self.now.slots ≤ MAX_SLOTS }
         ensures freed { length self.now.freed ≡ self.now.slots }
         ensures idle { stream_of self.now ≡ None → (self.now.waiting ≡ None) × (self.now.rest ≡ []) }
         ensures sound { IfSome self.now.waiting (IsSound (highest_pulled self.now.log.past)) }

@@ -66,8 +66,5 @@ fn outcome_of_delivery(found: Found) -> Outcome
 pub(crate) fn passed_after(last: u64, number: u64, outcome: Outcome) -> u64
     ensures { result ≡ (if passes outcome then number else last) }
 {
-    match outcome {
-        Outcome::NoSocket | Outcome::Slot(_) | Outcome::Ping | Outcome::Void => number,
-        Outcome::Old | Outcome::AckOnly | Outcome::Map | Outcome::OddMap => last,
-    }
+    if outcome.passes() { number } else { last }
 }

@@ -2,7 +2,7 @@
 use Rattle.std.specs.Prelude.{ℕ, suc, ◌-◌, ◌&&◌, nat_lt, nat_le, is_none, unwrap_or, find, if◌then◌else◌, Bool, Option, Some, None, Ok, List, ◌∷◌, ◌++◌, codes}
 use Rattle.std.specs.Option.{option_map}
 use Rattle.std.specs.List.{range_with_len}
-use Rattle.rds_model.specs.Reading.{max_slots}
+use Rattle.rds_model.specs.declared.entry.TheConstants.{MAX_SLOTS}
 use Rattle.rds_history.specs.Events.{Event, Bound}
 use Rattle.rds_history.specs.Sockets.{binds, holder}
 use Rattle.rds_history.specs.Courses.{Course, unless}
@@ -11,7 +11,7 @@ use Rattle.rds_history.specs.Refusals.{no_slot, reserved, in_use, socket_refused
 -- why host h can't bind a port, if it can't
 abbrev pub bind_refusal : (h port : ℕ) → List Event → Option (List ℕ)
 bind_refusal h port past =
-    if nat_le max_slots (binds h past) then Some no_slot
+    if nat_le MAX_SLOTS (binds h past) then Some no_slot
     else (if nat_lt port 2 then Some reserved
     else option_map (λ slot. in_use (suc slot)) (holder h port past))
 
@@ -31,7 +31,7 @@ is_free h past port = nat_le 2 port && is_none (holder h port past)
 
 -- the first free port from `start` on, while the host may bind one more socket
 abbrev pub free_port : (h start : ℕ) → List Event → Option ℕ
-free_port h start past = if nat_le max_slots (binds h past) then None else find (is_free h past) (ports_round start)
+free_port h start past = if nat_le MAX_SLOTS (binds h past) then None else find (is_free h past) (ports_round start)
 
 -- `bindany`: a socket of host h is bound to the first free port from `start` on
 abbrev pub bind_any : (h start sndbuf rcvbuf : ℕ) → List Event → Course

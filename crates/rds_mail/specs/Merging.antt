@@ -2,7 +2,8 @@
 use Rattle.std.specs.Prelude.{◌≡◌, ◌⊎◌, ℕ, ◌<◌, ◌==◌, Bool, false, if◌then◌else◌, List, [], ◌∷◌, Option, Some, None}
 use Rattle.rds_views.specs.Views.{Has, Each}
 use Rattle.rds_mail.specs.declared.view.Account.{Account}
-use Rattle.rds_mail.specs.Numbers.{Number, Numbered, items_of, items, Begins}
+use Rattle.rds_mail.specs.Numbers.{Number, Numbered, items_of, items}
+use Rattle.rds_model.specs.Honest.{Begins}
 
 -- whether the key is this one
 abbrev pub is_key : Option ℕ → ℕ → Bool

@@ -25,7 +25,3 @@ items_of p (e ∷ list) = if same_number p e.0 then e.1 ∷ items_of p list else
 abbrev pub items : {T : Type 0} → List (Numbered T) → List T
 items [] = []
 items (e ∷ list) = e.1 ∷ items list
-
--- one list begins another
-abbrev pub Begins : {T : Type 0} → List T → List T → Type 0
-Begins {T} front whole = (rest : List T) × (whole ≡ front ++ rest)

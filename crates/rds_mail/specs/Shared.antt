@@ -3,7 +3,8 @@ use Rattle.std.specs.Prelude.{◌≡◌, ℕ, suc, ◌≤◌, true, List, [], �
 use Rattle.rds_views.specs.Views.{At, Has, Each}
 use Rattle.rds_mail.specs.declared.view.View.{View}
 use Rattle.rds_mail.specs.declared.view.Account.{Account}
-use Rattle.rds_mail.specs.Numbers.{Number, Numbered, items_of, items, Begins}
+use Rattle.rds_mail.specs.Numbers.{Number, Numbered, items_of, items}
+use Rattle.rds_model.specs.Honest.{Begins}
 
 -- where each putter is: none yet, joined into the getter (0), or the pass at a place (1 more than it)
 abbrev pub Places : Type 0

@@ -4,8 +4,8 @@ use Rattle.rds_model.specs.declared.entry.Entry.{Entry}
 use Rattle.rds_model.specs.Streams.{written_bytes, read_bytes}
 
 -- whole begins with front
-abbrev pub Begins : List ℕ → List ℕ → Type 0
-Begins front whole = (rest : List ℕ) × (whole ≡ front ++ rest)
+abbrev pub Begins : {T : Type 0} → List T → List T → Type 0
+Begins {T} front whole = (rest : List T) × (whole ≡ front ++ rest)
 
 -- What each end got on a stream is the beginning of what the other wrote to it. No moment common to both is mentioned.
 pub record IsHonest (a b : List Entry) : Type 0 where

@@ -6,7 +6,7 @@ use Rattle.rds_wire.specs.declared.header.Header.{Header}
 use Rattle.rds_wire.specs.declared.kind.Malformed.{Malformed}
 use Rattle.rds_wire.specs.declared.kind.TheConstants.{MAX_LENGTH}
 use Rattle.rds_model.specs.declared.entry.Entry.{Entry}
-use Rattle.rds_model.specs.declared.entry.Entry.TheVariants.{Accept, Open, Pull, Read, Bad}
+use Rattle.rds_model.specs.declared.entry.Entry.TheVariants.{Accept, Cancel, Open, Pull, Read, Shut, Bad}
 use Rattle.rds_model.specs.declared.entry.Outcome.{Outcome}
 use Rattle.rds_model.specs.declared.entry.Outcome.TheVariants as outcome
 use Rattle.rds_model.specs.declared.entry.TheConstants.{NO_SLOT}
@@ -75,3 +75,14 @@ pub acceptable : (slot from to : ℕ) (payload : List ℕ) {p j : List Entry} �
 acceptable slot from to payload {p} legal m =
     let here = legal_at m legal in
     accepted_lawfully p slot from to payload here.1 (pong_to p) refl here.0
+
+-- the open stream is the newest
+pub open_is_newest : (past : List Entry) → IsLegal past → (s : ℕ) → open_stream past ≡ Some s → newest_stream past ≡ s
+open_is_newest [] legal s is = cc
+open_is_newest (Open stream ∷ past) legal s is = cc
+open_is_newest (Shut stream ∷ past) legal s is = cc
+open_is_newest (Bad stream header cause ∷ past) legal s is = cc
+open_is_newest (Accept slot sport dport payload ∷ past) legal s is = open_is_newest past legal.1 s is
+open_is_newest (Cancel slot target ∷ past) legal s is = open_is_newest past legal.1 s is
+open_is_newest (Pull stream frame ∷ past) legal s is = open_is_newest past legal.1 s is
+open_is_newest (Read stream frame outcome ∷ past) legal s is = open_is_newest past legal.1 s is

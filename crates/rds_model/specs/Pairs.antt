@@ -73,10 +73,10 @@ pub record IsDeliveredOnce (sport dport : ℕ) (a b : List Entry) : Type 0 where
   -- the numbers delivered, over all slots, rise strictly: each stands once
   pub rise : IsStrictlyIncreasing (delivered sport dport b)
   -- no number goes to two slots
-  pub one_slot : (n e t : ℕ) →
-      Contains (delivered_to e sport dport b) n → Contains (delivered_to t sport dport b) n → e ≡ t
+  pub one_slot : (n slot other : ℕ) →
+      Contains (delivered_to slot sport dport b) n → Contains (delivered_to other sport dport b) n → slot ≡ other
   -- the numbers delivered to a slot rise strictly
-  pub rise_at : (e : ℕ) → IsStrictlyIncreasing (delivered_to e sport dport b)
+  pub rise_at : (slot : ℕ) → IsStrictlyIncreasing (delivered_to slot sport dport b)
   -- what was delivered was accepted for the pair
   pub accepted : (n : ℕ) → Contains (delivered sport dport b) n → Contains (accepted_for sport dport a) n
   -- and it has the bytes that were accepted

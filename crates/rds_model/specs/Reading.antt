@@ -6,6 +6,7 @@ use Rattle.rds_wire.specs.declared.kind.Kind.{Kind}
 use Rattle.rds_wire.specs.declared.kind.Kind.TheVariants.{Data, Ack, Map, OddMap}
 use Rattle.rds_wire.specs.Kinds.{carries, kind_of}
 use Rattle.rds_model.specs.declared.entry.Entry.{Entry}
+use Rattle.rds_model.specs.declared.entry.TheConstants.{MAX_SLOTS}
 use Rattle.rds_model.specs.declared.entry.Outcome.{Outcome}
 use Rattle.rds_model.specs.declared.entry.Outcome.TheVariants as outcome
 use Rattle.rds_model.specs.declared.entry.Verdict.{Verdict}
@@ -32,13 +33,9 @@ verdict_of_kind Data past h = if is_old past h then verdict.Old else verdict_of_
 abbrev pub verdict_of : List Entry → Header → Verdict
 verdict_of past h = verdict_of_kind (kind_of h) past h
 
--- how many sockets a host has at most
-abbrev pub max_slots : ℕ
-max_slots = 1024
-
 -- a datagram was delivered to a socket, or none held its port
 abbrev pub IsDelivered : Outcome → Type 0
-IsDelivered (outcome.Slot slot) = slot < max_slots
+IsDelivered (outcome.Slot slot) = slot < MAX_SLOTS
 IsDelivered outcome.NoSocket = Unit {0}
 IsDelivered _ = ⊥
 

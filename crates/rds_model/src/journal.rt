@@ -15,6 +15,7 @@ pub const MAX_ENTRIES: u32 = 4_294_967_294;
 /// Why a journal has no room for more entries.
 #[derive(Clone, Copy, Debug, PartialEq, Eq)]
 pub enum JournalError {
+    /// There is no memory for them.
     Memory,
     /// The journal has this many entries, and more would pass its limit.
     Spent { entries: u32 },
@@ -55,7 +56,11 @@ impl Journal {
         })
     }
 
-    /// Makes room for `n` more entries.
+    /// Makes room for `n` more entries, so that the next `n` calls of `push` may follow. Nothing is appended.
+    ///
+    /// # Errors
+    /// `Spent` exactly where the entries and `n` more pass the limit, whatever memory there is. `Memory` where there is no
+    /// memory for them. Either leaves the journal as it was.
     pub fn reserve(&mut self, n: u32) -> Result<(), JournalError>
         ensures ok { OnOk result (self.new ≡ record self.old { spare = max self.old.spare n }) }
         ensures err { OnErr result (self.new ≡ self.old) }

@@ -3,7 +3,7 @@ use rds_wire::Payload;
 /// What a socket or the program asks of a connection.
 #[derive(Drop)]
 pub enum Order {
-    /// Accept a datagram from the socket of a slot.
+    /// Accept a datagram from the socket of a slot, which has the port `sport`, to the peer's port `dport`.
     Send {
         slot: u16,
         sport: u16,
@@ -28,7 +28,9 @@ pub enum Order {
 pub struct Datagram {
     /// The IPv4 address of the sender.
     pub from: u32,
+    /// The port of the sending socket.
     pub sport: u16,
+    /// The port that it was sent to.
     pub dport: u16,
     pub payload: Payload,
 }

@@ -19,11 +19,7 @@ pub(crate) struct Withdrawn {
 pub(crate) fn covers(slot: u16, target: Target, m: &Msg) -> bool
     ensures { result ≡ covers_message slot target m.now }
 {
-    slot == m.slot
-        && match target {
-            Target::Port(port) => port == m.dport,
-            Target::All => true,
-        }
+    slot == m.slot && target.covers(m.dport)
 }
 
 /// Takes out what a cancellation by a slot takes, of messages of which the first `mark` are pulled: each one goes to the

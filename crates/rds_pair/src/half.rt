@@ -1,6 +1,6 @@
 ghost use Rattle.std.specs.Prelude.{◌≡◌, ℕ, ◌<◌, ◌≤◌, None, Err, IfOk, OnOk, OnErr};
 ghost use Rattle.rds_model.specs.Past.{open_stream, newest_stream};
-ghost use Rattle.rds_model.specs.Reading.{max_slots};
+ghost use Rattle.rds_model.specs.declared.entry.TheConstants.{MAX_SLOTS};
 ghost use Rattle.rds_model.specs.Legal.{IsWhole};
 ghost use Rattle.rds_model.specs.declared.journal.TheConstants.{MIN_ENTRIES, MAX_ENTRIES};
 ghost use Rattle.rds_conn.specs.Connection.{IsReady};
@@ -30,7 +30,7 @@ pub(crate) struct Half {
 impl Half {
     /// The end of the host `me` to `peer`, of which nothing has happened.
     pub fn new(alloc: Global, me: u32, peer: u32, slots: u16, limit: u32) -> Result<Half, Memory>
-        requires slots { slots ≤ max_slots }
+        requires slots { slots ≤ MAX_SLOTS }
         requires least { MIN_ENTRIES ≤ limit }
         requires most { limit ≤ MAX_ENTRIES }
         ensures { IfOk result (λ half. side_of half ≡ blank slots limit) }

@@ -40,7 +40,7 @@ impl Model for Pair {
 
 impl Pair {
     ghost use Rattle.std.specs.Prelude.{◌≤◌, IfOk};
-    ghost use Rattle.rds_model.specs.Reading.{max_slots};
+    ghost use Rattle.rds_model.specs.declared.entry.TheConstants.{MAX_SLOTS};
     ghost use Rattle.rds_model.specs.Legal.{IsLegal};
     ghost use Rattle.rds_model.specs.Honest.{IsHonest};
     ghost use Rattle.rds_model.specs.Fifo.{HasNoBad};
@@ -59,7 +59,7 @@ impl Pair {
         slots: u16,
         limit: u32,
     ) -> Result<Pair, Memory>
-        requires slots { slots ≤ max_slots }
+        requires slots { slots ≤ MAX_SLOTS }
         requires least { MIN_ENTRIES ≤ limit }
         requires most { limit ≤ MAX_ENTRIES }
         ensures { IfOk result (λ pair. pair ≡ record { first = blank slots limit; second = blank slots limit }) }

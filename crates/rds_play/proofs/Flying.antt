@@ -9,8 +9,7 @@ use Rattle.rds_model.specs.declared.entry.Entry.TheVariants.{Accept, Cancel, Ope
 use Rattle.rds_model.specs.Past.{now, newest_stream, open_stream}
 use Rattle.rds_model.specs.Legal.{IsLegal}
 use Rattle.rds_model.specs.Streams.{pulled_frames, written_bytes}
-use Rattle.rds_model.specs.LegalityLaws.{lawful_open, lawful_pull}
-use Rattle.rds_conn.proofs.Untouched.{open_is_newest}
+use Rattle.rds_model.specs.LegalityLaws.{lawful_open, lawful_pull, open_is_newest}
 use Rattle.rds_history.specs.Events.{Event, Entered}
 use Rattle.rds_history.specs.Journals.{journal, fed, in_flight, wrote_on}
 use Rattle.rds_history.specs.Courses.{enters}

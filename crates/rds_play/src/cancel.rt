@@ -1,5 +1,5 @@
 ghost use Rattle.std.specs.Prelude.{◌<◌};
-ghost use Rattle.rds_model.specs.Reading.{max_slots};
+ghost use Rattle.rds_model.specs.declared.entry.TheConstants.{MAX_SLOTS};
 ghost use Rattle.rds_conn.specs.Orders.{IsOrderFor};
 
 use crate::refusal::Refusal;
@@ -71,7 +71,7 @@ impl World {
     ) -> Result<(), Stop>
         requires host { host < 8 }
         requires peer { peer < 8 }
-        requires order { IsOrderFor max_slots order }
+        requires order { IsOrderFor MAX_SLOTS order }
     {
         let link = &mut self.links[place(host, peer)];
         let mut numbers = Vec::new(self.alloc);

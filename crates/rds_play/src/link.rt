@@ -2,7 +2,8 @@ ghost use Rattle.std.specs.Prelude.{◌≡◌, ◌≤◌, ◌<◌, ◌+◌, suc,
 ghost use Rattle.rds_model.specs.declared.entry.Entry.TheVariants as entries;
 ghost use Rattle.rds_model.specs.Legal.{IsWhole};
 ghost use Rattle.rds_model.specs.Past.{newest_stream};
-ghost use Rattle.rds_model.specs.Reading.{max_slots, verdict_of};
+ghost use Rattle.rds_model.specs.declared.entry.TheConstants.{MAX_SLOTS};
+ghost use Rattle.rds_model.specs.Reading.{verdict_of};
 ghost use Rattle.rds_model.specs.declared.journal.TheConstants.{MIN_ENTRIES, MAX_ENTRIES};
 ghost use Rattle.rds_conn.specs.Connection.{IsReady, stream_of};
 ghost use Rattle.rds_conn.specs.Orders.{IsOrderFor};
@@ -36,7 +37,7 @@ pub struct Link {
     pub version: u64,
     ghost home: { host < 8 },
     ghost near: { peer < 8 },
-    ghost wide: { conn.slots ≡ max_slots },
+    ghost wide: { conn.slots ≡ MAX_SLOTS },
     ghost counted: { Counts conn.log.past streams accepted },
 }
 
@@ -118,7 +119,7 @@ impl Link {
 
     /// Gives an order to the connection.
     pub fn order<L: Ledger>(&mut self, order: Order, steps: &mut Steps<L>) -> Result<(), Stop>
-        requires { IsOrderFor max_slots order }
+        requires { IsOrderFor MAX_SLOTS order }
     {
         self.conn.known();
         ready(&mut self.conn, self.host, self.peer)?;
@@ -239,7 +240,7 @@ fn pongs(verdict: Verdict) -> u64
 // Where a frame from a peer goes: a datagram is queued at the socket that holds its port.
 fn found(host: &mut Host, from: u8, frame: &Frame, verdict: Verdict) -> Result<Found, Memory>
     requires { from < 8 }
-    ensures { IfOk result (Matches max_slots verdict) }
+    ensures { IfOk result (Matches MAX_SLOTS verdict) }
 {
     let Verdict::Deliver { dport } = verdict else {
         return Ok(Found::Unasked);

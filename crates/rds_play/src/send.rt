@@ -1,5 +1,5 @@
 ghost use Rattle.std.specs.Prelude.{◌<◌, ◌≤◌, IfOk, OnOk};
-ghost use Rattle.rds_model.specs.Reading.{max_slots};
+ghost use Rattle.rds_model.specs.declared.entry.TheConstants.{MAX_SLOTS};
 
 use crate::refusal::{Refusal, send_refused_line};
 use crate::stop::Stop;
@@ -50,7 +50,7 @@ impl World {
     fn sender(&self, host: u8, port: u16, to: u8, dport: u16, len: u32) -> Result<usize, Refusal>
         requires host { host < 8 }
         requires peer { to < 8 }
-        ensures slot { IfOk result (λ slot. slot < max_slots) }
+        ensures slot { IfOk result (λ slot. slot < MAX_SLOTS) }
         ensures fits { OnOk result (len ≤ MAX_LENGTH) }
     {
         let sockets = &self.hosts[usize::from(host)];

@@ -8,7 +8,8 @@ use Rattle.rds_model.specs.declared.order.Order.{Order}
 use Rattle.rds_model.specs.declared.order.Order.TheVariants as order
 use Rattle.rds_model.specs.declared.order.Datagram.{Datagram}
 use Rattle.rds_mail.specs.declared.view.Account.{Account}
-use Rattle.rds_mail.specs.Numbers.{Number, Numbered, same_number, items_of, items, Begins}
+use Rattle.rds_mail.specs.Numbers.{Number, Numbered, same_number, items_of, items}
+use Rattle.rds_model.specs.Honest.{Begins}
 use Rattle.rds_mail.specs.Shared.{IsPart}
 use Rattle.rds_mail.specs.Merging.{is_key, by_key, IsKeyed, KeysBegin}
 use Rattle.rds_parts.specs.Lanes.{IsOf}
