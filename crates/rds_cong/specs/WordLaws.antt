@@ -1,9 +1,9 @@
 -- Laws, each proved: proofs in other crates use them. Nothing here has to be believed.
 -- Words as bytes: byte 8 i + j is byte j of word i.
-use Rattle.std.proofs.Common.{◌≡◌, ℕ, zero, suc, ◌+◌, ◌*◌, ◌/◌, ◌%◌, ◌^◌, ◌<◌, ◌≤◌, List, [], ◌∷◌, ◌++◌, length, take, drop, set, replicate, slice_index, slice_set, refl, sym, ap, ◌∙◌, subst, arith, length-drop, ⊎_elim, ◌-◌}
-use Rattle.std.proofs.lemmas.List.{append_assoc, take_at, drop_at, drop_more, take-append-drop, set_split, length-take-le, ext_get_or, get_or_default, get_or-drop, get_or_past, get_or-replicate, length-replicate, length-set}
+use Rattle.std.proofs.Common.{◌≡◌, ◌≢◌, ◌==◌, if◌then◌else◌, ℕ, zero, suc, ◌+◌, ◌*◌, ◌/◌, ◌%◌, ◌^◌, ◌<◌, ◌≤◌, List, [], ◌∷◌, ◌++◌, length, take, drop, set, replicate, slice_index, slice_set, refl, sym, ap, ◌∙◌, subst, arith, length-drop, ⊎_elim, ◌-◌}
+use Rattle.std.proofs.lemmas.List.{get_or-set_same, get_or-set_other, append_assoc, take_at, drop_at, drop_more, take-append-drop, set_split, length-take-le, ext_get_or, get_or_default, get_or-drop, get_or_past, get_or-replicate, length-replicate, length-set}
 use Rattle.std.proofs.lemmas.List.Elements.{All-set}
-use Rattle.std.proofs.lemmas.Bool.{cases_lt}
+use Rattle.std.proofs.lemmas.Bool.{cases_lt, cases_eq, eq-eqb, ne_eqb}
 use Rattle.std.proofs.lemmas.List.Concat.{flat_map-append}
 use Rattle.std.specs.Int.{byte_at}
 use Rattle.std.specs.List.{flat_map, All}
@@ -143,3 +143,18 @@ IsWords-zeros n words is count = subst IsWords (sym is) (record {
   count = length-replicate n 0 ∙ count;
   fit = λ i d h. subst (λ w. w < 2 ^ 64) (sym (get_or-replicate n i 0 d (subst (λ k. i < k) (length-replicate n 0) h))) (omega arith);
 })
+
+-- a word of those that are kept
+pub word_is : (words : List ℕ) (i : ℕ) → i < length words → All (λ w. w < 2 ^ 64) words → word_at (bytes_of words) i ≡ slice_index words i
+word_is words i h fit = word-bytes words i h (fit i 0 h)
+
+-- the words after one was put
+pub word-set : (words : List ℕ) (i j w : ℕ) → i < length words → j < length words → w < 2 ^ 64 → IsWords words
+    → word_at (bytes_of (slice_set words i w)) j ≡ (if j == i then w else word_at (bytes_of words) j)
+word-set words i j w hi hj fits is =
+    let there : j < length (slice_set words i w) = subst (λ n. j < n) (sym (length-set words i w)) hj in
+    word_is (slice_set words i w) j there (IsWords-set words i w fits is).fit
+    ∙ ⊎_elim
+    (λ (same : j ≡ i). rw (same, eq-eqb i i refl) (get_or-set_same words i w 0 hi))
+    (λ (other : j ≢ i). rw (ne_eqb j i other) (get_or-set_other words i j w 0 other ∙ sym (word_is words j hj is.fit)))
+    (cases_eq j i)

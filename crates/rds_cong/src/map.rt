@@ -79,6 +79,7 @@ impl PortMap {
     pub fn put_word(&mut self, i: usize, w: u64)
         requires { i < WORDS }
         ensures value { self.new ≡ with_word self.old i w }
+        ensures words { (j : ℕ) → j < WORDS → word_at self.new j ≡ (if j == i then w else word_at self.old j) }
         ensures ports { (q : ℕ) → has_port self.new q ≡
             (if q / 64 == i then bit_at w (q % 64) == 1 else has_port self.old q) }
     {
@@ -114,9 +115,10 @@ impl PortMap {
         self.words.copy_from_slice(&other.words);
     }
 
-    /// Changes nothing: what every map is.
+    /// Changes nothing: what every map is, and that a port is a bit of its word.
     pub fn known(&self)
-        ensures { IsMap self.now }
+        ensures map { IsMap self.now }
+        ensures bit { (q : ℕ) → q < 65536 → has_port self.now q ≡ (bit_at (word_at self.now (q / 64)) (q % 64) == 1) }
     {
         let _ = &self.words;
     }

@@ -4,7 +4,7 @@ use Rattle.std.proofs.lemmas.List.{append-nil, length-append}
 use Rattle.rds_cong.specs.Map.{has_port}
 use Rattle.rds_fmap.specs.Shared.{IsWordOf}
 use Rattle.rds_fmap.specs.Views.{version_in}
-use Rattle.rds_fmap.proofs.Halves.{port-append}
+use Rattle.rds_cong.specs.HalfLaws.{port-append}
 
 -- a list goes on where another ends
 abbrev pub Begins : List ℕ → List ℕ → Type 0

@@ -1,5 +1,4 @@
 pub mod Lists
-pub mod Halves
 pub mod Growth
 pub mod Putting
 pub mod Steps

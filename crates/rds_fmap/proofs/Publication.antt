@@ -6,14 +6,14 @@ use Rattle.std.proofs.Math.Nat.{mod-eq_of_lt}
 use Rattle.std.specs.Int.{bit_at}
 use Rattle.rds_cong.specs.Map.{no_ports, has_port, IsMap}
 use Rattle.rds_cong.specs.PortLaws.{same_maps}
-use Rattle.rds_fmap.specs.Halves.{IsHalf, bytes_of_halves}
+use Rattle.rds_cong.specs.Halves.{IsHalf, bytes_of_halves}
 use Rattle.rds_fmap.specs.Views.{version_in, maps_begun, after_put}
 use Rattle.rds_fmap.specs.Versions.{IsSeenIn}
 use Rattle.rds_fmap.specs.Readers.{seen_in}
 use Rattle.rds_fmap.specs.Shared.{IsWordOf}
 use Rattle.rds_fmap.specs.declared.words.view.View.{View}
 use Rattle.rds_fmap.specs.declared.seen.Seen.{Seen}
-use Rattle.rds_fmap.proofs.Halves.{length-halves, port-halves, port-append, port-past, IsMap-halves}
+use Rattle.rds_cong.specs.HalfLaws.{length-halves, port-halves, port-append, port-past, IsMap-halves}
 use Rattle.rds_fmap.proofs.Growth.{get_before}
 use Rattle.rds_fmap.proofs.Putting.{longer, longer_length, bytes_longer}
 

@@ -6,11 +6,11 @@ use Rattle.std.proofs.lemmas.List.Concat.{flat_map-append}
 use Rattle.std.specs.Int.{bit_at}
 use Rattle.byteorder.specs.Endian.{little_bytes}
 use Rattle.rds_cong.specs.Map.{no_ports}
-use Rattle.rds_fmap.specs.Halves.{bytes_of_halves}
+use Rattle.rds_cong.specs.Halves.{bytes_of_halves}
 use Rattle.rds_fmap.specs.Views.{version_in, maps_begun, after_put}
 use Rattle.rds_fmap.specs.Shared.{IsWordOf, version_at}
 use Rattle.rds_fmap.specs.declared.words.view.View.{View}
-use Rattle.rds_fmap.proofs.Halves.{length-halves, port-halves, bit-low}
+use Rattle.rds_cong.specs.HalfLaws.{length-halves, port-halves, bit-low}
 use Rattle.rds_fmap.proofs.Growth.{Begins, Grows, last_grows, get_at}
 
 pub version_put : (v : View) (j : ℕ) → j < length v.part → version_at v j ≡ length v.published + 1

@@ -15,7 +15,7 @@ use Rattle.rds_fmap.specs.Views.{version_in, maps_begun, first_view, as_before, 
 use Rattle.rds_fmap.specs.Shared.{Shared, Ruled, IsWordOf}
 use Rattle.rds_fmap.specs.declared.words.view.View.{View}
 use Rattle.rds_fmap.proofs.Lists.{nothing_in, each_of_one}
-use Rattle.rds_fmap.proofs.Halves.{none_is, none_length, port-zeros}
+use Rattle.rds_cong.specs.HalfLaws.{none_is, none_length, port-zeros}
 use Rattle.rds_fmap.proofs.Putting.{version_left}
 use Rattle.rds_fmap.proofs.Steps.{Found, as_writer}
 

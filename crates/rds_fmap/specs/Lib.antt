@@ -1,5 +1,4 @@
 pub mod Versions
-pub mod Halves
 pub mod Views
 pub mod Readers
 pub mod Shared

@@ -1,7 +1,7 @@
 -- What a seat of a pair knows, and what each of its steps leaves it with. This project's own.
 use Rattle.std.specs.Prelude.{ℕ, ◌%◌, ◌/◌, ◌^◌, ◌==◌, if◌then◌else◌, true, false, List, [], ◌∷◌, ◌++◌, length}
 use Rattle.rds_cong.specs.Map.{no_ports}
-use Rattle.rds_fmap.specs.Halves.{bytes_of_halves}
+use Rattle.rds_cong.specs.Halves.{bytes_of_halves}
 use Rattle.rds_fmap.specs.declared.words.view.View.{View}
 
 -- a word's version is its upper half

@@ -1,5 +1,5 @@
 ghost use Rattle.std.specs.Prelude.{◌≡◌, ℕ, ◌+◌, ◌<◌, ◌^◌, [], ◌∷◌, ◌++◌, length, true};
-ghost use Rattle.rds_fmap.specs.Halves.{IsHalf};
+ghost use Rattle.rds_cong.specs.Halves.{IsHalf};
 
 use super::WORDS;
 use super::plays::Put;

@@ -1,7 +1,7 @@
-use Rattle.std.proofs.Common.{ap, sym, subst, ◌<◌, ◌∙◌, ◌==◌, ◌/◌, ◌%◌, if◌then◌else◌}
+use Rattle.std.proofs.Common.{arith, ap, sym, subst, ◌<◌, ◌∙◌, ◌==◌, ◌/◌, ◌%◌, if◌then◌else◌}
 use Rattle.std.specs.Int.{bit_at}
-use Rattle.rds_cong.specs.Map.{has_port, with_word}
-use Rattle.rds_cong.specs.WordLaws.{bytes-set}
+use Rattle.rds_cong.specs.Map.{has_port, with_word, word_at}
+use Rattle.rds_cong.specs.WordLaws.{bytes-set, word-set}
 use Rattle.rds_cong.specs.PortLaws.{has_port-word}
 use Rattle.rds_cong.proofs.map.PortMap.put_word.Goals as goal
 
@@ -15,3 +15,10 @@ returns-clause-ports c q =
     let within = subst (λ n. c.args.i < n) (sym c.self.invariant.count) c.requires in
     has_port-word c.self.inside.words.items c.args.i c.args.w q within
     ∙ ap (λ m. if q / 64 == c.args.i then bit_at c.args.w (q % 64) == 1 else has_port m q) c.self.view_is
+
+pub returns-clause-words : goal.returns-clause-words
+returns-clause-words c j low =
+    let within = subst (λ n. c.args.i < n) (sym c.self.invariant.count) c.requires in
+    let there = subst (λ n. j < n) (sym c.self.invariant.count) low in
+    word-set c.self.inside.words.items c.args.i j c.args.w within there (omega arith) c.self.invariant
+    ∙ ap (λ m. if j == c.args.i then c.args.w else word_at m j) c.self.view_is

@@ -1,5 +1,5 @@
 use Rattle.std.proofs.Common.{arith}
-use Rattle.rds_fmap.proofs.Halves.{low_half, high_half}
+use Rattle.rds_cong.specs.HalfLaws.{low_half, high_half}
 use Rattle.rds_fmap.proofs.words.writer.half.Goals as goal
 
 pub returns-then-j-eq0 : goal.returns-then-j-eq0

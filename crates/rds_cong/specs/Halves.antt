@@ -1,4 +1,4 @@
--- A map as 2,048 numbers of 32 bits: port 32 j + b is bit b of number j. This project's own. It belongs to the map's own crate.
+-- A map as 2,048 numbers of 32 bits: port 32 j + b is bit b of number j. This project's own.
 use Rattle.std.specs.Prelude.{◌≡◌, ℕ, ◌+◌, ◌*◌, ◌<◌, ◌^◌, ◌==◌, List}
 use Rattle.std.specs.Int.{bit_at}
 use Rattle.std.specs.List.{flat_map}

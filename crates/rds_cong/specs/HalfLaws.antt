@@ -1,4 +1,5 @@
--- The ports of a map that is kept as numbers of 32 bits. These lemmas belong to the map's own crate.
+-- Laws, each proved: proofs in other crates use them. Nothing here has to be believed.
+-- The ports of a map that is kept as numbers of 32 bits.
 use Rattle.std.proofs.Common.{◌≡◌, ℕ, zero, suc, ◌+◌, ◌*◌, ◌/◌, ◌%◌, ◌^◌, ◌<◌, ◌≤◌, ◌==◌, false, List, [], ◌∷◌, ◌++◌, length, slice_index, replicate, refl, sym, ap, ◌∙◌, subst, arith, ⊎_elim}
 use Rattle.std.proofs.lemmas.Bool.{cases_lt}
 use Rattle.std.proofs.lemmas.List.{get_or_default, get_or_append_left, get_or-replicate, get_or_past, length-replicate}
@@ -10,7 +11,7 @@ use Rattle.rds_wire.specs.Bytes.{IsBytes}
 use Rattle.rds_cong.specs.Map.{has_port, IsMap, no_ports}
 use Rattle.rds_cong.specs.declared.map.TheConstants.{MAP_BYTES}
 use Rattle.rds_cong.specs.DigitLaws.{byte-zero, byte_below, bit-byte}
-use Rattle.rds_fmap.specs.Halves.{IsHalf, bytes_of_halves}
+use Rattle.rds_cong.specs.Halves.{IsHalf, bytes_of_halves}
 
 pub length-halves : (halves : List ℕ) → length (bytes_of_halves halves) ≡ 4 * length halves
 length-halves [] = refl
