@@ -1,4 +1,5 @@
 ghost use Rattle.std.specs.Prelude.{◌≡◌, ◌≤◌, IfOk};
+ghost use Rattle.rds_model.specs.declared.entry.TheConstants.{MAX_SLOTS};
 
 use crate::rule::PortRule;
 use crate::seat::BindSeat;
@@ -21,21 +22,23 @@ pub struct BindTable {
 
 impl Model for BindTable {
     ghost use Rattle.std.specs.Prelude.{◌≡◌, ◌≤◌};
+    ghost use Rattle.rds_model.specs.declared.entry.TheConstants.{MAX_SLOTS};
     ghost use Rattle.rds_views.specs.Views.{Table};
 
     ghost Value = { Table };
 
     ghost view = { λ t. record { id = t.table.shared.table_id; slots = t.slots } };
 
-    ghost invariant = { λ t. (t.table.shared.key ≡ t.slots) × (t.table.shared.table_id.words ≡ 65537) × (t.table.shared.table_id.slots ≡ 0) × (t.slots ≤ 1024) };
+    ghost invariant = { λ t. (t.table.shared.key ≡ t.slots) × (t.table.shared.table_id.words ≡ 65537) × (t.table.shared.table_id.slots ≡ 0) × (t.slots ≤ MAX_SLOTS) };
 }
 
 impl BindTable {
     ghost use Rattle.rds_bindtab.specs.Seats.{first_view};
+    ghost use Rattle.rds_model.specs.declared.entry.TheConstants.{MAX_SLOTS};
 
     /// A table with 1 to 1,024 slots, and its first seat. All words are 0.
     pub fn new(alloc: Global, slots: u16) -> Result<(BindTable, BindSeat), Memory>
-        requires { (1 ≤ slots) × (slots ≤ 1024) }
+        requires { (1 ≤ slots) × (slots ≤ MAX_SLOTS) }
         ensures slots { IfOk result (λ r. r.0.slots ≡ slots) }
         ensures seat { IfOk result (λ r. (r.1.table ≡ r.0) × (r.1.view ≡ first_view slots)) }
     {

@@ -3,6 +3,7 @@ use Rattle.std.specs.Prelude.{◌≡◌, ◌⊎◌, ℕ, ◌+◌, ◌*◌, ◌%�
 use Rattle.std.specs.Int.{bit_at}
 use Rattle.atomic_table.specs.Table.{State}
 use Rattle.rds_views.specs.Views.{Has, Each, total}
+use Rattle.rds_model.specs.declared.entry.TheConstants.{MAX_SLOTS}
 use Rattle.rds_meter.specs.declared.view.View.{View}
 use Rattle.rds_meter.specs.declared.view.Check.{Check}
 use Rattle.rds_meter.specs.declared.view.Stage.{Stage}
@@ -29,7 +30,7 @@ BitsFit views word bits = (port : ℕ) → port < 65536 → word ≡ map_word po
 
 -- what was found of a slot: no more was put than its put word says, and the limit is one of its limits
 pub record FitsSlot (words : List ℕ) (views : List View) (slot put limit : ℕ) : Type 0 where
-  pub slot_small : slot < 1024
+  pub slot_small : slot < MAX_SLOTS
   pub put_within : put ≤ slice_index words (put_word slot)
   pub limit_was : IsLimit views slot limit
 
@@ -46,7 +47,7 @@ pub record Shared (words : List ℕ) (views : List View) : Type 0 where
   -- a word freed, put or taken is the sum of the seats' parts
   pub sums : (word : ℕ) → 1024 ≤ word → word < 4096 → slice_index words word ≡ total (λ v. part word v.steps) views
   -- a limit word is 0 or a limit that some seat has stored
-  pub limits : (slot : ℕ) → slot < 1024 → IsLimit views slot (slice_index words (limit_word slot))
+  pub limits : (slot : ℕ) → slot < MAX_SLOTS → IsLimit views slot (slice_index words (limit_word slot))
   -- a closed check raised a bit exactly where it had to
   pub closed : Each views (λ v. (c : Check) → Contains v.checks c → FitsSlot words views c.slot c.put c.limit × (is_some c.raised ≡ must_raise c))
   -- an open check has to raise a bit, and hasn't

@@ -1,5 +1,6 @@
 //! What is stored and added for a slot.
 ghost use Rattle.std.specs.Prelude.{◌≡◌, ◌+◌, ◌<◌, ◌≤◌, ◌^◌, Some};
+ghost use Rattle.rds_model.specs.declared.entry.TheConstants.{MAX_SLOTS};
 ghost use Rattle.rds_meter.specs.Seats.{knowing, after_add, after_store};
 ghost use Rattle.rds_meter.specs.Places.{freed_word, put_word, taken_word, part};
 
@@ -35,7 +36,7 @@ impl Meter {
     /// Adds to the bytes freed of a slot by one fetch and add, and answers the word after it.
     pub fn free_add(&self, seat: &mut MeterSeat, slot: u16, n: u32) -> u64
         requires table { seat.old.table ≡ self.now }
-        requires slot { slot < 1024 }
+        requires slot { slot < MAX_SLOTS }
         requires part { part (freed_word slot) seat.old.view.steps + n ≤ 2 ^ 52 }
         ensures seat { seat.new ≡ knowing seat.old (after_add seat.old.view (freed_word slot) n result) }
         ensures part { part (freed_word slot) seat.old.view.steps + n ≤ result }
@@ -46,7 +47,7 @@ impl Meter {
     /// Adds to the bytes put into a slot's mailbox by one fetch and add, and answers the word after it.
     pub fn put_add(&self, seat: &mut MeterSeat, slot: u16, n: u32) -> u64
         requires table { seat.old.table ≡ self.now }
-        requires slot { slot < 1024 }
+        requires slot { slot < MAX_SLOTS }
         requires part { part (put_word slot) seat.old.view.steps + n ≤ 2 ^ 52 }
         ensures seat { seat.new ≡ knowing seat.old (after_add seat.old.view (put_word slot) n result) }
         ensures part { part (put_word slot) seat.old.view.steps + n ≤ result }
@@ -57,7 +58,7 @@ impl Meter {
     /// Adds to the bytes taken out of a slot's mailbox by one fetch and add, and answers the word after it.
     pub fn take_add(&self, seat: &mut MeterSeat, slot: u16, n: u32) -> u64
         requires table { seat.old.table ≡ self.now }
-        requires slot { slot < 1024 }
+        requires slot { slot < MAX_SLOTS }
         requires part { part (taken_word slot) seat.old.view.steps + n ≤ 2 ^ 52 }
         ensures seat { seat.new ≡ knowing seat.old (after_add seat.old.view (taken_word slot) n result) }
         ensures part { part (taken_word slot) seat.old.view.steps + n ≤ result }

@@ -1,5 +1,6 @@
 //! What one load of a word finds.
 ghost use Rattle.std.specs.Prelude.{◌≡◌, ◌+◌, ◌<◌, ◌≤◌};
+ghost use Rattle.rds_model.specs.declared.entry.TheConstants.{MAX_SLOTS};
 ghost use Rattle.rds_meter.specs.Seats.{knowing, after_load};
 ghost use Rattle.rds_meter.specs.Places.{limit_word, freed_word, put_word, taken_word, change_word, part};
 
@@ -23,7 +24,7 @@ impl Meter {
     /// The receive limit of a slot, or 0 where none was set.
     pub fn limit(&self, seat: &mut MeterSeat, slot: u16) -> u64
         requires table { seat.old.table ≡ self.now }
-        requires slot { slot < 1024 }
+        requires slot { slot < MAX_SLOTS }
         ensures { seat.new ≡ knowing seat.old (after_load seat.old.view (limit_word slot) result) }
     {
         self.load(seat, usize::from(slot))
@@ -32,7 +33,7 @@ impl Meter {
     /// The bytes freed of a slot.
     pub fn freed(&self, seat: &mut MeterSeat, slot: u16) -> u64
         requires table { seat.old.table ≡ self.now }
-        requires slot { slot < 1024 }
+        requires slot { slot < MAX_SLOTS }
         ensures seat { seat.new ≡ knowing seat.old (after_load seat.old.view (freed_word slot) result) }
         ensures part { part (freed_word slot) seat.old.view.steps ≤ result }
         ensures most { result ≤ 18442240474082181120 }
@@ -43,7 +44,7 @@ impl Meter {
     /// The bytes put into a slot's mailbox.
     pub fn put(&self, seat: &mut MeterSeat, slot: u16) -> u64
         requires table { seat.old.table ≡ self.now }
-        requires slot { slot < 1024 }
+        requires slot { slot < MAX_SLOTS }
         ensures seat { seat.new ≡ knowing seat.old (after_load seat.old.view (put_word slot) result) }
         ensures part { part (put_word slot) seat.old.view.steps ≤ result }
         ensures most { result ≤ 18442240474082181120 }
@@ -54,7 +55,7 @@ impl Meter {
     /// The bytes taken out of a slot's mailbox.
     pub fn taken(&self, seat: &mut MeterSeat, slot: u16) -> u64
         requires table { seat.old.table ≡ self.now }
-        requires slot { slot < 1024 }
+        requires slot { slot < MAX_SLOTS }
         ensures seat { seat.new ≡ knowing seat.old (after_load seat.old.view (taken_word slot) result) }
         ensures part { part (taken_word slot) seat.old.view.steps ≤ result }
         ensures most { result ≤ 18442240474082181120 }

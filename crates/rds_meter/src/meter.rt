@@ -1,4 +1,5 @@
 ghost use Rattle.std.specs.Prelude.{◌≡◌, ◌≤◌, IfOk};
+ghost use Rattle.rds_model.specs.declared.entry.TheConstants.{MAX_SLOTS};
 
 use crate::places::CHANGE;
 use crate::rule::MeterRule;
@@ -19,21 +20,23 @@ pub struct Meter {
 
 impl Model for Meter {
     ghost use Rattle.std.specs.Prelude.{◌≡◌, ◌≤◌};
+    ghost use Rattle.rds_model.specs.declared.entry.TheConstants.{MAX_SLOTS};
     ghost use Rattle.rds_views.specs.Views.{Table};
 
     ghost Value = { Table };
 
     ghost view = { λ m. record { id = m.table.shared.table_id; slots = m.slots } };
 
-    ghost invariant = { λ m. (m.table.shared.table_id.words ≡ 5121) × (m.table.shared.table_id.slots ≡ 0) × (m.slots ≤ 1024) };
+    ghost invariant = { λ m. (m.table.shared.table_id.words ≡ 5121) × (m.table.shared.table_id.slots ≡ 0) × (m.slots ≤ MAX_SLOTS) };
 }
 
 impl Meter {
     ghost use Rattle.rds_meter.specs.Seats.{first_view};
+    ghost use Rattle.rds_model.specs.declared.entry.TheConstants.{MAX_SLOTS};
 
     /// A meter for 1 to 1,024 slots, and its first seat. All words are 0.
     pub fn new(alloc: Global, slots: u16) -> Result<(Meter, MeterSeat), Memory>
-        requires { (1 ≤ slots) × (slots ≤ 1024) }
+        requires { (1 ≤ slots) × (slots ≤ MAX_SLOTS) }
         ensures slots { IfOk result (λ r. r.0.slots ≡ slots) }
         ensures seat { IfOk result (λ r. (r.1.table ≡ r.0) × (r.1.slot ≡ None) × (r.1.view ≡ first_view slots)) }
     {

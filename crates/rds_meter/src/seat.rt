@@ -1,4 +1,5 @@
 ghost use Rattle.std.specs.Prelude.{◌≡◌};
+ghost use Rattle.rds_model.specs.declared.entry.TheConstants.{MAX_SLOTS};
 
 use crate::view::View;
 use atomic_table::Seat;
@@ -13,13 +14,14 @@ pub struct MeterSeat {
 
 impl Model for MeterSeat {
     ghost use Rattle.std.specs.Prelude.{◌≡◌, ◌<◌, ◌≤◌, ℕ, [], Some};
+    ghost use Rattle.rds_model.specs.declared.entry.TheConstants.{MAX_SLOTS};
     ghost use Rattle.rds_meter.specs.Seats.{MeterSeat, meter_seat};
 
     ghost Value = { MeterSeat };
 
     ghost view = { λ s. meter_seat s.seat.table_id s.slot s.seat.me.0 };
 
-    ghost invariant = { λ s. (1 ≤ s.seat.me.0.weight) × (s.seat.me.1 ≡ []) × ((slot : ℕ) → s.slot ≡ Some slot → slot < 1024) };
+    ghost invariant = { λ s. (1 ≤ s.seat.me.0.weight) × (s.seat.me.1 ≡ []) × ((slot : ℕ) → s.slot ≡ Some slot → slot < MAX_SLOTS) };
 }
 
 impl MeterSeat {

@@ -1,6 +1,7 @@
 -- Laws, each proved: proofs in other crates use them. Nothing here has to be believed.
 -- A seat at the meter that stays tied to its meter and slot, with what it has added.
 use Rattle.std.proofs.Common.{◌≡◌, ℕ, ◌+◌, ◌<◌, ◌≤◌, Some, sym, ◌∙◌, subst, arith}
+use Rattle.rds_model.specs.declared.entry.TheConstants.{MAX_SLOTS}
 use Rattle.rds_views.specs.Views.{Table}
 use Rattle.rds_meter.specs.declared.view.View.{View}
 use Rattle.rds_meter.specs.declared.view.Step.TheVariants.{Stored, Loaded, Lowered, Bumped}
@@ -9,7 +10,7 @@ use Rattle.rds_meter.specs.Seats.{MeterSeat, knowing, after_add, after_store, af
 use Rattle.rds_meter.specs.PartLaws.{part-push, part-after_add}
 
 abbrev pub Tied : MeterSeat → Table → ℕ → ℕ → Type 0
-Tied h m slot added = (h.table ≡ m) × (h.slot ≡ Some slot) × (slot < 1024) × (added ≡ part (taken_word slot) h.view.steps) × (added ≤ 4503599627370496)
+Tied h m slot added = (h.table ≡ m) × (h.slot ≡ Some slot) × (slot < MAX_SLOTS) × (added ≡ part (taken_word slot) h.view.steps) × (added ≤ 4503599627370496)
 
 pub part-after_load : (w q found : ℕ) (v : View) → part w (after_load v q found).steps ≡ part w v.steps
 part-after_load w q found v = let p = part-push w v.steps (Loaded q found) in omega arith

@@ -1,5 +1,6 @@
 //! The routes of a socket to its host's peers.
 ghost use Rattle.std.specs.Prelude.{◌≡◌, ◌<◌, ◌≤◌, ◌==◌, ℕ, length, position, IfOk, IfErr, OnOk, OnErr, IfSome, IfNone};
+ghost use Rattle.rds_model.specs.declared.entry.TheConstants.{MAX_SLOTS};
 ghost use Rattle.rds_model.specs.declared.order.Order.TheVariants as order;
 ghost use Rattle.rds_parts.specs.Refusals.{AskRefused};
 ghost use Rattle.rds_parts.specs.Lanes.{LeadsTo, NoneTo, IsPutAt, IsPutTo, ArePut, IsLookAt, IsLookTo, HasSeen, RoutesStay, At, Lane};
@@ -119,7 +120,7 @@ impl<R: MapReader> Routes<R> {
     /// place of the first that wasn't told.
     pub fn tell<W: Wait>(&mut self, rt: &W, from: usize, slot: u16) -> Result<(), usize>
         requires from { from ≤ length self.old }
-        requires slot { slot < 1024 }
+        requires slot { slot < MAX_SLOTS }
         ensures all { OnOk result (ArePut from (length self.old) (order.CloseSocket slot) self.old self.new) }
         ensures some { IfErr result (λ upto. (from ≤ upto) × (upto < length self.old) × ArePut from upto (order.CloseSocket slot) self.old self.new) }
         ensures stay { RoutesStay R.pair R.has_seen self.old self.new }

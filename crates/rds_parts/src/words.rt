@@ -1,5 +1,6 @@
 //! The steps of a slot on the meter.
 ghost use Rattle.std.specs.Prelude.{◌≡◌, ◌<◌, ◌≤◌, ℕ, Some};
+ghost use Rattle.rds_model.specs.declared.entry.TheConstants.{MAX_SLOTS};
 ghost use Rattle.std.specs.Arc.{arc_value};
 ghost use Rattle.rds_meter.specs.Places.{freed_word, taken_word, part};
 ghost use Rattle.rds_meter.specs.Seats.{after_load, after_store};
@@ -24,6 +25,7 @@ pub struct Words {
 
 impl Model for Words {
     ghost use Rattle.std.specs.Prelude.{◌≡◌, ◌<◌, ◌≤◌, Some};
+    ghost use Rattle.rds_model.specs.declared.entry.TheConstants.{MAX_SLOTS};
     ghost use Rattle.std.specs.Arc.{arc_value};
     ghost use Rattle.rds_meter.specs.Places.{taken_word, part};
     ghost use Rattle.rds_parts.specs.Words.{Purse};
@@ -32,13 +34,13 @@ impl Model for Words {
 
     ghost view = { λ w. record { slot = w.slot; seat = w.seat } };
 
-    ghost invariant = { λ w. (w.seat.table ≡ arc_value w.meter) × (w.seat.slot ≡ Some w.slot) × (w.slot < 1024) × (w.added ≡ part (taken_word w.slot) w.seat.view.steps) × (w.added ≤ 4503599627370496) };
+    ghost invariant = { λ w. (w.seat.table ≡ arc_value w.meter) × (w.seat.slot ≡ Some w.slot) × (w.slot < MAX_SLOTS) × (w.added ≡ part (taken_word w.slot) w.seat.view.steps) × (w.added ≤ 4503599627370496) };
 }
 
 impl Words {
     pub fn new(meter: Arc<Meter>, seat: MeterSeat, slot: u16) -> Words
         requires table { seat.table ≡ arc_value meter }
-        requires slot { (seat.slot ≡ Some slot) × (slot < 1024) }
+        requires slot { (seat.slot ≡ Some slot) × (slot < MAX_SLOTS) }
         requires part { part (taken_word slot) seat.view.steps ≡ 0 }
         ensures { result ≡ record { slot = slot; seat = seat } }
     {
@@ -60,7 +62,7 @@ impl Words {
 
     pub fn slot(&self) -> u16
         ensures slot { result ≡ self.now.slot }
-        ensures small { result < 1024 }
+        ensures small { result < MAX_SLOTS }
     {
         self.slot
     }

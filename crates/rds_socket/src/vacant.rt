@@ -1,5 +1,6 @@
 //! A slot without a port.
 ghost use Rattle.std.specs.Prelude.{◌≡◌, ◌<◌, ◌≤◌, ℕ, [], Some, None, OnOk, OnErr, IfErr};
+ghost use Rattle.rds_model.specs.declared.entry.TheConstants.{MAX_SLOTS};
 ghost use Rattle.std.specs.Arc.{arc_value};
 ghost use Rattle.rds_bindtab.specs.Seats.{slot_of};
 ghost use Rattle.rds_model.specs.declared.order.Order.TheVariants as order;
@@ -55,7 +56,7 @@ impl<R: MapReader> Vacant<R> {
         requires table { seat.table ≡ arc_value table }
         requires meter { own.table ≡ arc_value meter }
         requires mail { get.mail ≡ (arc_value inbox).line }
-        requires slot { (seat.view.slot ≡ Some (slot_of seat.view)) × (own.slot ≡ Some (slot_of seat.view)) × (slot_of seat.view < 1024) }
+        requires slot { (seat.view.slot ≡ Some (slot_of seat.view)) × (own.slot ≡ Some (slot_of seat.view)) × (slot_of seat.view < MAX_SLOTS) }
         requires port { (seat.view.port ≡ None) × HasClaimedOnly None seat.view }
         requires quiet { IsQuietSeat (slot_of seat.view) own.view }
         requires parts { (word : ℕ) → part word own.view.steps ≡ 0 }
