@@ -6,7 +6,7 @@ use Rattle.rds_wire.specs.Kinds.{cause}
 use Rattle.rds_wire.specs.HeaderLaws.{length-header_bytes}
 use Rattle.rds_frame.specs.declared.took.Took.{Took}
 use Rattle.rds_frame.specs.Holding.{SplitterView as Frames, HoldsAtMostOneFrame, held_bytes, refusing}
-use Rattle.rds_frame.specs.Taking.{TakesPiece, RefusesPiece as RefusesHeader}
+use Rattle.rds_frame.specs.Taking.{TakesPiece, RefusesPiece as FrameRefuses}
 use Rattle.rds_model.specs.declared.entry.Entry.TheVariants.{Bad}
 use Rattle.rds_model.specs.Log.{Log}
 use Rattle.rds_model.specs.Legal.{IsLawfulBad}
@@ -37,7 +37,7 @@ keeps_fed c s piece took splitter keeps on takes held = record {
 
 -- a header that the splitter refused is a lawful end of the stream
 pub lawful_refusal : (c : Inside) (s : ℕ) (piece : List ℕ) (fault : Malformed) (splitter : Frames) → ConnectionInvariant c → c.stream ≡ Some s →
-    (refused : RefusesHeader c.highest c.splitter piece fault splitter) → IsLawfulBad s c.journal.past refused.header fault
+    (refused : FrameRefuses c.highest c.splitter piece fault splitter) → IsLawfulBad s c.journal.past refused.header fault
 lawful_refusal c s piece fault splitter keeps on refused = record {
   on = sym keeps.stream ∙ on;
   header = refused.fits;
@@ -49,7 +49,7 @@ taken_within : (n : ℕ) (xs : List ℕ) (have : ℕ) → have + length (take n 
 taken_within n xs have whole rest short = let len = length-take n xs in omega (arith, len, whole, rest, short)
 
 pub refused_bytes : (c : Inside) (s : ℕ) (piece : List ℕ) (fault : Malformed) (splitter : Frames) → ConnectionInvariant c → c.stream ≡ Some s →
-    (refused : RefusesHeader c.highest c.splitter piece fault splitter) →
+    (refused : FrameRefuses c.highest c.splitter piece fault splitter) →
     (new : Connection) → new ≡ record (with_entries (Bad s refused.header fault ∷ []) (connection_view c)) { waiting = None; rest = [] } →
     RefusesHeader piece fault (connection_view c) new
 refused_bytes c s piece fault splitter keeps on refused new is =

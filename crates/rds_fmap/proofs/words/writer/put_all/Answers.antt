@@ -26,7 +26,7 @@ pub loop-j-preserved : goal.loop-j-preserved
 loop-j-preserved c =
     let done = c.store.ensures in
     let number = number_is c.args.version c.from.result c.requires.version.1 (let h = c.half.type_inv in let e = c.from.ensures in omega arith) in
-    let is = c.known.ensures in
+    let is = c.known.ensures.map in
     record {
       table = done.0 ∙ c.loop-j.invariant.table;
       view = subst (λ (v : View). Publishing c.args.map.now c.args.seat.now.me.0 v (c.loop-j.j + 1)) (sym (ap (λ m. m.0) done.2))
