@@ -4,7 +4,7 @@ ghost use Rattle.rds_wire.specs.declared.kind.Malformed.{Malformed};
 ghost use Rattle.rds_frame.specs.Holding.{HoldsAtMostOneFrame, nothing_held};
 ghost use Rattle.rds_frame.specs.Taking.{RefusesPiece, TakesPiece};
 
-use crate::body::advance;
+use crate::body::Body;
 use crate::head::{fault_of, fill};
 use crate::{FrameError, Took};
 use rds_wire::{Frame, Header, Memory, decode};
@@ -16,7 +16,7 @@ use std::marker::Model;
 pub struct Splitter {
     head: [u8; 48],
     came: usize,
-    body: Vec<u8>,
+    body: Body,
     waiting: Option<Frame>,
     refused: Option<Header>,
 }
@@ -30,12 +30,12 @@ impl Model for Splitter {
     ghost use Rattle.rds_frame.specs.Fields.{IsSplitter};
 
     ghost view = { λ s. record {
-      rest = take s.came s.head ++ s.body.items;
+      rest = take s.came s.head ++ s.body;
       waiting = s.waiting;
       refused = s.refused;
     } };
 
-    ghost invariant = { λ s. IsSplitter s.head s.came s.body.items s.waiting s.refused };
+    ghost invariant = { λ s. IsSplitter s.head s.came s.body s.waiting s.refused };
 }
 
 impl Splitter {
@@ -47,7 +47,7 @@ impl Splitter {
         Ok(Splitter {
             head: [0; 48],
             came: 0,
-            body: Vec::new(alloc),
+            body: Body::new(alloc),
             waiting: None,
             refused: None,
         })
@@ -115,7 +115,7 @@ impl Splitter {
         }
         let len = header.len as usize;
         let missing = len - self.body.len();
-        match advance(&mut self.body, len, &piece[filled..])? {
+        match self.body.advance(len, &piece[filled..])? {
             None => {
                 self.came = 48;
                 Ok(Took {

@@ -24,13 +24,13 @@ fn took(used: usize, ready: bool) -> Result<Took, FrameError> {
     Ok(Took { used, ready })
 }
 
-// A map and the datagram `hello`, as a first stream begins.
+// The datagram `hello`, a map, whose payload is long, and a datagram without bytes: a short payload, a long one, none.
 fn hello(alloc: Global) -> Result<Vec<u8>, AllocError> {
-    let map = sealed(header(0, 0, MAP_LENGTH, CONG_BITMAP));
-    let mut bytes = encode(&map).to_vec(alloc)?;
-    bytes.extend_from_slice(&[0; 8192])?;
-    bytes.extend_from_slice(&encode(&sealed(header(1, 0, 5, ACK_REQUIRED))))?;
+    let mut bytes = encode(&sealed(header(1, 0, 5, 0))).to_vec(alloc)?;
     bytes.extend_from_slice(b"hello")?;
+    bytes.extend_from_slice(&encode(&sealed(header(0, 0, MAP_LENGTH, CONG_BITMAP))))?;
+    bytes.extend_from_slice(&[0; 8192])?;
+    bytes.extend_from_slice(&encode(&sealed(header(2, 0, 0, ACK_REQUIRED))))?;
     Ok(bytes)
 }
 
@@ -48,12 +48,13 @@ fn pieces(alloc: Global, bytes: &[u8], length: usize) -> Result<Vec<Vec<u8>>, Al
 fn pieces_of_every_length(rt: HostRuntime) -> Result<(), Fail> {
     let bytes = hello(rt.alloc())?;
     let whole = frames_in(rt.alloc(), &bytes, 0)?;
-    assert_eq!(rt; whole.len(), 2);
-    assert_eq!(rt; whole[1].payload.as_slice(), b"hello".as_slice());
+    assert_eq!(rt; whole.len(), 3);
+    assert_eq!(rt; whole[0].payload.as_slice(), b"hello".as_slice());
+    assert_eq!(rt; whole[1].payload.len(), MAP_LENGTH);
     for length in 1..=100 {
         let cut = pieces(rt.alloc(), &bytes, length)?;
         let frames = frames_of(rt.alloc(), &cut, 0)?;
-        assert_eq!(rt; frames.len(), 2, "pieces of {length}");
+        assert_eq!(rt; frames.len(), 3, "pieces of {length}");
         for (frame, wanted) in frames.iter().zip(whole.iter()) {
             assert_eq!(rt; frame.header, wanted.header);
             assert_eq!(rt; frame.payload.as_slice(), wanted.payload.as_slice());

@@ -44,6 +44,14 @@ impl Payload {
         }
     }
 
+    /// A payload of bytes that others may share, at most 2,097,152 of them, without a copy.
+    pub fn from_bytes(bytes: Bytes) -> Payload
+        requires { length bytes ≤ 2097152 }
+        ensures { result ≡ bytes }
+    {
+        Payload { bytes }
+    }
+
     /// Another owner of the same bytes. Nothing is copied.
     pub fn share(&self) -> Result<Payload, Memory>
         ensures { IfOk result (λ p. p ≡ self.now) }
@@ -67,6 +75,7 @@ impl Payload {
         self.bytes.is_empty()
     }
 
+    /// The bytes.
     pub fn as_slice(&self) -> &[u8]
         ensures { result.now ≡ self.now }
     {

@@ -6,5 +6,5 @@ pub returns-clause-held : goal.returns-clause-held
 returns-clause-held c =
     let s = c.self.inside in
     let left = c.take.new.self in
-    IsHeld-fields s.head s.came s.body.items left s.refused
-    (Keeps-done s.head s.came s.body.items s.waiting left s.refused c.self.invariant c.take.ensures.after)
+    IsHeld-fields s.head s.came s.body left s.refused
+    (Keeps-done s.head s.came s.body s.waiting left s.refused c.self.invariant c.take.ensures.after)

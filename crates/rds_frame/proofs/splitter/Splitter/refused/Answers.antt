@@ -6,4 +6,4 @@ use Rattle.rds_frame.proofs.splitter.Splitter.refused.Goals as goal
 pub returns-clause-held : goal.returns-clause-held
 returns-clause-held c =
     let s = c.self.inside in
-    subst (λ (held : SplitterView). HoldsAtMostOneFrame held) c.self.view_is (IsHeld-fields s.head s.came s.body.items s.waiting s.refused c.self.invariant)
+    subst (λ (held : SplitterView). HoldsAtMostOneFrame held) c.self.view_is (IsHeld-fields s.head s.came s.body s.waiting s.refused c.self.invariant)
