@@ -1,3 +1,4 @@
 pub mod Bits
 pub mod Changes
 pub mod InPlace
+pub mod Differing

@@ -1,4 +1,4 @@
-ghost use Rattle.std.specs.Prelude.{◌≡◌, ℕ, ◌+◌, ◌*◌, ◌/◌, ◌%◌, ◌<◌, ◌==◌, ◌&&◌, ◌||◌, not, ◌↔◌, if◌then◌else◌, false, IsTrue, IfOk};
+ghost use Rattle.std.specs.Prelude.{◌≡◌, length, ℕ, ◌+◌, ◌*◌, ◌/◌, ◌%◌, ◌<◌, ◌==◌, ◌&&◌, ◌||◌, not, ◌↔◌, if◌then◌else◌, false, IsTrue, IfOk};
 ghost use Rattle.std.specs.Int.{bit_at};
 ghost use Rattle.rds_cong.specs.Map.{IsMap, no_ports, has_port, with_port, without_port, word_at, with_word};
 
@@ -105,7 +105,7 @@ impl PortMap {
         ensures value { IsTrue result ↔ (self.now ≡ other.now) }
         ensures ports { ((q : ℕ) → has_port self.now q ≡ has_port other.now q) → IsTrue result }
     {
-        self.words == other.words
+        differing(&self.words, &other.words) == 0
     }
 
     /// Becomes like the other.
@@ -122,4 +122,16 @@ impl PortMap {
     {
         let _ = &self.words;
     }
+}
+
+// The bits in which two lists of words differ, at any place. The loop has no way out, so that it compares many words at once.
+fn differing(words: &[u64], others: &[u64]) -> u64
+    requires { length words.now ≡ length others.now }
+    ensures { (result ≡ 0) ↔ (words.now ≡ others.now) }
+{
+    let mut bits = 0;
+    for i in 0..words.len() {
+        bits |= words[i] ^ others[i];
+    }
+    bits
 }
