@@ -8,9 +8,9 @@ use Rattle.rds_model.specs.declared.entry.Outcome.{Outcome}
 use Rattle.rds_model.specs.Legal.{pong_for}
 use Rattle.rds_conn.specs.declared.conn.ConnError.{ConnError}
 use Rattle.rds_conn.specs.declared.conn.ConnError.TheVariants as errors
-use Rattle.rds_conn.specs.Connection.{Connection, logged, stream_of}
-use Rattle.rds_conn.specs.Feeding.{Refuses}
-use Rattle.rds_conn.specs.Passing.{answering, passed}
+use Rattle.rds_conn.specs.Connection.{Connection, with_entries, stream_of}
+use Rattle.rds_conn.specs.Feeding.{RefusesHeader}
+use Rattle.rds_conn.specs.Passing.{with_pong, after_pass}
 
 -- what an option that isn't empty has
 pub some_of : {A : Type 0} (o : Option A) → IsSome o → (x : A) × (o ≡ Some x)
@@ -23,7 +23,7 @@ slots_of old new same = ap (λ (c : Connection). c.slots) same
 
 -- whatever a piece was refused for
 pub slots_unfed : (piece : List ℕ) (old new : Connection) (e : ConnError) →
-    ((fault : Malformed) → e ≡ errors.Malformed fault → Refuses piece fault old new) →
+    ((fault : Malformed) → e ≡ errors.Malformed fault → RefusesHeader piece fault old new) →
     (e ≡ errors.Closed → stream_of old ≡ None) → (stream_of old ≡ None → new ≡ old) →
     (e ≡ errors.Memory → new ≡ old) → ((entries : ℕ) → e ≡ errors.Spent entries → ⊥) → new.slots ≡ old.slots
 slots_unfed piece old new errors.Memory malformed closed still memory spent = slots_of old new (memory refl)
@@ -32,15 +32,15 @@ slots_unfed piece old new (errors.Malformed fault) malformed closed still memory
 slots_unfed piece old new (errors.Spent entries) malformed closed still memory spent = absurd (spent entries refl)
 slots_unfed piece old new errors.Closed malformed closed still memory spent = slots_of old new (still (closed refl))
 
-slots_answered : (c : Connection) (answer : Option ℕ) → (answering answer c).slots ≡ c.slots
+slots_answered : (c : Connection) (answer : Option ℕ) → (with_pong answer c).slots ≡ c.slots
 slots_answered c None = refl
 slots_answered c (Some port) = refl
 
 -- a frame was read, and a pong may stand behind it
 pub slots_read : (old new : Connection) (k : ℕ) (f : Frame) (came : Outcome) →
-    new ≡ record (passed k f came old) { freed = new.freed } → new.slots ≡ old.slots
+    new ≡ record (after_pass k f came old) { freed = new.freed } → new.slots ≡ old.slots
 slots_read old new k f came entry =
-    let after : new.slots ≡ (passed k f came old).slots = ap (λ (c : Connection). c.slots) entry in
-    let before : (passed k f came old).slots ≡ old.slots =
-    slots_answered (record (logged (Read k f came ∷ []) old) { waiting = None }) (pong_for came f.header.sport) in
+    let after : new.slots ≡ (after_pass k f came old).slots = ap (λ (c : Connection). c.slots) entry in
+    let before : (after_pass k f came old).slots ≡ old.slots =
+    slots_answered (record (with_entries (Read k f came ∷ []) old) { waiting = None }) (pong_for came f.header.sport) in
     cc

@@ -8,33 +8,33 @@ use native.Mathlib.Decide.{ℕ_discrete}
 use prog.Atomic.{either}
 use Rattle.atomic_table.specs.Table.{Me, Allows, keeps}
 use Rattle.atomic_table.proofs.Lists.{at_set}
-use Rattle.rds_words.specs.Views.{At, Has}
-use Rattle.rds_words.proofs.Views.{at_here, has_set, has_unset}
+use Rattle.rds_views.specs.Views.{At, Has}
+use Rattle.rds_views.specs.ViewLaws.{at_here, has_set, has_unset}
 use Rattle.rds_bindtab.specs.declared.view.View.{View}
 use Rattle.rds_bindtab.specs.declared.view.Telling.{Telling}
 use Rattle.rds_bindtab.specs.declared.view.Step.{Step}
 use Rattle.rds_bindtab.specs.declared.view.Step.TheVariants.{Claimed, Released, Looked}
 use Rattle.rds_bindtab.specs.Seats.{after_exchange, after_release, slot_of, port_of}
-use Rattle.rds_bindtab.specs.Shared.{Shared, Ruled, Holds}
+use Rattle.rds_bindtab.specs.Shared.{Shared, Ruled, HoldsPort}
 use Rattle.rds_bindtab.proofs.Facts.{Facts, Change}
 use Rattle.rds_bindtab.proofs.Words.{Ports, draws_in, stepped_one, ports_same, facts_of, claimed_still}
 
 -- the word of one port is set, and the seat's holdings of other ports stay
 ports_at : (words : List ℕ) (views : List View) (id n port : ℕ) (v w : View) → length words ≡ 65537 → port < 65536 → At views id v → Ports words views
-    → ((q slot : ℕ) → q ≢ port → Holds q slot v → Holds q slot w) → ((q slot : ℕ) → q ≢ port → Holds q slot w → Holds q slot v)
-    → ((slot : ℕ) → (n ≡ 1 + slot) ↔ Has (set views id w) (Holds port slot)) → Ports (set words port n) (set views id w)
+    → ((q slot : ℕ) → q ≢ port → HoldsPort q slot v → HoldsPort q slot w) → ((q slot : ℕ) → q ≢ port → HoldsPort q slot w → HoldsPort q slot v)
+    → ((slot : ℕ) → (n ≡ 1 + slot) ↔ Has (set views id w) (HoldsPort port slot)) → Ports (set words port n) (set views id w)
 ports_at words views id n port v w size small here p onward back mine q slot low = dite (ℕ_discrete q port)
     (λ same.
     let at : slice_index (set words port n) q ≡ n = ap (λ k. slice_index (set words port n) k) same ∙ get_or-set_same words port n 0 (omega arith) in
     let m = mine slot in (
-      (λ e. subst (λ k. Has (set views id w) (Holds k slot)) (sym same) (m.0 (sym at ∙ e))),
-      (λ h. at ∙ m.1 (subst (λ k. Has (set views id w) (Holds k slot)) same h)),
+      (λ e. subst (λ k. Has (set views id w) (HoldsPort k slot)) (sym same) (m.0 (sym at ∙ e))),
+      (λ h. at ∙ m.1 (subst (λ k. Has (set views id w) (HoldsPort k slot)) same h)),
     ))
     (λ apart.
     let at : slice_index (set words port n) q ≡ slice_index words q = get_or-set_other words port q n 0 apart in
     let o = p q slot low in (
-      (λ e. has_set (Holds q slot) views id v w here (onward q slot apart) (o.0 (sym at ∙ e))),
-      (λ h. at ∙ o.1 (has_unset (Holds q slot) views id w (λ k. (id, v, here, back q slot apart k)) h)),
+      (λ e. has_set (HoldsPort q slot) views id v w here (onward q slot apart) (o.0 (sym at ∙ e))),
+      (λ h. at ∙ o.1 (has_unset (HoldsPort q slot) views id w (λ k. (id, v, here, back q slot apart k)) h)),
     ))
 
 -- a claim or a release is no look

@@ -6,18 +6,18 @@ use mathlib.Core.Option.{some-injective}
 use native.Mathlib.Decide.{ℕ_discrete}
 use lib.ListN.{get_elem?}
 use Rattle.atomic_table.proofs.Lists.{at_set, at_snoc}
-use Rattle.rds_words.specs.Views.{At, Has, Each}
-use Rattle.rds_words.proofs.Views.{at_there, has_snoc}
+use Rattle.rds_views.specs.Views.{At, Has, Each}
+use Rattle.rds_views.specs.ViewLaws.{at_there, has_snoc}
 use Rattle.rds_bindtab.specs.declared.view.View.{View}
 use Rattle.rds_bindtab.specs.declared.view.Telling.{Telling}
 use Rattle.rds_bindtab.specs.declared.view.Step.TheVariants.{Looked}
-use Rattle.rds_bindtab.specs.Shared.{Holds, HasClaimed, OfHolder, Stands, Over, LooksFit}
+use Rattle.rds_bindtab.specs.Shared.{HoldsPort, HasClaimed, OfHolder, TellingStands, TellingIsOver, LooksFit}
 
 pub record Facts (slots draws : ℕ) (views : List View) : Type 0 where
   pub apart : (i j : ℕ) (v w : View) (slot : ℕ) → At views i v → At views j w → v.slot ≡ Some slot → w.slot ≡ Some slot → i ≡ j
   pub below : Each views (λ v. (slot : ℕ) → v.slot ≡ Some slot → (slot < draws) × (slot < slots))
-  pub claimed : Each views (λ v. (port slot : ℕ) → Holds port slot v → HasClaimed port slot v)
-  pub told : Each views (λ v. (t : Telling) → Contains v.told t → Stands draws views t)
+  pub claimed : Each views (λ v. (port slot : ℕ) → HoldsPort port slot v → HasClaimed port slot v)
+  pub told : Each views (λ v. (t : Telling) → Contains v.told t → TellingStands draws views t)
   pub looked : Each views (λ v. (port : ℕ) (found : Option ℕ) (told : List Telling) → Contains v.steps (Looked port found told) → LooksFit draws views port found told)
 
 -- a seat that keeps its slot has released more ports, or as many, and then it holds what it held
@@ -28,9 +28,9 @@ Onward v w = (v.releases < w.releases) ⊎ ((v.releases ≡ w.releases) × ((por
 pub record Change (slots draws now : ℕ) (before after : List View) (v w : View) : Type 0 where
   pub rises : draws ≤ now
   pub slot : (slot : ℕ) → w.slot ≡ Some slot → ((v.slot ≡ Some slot) × Onward v w) ⊎ ((draws ≤ slot) × (slot < now) × (slot < slots))
-  pub claimed : (port slot : ℕ) → Holds port slot w → HasClaimed port slot w
+  pub claimed : (port slot : ℕ) → HoldsPort port slot w → HasClaimed port slot w
   pub claims : (port slot : ℕ) → HasClaimed port slot v → Has after (HasClaimed port slot)
-  pub told : (t : Telling) → Contains w.told t → Stands draws before t
+  pub told : (t : Telling) → Contains w.told t → TellingStands draws before t
   pub looked : (port : ℕ) (found : Option ℕ) (told : List Telling) → Contains w.steps (Looked port found told) → LooksFit draws before port found told
 
 module _ (slots draws now : ℕ) (views : List View) (id : ℕ) (v w : View) (f : Facts slots draws views) (here : At views id v) (c : Change slots draws now views (set views id w) v w) where
@@ -50,7 +50,7 @@ module _ (slots draws now : ℕ) (views : List View) (id : ℕ) (v w : View) (f 
         (at_set views id j w u at)),
   )
 
-  stands_on : (t : Telling) → Stands draws views t → Stands now after t
+  stands_on : (t : Telling) → TellingStands draws views t → TellingStands now after t
   stands_on t = of_holder
       (λ h. (t.releases ≤ h.releases) × (h.releases ≡ t.releases → h.port ≡ Some t.port))
       (λ h. (t.releases ≤ h.releases) × (h.releases ≡ t.releases → h.port ≡ Some t.port))
@@ -61,7 +61,7 @@ module _ (slots draws now : ℕ) (views : List View) (id : ℕ) (v w : View) (f 
       (λ (k : (v.releases ≡ w.releases) × ((port : ℕ) → v.port ≡ Some port → w.port ≡ Some port)). ((let q = p.0 in let e = k.0 in omega arith), (λ same. k.1 t.port (p.1 (k.0 ∙ same)))))
       o)
 
-  over_on : (t : Telling) → Over draws views t → Over now after t
+  over_on : (t : Telling) → TellingIsOver draws views t → TellingIsOver now after t
   over_on t = of_holder (λ h. t.releases < h.releases) (λ h. t.releases < h.releases) t.slot (λ h p. p) (λ p o. ⊎_elim (λ (more : v.releases < w.releases). omega arith) (λ (k : (v.releases ≡ w.releases) × ((port : ℕ) → v.port ≡ Some port → w.port ≡ Some port)). let e = k.0 in omega arith) o)
 
   has_on : (port slot : ℕ) → Has views (HasClaimed port slot) → Has after (HasClaimed port slot)
@@ -123,7 +123,7 @@ module _ (slots draws : ℕ) (views : List View) (u : View) (f : Facts slots dra
   fits_more : (port : ℕ) (found : Option ℕ) (told : List Telling) → LooksFit draws views port found told → LooksFit draws more port found told
   fits_more port found told k = record { claimed = λ slot e. has_snoc (HasClaimed port slot) views u (k.claimed slot e); past = λ t m e n. of_holder_more (λ h. t.releases < h.releases) t.slot (k.past t m e n) }
 
-  stands_more : (t : Telling) → Stands draws views t → Stands draws more t
+  stands_more : (t : Telling) → TellingStands draws views t → TellingStands draws more t
   stands_more t = of_holder_more (λ h. (t.releases ≤ h.releases) × (h.releases ≡ t.releases → h.port ≡ Some t.port)) t.slot
 
   apart_more : (i j : ℕ) (a b : View) (slot : ℕ) → At more i a → At more j b → a.slot ≡ Some slot → b.slot ≡ Some slot → i ≡ j
@@ -135,7 +135,7 @@ module _ (slots draws : ℕ) (views : List View) (u : View) (f : Facts slots dra
   each_more : (P Q : View → Type 0) → Each views P → ((x : View) → P x → Q x) → Q u → Each more Q
   each_more P Q all onward mine j x at = ⊎_elim (λ was. onward x (all j x was)) (λ (same : u ≡ x). subst Q same mine) (at_snoc views u x j at)
 
-  pub facts_snoc : ((t : Telling) → Contains u.told t → Stands draws views t)
+  pub facts_snoc : ((t : Telling) → Contains u.told t → TellingStands draws views t)
       → ((port : ℕ) (found : Option ℕ) (told : List Telling) → Contains u.steps (Looked port found told) → LooksFit draws views port found told)
       → Facts slots draws more
   facts_snoc tells sees = record {

@@ -7,4 +7,4 @@ pub mod Looks
 pub mod Notes
 pub mod Joins
 pub mod Opening
-pub mod Told
+pub mod Tellings

@@ -7,13 +7,13 @@ use mathlib.Core.Logic.{dite}
 use native.Mathlib.Decide.{ℕ_discrete}
 use Rattle.atomic_table.specs.Table.{Me, Allows, keeps}
 use Rattle.atomic_table.proofs.Lists.{set_again}
-use Rattle.rds_words.specs.Views.{At, Has}
-use Rattle.rds_words.proofs.Views.{at_here}
+use Rattle.rds_views.specs.Views.{At, Has}
+use Rattle.rds_views.specs.ViewLaws.{at_here}
 use Rattle.rds_bindtab.specs.declared.view.View.{View}
 use Rattle.rds_bindtab.specs.declared.view.Telling.{Telling}
 use Rattle.rds_bindtab.specs.declared.view.Step.TheVariants.{Looked}
 use Rattle.rds_bindtab.specs.Seats.{after_look, slot_in}
-use Rattle.rds_bindtab.specs.Shared.{Shared, Ruled, Taught, Holds, Over, LooksFit}
+use Rattle.rds_bindtab.specs.Shared.{Shared, Ruled, Taught, HoldsPort, TellingIsOver, LooksFit}
 use Rattle.rds_bindtab.proofs.Words.{draws_in, stepped_one, ports_same}
 
 -- the slot that a word names
@@ -31,14 +31,14 @@ module _ (slots : ℕ) (words : List ℕ) (views : List View) (id : ℕ) (v : Vi
   abbrev w : View
   w = after_look v port (slot_in n)
 
-  found_held : (slot : ℕ) → slot_in n ≡ Some slot → Has views (Holds port slot)
+  found_held : (slot : ℕ) → slot_in n ≡ Some slot → Has views (HoldsPort port slot)
   found_held slot e = (h.ports port slot small).0 (at_slot n slot e)
 
   pub found_below : (slot : ℕ) → slot_in n ≡ Some slot → slot < slots
   found_below slot e = let k = found_held slot e in (h.below k.0 k.1 k.2 slot k.3.0).1
 
   -- a telling whose holder's slot isn't found is over
-  over : (t : Telling) → Contains v.told t → t.port ≡ port → slot_in n ≢ Some t.slot → Over (draws_in words) views t
+  over : (t : Telling) → Contains v.told t → t.port ≡ port → slot_in n ≢ Some t.slot → TellingIsOver (draws_in words) views t
   over t m same other =
       let s = h.told id v here t m in (
         s.0,

@@ -6,13 +6,13 @@ use mathlib.Core.Option.{some-injective}
 use lib.ListN.{get_elem?}
 use Rattle.atomic_table.specs.Table.{Splits}
 use Rattle.atomic_table.proofs.Lists.{set_again}
-use Rattle.rds_words.specs.Views.{At}
-use Rattle.rds_words.proofs.Views.{at_here, has_snoc, has_unsnoc, each_set, each_snoc, total_set, total_snoc}
+use Rattle.rds_views.specs.Views.{At}
+use Rattle.rds_views.specs.ViewLaws.{at_here, has_snoc, has_unsnoc, each_set, each_snoc, total_set, total_snoc}
 use Rattle.rds_bindtab.specs.declared.view.View.{View}
 use Rattle.rds_bindtab.specs.declared.view.Telling.{Telling}
 use Rattle.rds_bindtab.specs.declared.view.Step.TheVariants.{Looked}
 use Rattle.rds_bindtab.specs.Seats.{after_split, newcomer, note_of, note_of_steps, telling_of, slot_of, port_of}
-use Rattle.rds_bindtab.specs.Shared.{Shared, Ruled, Holds, Stands, LooksFit}
+use Rattle.rds_bindtab.specs.Shared.{Shared, Ruled, HoldsPort, TellingStands, LooksFit}
 use Rattle.rds_bindtab.proofs.Facts.{Facts, facts_set, facts_snoc}
 use Rattle.rds_bindtab.proofs.Words.{Ports, draws_in, facts_of, shared_of, ports_same}
 
@@ -23,13 +23,13 @@ nothing_in x m = let k = m.1 in omega arith
 pub record Newcomer (draws : ℕ) (views : List View) (u : View) : Type 0 where
   pub slot : u.slot ≡ None
   pub draws_none : u.draws ≡ 0
-  pub told : (t : Telling) → Contains u.told t → Stands draws views t
+  pub told : (t : Telling) → Contains u.told t → TellingStands draws views t
   pub looked : (port : ℕ) (found : Option ℕ) (told : List Telling) → Contains u.steps (Looked port found told) → LooksFit draws views port found told
 
 ports_more : (words : List ℕ) (views : List View) (u : View) → u.slot ≡ None → Ports words views → Ports words (views ++ u ∷ [])
 ports_more words views u none ports port slot small =
     let p = ports port slot small in
-    ((λ e. has_snoc (Holds port slot) views u (p.0 e)), (λ h. p.1 (has_unsnoc (Holds port slot) views u (λ k. absurd (let q = k.0 in cc)) h)))
+    ((λ e. has_snoc (HoldsPort port slot) views u (p.0 e)), (λ h. p.1 (has_unsnoc (HoldsPort port slot) views u (λ k. absurd (let q = k.0 in cc)) h)))
 
 -- a note is added to the views, and stands for no seat
 noted : (slots : ℕ) (words : List ℕ) (views : List View) (u : View) → Shared slots words views → Newcomer (draws_in words) views u → u.weight ≡ 0 → u.splits ≡ 0 → Shared slots words (views ++ u ∷ [])
@@ -41,7 +41,7 @@ noted slots words views u h n light whole =
     (facts_snoc slots (draws_in words) views u (facts_of slots words views h) n.slot n.told n.looked)
 
 -- the telling of a holder stands
-telling_stands : (slots : ℕ) (words : List ℕ) (views : List View) (id slot port : ℕ) (v : View) → Shared slots words views → At views id v → v.slot ≡ Some slot → v.port ≡ Some port → Stands (draws_in words) views (telling_of v)
+telling_stands : (slots : ℕ) (words : List ℕ) (views : List View) (id slot port : ℕ) (v : View) → Shared slots words views → At views id v → v.slot ≡ Some slot → v.port ≡ Some port → TellingStands (draws_in words) views (telling_of v)
 telling_stands slots words views id slot port v h here seated holds =
     let s : slot_of v ≡ slot = ap (λ (o : Option ℕ). unwrap_or o 0) seated in
     let p : port_of v ≡ port = ap (λ (o : Option ℕ). unwrap_or o 0) holds in (
@@ -64,7 +64,7 @@ notes slots id slot port v seated holds s h here =
     record {
       slot = refl;
       draws_none = refl;
-      told = λ t m. subst (Stands (draws_in s.words) s.views) (only_one (telling_of v) t m) (telling_stands slots s.words s.views id slot port v h here seated holds);
+      told = λ t m. subst (TellingStands (draws_in s.words) s.views) (only_one (telling_of v) t m) (telling_stands slots s.words s.views id slot port v h here seated holds);
       looked = λ p found told m. absurd (nothing_in (Looked p found told) m);
     }
     refl

@@ -3,10 +3,10 @@ use Rattle.std.proofs.Common.{◌≡◌, ℕ, zero, suc, List, [], ◌∷◌, le
 use Rattle.std.proofs.lemmas.List.{length-replicate}
 use Rattle.std.specs.Prelude.{slice_index}
 use mathlib.Core.Option.{some-ne-none, some-injective}
-use Rattle.rds_words.specs.Views.{At, Each}
+use Rattle.rds_views.specs.Views.{At, Each}
 use Rattle.rds_bindtab.specs.declared.view.View.{View}
 use Rattle.rds_bindtab.specs.Seats.{first_view}
-use Rattle.rds_bindtab.specs.Shared.{Shared, Holds}
+use Rattle.rds_bindtab.specs.Shared.{Shared, HoldsPort}
 use Rattle.rds_bindtab.proofs.Notes.{nothing_in}
 
 each_of_one : (P : View → Type 0) (v : View) → P v → Each (v ∷ []) P
@@ -23,7 +23,7 @@ opens slots words size zeros =
     let vs = v ∷ [] in
     record {
       size = size;
-      ports = λ port slot small. ((λ e. absurd (let z = zeros port in omega arith)), (λ k. absurd (each_of_one (λ u. Holds port slot u → ⊥) v (λ q. let p = q.0 in cc) k.0 k.1 k.2 k.3)));
+      ports = λ port slot small. ((λ e. absurd (let z = zeros port in omega arith)), (λ k. absurd (each_of_one (λ u. HoldsPort port slot u → ⊥) v (λ q. let p = q.0 in cc) k.0 k.1 k.2 k.3)));
       drawn = zeros 65536;
       apart = λ i j a b slot x y p q. one_place v a i x ∙ sym (one_place v b j y);
       below = each_of_one _ v (λ slot e. absurd (cc));

@@ -1,13 +1,13 @@
 -- A seat that is of a table, as the fields of both; and what is known of its slot and its port.
 use Rattle.std.proofs.Common.{◌≡◌, ℕ, Option, Some, None, IsSome, sym, ap, ◌∙◌}
 use Rattle.atomic_table.specs.Seated.{TableId}
-use Rattle.rds_words.specs.Views.{Table}
+use Rattle.rds_views.specs.Views.{Table}
 use Rattle.rds_bindtab.specs.declared.view.View.{View}
-use Rattle.rds_bindtab.specs.Seats.{Held, held}
+use Rattle.rds_bindtab.specs.Seats.{PortSeat, port_seat}
 
-pub same_table : (id other : TableId) (slots : ℕ) (v : View) (h : Held) (t : Table) → held id v ≡ h → record { id = other; slots = slots } ≡ t → h.table ≡ t → (id ≡ other) × (v.slots ≡ slots)
+pub same_table : (id other : TableId) (slots : ℕ) (v : View) (h : PortSeat) (t : Table) → port_seat id v ≡ h → record { id = other; slots = slots } ≡ t → h.table ≡ t → (id ≡ other) × (v.slots ≡ slots)
 same_table id other slots v h t mine theirs same =
-    let e : (held id v).table ≡ record { id = other; slots = slots } = ap (λ (x : Held). x.table) mine ∙ (same ∙ sym theirs) in
+    let e : (port_seat id v).table ≡ record { id = other; slots = slots } = ap (λ (x : PortSeat). x.table) mine ∙ (same ∙ sym theirs) in
     (ap (λ (x : Table). x.id) e, ap (λ (x : Table). x.slots) e)
 
 pub some_of : (o : Option ℕ) → IsSome o → (n : ℕ) × (o ≡ Some n)

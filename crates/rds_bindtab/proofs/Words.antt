@@ -2,17 +2,17 @@
 use Rattle.std.proofs.Common.{◌≡◌, ℕ, ◌+◌, ◌*◌, ◌<◌, ◌≤◌, List, [], ◌∷◌, ◌++◌, length, set, sym, ◌∙◌, arith}
 use Rattle.std.specs.Prelude.{◌↔◌, slice_index, Contains}
 use Rattle.std.proofs.lemmas.List.Elements.{Contains-append_left}
-use Rattle.rds_words.specs.Views.{At, Has, Each, total}
-use Rattle.rds_words.proofs.Views.{has_set, has_unset, each_set, total_set, total_below, total_times}
+use Rattle.rds_views.specs.Views.{At, Has, Each, total}
+use Rattle.rds_views.specs.ViewLaws.{has_set, has_unset, each_set, total_set, total_below, total_times}
 use Rattle.rds_bindtab.specs.declared.view.View.{View}
 use Rattle.rds_bindtab.specs.declared.view.Step.{Step}
 use Rattle.rds_bindtab.specs.declared.view.Step.TheVariants.{Claimed}
-use Rattle.rds_bindtab.specs.Shared.{Shared, Holds, HasClaimed}
+use Rattle.rds_bindtab.specs.Shared.{Shared, HoldsPort, HasClaimed}
 use Rattle.rds_bindtab.proofs.Facts.{Facts, Change, facts_set}
 
 -- a port's word is 1 + s exactly where the seat of slot s holds the port
 abbrev pub Ports : List ℕ → List View → Type 0
-Ports words views = (port slot : ℕ) → port < 65536 → (slice_index words port ≡ 1 + slot) ↔ Has views (Holds port slot)
+Ports words views = (port slot : ℕ) → port < 65536 → (slice_index words port ≡ 1 + slot) ↔ Has views (HoldsPort port slot)
 
 abbrev pub draws_in : List ℕ → ℕ
 draws_in words = slice_index words 65536
@@ -44,12 +44,12 @@ stepped_one slots words after views id v w h here size ports k c =
 
 -- the words of the ports stay, and the seat holds what it held
 pub ports_same : (words after : List ℕ) (views : List View) (id : ℕ) (v w : View) → At views id v → ((port : ℕ) → port < 65536 → slice_index after port ≡ slice_index words port)
-    → ((port slot : ℕ) → Holds port slot v → Holds port slot w) → ((port slot : ℕ) → Holds port slot w → Holds port slot v)
+    → ((port slot : ℕ) → HoldsPort port slot v → HoldsPort port slot w) → ((port slot : ℕ) → HoldsPort port slot w → HoldsPort port slot v)
     → Ports words views → Ports after (set views id w)
 ports_same words after views id v w here same onward back ports port slot small =
     let p = ports port slot small in (
-      (λ e. has_set (Holds port slot) views id v w here (onward port slot) (p.0 (sym (same port small) ∙ e))),
-      (λ h. same port small ∙ p.1 (has_unset (Holds port slot) views id w (λ k. (id, v, here, back port slot k)) h)),
+      (λ e. has_set (HoldsPort port slot) views id v w here (onward port slot) (p.0 (sym (same port small) ∙ e))),
+      (λ h. same port small ∙ p.1 (has_unset (HoldsPort port slot) views id w (λ k. (id, v, here, back port slot k)) h)),
     )
 
 -- the draws fit their word

@@ -1,22 +1,22 @@
 -- What a seat of the port table knows, and what each of its steps leaves it with. This project's own.
 use Rattle.std.specs.Prelude.{ℕ, suc, zero, ◌+◌, ◌-◌, ◌==◌, nat_lt, if◌then◌else◌, List, [], ◌∷◌, ◌++◌, Option, Some, None, unwrap_or}
 use Rattle.atomic_table.specs.Seated.{TableId}
-use Rattle.rds_words.specs.Views.{Table}
+use Rattle.rds_views.specs.Views.{Table}
 use Rattle.rds_bindtab.specs.declared.view.View.{View}
 use Rattle.rds_bindtab.specs.declared.view.Telling.{Telling}
 use Rattle.rds_bindtab.specs.declared.view.Step.{Step}
 use Rattle.rds_bindtab.specs.declared.view.Step.TheVariants.{Drew, Claimed, Released, Looked}
 
 -- a seat, as contracts see it: its table and what it knows
-pub record Held : Type 0 where
+pub record PortSeat : Type 0 where
   pub table : Table
   pub view : View
 
-abbrev pub held : TableId → View → Held
-held id v = record { table = record { id = id; slots = v.slots }; view = v }
+abbrev pub port_seat : TableId → View → PortSeat
+port_seat id v = record { table = record { id = id; slots = v.slots }; view = v }
 
 -- the seat after its view became w
-abbrev pub knowing : Held → View → Held
+abbrev pub knowing : PortSeat → View → PortSeat
 knowing h w = record { table = h.table; view = w }
 
 -- a seat that may split off so many, and has done nothing

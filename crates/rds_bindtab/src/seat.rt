@@ -14,11 +14,11 @@ pub struct BindSeat {
 
 impl Model for BindSeat {
     ghost use Rattle.std.specs.Prelude.{◌≡◌, ◌≤◌, [], None};
-    ghost use Rattle.rds_bindtab.specs.Seats.{Held, held};
+    ghost use Rattle.rds_bindtab.specs.Seats.{PortSeat, port_seat};
 
-    ghost Value = { Held };
+    ghost Value = { PortSeat };
 
-    ghost view = { λ s. held s.seat.table_id s.seat.me.0 };
+    ghost view = { λ s. port_seat s.seat.table_id s.seat.me.0 };
 
     ghost invariant = { λ s. (s.slot ≡ s.seat.me.0.slot) × (s.port ≡ s.seat.me.0.port) × (1 ≤ s.seat.me.0.weight) × (s.seat.me.1 ≡ []) × (s.slot ≡ None → s.port ≡ None) };
 }
@@ -31,11 +31,11 @@ pub struct BindNote {
 
 impl Model for BindNote {
     ghost use Rattle.std.specs.Prelude.{◌≡◌, [], None};
-    ghost use Rattle.rds_bindtab.specs.Seats.{Held, held};
+    ghost use Rattle.rds_bindtab.specs.Seats.{PortSeat, port_seat};
 
-    ghost Value = { Held };
+    ghost Value = { PortSeat };
 
-    ghost view = { λ n. held n.seat.table_id n.seat.me.0 };
+    ghost view = { λ n. port_seat n.seat.table_id n.seat.me.0 };
 
     ghost invariant = { λ n. (n.seat.me.1 ≡ []) × (n.seat.me.0.port ≡ None) };
 }

@@ -21,7 +21,7 @@ pub struct BindTable {
 
 impl Model for BindTable {
     ghost use Rattle.std.specs.Prelude.{◌≡◌, ◌≤◌};
-    ghost use Rattle.rds_words.specs.Views.{Table};
+    ghost use Rattle.rds_views.specs.Views.{Table};
 
     ghost Value = { Table };
 

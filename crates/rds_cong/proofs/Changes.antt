@@ -8,8 +8,8 @@ use Rattle.std.specs.Int.{bit_at, bit_not}
 use Rattle.rds_wire.specs.Bytes.{IsBytes}
 use Rattle.rds_cong.specs.Map.{has_port, with_port, without_port}
 use Rattle.rds_cong.proofs.Bits.{low_8, low_64, bit-put, bit-taken, bit-put_shifted, bit-taken_shifted}
-use Rattle.rds_cong.proofs.Ports.{has_port-bytes, in_word, same_ports}
-use Rattle.rds_cong.proofs.Words.{bytes_of, length-bytes, IsBytes-bytes}
+use Rattle.rds_cong.specs.PortLaws.{has_port-bytes, in_word, same_ports}
+use Rattle.rds_cong.specs.WordLaws.{bytes_of, length-bytes, IsBytes-bytes}
 
 -- a map with another byte has the bits of that byte there, and its own elsewhere
 here : (map : List ℕ) (i q v : ℕ) → i < length map → q / 8 ≡ i → has_port (slice_set map i v) q ≡ (bit_at v (q % 8) == 1)

@@ -5,8 +5,8 @@ use Rattle.std.proofs.lemmas.Nat.{or_lt}
 use Rattle.std.specs.Int.{bit_not}
 use Rattle.rds_cong.specs.Map.{has_port, with_port, without_port, IsMap, IsWords}
 use Rattle.rds_cong.proofs.Changes.{has_port-with, has_port-without, bytes-put, bytes-taken}
-use Rattle.rds_cong.proofs.Ports.{has_port-test}
-use Rattle.rds_cong.proofs.Words.{bytes_of, IsWords-set}
+use Rattle.rds_cong.specs.PortLaws.{has_port-test}
+use Rattle.rds_cong.specs.WordLaws.{bytes_of, IsWords-set}
 
 -- Code reads w as the word at i, which is that of port p.
 pub record IsWordOf (words : List ℕ) (p i w : ℕ) : Type 0 where

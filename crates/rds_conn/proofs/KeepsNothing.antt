@@ -6,7 +6,7 @@ use Rattle.rds_frame.specs.Holding.{nothing_held}
 use Rattle.rds_model.specs.declared.journal.TheConstants.{MAX_ENTRIES}
 use Rattle.rds_model.specs.Reading.{max_slots}
 use Rattle.rds_conn.specs.declared.conn.Conn.TheInside.{Inside}
-use Rattle.rds_conn.specs.Keeping.{Keeps}
+use Rattle.rds_conn.specs.Invariant.{ConnectionInvariant}
 use Rattle.rds_conn.proofs.KeepsStreams.{reading_nothing}
 
 sum_none : (n : ℕ) → sum (replicate n 0) ≡ 0
@@ -21,7 +21,7 @@ pub record IsNew (c : Inside) (limit : ℕ) : Type 0 where
   pub freed : c.freed ≡ replicate c.slots 0
 
 pub keeps_nothing : (c : Inside) (limit : ℕ) → IsNew c limit → c.slots ≤ max_slots → limit ≤ MAX_ENTRIES →
-    Keeps (record c { spare = 0; store_spare = 0; pong = None; stream = None; accepted = 0; highest = 0; last = 0 })
+    ConnectionInvariant (record c { spare = 0; store_spare = 0; pong = None; stream = None; accepted = 0; highest = 0; last = 0 })
 keeps_nothing c limit new few most =
     rw (new.journal, new.store, new.splitter, new.freed)
     (record {

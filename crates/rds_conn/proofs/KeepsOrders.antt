@@ -16,20 +16,20 @@ use Rattle.rds_model.specs.Past.{accepted, datagram}
 use Rattle.rds_model.specs.Alive.{alive_numbers, aims_at, covers}
 use Rattle.rds_model.specs.Legal.{IsLegal, IsLawfulAccept}
 use Rattle.rds_model.specs.Store.{alive_messages}
-use Rattle.rds_model.proofs.Numbers.{number_of_known}
-use Rattle.rds_msgs.specs.Held.{Held, bytes_of, takes, taken, left, cancelled, numbers}
+use Rattle.rds_model.specs.NumberLaws.{number_of_known}
+use Rattle.rds_msgs.specs.Messages.{StoreView, bytes_of, covers_message, covered_messages, uncovered_messages, after_cancel, message_numbers}
 use Rattle.rds_conn.specs.declared.conn.Conn.TheInside.{Inside}
-use Rattle.rds_conn.specs.Freeing.{with_freed, left_bytes, Frees}
-use Rattle.rds_conn.specs.Keeping.{Keeps, IsLinked, IsStored, IsFreed}
+use Rattle.rds_conn.specs.Freeing.{with_freed, bytes_of_slot, Frees}
+use Rattle.rds_conn.specs.Invariant.{ConnectionInvariant, IsLinked, IsStored, IsFreed}
 use Rattle.rds_conn.proofs.Filters.{filter_same, not_not}
 use Rattle.rds_conn.proofs.Bounds.{accepted_within}
 use Rattle.rds_conn.proofs.Rising.{Rises}
 use Rattle.rds_conn.proofs.AliveSteps.{alive_rises}
 use Rattle.rds_conn.proofs.Messages.{numbers_of, alive_known, messages_after_cancel}
-use Rattle.rds_conn.proofs.Held.{AllTell, messages_tell, numbers_sieved, holds_after_accept, holds_after_cancel}
+use Rattle.rds_conn.proofs.MessagesHeld.{AllTell, messages_tell, numbers_sieved, holds_after_accept, holds_after_cancel}
 use Rattle.rds_conn.proofs.Totals.{total_sieved, total_all, total_none}
-use Rattle.rds_conn.specs.Gone.{gone}
-use Rattle.rds_conn.proofs.GoneBytes.{gone_after_cancel}
+use Rattle.rds_conn.specs.Released.{released_bytes}
+use Rattle.rds_conn.proofs.ReleasedBytes.{gone_after_cancel}
 use Rattle.rds_conn.proofs.KeepsStreams.{whole_with}
 
 -- each message has a number that was accepted
@@ -55,12 +55,12 @@ few_messages past =
     omega (arith, length-alive_messages past, length_of_rises 0 (alive_numbers past) (accepted past) (alive_rises past), accepted_within past)
 
 -- what the store needs for a new message
-pub record IsNext (past : List Entry) (store : Held) (slots slot : ℕ) : Type 0 where
+pub record IsNext (past : List Entry) (store : StoreView) (slots slot : ℕ) : Type 0 where
   pub few : length store.messages < 4294967294
   pub above : All (λ (m : Msg). m.num < suc (accepted past)) store.messages
   pub owned : (slot < store.slots) ⊎ (slot ≡ NO_SLOT)
 
-pub next_message : (past : List Entry) (store : Held) (slots slot : ℕ) → IsStored past store slots → length past < 4294967294 →
+pub next_message : (past : List Entry) (store : StoreView) (slots slot : ℕ) → IsStored past store slots → length past < 4294967294 →
     (slot < slots) ⊎ (slot ≡ NO_SLOT) → IsNext past store slots slot
 next_message past store slots slot stored short owned = record {
   few = let is = ap length stored.holds.alive in omega (arith, is, few_messages past, short);
@@ -69,7 +69,7 @@ next_message past store slots slot stored short owned = record {
 }
 
 -- a message behind all others
-pub stored_after_accept : (slot sport dport : ℕ) (payload : List ℕ) (past : List Entry) (store : Held) (slots : ℕ) → IsLegal past →
+pub stored_after_accept : (slot sport dport : ℕ) (payload : List ℕ) (past : List Entry) (store : StoreView) (slots : ℕ) → IsLegal past →
     IsStored past store slots →
     IsStored (Accept slot sport dport payload ∷ past) (record store {
       messages = store.messages ++ record { num = suc (accepted past); place = length past; slot = slot; dport = dport; len = length payload } ∷ [];
@@ -84,7 +84,7 @@ stored_after_accept slot sport dport payload past store slots legal stored =
       few = stored.few;
     }
 
-pub freed_after_accept : (slot sport dport : ℕ) (payload : List ℕ) (past : List Entry) (store : Held) (freed : List ℕ) (slots : ℕ) →
+pub freed_after_accept : (slot sport dport : ℕ) (payload : List ℕ) (past : List Entry) (store : StoreView) (freed : List ℕ) (slots : ℕ) →
     length payload ≤ MAX_LENGTH → IsFreed past store freed slots →
     IsFreed (Accept slot sport dport payload ∷ past) (record store {
       messages = store.messages ++ record { num = suc (accepted past); place = length past; slot = slot; dport = dport; len = length payload } ∷ [];
@@ -100,9 +100,9 @@ freed_after_accept slot sport dport payload past store freed slots short is =
           omega (arith, more, one, short, is.bounded);
     }
 
-pub keeps_send : (c : Inside) (slot sport dport : ℕ) (payload : List ℕ) → Keeps c → 1 ≤ c.spare → 1 ≤ c.store_spare →
+pub keeps_send : (c : Inside) (slot sport dport : ℕ) (payload : List ℕ) → ConnectionInvariant c → 1 ≤ c.spare → 1 ≤ c.store_spare →
     IsLawfulAccept c.journal.past slot sport dport payload →
-    Keeps (record c {
+    ConnectionInvariant (record c {
       journal = record c.journal { past = Accept slot sport dport payload ∷ c.journal.past; spare = c.journal.spare - 1 };
       store = record c.store {
         messages = c.store.messages ++ record { num = c.accepted + 1; place = length c.journal.past; slot = slot; dport = dport; len = length payload } ∷ [];
@@ -115,7 +115,7 @@ pub keeps_send : (c : Inside) (slot sport dport : ℕ) (payload : List ℕ) → 
 keeps_send c slot sport dport payload keeps some store_some lawful =
     let past : List Entry = c.journal.past in
     let number : c.accepted + 1 ≡ suc (accepted past) = omega (arith, keeps.counted.accepted_is) in
-    let store_with : ℕ → Held = λ n. record c.store {
+    let store_with : ℕ → StoreView = λ n. record c.store {
       messages = c.store.messages ++ record { num = n; place = length past; slot = slot; dport = dport; len = length payload } ∷ [];
       spare = c.store.spare - 1;
     } in
@@ -138,10 +138,10 @@ keeps_send c slot sport dport payload keeps some store_some lawful =
           (freed_after_accept slot sport dport payload past c.store c.freed c.slots lawful.payload_fits keeps.freed);
     }
   where
-    linked_after : (o : Option ℕ) → IfSome o (λ k. IsLinked k c.journal.past c.mapped c.map c.asking) →
-        IfSome o (λ k. IsLinked k (Accept slot sport dport payload ∷ c.journal.past) c.mapped c.map c.asking)
+    linked_after : (o : Option ℕ) → IfSome o (λ s. IsLinked s c.journal.past c.mapped c.map c.asking) →
+        IfSome o (λ s. IsLinked s (Accept slot sport dport payload ∷ c.journal.past) c.mapped c.map c.asking)
     linked_after None linked = tt
-    linked_after (Some k) linked = record {
+    linked_after (Some s) linked = record {
       map_is = linked.map_is;
       asked = record { count = linked.asked.count; bytes = linked.asked.bytes; asked = linked.asked.asked; must = linked.asked.must };
     }
@@ -160,8 +160,8 @@ marked_after keep (suc mark) (m ∷ ms) =
 pub freed_same : (slot bytes : ℕ) (freed : List ℕ) → slot < length freed → get_or (with_freed slot bytes freed) slot 0 ≡ get_or freed slot 0 + bytes
 freed_same slot bytes freed within = get_or-set_same freed slot (get_or freed slot 0 + bytes) 0 within
 
-pub freed_other : (slot s bytes : ℕ) (freed : List ℕ) → s ≢ slot → get_or (with_freed slot bytes freed) s 0 ≡ get_or freed s 0
-freed_other slot s bytes freed other = get_or-set_other freed slot s (get_or freed slot 0 + bytes) 0 other
+pub freed_other : (slot y bytes : ℕ) (freed : List ℕ) → y ≢ slot → get_or (with_freed slot bytes freed) y 0 ≡ get_or freed y 0
+freed_other slot y bytes freed other = get_or-set_other freed slot y (get_or freed slot 0 + bytes) 0 other
 
 pub length-with_freed : (slot bytes : ℕ) (freed : List ℕ) → length (with_freed slot bytes freed) ≡ length freed
 length-with_freed slot bytes freed = length-set freed slot (get_or freed slot 0 + bytes)
@@ -174,24 +174,24 @@ sum-with_freed slot bytes freed =
     ]
 
 -- the bytes of a slot's messages that a cancellation takes are freed
-pub freed_and_left : (slot s : ℕ) (target : Target) (freed : List ℕ) (ms : List Msg) → s < length freed →
-    get_or (with_freed slot (bytes_of (taken slot target ms)) freed) s 0 + left_bytes s (left slot target ms)
-    ≡ get_or freed s 0 + left_bytes s ms
-freed_and_left slot s target freed ms within =
-    let cut = total_sieved (λ (m : Msg). m.len) (λ m. m.slot == s) (λ m. not (takes slot target m)) ms in
-    let taken_is : left_bytes s (filter (λ m. not (not (takes slot target m))) ms) ≡ left_bytes s (taken slot target ms) =
-    ap (left_bytes s) (filter_double (takes slot target) ms) in
-    elim (cases_eq s slot) [
+pub freed_and_left : (slot y : ℕ) (target : Target) (freed : List ℕ) (ms : List Msg) → y < length freed →
+    get_or (with_freed slot (bytes_of (covered_messages slot target ms)) freed) y 0 + bytes_of_slot y (uncovered_messages slot target ms)
+    ≡ get_or freed y 0 + bytes_of_slot y ms
+freed_and_left slot y target freed ms within =
+    let cut = total_sieved (λ (m : Msg). m.len) (λ m. m.slot == y) (λ m. not (covers_message slot target m)) ms in
+    let taken_is : bytes_of_slot y (filter (λ m. not (not (covers_message slot target m))) ms) ≡ bytes_of_slot y (covered_messages slot target ms) =
+    ap (bytes_of_slot y) (filter_double (covers_message slot target) ms) in
+    elim (cases_eq y slot) [
       | inl same ↦
-          let all = total_all (λ (m : Msg). m.len) (λ m. m.slot == s) (takes slot target) ms
-          (λ m take. eq-eqb m.slot s (sym (eqb-true slot m.slot (and_parts (slot == m.slot) (aims_at target m.dport) take).0) ∙ sym same)) in
-          let here = ap (λ x. get_or (with_freed slot (bytes_of (taken slot target ms)) freed) x 0) same ∙ freed_same slot (bytes_of (taken slot target ms)) freed (subst (λ x. x < length freed) same within) in
+          let all = total_all (λ (m : Msg). m.len) (λ m. m.slot == y) (covers_message slot target) ms
+          (λ m take. eq-eqb m.slot y (sym (eqb-true slot m.slot (and_parts (slot == m.slot) (aims_at target m.dport) take).0) ∙ sym same)) in
+          let here = ap (λ x. get_or (with_freed slot (bytes_of (covered_messages slot target ms)) freed) x 0) same ∙ freed_same slot (bytes_of (covered_messages slot target ms)) freed (subst (λ x. x < length freed) same within) in
           let there = ap (λ x. get_or freed x 0) same in
           omega (arith, cut, taken_is, all, here, there)
       | inr other ↦
-          let none = total_none (λ (m : Msg). m.len) (λ m. m.slot == s) (takes slot target) ms
-          (λ m take. ne_eqb m.slot s (λ e. other (sym e ∙ sym (eqb-true slot m.slot (and_parts (slot == m.slot) (aims_at target m.dport) take).0)))) in
-          let here = freed_other slot s (bytes_of (taken slot target ms)) freed other in
+          let none = total_none (λ (m : Msg). m.len) (λ m. m.slot == y) (covers_message slot target) ms
+          (λ m take. ne_eqb m.slot y (λ e. other (sym e ∙ sym (eqb-true slot m.slot (and_parts (slot == m.slot) (aims_at target m.dport) take).0)))) in
+          let here = freed_other slot y (bytes_of (covered_messages slot target ms)) freed other in
           omega (arith, cut, taken_is, none, here)
     ]
   where
@@ -199,21 +199,21 @@ freed_and_left slot s target freed ms within =
     filter_double p ms = filter_same p (λ m. not (not (p m))) (λ m. not_not (p m)) ms
 
 -- a cancellation frees what it takes
-pub frees_cancelled : (slot : ℕ) (target : Target) (store : Held) (freed : List ℕ) →
-    Frees store (cancelled slot target store) freed (with_freed slot (bytes_of (taken slot target store.messages)) freed)
+pub frees_cancelled : (slot : ℕ) (target : Target) (store : StoreView) (freed : List ℕ) →
+    Frees store (after_cancel slot target store) freed (with_freed slot (bytes_of (covered_messages slot target store.messages)) freed)
 frees_cancelled slot target store freed =
     let ms : List Msg = store.messages in
     record {
-      slots = length-with_freed slot (bytes_of (taken slot target ms)) freed;
-      each = λ s within. freed_and_left slot s target freed ms within;
+      slots = length-with_freed slot (bytes_of (covered_messages slot target ms)) freed;
+      each = λ y within. freed_and_left slot y target freed ms within;
       all =
-          let both = sum_by-filter_both (takes slot target) (λ m. not (takes slot target m)) (λ m. refl) (λ (m : Msg). m.len) ms in
-          let more = sum-with_freed slot (bytes_of (taken slot target ms)) freed in
+          let both = sum_by-filter_both (covers_message slot target) (λ m. not (covers_message slot target m)) (λ m. refl) (λ (m : Msg). m.len) ms in
+          let more = sum-with_freed slot (bytes_of (covered_messages slot target ms)) freed in
           omega (arith, both, more);
     }
 
 -- as long as no more is accepted, what is freed and what is left stays bounded
-pub freed_after : (past later : List Entry) (store store_later : Held) (freed freed_later : List ℕ) (slots : ℕ) →
+pub freed_after : (past later : List Entry) (store store_later : StoreView) (freed freed_later : List ℕ) (slots : ℕ) →
     accepted later ≡ accepted past → Frees store store_later freed freed_later → IsFreed past store freed slots →
     IsFreed later store_later freed_later slots
 freed_after past later store store_later freed freed_later slots same frees is = record {
@@ -222,22 +222,22 @@ freed_after past later store store_later freed freed_later slots same frees is =
 }
 
 -- what is freed is what is gone
-pub frees_gone : (past later : List Entry) (store store_later : Held) (freed freed_later : List ℕ) (s : ℕ) →
+pub frees_gone : (past later : List Entry) (store store_later : StoreView) (freed freed_later : List ℕ) (y : ℕ) →
     store.messages ≡ alive_messages past → store_later.messages ≡ alive_messages later →
-    gone s later + left_bytes s (alive_messages later) ≡ gone s past + left_bytes s (alive_messages past) →
-    s < length freed → Frees store store_later freed freed_later →
-    get_or freed_later s 0 + gone s past ≡ get_or freed s 0 + gone s later
-frees_gone past later store store_later freed freed_later s before_is later_is gone_is within frees =
-    let each = frees.each s within in
-    let before_left = ap (left_bytes s) before_is in
-    let later_left = ap (left_bytes s) later_is in
+    released_bytes y later + bytes_of_slot y (alive_messages later) ≡ released_bytes y past + bytes_of_slot y (alive_messages past) →
+    y < length freed → Frees store store_later freed freed_later →
+    get_or freed_later y 0 + released_bytes y past ≡ get_or freed y 0 + released_bytes y later
+frees_gone past later store store_later freed freed_later y before_is later_is gone_is within frees =
+    let each = frees.each y within in
+    let before_left = ap (bytes_of_slot y) before_is in
+    let later_left = ap (bytes_of_slot y) later_is in
     omega (arith, each, before_left, later_left, gone_is)
 
-pub keeps_cancel : (c : Inside) (slot : ℕ) (target : Target) → Keeps c → 1 ≤ c.spare → slot < c.slots →
-    Keeps (record c {
+pub keeps_cancel : (c : Inside) (slot : ℕ) (target : Target) → ConnectionInvariant c → 1 ≤ c.spare → slot < c.slots →
+    ConnectionInvariant (record c {
       journal = record c.journal { past = Cancel slot target ∷ c.journal.past; spare = c.journal.spare - 1 };
-      store = cancelled slot target c.store;
-      freed = with_freed slot (bytes_of (taken slot target c.store.messages)) c.freed;
+      store = after_cancel slot target c.store;
+      freed = with_freed slot (bytes_of (covered_messages slot target c.store.messages)) c.freed;
       spare = c.spare - 1;
     })
 keeps_cancel c slot target keeps some within =
@@ -258,41 +258,41 @@ keeps_cancel c slot target keeps some within =
       reading = keeps.reading;
       stored = record {
         holds = holds_after_cancel slot target past c.store.messages c.store.mark keeps.stored.holds;
-        marked = marked_after (λ m. not (takes slot target m)) c.store.mark c.store.messages;
+        marked = marked_after (λ m. not (covers_message slot target m)) c.store.mark c.store.messages;
         slots_are = keeps.stored.slots_are;
         few = few;
       };
-      freed = freed_after past (Cancel slot target ∷ past) c.store (cancelled slot target c.store) c.freed
-          (with_freed slot (bytes_of (taken slot target c.store.messages)) c.freed) c.slots refl (frees_cancelled slot target c.store c.freed) keeps.freed;
+      freed = freed_after past (Cancel slot target ∷ past) c.store (after_cancel slot target c.store) c.freed
+          (with_freed slot (bytes_of (covered_messages slot target c.store.messages)) c.freed) c.slots refl (frees_cancelled slot target c.store c.freed) keeps.freed;
     }
   where
-    linked_after : (o : Option ℕ) → IfSome o (λ k. IsLinked k c.journal.past c.mapped c.map c.asking) →
-        IfSome o (λ k. IsLinked k (Cancel slot target ∷ c.journal.past) c.mapped c.map c.asking)
+    linked_after : (o : Option ℕ) → IfSome o (λ s. IsLinked s c.journal.past c.mapped c.map c.asking) →
+        IfSome o (λ s. IsLinked s (Cancel slot target ∷ c.journal.past) c.mapped c.map c.asking)
     linked_after None linked = tt
-    linked_after (Some k) linked = record {
+    linked_after (Some s) linked = record {
       map_is = linked.map_is;
       asked = record { count = linked.asked.count; bytes = linked.asked.bytes; asked = linked.asked.asked; must = linked.asked.must };
     }
 
-pub frees_cancel : (c : Inside) (slot : ℕ) (target : Target) (s : ℕ) → Keeps c → s < c.slots →
-    get_or (with_freed slot (bytes_of (taken slot target c.store.messages)) c.freed) s 0 + gone s c.journal.past
-    ≡ get_or c.freed s 0 + gone s (Cancel slot target ∷ c.journal.past)
-frees_cancel c slot target s keeps within =
+pub frees_cancel : (c : Inside) (slot : ℕ) (target : Target) (y : ℕ) → ConnectionInvariant c → y < c.slots →
+    get_or (with_freed slot (bytes_of (covered_messages slot target c.store.messages)) c.freed) y 0 + released_bytes y c.journal.past
+    ≡ get_or c.freed y 0 + released_bytes y (Cancel slot target ∷ c.journal.past)
+frees_cancel c slot target y keeps within =
     let past : List Entry = c.journal.past in
-    frees_gone past (Cancel slot target ∷ past) c.store (cancelled slot target c.store) c.freed
-    (with_freed slot (bytes_of (taken slot target c.store.messages)) c.freed) s keeps.stored.holds.alive
-    (ap (left slot target) keeps.stored.holds.alive ∙ sym (messages_after_cancel slot target past))
-    (gone_after_cancel slot s target past) (let slots = keeps.freed.slots_are in omega (arith, slots, within))
+    frees_gone past (Cancel slot target ∷ past) c.store (after_cancel slot target c.store) c.freed
+    (with_freed slot (bytes_of (covered_messages slot target c.store.messages)) c.freed) y keeps.stored.holds.alive
+    (ap (uncovered_messages slot target) keeps.stored.holds.alive ∙ sym (messages_after_cancel slot target past))
+    (gone_after_cancel slot y target past) (let slots = keeps.freed.slots_are in omega (arith, slots, within))
     (frees_cancelled slot target c.store c.freed)
 
 -- the bytes of a cancellation are within 64 bits
-pub freed_fits : (past : List Entry) (store : Held) (freed : List ℕ) (slots : ℕ) → length past < 4294967296 → IsFreed past store freed slots →
+pub freed_fits : (past : List Entry) (store : StoreView) (freed : List ℕ) (slots : ℕ) → length past < 4294967296 → IsFreed past store freed slots →
     sum freed + bytes_of store.messages < 2 ^ 64
 freed_fits past store freed slots short is = omega (arith, is.bounded, accepted_within past, short)
 
-pub cancel_fits : (c : Inside) (slot : ℕ) (target : Target) → Keeps c → sum c.freed + bytes_of (taken slot target c.store.messages) < 2 ^ 64
+pub cancel_fits : (c : Inside) (slot : ℕ) (target : Target) → ConnectionInvariant c → sum c.freed + bytes_of (covered_messages slot target c.store.messages) < 2 ^ 64
 cancel_fits c slot target keeps =
-    let both = sum_by-filter_both (takes slot target) (λ m. not (takes slot target m)) (λ m. refl) (λ (m : Msg). m.len) c.store.messages in
+    let both = sum_by-filter_both (covers_message slot target) (λ m. not (covers_message slot target m)) (λ m. refl) (λ (m : Msg). m.len) c.store.messages in
     let fits = freed_fits c.journal.past c.store c.freed c.slots (let within = keeps.room.within in let most = keeps.room.most in omega (arith, within, most)) keeps.freed in
     omega (arith, both, fits)
 
@@ -303,7 +303,7 @@ pub record TakesMessage (c : Inside) : Type 0 where
   pub few : length c.store.messages < 4294967294
   pub above : All (λ (m : Msg). m.num < c.accepted + 1) c.store.messages
 
-pub takes_message : (c : Inside) → Keeps c → 2 ≤ c.spare → TakesMessage c
+pub takes_message : (c : Inside) → ConnectionInvariant c → 2 ≤ c.spare → TakesMessage c
 takes_message c keeps ready =
     let past : List Entry = c.journal.past in
     let short : length past < 4294967294 = omega (arith, ready, keeps.room.entries, keeps.room.within, keeps.room.most) in
@@ -319,9 +319,9 @@ takes_message c keeps ready =
 
 -- the numbers that a cancellation would take
 pub numbers_taken : (slot : ℕ) (target : Target) (past : List Entry) (ms : List Msg) → ms ≡ alive_messages past →
-    numbers (taken slot target ms) ≡ filter (λ n. covers slot target (datagram past n)) (alive_numbers past)
+    message_numbers (covered_messages slot target ms) ≡ filter (λ n. covers slot target (datagram past n)) (alive_numbers past)
 numbers_taken slot target past ms is =
-    numbers_sieved past (λ n. covers slot target (datagram past n)) (takes slot target)
+    numbers_sieved past (λ n. covers slot target (datagram past n)) (covers_message slot target)
     (λ n d known. ap (covers slot target) known) ms (subst (AllTell past) (sym is) (messages_tell past (alive_numbers past)))
     ∙ ap (filter (λ n. covers slot target (datagram past n)))
     (ap (map (λ (m : Msg). m.num)) is ∙ numbers_of past (alive_numbers past) (alive_known past))

@@ -3,22 +3,22 @@ use Rattle.std.proofs.Common.{◌≡◌, ℕ, ◌+◌, ◌-◌, ◌<◌, ◌≤�
 use Rattle.rds_wire.specs.declared.header.Header.{Header}
 use Rattle.rds_wire.specs.declared.kind.Malformed.{Malformed}
 use Rattle.rds_wire.specs.Kinds.{cause}
-use Rattle.rds_wire.proofs.Headers.{length-header_bytes}
+use Rattle.rds_wire.specs.HeaderLaws.{length-header_bytes}
 use Rattle.rds_frame.specs.declared.took.Took.{Took}
-use Rattle.rds_frame.specs.Holding.{Held as Frames, IsHeld, held_bytes, refusing}
-use Rattle.rds_frame.specs.Taking.{Takes, Refuses as RefusesHeader}
+use Rattle.rds_frame.specs.Holding.{SplitterView as Frames, HoldsAtMostOneFrame, held_bytes, refusing}
+use Rattle.rds_frame.specs.Taking.{TakesPiece, RefusesPiece as FrameRefuses}
 use Rattle.rds_model.specs.declared.entry.Entry.TheVariants.{Bad}
 use Rattle.rds_model.specs.Log.{Log}
 use Rattle.rds_model.specs.Legal.{IsLawfulBad}
 use Rattle.rds_conn.specs.declared.conn.Conn.TheInside.{Inside}
-use Rattle.rds_conn.specs.Connection.{Connection, logged}
-use Rattle.rds_conn.specs.Feeding.{Refuses}
-use Rattle.rds_conn.specs.Keeping.{Keeps, seen}
+use Rattle.rds_conn.specs.Connection.{Connection, with_entries}
+use Rattle.rds_conn.specs.Feeding.{RefusesHeader}
+use Rattle.rds_conn.specs.Invariant.{ConnectionInvariant, connection_view}
 use Rattle.rds_conn.proofs.Reading.{clear_after}
 
-pub keeps_fed : (c : Inside) (k : ℕ) (piece : List ℕ) (took : Took) (splitter : Frames) → Keeps c → c.stream ≡ Some k →
-    Takes c.highest c.splitter piece took splitter → IsHeld splitter → Keeps (record c { splitter = splitter })
-keeps_fed c k piece took splitter keeps on takes held = record {
+pub keeps_fed : (c : Inside) (s : ℕ) (piece : List ℕ) (took : Took) (splitter : Frames) → ConnectionInvariant c → c.stream ≡ Some s →
+    TakesPiece c.highest c.splitter piece took splitter → HoldsAtMostOneFrame splitter → ConnectionInvariant (record c { splitter = splitter })
+keeps_fed c s piece took splitter keeps on takes held = record {
   whole = keeps.whole;
   room = keeps.room;
   pong = keeps.pong;
@@ -29,16 +29,16 @@ keeps_fed c k piece took splitter keeps on takes held = record {
     held = held;
     clear = clear_after c.highest c.splitter splitter (take took.used piece) takes.bytes takes.clear keeps.reading.clear;
     still_open = takes.still_open;
-    idle = λ none. let never : Some k ≡ None = sym on ∙ none in cc;
+    idle = λ none. let never : Some s ≡ None = sym on ∙ none in cc;
   };
   stored = keeps.stored;
   freed = keeps.freed;
 }
 
 -- a header that the splitter refused is a lawful end of the stream
-pub lawful_refusal : (c : Inside) (k : ℕ) (piece : List ℕ) (fault : Malformed) (splitter : Frames) → Keeps c → c.stream ≡ Some k →
-    (refused : RefusesHeader c.highest c.splitter piece fault splitter) → IsLawfulBad k c.journal.past refused.header fault
-lawful_refusal c k piece fault splitter keeps on refused = record {
+pub lawful_refusal : (c : Inside) (s : ℕ) (piece : List ℕ) (fault : Malformed) (splitter : Frames) → ConnectionInvariant c → c.stream ≡ Some s →
+    (refused : FrameRefuses c.highest c.splitter piece fault splitter) → IsLawfulBad s c.journal.past refused.header fault
+lawful_refusal c s piece fault splitter keeps on refused = record {
   on = sym keeps.stream ∙ on;
   header = refused.fits;
   malformed = sym (ap (cause refused.header) keeps.counted.highest_is) ∙ refused.cause;
@@ -48,16 +48,16 @@ lawful_refusal c k piece fault splitter keeps on refused = record {
 taken_within : (n : ℕ) (xs : List ℕ) (have : ℕ) → have + length (take n xs) ≡ 48 → n ≡ 48 - have → have < 48 → n ≤ length xs
 taken_within n xs have whole rest short = let len = length-take n xs in omega (arith, len, whole, rest, short)
 
-pub refused_bytes : (c : Inside) (k : ℕ) (piece : List ℕ) (fault : Malformed) (splitter : Frames) → Keeps c → c.stream ≡ Some k →
-    (refused : RefusesHeader c.highest c.splitter piece fault splitter) →
-    (new : Connection) → new ≡ record (logged (Bad k refused.header fault ∷ []) (seen c)) { waiting = None; rest = [] } →
-    Refuses piece fault (seen c) new
-refused_bytes c k piece fault splitter keeps on refused new is =
+pub refused_bytes : (c : Inside) (s : ℕ) (piece : List ℕ) (fault : Malformed) (splitter : Frames) → ConnectionInvariant c → c.stream ≡ Some s →
+    (refused : FrameRefuses c.highest c.splitter piece fault splitter) →
+    (new : Connection) → new ≡ record (with_entries (Bad s refused.header fault ∷ []) (connection_view c)) { waiting = None; rest = [] } →
+    RefusesHeader piece fault (connection_view c) new
+refused_bytes c s piece fault splitter keeps on refused new is =
     let have : ℕ = length (held_bytes c.splitter) in
     let whole : have + length (take (48 - have) piece) ≡ 48 =
     sym (length-append (held_bytes c.splitter) (take (48 - have) piece)) ∙ ap length (sym refused.bytes) ∙ length-header_bytes refused.header refused.fits in
     record {
-      k = k;
+      s = s;
       header = refused.header;
       used = 48 - have;
       on = sym keeps.stream ∙ on;
@@ -69,11 +69,11 @@ refused_bytes c k piece fault splitter keeps on refused new is =
     }
 
 -- the entry of the header that was refused
-pub recorded : (splitter : Frames) (header : Header) (journal later : Log) (k : ℕ) (fault : Malformed) → splitter ≡ refusing header →
-    IfSome splitter.refused (λ h. later ≡ record journal { past = Bad k h fault ∷ journal.past; spare = journal.spare - 1 }) →
-    later ≡ record journal { past = Bad k header fault ∷ journal.past; spare = journal.spare - 1 }
-recorded splitter header journal later k fault after entry =
-    subst (λ (s : Frames). IfSome s.refused (λ h. later ≡ record journal { past = Bad k h fault ∷ journal.past; spare = journal.spare - 1 })) after entry
+pub recorded : (splitter : Frames) (header : Header) (journal later : Log) (s : ℕ) (fault : Malformed) → splitter ≡ refusing header →
+    IfSome splitter.refused (λ h. later ≡ record journal { past = Bad s h fault ∷ journal.past; spare = journal.spare - 1 }) →
+    later ≡ record journal { past = Bad s header fault ∷ journal.past; spare = journal.spare - 1 }
+recorded splitter header journal later s fault after entry =
+    subst (λ (e : Frames). IfSome e.refused (λ h. later ≡ record journal { past = Bad s h fault ∷ journal.past; spare = journal.spare - 1 })) after entry
 
 pub is_refused : (splitter : Frames) (header : Header) → splitter ≡ refusing header → IsSome splitter.refused
-is_refused splitter header after = subst (λ (s : Frames). IsSome s.refused) (sym after) (search rules)
+is_refused splitter header after = subst (λ (e : Frames). IsSome e.refused) (sym after) (search rules)

@@ -6,7 +6,7 @@ use Rattle.rds_wire.specs.declared.header.Header.{Header}
 use Rattle.rds_wire.specs.declared.kind.Malformed.{Malformed}
 use Rattle.rds_wire.specs.declared.kind.TheConstants.{MAX_LENGTH}
 use Rattle.rds_wire.specs.Bytes.{header_bytes}
-use Rattle.rds_wire.proofs.Headers.{length-header_bytes}
+use Rattle.rds_wire.specs.HeaderLaws.{length-header_bytes}
 use Rattle.rds_frame.specs.Holding.{nothing_held}
 use Rattle.rds_frame.specs.Splitting.{IsClear}
 use Rattle.rds_model.specs.declared.entry.Entry.{Entry}
@@ -14,11 +14,11 @@ use Rattle.rds_model.specs.declared.entry.Entry.TheVariants.{Open, Shut, Bad}
 use Rattle.rds_model.specs.Log.{Log}
 use Rattle.rds_model.specs.Past.{accepted, open_stream, newest_stream}
 use Rattle.rds_model.specs.Legal.{IsWhole, IsLawful, IsLawfulBad, IsPong, pong_to}
-use Rattle.rds_model.specs.Store.{Holds, due_on}
-use Rattle.rds_msgs.specs.Held.{Held, bytes_of}
+use Rattle.rds_model.specs.Store.{HoldsMessages, due_on}
+use Rattle.rds_msgs.specs.Messages.{StoreView, bytes_of}
 use Rattle.rds_conn.specs.declared.conn.Conn.TheInside.{Inside}
-use Rattle.rds_conn.specs.Keeping.{Keeps, HasRoom, IsCounted, IsReading}
-use Rattle.rds_conn.proofs.Held.{holds_all, due_after_open}
+use Rattle.rds_conn.specs.Invariant.{ConnectionInvariant, HasRoom, IsCounted, IsReading}
+use Rattle.rds_conn.proofs.MessagesHeld.{holds_all, due_after_open}
 use Rattle.rds_conn.proofs.Untouched.{untouched}
 
 -- a lawful entry makes a whole journal longer
@@ -30,7 +30,7 @@ whole_with e past whole lawful settled =
     }
 
 -- one entry more takes one of the room
-pub room_once : (e : Entry) (log : Log) (spare : ℕ) (store : Held) (store_spare : ℕ) → 1 ≤ spare → HasRoom log spare store store_spare →
+pub room_once : (e : Entry) (log : Log) (spare : ℕ) (store : StoreView) (store_spare : ℕ) → 1 ≤ spare → HasRoom log spare store store_spare →
     HasRoom (record log { past = e ∷ log.past; spare = log.spare - 1 }) (spare - 1) store store_spare
 room_once e log spare store store_spare some room = record {
   entries = omega (arith, room.entries);
@@ -52,20 +52,20 @@ reading_nothing stream top = record {
   idle = λ _. refl;
 }
 
-pub keeps_open : (c : Inside) (k : ℕ) → Keeps c → 1 ≤ c.spare → open_stream c.journal.past ≡ None → newest_stream c.journal.past < k →
-    Keeps (record c {
-      journal = record c.journal { past = Open k ∷ c.journal.past; spare = c.journal.spare - 1 };
+pub keeps_open : (c : Inside) (s : ℕ) → ConnectionInvariant c → 1 ≤ c.spare → open_stream c.journal.past ≡ None → newest_stream c.journal.past < s →
+    ConnectionInvariant (record c {
+      journal = record c.journal { past = Open s ∷ c.journal.past; spare = c.journal.spare - 1 };
       spare = c.spare - 1;
-      stream = Some k;
+      stream = Some s;
       mapped = false;
       asking = record { unasked = 0; bytes = 0; is_asked = false; must_ask = false };
     })
-keeps_open c k keeps some closed newer =
+keeps_open c s keeps some closed newer =
     let past : List Entry = c.journal.past in
-    let new = untouched past keeps.whole.legal k newer in
+    let new = untouched past keeps.whole.legal s newer in
     record {
-      whole = whole_with (Open k) past keeps.whole (closed, newer) refl;
-      room = room_once (Open k) c.journal c.spare c.store c.store_spare some keeps.room;
+      whole = whole_with (Open s) past keeps.whole (closed, newer) refl;
+      room = room_once (Open s) c.journal c.spare c.store c.store_spare some keeps.room;
       pong = keeps.pong;
       stream = refl;
       counted = record { accepted_is = keeps.counted.accepted_is; highest_is = keeps.counted.highest_is; last_is = keeps.counted.last_is };
@@ -77,7 +77,7 @@ keeps_open c k keeps some closed newer =
       stored = record {
         holds = record {
           alive = keeps.stored.holds.alive;
-          unpulled = keeps.stored.holds.unpulled ∙ ap (λ o. due_on o past) closed ∙ sym (due_after_open k past new);
+          unpulled = keeps.stored.holds.unpulled ∙ ap (λ o. due_on o past) closed ∙ sym (due_after_open s past new);
         };
         marked = keeps.stored.marked;
         slots_are = keeps.stored.slots_are;
@@ -87,11 +87,11 @@ keeps_open c k keeps some closed newer =
     }
 
 -- the end of the open stream, by this entry
-pub keeps_end : (c : Inside) (e : Entry) → Keeps c → 1 ≤ c.spare →
+pub keeps_end : (c : Inside) (e : Entry) → ConnectionInvariant c → 1 ≤ c.spare →
     IsLawful c.journal.past e → pong_to (e ∷ c.journal.past) ≡ None → open_stream (e ∷ c.journal.past) ≡ None →
-    ((store : Held) → Holds store.messages store.mark c.journal.past → Holds store.messages 0 (e ∷ c.journal.past)) →
+    ((store : StoreView) → HoldsMessages store.messages store.mark c.journal.past → HoldsMessages store.messages 0 (e ∷ c.journal.past)) →
     IsCounted (e ∷ c.journal.past) c.accepted c.highest c.last → accepted (e ∷ c.journal.past) ≡ accepted c.journal.past →
-    Keeps (record c {
+    ConnectionInvariant (record c {
       journal = record c.journal { past = e ∷ c.journal.past; spare = c.journal.spare - 1 };
       spare = c.spare - 1;
       stream = None;
@@ -117,28 +117,28 @@ keeps_end c e keeps some lawful settled ended holds counted same =
       freed = record { slots_are = keeps.freed.slots_are; bounded = subst (λ n. sum c.freed + bytes_of c.store.messages ≤ MAX_LENGTH * n) (sym same) keeps.freed.bounded };
     }
 
-pub keeps_shut : (c : Inside) (k : ℕ) → Keeps c → 1 ≤ c.spare → open_stream c.journal.past ≡ Some k →
-    Keeps (record c {
-      journal = record c.journal { past = Shut k ∷ c.journal.past; spare = c.journal.spare - 1 };
+pub keeps_shut : (c : Inside) (s : ℕ) → ConnectionInvariant c → 1 ≤ c.spare → open_stream c.journal.past ≡ Some s →
+    ConnectionInvariant (record c {
+      journal = record c.journal { past = Shut s ∷ c.journal.past; spare = c.journal.spare - 1 };
       spare = c.spare - 1;
       stream = None;
       splitter = nothing_held;
       store = record c.store { mark = 0 };
     })
-keeps_shut c k keeps some on =
-    keeps_end c (Shut k) keeps some on refl refl
-    (λ store holds. holds_all (Shut k ∷ c.journal.past) store.messages holds.alive refl)
+keeps_shut c s keeps some on =
+    keeps_end c (Shut s) keeps some on refl refl
+    (λ store holds. holds_all (Shut s ∷ c.journal.past) store.messages holds.alive refl)
     (record { accepted_is = keeps.counted.accepted_is; highest_is = keeps.counted.highest_is; last_is = keeps.counted.last_is }) refl
 
-pub keeps_bad : (c : Inside) (k : ℕ) (h : Header) (fault : Malformed) → Keeps c → 1 ≤ c.spare → IsLawfulBad k c.journal.past h fault →
-    Keeps (record c {
-      journal = record c.journal { past = Bad k h fault ∷ c.journal.past; spare = c.journal.spare - 1 };
+pub keeps_bad : (c : Inside) (s : ℕ) (h : Header) (fault : Malformed) → ConnectionInvariant c → 1 ≤ c.spare → IsLawfulBad s c.journal.past h fault →
+    ConnectionInvariant (record c {
+      journal = record c.journal { past = Bad s h fault ∷ c.journal.past; spare = c.journal.spare - 1 };
       spare = c.spare - 1;
       stream = None;
       splitter = nothing_held;
       store = record c.store { mark = 0 };
     })
-keeps_bad c k h fault keeps some lawful =
-    keeps_end c (Bad k h fault) keeps some lawful refl refl
-    (λ store holds. holds_all (Bad k h fault ∷ c.journal.past) store.messages holds.alive refl)
+keeps_bad c s h fault keeps some lawful =
+    keeps_end c (Bad s h fault) keeps some lawful refl refl
+    (λ store holds. holds_all (Bad s h fault ∷ c.journal.past) store.messages holds.alive refl)
     (record { accepted_is = keeps.counted.accepted_is; highest_is = keeps.counted.highest_is; last_is = keeps.counted.last_is }) refl

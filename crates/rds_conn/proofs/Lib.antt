@@ -4,10 +4,10 @@ pub mod Bounds
 pub mod AliveSteps
 pub mod Untouched
 pub mod Messages
-pub mod Held
+pub mod MessagesHeld
 pub mod KeepsStreams
 pub mod Totals
-pub mod GoneBytes
+pub mod ReleasedBytes
 pub mod KeepsOrders
 pub mod Reading
 pub mod KeepsReads

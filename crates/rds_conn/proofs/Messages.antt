@@ -14,7 +14,7 @@ use Rattle.rds_model.specs.Past.{Accepted, accepted, datagram}
 use Rattle.rds_model.specs.Alive.{is_alive, up_to, alive_numbers, covers, aims_at}
 use Rattle.rds_model.specs.Store.{message, alive_messages}
 use Rattle.rds_model.specs.Legal.{IsLegal}
-use Rattle.rds_model.proofs.Numbers.{alive_parts}
+use Rattle.rds_model.specs.NumberLaws.{alive_parts}
 use Rattle.rds_conn.proofs.Rising.{Rises, rises_bounds}
 use Rattle.rds_conn.proofs.AliveSteps.{alive_after_accept, alive_after_cancel, alive_after_read, datagram_newest, datagram_other, is_spared, alive_rises}
 
@@ -121,9 +121,9 @@ messages_after_cancel slot target past =
     ∙ messages_sieved past (is_spared past slot target) (λ (m : Msg). not (slot == m.slot && aims_at target m.dport))
     (λ n d is. ap (λ o. not (covers slot target o)) is) (alive_numbers past) (alive_known past)
 
-pub messages_after_read : (k : ℕ) (f : Frame) (o : Outcome) (past : List Entry) →
-    alive_messages (Read k f o ∷ past) ≡ filter (λ (m : Msg). nat_lt f.header.ack m.num) (alive_messages past)
-messages_after_read k f o past =
-    ap (messages_of past) (alive_after_read k f o past)
+pub messages_after_read : (s : ℕ) (f : Frame) (o : Outcome) (past : List Entry) →
+    alive_messages (Read s f o ∷ past) ≡ filter (λ (m : Msg). nat_lt f.header.ack m.num) (alive_messages past)
+messages_after_read s f o past =
+    ap (messages_of past) (alive_after_read s f o past)
     ∙ messages_sieved past (nat_lt f.header.ack) (λ (m : Msg). nat_lt f.header.ack m.num)
     (λ n d is. refl) (alive_numbers past) (alive_known past)

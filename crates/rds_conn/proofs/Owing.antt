@@ -7,10 +7,10 @@ use Rattle.rds_wire.specs.declared.frame.Frame.{Frame}
 use Rattle.rds_model.specs.declared.entry.Entry.{Entry}
 use Rattle.rds_model.specs.declared.entry.Msg.{Msg}
 use Rattle.rds_model.specs.declared.owed.TheConstants.{MAX_UNASKED, MAX_UNASKED_BYTES}
-use Rattle.rds_model.specs.Past.{Accepted, accepted, datagram, highest}
+use Rattle.rds_model.specs.Past.{Accepted, accepted, datagram, highest_pulled}
 use Rattle.rds_model.specs.Streams.{was_pulled}
-use Rattle.rds_model.specs.Alive.{is_alive, due}
-use Rattle.rds_model.specs.Owed.{last_map, is_last_map, unasked, is_asked, must_ask, asks_with, map_frame, ack_frame, data_frame, data_owed, owed_behind, owed}
+use Rattle.rds_model.specs.Alive.{is_alive, due_numbers}
+use Rattle.rds_model.specs.Owed.{last_map, is_last_map, unasked, is_asked, must_ask, asks_with, map_frame, ack_frame, data_frame, data_owed, owed_after_map, owed_frame}
 use Rattle.rds_model.specs.Legal.{IsLegal}
 use Rattle.rds_model.specs.Store.{message}
 use Rattle.rds_conn.specs.declared.asking.Asking.{Asking}
@@ -27,56 +27,56 @@ last_of_pulled (Some last) map same =
     true_from_ne_false (is_last_map (Some last) map) (λ other. let same_map : last ≡ map = cc in other_text last map (sym other) same_map)
 
 -- a new map is owed
-pub owed_map : (k : ℕ) (past : List Entry) (map : List ℕ) → is_last_map (last_map k past) map ≡ false → owed k past map ≡ Some (map_frame past map)
-owed_map k past map new = cond-false (is_last_map (last_map k past) map) (owed_behind k past (due k past)) (Some (map_frame past map)) new
+pub owed_map : (s : ℕ) (past : List Entry) (map : List ℕ) → is_last_map (last_map s past) map ≡ false → owed_frame s past map ≡ Some (map_frame past map)
+owed_map s past map new = cond-false (is_last_map (last_map s past) map) (owed_after_map s past (due_numbers s past)) (Some (map_frame past map)) new
 
 -- behind the map, the datagram of the least number that is due
-pub owed_data : (k : ℕ) (past : List Entry) (map : List ℕ) (n : ℕ) (rest : List ℕ) (d : Accepted) → is_last_map (last_map k past) map ≡ true →
-    due k past ≡ n ∷ rest → datagram past n ≡ Some d → owed k past map ≡ Some (data_frame k past n d)
-owed_data k past map n rest d last first known =
-    cond-true (is_last_map (last_map k past) map) (owed_behind k past (due k past)) (Some (map_frame past map)) last
-    ∙ ap (owed_behind k past) first ∙ ap (data_owed k past n) known
+pub owed_data : (s : ℕ) (past : List Entry) (map : List ℕ) (n : ℕ) (rest : List ℕ) (d : Accepted) → is_last_map (last_map s past) map ≡ true →
+    due_numbers s past ≡ n ∷ rest → datagram past n ≡ Some d → owed_frame s past map ≡ Some (data_frame s past n d)
+owed_data s past map n rest d last first known =
+    cond-true (is_last_map (last_map s past) map) (owed_after_map s past (due_numbers s past)) (Some (map_frame past map)) last
+    ∙ ap (owed_after_map s past) first ∙ ap (data_owed s past n) known
 
 -- and where none is due, an acknowledgement that is asked for or asks
-pub owed_last : (k : ℕ) (past : List Entry) (map : List ℕ) → is_last_map (last_map k past) map ≡ true → due k past ≡ [] →
-    owed k past map ≡ owed_behind k past []
-owed_last k past map last none =
-    cond-true (is_last_map (last_map k past) map) (owed_behind k past (due k past)) (Some (map_frame past map)) last
-    ∙ ap (owed_behind k past) none
+pub owed_last : (s : ℕ) (past : List Entry) (map : List ℕ) → is_last_map (last_map s past) map ≡ true → due_numbers s past ≡ [] →
+    owed_frame s past map ≡ owed_after_map s past []
+owed_last s past map last none =
+    cond-true (is_last_map (last_map s past) map) (owed_after_map s past (due_numbers s past)) (Some (map_frame past map)) last
+    ∙ ap (owed_after_map s past) none
 
-pub owed_ack : (k : ℕ) (past : List Entry) → (is_asked k past || must_ask k past) ≡ true → owed_behind k past [] ≡ Some (ack_frame past (must_ask k past))
-owed_ack k past asked = cond-true (is_asked k past || must_ask k past) (Some (ack_frame past (must_ask k past))) None asked
+pub owed_ack : (s : ℕ) (past : List Entry) → (is_asked s past || must_ask s past) ≡ true → owed_after_map s past [] ≡ Some (ack_frame past (must_ask s past))
+owed_ack s past asked = cond-true (is_asked s past || must_ask s past) (Some (ack_frame past (must_ask s past))) None asked
 
-pub owed_nothing : (k : ℕ) (past : List Entry) → (is_asked k past || must_ask k past) ≡ false → owed_behind k past [] ≡ None
-owed_nothing k past quiet = cond-false (is_asked k past || must_ask k past) (Some (ack_frame past (must_ask k past))) None quiet
+pub owed_nothing : (s : ℕ) (past : List Entry) → (is_asked s past || must_ask s past) ≡ false → owed_after_map s past [] ≡ None
+owed_nothing s past quiet = cond-false (is_asked s past || must_ask s past) (Some (ack_frame past (must_ask s past))) None quiet
 
 -- a number that is alive was pulled before exactly where it isn't above the highest
-pub again_is : (past : List Entry) (n : ℕ) → IsLegal past → is_alive past n ≡ true → nat_le n (highest past) ≡ was_pulled past n
+pub again_is : (past : List Entry) (n : ℕ) → IsLegal past → is_alive past n ≡ true → nat_le n (highest_pulled past) ≡ was_pulled past n
 again_is past n legal alive =
     elim (cases_Bool (was_pulled past n)) [
-      | inl was ↦ le-leb n (highest past) (pulled-highest past n was) ∙ sym was
+      | inl was ↦ le-leb n (highest_pulled past) (pulled-highest past n was) ∙ sym was
       | inr not_was ↦
-          false_from_ne_true (nat_le n (highest past)) (λ within. both_ways (was_pulled past n) not_was (highest-pulled past legal n alive (leb-true n (highest past) within)))
+          false_from_ne_true (nat_le n (highest_pulled past)) (λ within. both_ways (was_pulled past n) not_was (highest-pulled past legal n alive (leb-true n (highest_pulled past) within)))
           ∙ sym not_was
     ]
 
 -- the rules by which a datagram asks
-pub asks_is : (k : ℕ) (past : List Entry) (m : Msg) (a : Asking) (d : Accepted) (first : IsFirstDue k past m) → datagram past m.num ≡ Some d →
-    IsAsking k past a →
+pub asks_is : (s : ℕ) (past : List Entry) (m : Msg) (a : Asking) (d : Accepted) (first : IsFirstDue s past m) → datagram past m.num ≡ Some d →
+    IsAsking s past a →
     (was_pulled past m.num || ((nat_le MAX_UNASKED a.unasked || nat_lt MAX_UNASKED_BYTES (a.bytes + m.len)) || (length first.rest == 0)))
-    ≡ asks_with k past m.num d
-asks_is k past m a d first known is =
+    ≡ asks_with s past m.num d
+asks_is s past m a d first known is =
     let both : Some first.tells.d ≡ Some d = sym first.tells.known ∙ known in
     let one : first.tells.d ≡ d = cc in
     let len : m.len ≡ length d.payload = ap (λ (x : Msg). x.len) (subst (λ (x : Accepted). m ≡ message m.num x) one first.tells.is) in
-    let rising = subst (λ (xs : List ℕ). Rises 0 xs (accepted past)) first.first (due_rises k past) in
-    let alone : list_all (λ n. n == m.num) (due k past) ≡ (length first.rest == 0) =
+    let rising = subst (λ (xs : List ℕ). Rises 0 xs (accepted past)) first.first (due_rises s past) in
+    let alone : list_all (λ n. n == m.num) (due_numbers s past) ≡ (length first.rest == 0) =
     ap (list_all (λ n. n == m.num)) first.first ∙ all_first m.num first.rest (accepted past) rising.1 in
     ap (λ b. was_pulled past m.num || b) (regroup (nat_le MAX_UNASKED a.unasked) (nat_lt MAX_UNASKED_BYTES (a.bytes + m.len)) (length first.rest == 0))
     ∙ ap (λ n. was_pulled past m.num || (nat_le MAX_UNASKED n || (nat_lt MAX_UNASKED_BYTES (a.bytes + m.len) || (length first.rest == 0)))) is.count
-    ∙ ap (λ n. was_pulled past m.num || (nat_le MAX_UNASKED (length (unasked k past)) || (nat_lt MAX_UNASKED_BYTES (n + m.len) || (length first.rest == 0)))) is.bytes
-    ∙ ap (λ n. was_pulled past m.num || (nat_le MAX_UNASKED (length (unasked k past)) || (nat_lt MAX_UNASKED_BYTES (sum_by (λ (f : Frame). f.header.len) (unasked k past) + n) || (length first.rest == 0)))) len
-    ∙ ap (λ b. was_pulled past m.num || (nat_le MAX_UNASKED (length (unasked k past)) || (nat_lt MAX_UNASKED_BYTES (sum_by (λ (f : Frame). f.header.len) (unasked k past) + length d.payload) || b))) (sym alone)
+    ∙ ap (λ n. was_pulled past m.num || (nat_le MAX_UNASKED (length (unasked s past)) || (nat_lt MAX_UNASKED_BYTES (n + m.len) || (length first.rest == 0)))) is.bytes
+    ∙ ap (λ n. was_pulled past m.num || (nat_le MAX_UNASKED (length (unasked s past)) || (nat_lt MAX_UNASKED_BYTES (sum_by (λ (f : Frame). f.header.len) (unasked s past) + n) || (length first.rest == 0)))) len
+    ∙ ap (λ b. was_pulled past m.num || (nat_le MAX_UNASKED (length (unasked s past)) || (nat_lt MAX_UNASKED_BYTES (sum_by (λ (f : Frame). f.header.len) (unasked s past) + length d.payload) || b))) (sym alone)
   where
     regroup : (a b c : Bool) → (a || b) || c ≡ a || (b || c)
     regroup true b c = refl

@@ -7,8 +7,8 @@ use Rattle.rds_wire.specs.declared.kind.Malformed.TheVariants as malformed
 use Rattle.rds_wire.specs.declared.kind.TheConstants.{MAX_LENGTH}
 use Rattle.rds_wire.specs.Bytes.{header_bytes, frame_bytes, computed}
 use Rattle.rds_wire.specs.Kinds.{cause, is_data, kind_of}
-use Rattle.rds_wire.proofs.Headers.{length-header_bytes}
-use Rattle.rds_frame.specs.Holding.{Held, held_bytes}
+use Rattle.rds_wire.specs.HeaderLaws.{length-header_bytes}
+use Rattle.rds_frame.specs.Holding.{SplitterView, held_bytes}
 use Rattle.rds_frame.specs.Splitting.{IsClear, IsFrame, IsSound}
 use Rattle.rds_conn.proofs.Bounds.{ack_of_sound}
 
@@ -31,7 +31,7 @@ clear_longer top bytes more long clear h rest fits is =
     clear h front.0 fits front.1
 
 -- what is clear after a piece
-pub clear_after : (top : ℕ) (old new : Held) (taken : List ℕ) → held_bytes new ≡ held_bytes old ++ taken →
+pub clear_after : (top : ℕ) (old new : SplitterView) (taken : List ℕ) → held_bytes new ≡ held_bytes old ++ taken →
     (length (held_bytes old) < 48 → IsClear top (held_bytes new)) → IsClear top (held_bytes old) → IsClear top (held_bytes new)
 clear_after top old new taken grown early clear =
     elim (cases_lt (length (held_bytes old)) 48) [

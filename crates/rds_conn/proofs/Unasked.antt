@@ -9,106 +9,106 @@ use Rattle.rds_model.specs.declared.entry.Entry.TheVariants.{Pull}
 use Rattle.rds_model.specs.Past.{now, Accepted, is_datagram}
 use Rattle.rds_model.specs.Owed.{asks, is_map, last_map, unasked, is_asked, must_ask, data_frame, header_of}
 use Rattle.rds_model.specs.Legal.{IsLegal}
-use Rattle.rds_model.proofs.Bounds.{datagram_fits}
-use Rattle.rds_model.proofs.Legality.{lawful_pull}
-use Rattle.rds_model.proofs.LawfulFrames.{data_pull_of}
+use Rattle.rds_model.specs.BoundLaws.{datagram_fits}
+use Rattle.rds_model.specs.LegalityLaws.{lawful_pull}
+use Rattle.rds_model.specs.FrameLaws.{data_pull_of}
 use Rattle.rds_conn.specs.declared.asking.Asking.{Asking}
 use Rattle.rds_conn.specs.Asking.{IsAsking}
 
-pub unasked_few : (k : ℕ) (past : List Entry) → length (unasked k past) ≤ length past
-unasked_few k [] = omega arith
-unasked_few k (Pull stream f ∷ past) =
-    let older = unasked_few k past in
-    cond_both (not (stream == k)) (unasked k past) (cond (asks f) [] (cond (is_datagram f) (f ∷ unasked k past) (unasked k past)))
+pub unasked_few : (s : ℕ) (past : List Entry) → length (unasked s past) ≤ length past
+unasked_few s [] = omega arith
+unasked_few s (Pull stream f ∷ past) =
+    let older = unasked_few s past in
+    cond_both (not (stream == s)) (unasked s past) (cond (asks f) [] (cond (is_datagram f) (f ∷ unasked s past) (unasked s past)))
     (λ (fs : List Frame). length fs ≤ suc (length past)) (λ _. omega (arith, older))
-    (λ _. cond_both (asks f) [] (cond (is_datagram f) (f ∷ unasked k past) (unasked k past)) (λ (fs : List Frame). length fs ≤ suc (length past))
+    (λ _. cond_both (asks f) [] (cond (is_datagram f) (f ∷ unasked s past) (unasked s past)) (λ (fs : List Frame). length fs ≤ suc (length past))
     (λ _. omega arith)
-    (λ _. cond_both (is_datagram f) (f ∷ unasked k past) (unasked k past) (λ (fs : List Frame). length fs ≤ suc (length past))
+    (λ _. cond_both (is_datagram f) (f ∷ unasked s past) (unasked s past) (λ (fs : List Frame). length fs ≤ suc (length past))
     (λ _. omega (arith, older)) (λ _. omega (arith, older))))
-unasked_few k (e ∷ past) = omega (arith, unasked_few k past)
+unasked_few s (e ∷ past) = omega (arith, unasked_few s past)
 
 -- the length that a datagram's header says
-pub len_of_data : (k : ℕ) (past : List Entry) (n : ℕ) (d : Accepted) → (data_frame k past n d).header.len ≡ length d.payload
+pub len_of_data : (s : ℕ) (past : List Entry) (n : ℕ) (d : Accepted) → (data_frame s past n d).header.len ≡ length d.payload
 unfolding header_of
-len_of_data k past n d = refl
+len_of_data s past n d = refl
 
 -- a pulled datagram is no longer than any
-pulled_short : (k : ℕ) (f : Frame) (past : List Entry) → IsLegal (Pull k f ∷ past) → is_datagram f ≡ true → f.header.len ≤ MAX_LENGTH
-pulled_short k f past legal is =
-    let pull = data_pull_of k past f (lawful_pull k f legal now) is in
-    let same = ap (λ (g : Frame). g.header.len) pull.is ∙ len_of_data k past pull.n pull.d in
+pulled_short : (s : ℕ) (f : Frame) (past : List Entry) → IsLegal (Pull s f ∷ past) → is_datagram f ≡ true → f.header.len ≤ MAX_LENGTH
+pulled_short s f past legal is =
+    let pull = data_pull_of s past f (lawful_pull s f legal now) is in
+    let same = ap (λ (g : Frame). g.header.len) pull.is ∙ len_of_data s past pull.n pull.d in
     let fits = datagram_fits past pull.n pull.d legal.1 pull.known in
     omega (arith, same, fits.short)
 
-pub unasked_bytes : (k : ℕ) (past : List Entry) → IsLegal past → sum_by (λ (f : Frame). f.header.len) (unasked k past) ≤ MAX_LENGTH * length past
-unasked_bytes k [] legal = omega arith
-unasked_bytes k (Pull stream f ∷ past) legal =
-    let older = unasked_bytes k past legal.1 in
-    cond_both (not (stream == k)) (unasked k past) (cond (asks f) [] (cond (is_datagram f) (f ∷ unasked k past) (unasked k past)))
+pub unasked_bytes : (s : ℕ) (past : List Entry) → IsLegal past → sum_by (λ (f : Frame). f.header.len) (unasked s past) ≤ MAX_LENGTH * length past
+unasked_bytes s [] legal = omega arith
+unasked_bytes s (Pull stream f ∷ past) legal =
+    let older = unasked_bytes s past legal.1 in
+    cond_both (not (stream == s)) (unasked s past) (cond (asks f) [] (cond (is_datagram f) (f ∷ unasked s past) (unasked s past)))
     (λ (fs : List Frame). sum_by (λ (g : Frame). g.header.len) fs ≤ MAX_LENGTH * suc (length past)) (λ _. omega (arith, older))
-    (λ _. cond_both (asks f) [] (cond (is_datagram f) (f ∷ unasked k past) (unasked k past)) (λ (fs : List Frame). sum_by (λ (g : Frame). g.header.len) fs ≤ MAX_LENGTH * suc (length past))
+    (λ _. cond_both (asks f) [] (cond (is_datagram f) (f ∷ unasked s past) (unasked s past)) (λ (fs : List Frame). sum_by (λ (g : Frame). g.header.len) fs ≤ MAX_LENGTH * suc (length past))
     (λ _. omega arith)
-    (λ _. cond_both (is_datagram f) (f ∷ unasked k past) (unasked k past) (λ (fs : List Frame). sum_by (λ (g : Frame). g.header.len) fs ≤ MAX_LENGTH * suc (length past))
-    (λ is. (let more = sum_by-cons (λ (g : Frame). g.header.len) f (unasked k past) in let short = pulled_short stream f past legal is in omega (arith, older, more, short)))
+    (λ _. cond_both (is_datagram f) (f ∷ unasked s past) (unasked s past) (λ (fs : List Frame). sum_by (λ (g : Frame). g.header.len) fs ≤ MAX_LENGTH * suc (length past))
+    (λ is. (let more = sum_by-cons (λ (g : Frame). g.header.len) f (unasked s past) in let short = pulled_short stream f past legal is in omega (arith, older, more, short)))
     (λ _. omega (arith, older))))
-unasked_bytes k (e ∷ past) legal = omega (arith, unasked_bytes k past legal.1)
+unasked_bytes s (e ∷ past) legal = omega (arith, unasked_bytes s past legal.1)
 
 -- what a pull on the stream itself changes
-unasked_pull : (k : ℕ) (f : Frame) (past : List Entry) →
-    unasked k (Pull k f ∷ past) ≡ cond (asks f) [] (cond (is_datagram f) (f ∷ unasked k past) (unasked k past))
-unasked_pull k f past =
-    ap (λ b. cond (not b) (unasked k past) (cond (asks f) [] (cond (is_datagram f) (f ∷ unasked k past) (unasked k past)))) (eq-eqb k k refl)
+unasked_pull : (s : ℕ) (f : Frame) (past : List Entry) →
+    unasked s (Pull s f ∷ past) ≡ cond (asks f) [] (cond (is_datagram f) (f ∷ unasked s past) (unasked s past))
+unasked_pull s f past =
+    ap (λ b. cond (not b) (unasked s past) (cond (asks f) [] (cond (is_datagram f) (f ∷ unasked s past) (unasked s past)))) (eq-eqb s s refl)
 
-asked_pull : (k : ℕ) (f : Frame) (past : List Entry) → is_asked k (Pull k f ∷ past) ≡ false
-asked_pull k f past = ap (λ b. not b && is_asked k past) (eq-eqb k k refl)
+asked_pull : (s : ℕ) (f : Frame) (past : List Entry) → is_asked s (Pull s f ∷ past) ≡ false
+asked_pull s f past = ap (λ b. not b && is_asked s past) (eq-eqb s s refl)
 
-must_pull : (k : ℕ) (f : Frame) (past : List Entry) → must_ask k (Pull k f ∷ past) ≡ not (asks f) && (is_datagram f || must_ask k past)
-must_pull k f past = ap (λ b. cond b (not (asks f) && (is_datagram f || must_ask k past)) (must_ask k past)) (eq-eqb k k refl)
+must_pull : (s : ℕ) (f : Frame) (past : List Entry) → must_ask s (Pull s f ∷ past) ≡ not (asks f) && (is_datagram f || must_ask s past)
+must_pull s f past = ap (λ b. cond b (not (asks f) && (is_datagram f || must_ask s past)) (must_ask s past)) (eq-eqb s s refl)
 
-pub map_pull : (k : ℕ) (f : Frame) (past : List Entry) → last_map k (Pull k f ∷ past) ≡ cond (is_map f) (Some f.payload) (last_map k past)
-map_pull k f past = ap (λ b. cond (b && is_map f) (Some f.payload) (last_map k past)) (eq-eqb k k refl)
+pub map_pull : (s : ℕ) (f : Frame) (past : List Entry) → last_map s (Pull s f ∷ past) ≡ cond (is_map f) (Some f.payload) (last_map s past)
+map_pull s f past = ap (λ b. cond (b && is_map f) (Some f.payload) (last_map s past)) (eq-eqb s s refl)
 
 abbrev pub nothing_asked : Asking
 nothing_asked = record { unasked = 0; bytes = 0; is_asked = false; must_ask = false }
 
 -- after a frame that asks nothing is left to ask
-pub asking_after_asking : (k : ℕ) (f : Frame) (past : List Entry) → asks f ≡ true → IsAsking k (Pull k f ∷ past) nothing_asked
-asking_after_asking k f past asking =
-    let empty : unasked k (Pull k f ∷ past) ≡ [] = unasked_pull k f past ∙ cond-true (asks f) [] (cond (is_datagram f) (f ∷ unasked k past) (unasked k past)) asking in
+pub asking_after_asking : (s : ℕ) (f : Frame) (past : List Entry) → asks f ≡ true → IsAsking s (Pull s f ∷ past) nothing_asked
+asking_after_asking s f past asking =
+    let empty : unasked s (Pull s f ∷ past) ≡ [] = unasked_pull s f past ∙ cond-true (asks f) [] (cond (is_datagram f) (f ∷ unasked s past) (unasked s past)) asking in
     record {
       count = sym (ap length empty);
       bytes = sym (ap (sum_by (λ (g : Frame). g.header.len)) empty);
-      asked = sym (asked_pull k f past);
-      must = sym (must_pull k f past ∙ ap (λ b. not b && (is_datagram f || must_ask k past)) asking);
+      asked = sym (asked_pull s f past);
+      must = sym (must_pull s f past ∙ ap (λ b. not b && (is_datagram f || must_ask s past)) asking);
     }
 
 -- after one that is no datagram and doesn't ask, all stays but that the peer has its answer
-pub asking_after_other : (k : ℕ) (f : Frame) (past : List Entry) (a : Asking) → asks f ≡ false → is_datagram f ≡ false → IsAsking k past a →
-    IsAsking k (Pull k f ∷ past) (record a { is_asked = false })
-asking_after_other k f past a asking datagram_is is =
-    let same : unasked k (Pull k f ∷ past) ≡ unasked k past =
-    unasked_pull k f past ∙ cond-false (asks f) [] (cond (is_datagram f) (f ∷ unasked k past) (unasked k past)) asking
-    ∙ cond-false (is_datagram f) (f ∷ unasked k past) (unasked k past) datagram_is in
+pub asking_after_other : (s : ℕ) (f : Frame) (past : List Entry) (a : Asking) → asks f ≡ false → is_datagram f ≡ false → IsAsking s past a →
+    IsAsking s (Pull s f ∷ past) (record a { is_asked = false })
+asking_after_other s f past a asking datagram_is is =
+    let same : unasked s (Pull s f ∷ past) ≡ unasked s past =
+    unasked_pull s f past ∙ cond-false (asks f) [] (cond (is_datagram f) (f ∷ unasked s past) (unasked s past)) asking
+    ∙ cond-false (is_datagram f) (f ∷ unasked s past) (unasked s past) datagram_is in
     record {
       count = is.count ∙ sym (ap length same);
       bytes = is.bytes ∙ sym (ap (sum_by (λ (g : Frame). g.header.len)) same);
-      asked = sym (asked_pull k f past);
-      must = is.must ∙ sym (must_pull k f past ∙ ap (λ b. not b && (is_datagram f || must_ask k past)) asking ∙ ap (λ b. b || must_ask k past) datagram_is);
+      asked = sym (asked_pull s f past);
+      must = is.must ∙ sym (must_pull s f past ∙ ap (λ b. not b && (is_datagram f || must_ask s past)) asking ∙ ap (λ b. b || must_ask s past) datagram_is);
     }
 
 -- after a datagram that doesn't ask, there is one more
-pub asking_after_data : (k : ℕ) (f : Frame) (past : List Entry) (a : Asking) → asks f ≡ false → is_datagram f ≡ true → IsAsking k past a →
-    IsAsking k (Pull k f ∷ past) (record { unasked = a.unasked + 1; bytes = a.bytes + f.header.len; is_asked = false; must_ask = true })
-asking_after_data k f past a asking datagram_is is =
-    let more : unasked k (Pull k f ∷ past) ≡ f ∷ unasked k past =
-    unasked_pull k f past ∙ cond-false (asks f) [] (cond (is_datagram f) (f ∷ unasked k past) (unasked k past)) asking
-    ∙ cond-true (is_datagram f) (f ∷ unasked k past) (unasked k past) datagram_is in
+pub asking_after_data : (s : ℕ) (f : Frame) (past : List Entry) (a : Asking) → asks f ≡ false → is_datagram f ≡ true → IsAsking s past a →
+    IsAsking s (Pull s f ∷ past) (record { unasked = a.unasked + 1; bytes = a.bytes + f.header.len; is_asked = false; must_ask = true })
+asking_after_data s f past a asking datagram_is is =
+    let more : unasked s (Pull s f ∷ past) ≡ f ∷ unasked s past =
+    unasked_pull s f past ∙ cond-false (asks f) [] (cond (is_datagram f) (f ∷ unasked s past) (unasked s past)) asking
+    ∙ cond-true (is_datagram f) (f ∷ unasked s past) (unasked s past) datagram_is in
     let count = ap length more in
     let bytes = ap (sum_by (λ (g : Frame). g.header.len)) more in
-    let cut = sum_by-cons (λ (g : Frame). g.header.len) f (unasked k past) in
+    let cut = sum_by-cons (λ (g : Frame). g.header.len) f (unasked s past) in
     record {
       count = omega (arith, count, is.count);
       bytes = omega (arith, bytes, cut, is.bytes);
-      asked = sym (asked_pull k f past);
-      must = sym (must_pull k f past ∙ ap (λ b. not b && (is_datagram f || must_ask k past)) asking ∙ ap (λ b. b || must_ask k past) datagram_is);
+      asked = sym (asked_pull s f past);
+      must = sym (must_pull s f past ∙ ap (λ b. not b && (is_datagram f || must_ask s past)) asking ∙ ap (λ b. b || must_ask s past) datagram_is);
     }

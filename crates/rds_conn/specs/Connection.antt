@@ -28,8 +28,8 @@ pub record IsReady (c : Connection) : Type 0 where
   pub pong : c.has_pong ≡ true
 
 -- the connection, made ready
-abbrev pub readied : Connection → Connection
-readied c = record c {
+abbrev pub with_room : Connection → Connection
+with_room c = record c {
   log = record c.log { spare = max c.log.spare 2 };
   store_spare = max c.store_spare 1;
   has_pong = true;
@@ -40,12 +40,12 @@ abbrev pub stream_of : Connection → Option ℕ
 stream_of c = open_stream c.log.past
 
 -- the connection with more entries in its journal, the newest first
-abbrev pub logged : List Entry → Connection → Connection
-logged entries c = record c { log = record c.log { past = entries ++ c.log.past; spare = c.log.spare - length entries } }
+abbrev pub with_entries : List Entry → Connection → Connection
+with_entries entries c = record c { log = record c.log { past = entries ++ c.log.past; spare = c.log.spare - length entries } }
 
 -- the freed bytes of a slot that weren't handed out
-abbrev pub held : ℕ → Connection → ℕ
-held slot c = slice_index c.freed slot
+abbrev pub freed_bytes_of : ℕ → Connection → ℕ
+freed_bytes_of slot c = slice_index c.freed slot
 
 -- the bytes that were taken of the open stream and not passed
 abbrev pub taken_bytes : Connection → List ℕ

@@ -2,10 +2,10 @@ pub mod Connection
 pub mod Orders
 pub mod Readying
 pub mod Freeing
-pub mod Gone
+pub mod Released
 pub mod Asking
 pub mod Choosing
 pub mod Pulling
 pub mod Feeding
 pub mod Passing
-pub mod Keeping
+pub mod Invariant

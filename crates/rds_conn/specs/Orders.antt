@@ -5,7 +5,7 @@ use Rattle.rds_model.specs.declared.entry.Entry.TheVariants as entry
 use Rattle.rds_model.specs.declared.entry.Target.TheVariants as target
 use Rattle.rds_model.specs.declared.order.Order.{Order}
 use Rattle.rds_model.specs.declared.order.Order.TheVariants as order
-use Rattle.rds_conn.specs.Connection.{Connection, logged}
+use Rattle.rds_conn.specs.Connection.{Connection, with_entries}
 
 -- a connection with so many slots may take the order
 abbrev pub IsOrderFor : ℕ → Order → Type 0
@@ -16,9 +16,9 @@ IsOrderFor slots order.Cut = ⊥
 
 -- the connection with the entry of an order, which takes the room of a message where a datagram is accepted; no
 -- connection takes a cut
-abbrev pub ordered : Order → Connection → Connection
-ordered (order.Send slot sport dport payload) c =
-    record (logged (entry.Accept slot sport dport payload ∷ []) c) { store_spare = c.store_spare - 1 }
-ordered (order.Cancel slot dport) c = logged (entry.Cancel slot (target.Port dport) ∷ []) c
-ordered (order.CloseSocket slot) c = logged (entry.Cancel slot target.All ∷ []) c
-ordered order.Cut c = c
+abbrev pub after_order : Order → Connection → Connection
+after_order (order.Send slot sport dport payload) c =
+    record (with_entries (entry.Accept slot sport dport payload ∷ []) c) { store_spare = c.store_spare - 1 }
+after_order (order.Cancel slot dport) c = with_entries (entry.Cancel slot (target.Port dport) ∷ []) c
+after_order (order.CloseSocket slot) c = with_entries (entry.Cancel slot target.All ∷ []) c
+after_order order.Cut c = c

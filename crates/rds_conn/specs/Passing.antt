@@ -10,7 +10,7 @@ use Rattle.rds_model.specs.declared.entry.Verdict.TheVariants as verdict
 use Rattle.rds_model.specs.Legal.{pong_for}
 use Rattle.rds_conn.specs.declared.conn.Found.{Found}
 use Rattle.rds_conn.specs.declared.conn.Found.TheVariants as found
-use Rattle.rds_conn.specs.Connection.{Connection, logged}
+use Rattle.rds_conn.specs.Connection.{Connection, with_entries}
 
 -- a datagram's port was looked up: the socket of a slot holds it, or none
 abbrev pub IsLookedUp : ℕ → Found → Type 0
@@ -45,11 +45,11 @@ outcome_of verdict.Map came = outcome.Map
 outcome_of verdict.OddMap came = outcome.OddMap
 
 -- the connection with the acceptance of a pong, if one is owed to a port
-abbrev pub answering : Option ℕ → Connection → Connection
-answering None c = c
-answering (Some port) c =
-    record (logged (Accept NO_SLOT 0 port [] ∷ []) c) { store_spare = c.store_spare - 1; has_pong = false }
+abbrev pub with_pong : Option ℕ → Connection → Connection
+with_pong None c = c
+with_pong (Some port) c =
+    record (with_entries (Accept NO_SLOT 0 port [] ∷ []) c) { store_spare = c.store_spare - 1; has_pong = false }
 
--- the connection with the entry of a frame that was read on stream k, and directly behind a ping its pong
-abbrev pub passed : ℕ → Frame → Outcome → Connection → Connection
-passed k f came c = answering (pong_for came f.header.sport) (record (logged (Read k f came ∷ []) c) { waiting = None })
+-- the connection with the entry of a frame that was read on stream s, and directly behind a ping its pong
+abbrev pub after_pass : ℕ → Frame → Outcome → Connection → Connection
+after_pass s f came c = with_pong (pong_for came f.header.sport) (record (with_entries (Read s f came ∷ []) c) { waiting = None })

@@ -102,23 +102,23 @@ impl Model for Conn {
 
     ghost Value = { Connection };
 
-    ghost use Rattle.rds_conn.specs.Keeping.{Keeps, seen};
+    ghost use Rattle.rds_conn.specs.Invariant.{ConnectionInvariant, connection_view};
 
-    ghost view = { seen };
+    ghost view = { connection_view };
 
-    ghost invariant = { Keeps };
+    ghost invariant = { ConnectionInvariant };
 }
 
 impl Conn {
     ghost use Rattle.rds_model.specs.Alive.{alive_numbers, covers, is_alive};
-    ghost use Rattle.rds_model.specs.Past.{datagram, highest, last_passed};
+    ghost use Rattle.rds_model.specs.Past.{datagram, highest_pulled, last_passed};
     ghost use Rattle.rds_model.specs.Streams.{was_pulled};
     ghost use Rattle.rds_model.specs.Legal.{IsWhole};
     ghost use Rattle.rds_frame.specs.Splitting.{IsClear, IsPartial, IsSound};
     ghost use Rattle.rds_model.specs.Reading.{max_slots};
     ghost use Rattle.rds_model.specs.declared.journal.TheConstants.{MIN_ENTRIES, MAX_ENTRIES};
     ghost use Rattle.rds_conn.specs.Connection.{stream_of, taken_bytes};
-    ghost use Rattle.rds_conn.specs.Freeing.{HandsOut};
+    ghost use Rattle.rds_conn.specs.Freeing.{HandsOutFreed};
 
     /// A connection of the host `me` with `peer`, both IPv4 addresses: an empty journal of at most `limit` entries, and
     /// no stream.
@@ -189,13 +189,13 @@ impl Conn {
         ensures slots { self.now.slots ≤ max_slots }
         ensures freed { length self.now.freed ≡ self.now.slots }
         ensures idle { stream_of self.now ≡ None → (self.now.waiting ≡ None) × (self.now.rest ≡ []) }
-        ensures sound { IfSome self.now.waiting (IsSound (highest self.now.log.past)) }
+        ensures sound { IfSome self.now.waiting (IsSound (highest_pulled self.now.log.past)) }
         ensures alone { IfSome self.now.waiting (λ f. self.now.rest ≡ []) }
         ensures partial { self.now.waiting ≡ None → IsPartial self.now.rest }
-        ensures clear { IsClear (highest self.now.log.past) (taken_bytes self.now) }
+        ensures clear { IsClear (highest_pulled self.now.log.past) (taken_bytes self.now) }
         // A number that is alive was pulled exactly where it is at most the highest one that was pulled.
         ensures pulled { (n : ℕ) → is_alive self.now.log.past n ≡ true →
-            was_pulled self.now.log.past n ≡ nat_le n (highest self.now.log.past) }
+            was_pulled self.now.log.past n ≡ nat_le n (highest_pulled self.now.log.past) }
     {
         let _ = &self.slots;
     }
@@ -212,7 +212,7 @@ impl Conn {
     /// Takes out freed bytes of one socket, at most those of one datagram.
     pub fn take_freed(&mut self) -> Option<Freed>
         ensures none { IsNone result ↔ (sum self.old.freed ≡ 0) }
-        ensures some { IfSome result (HandsOut self.old.freed self.new.freed) }
+        ensures some { IfSome result (HandsOutFreed self.old.freed self.new.freed) }
         ensures same { IfNone result (self.new ≡ self.old) }
         ensures rest { self.new ≡ record self.old { freed = self.new.freed } }
     {
@@ -235,7 +235,7 @@ impl Conn {
 
     /// The highest number that was ever pulled, or 0.
     pub fn highest(&self) -> u64
-        ensures { result ≡ highest self.now.log.past }
+        ensures { result ≡ highest_pulled self.now.log.past }
     {
         self.highest
     }

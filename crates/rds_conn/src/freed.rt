@@ -1,6 +1,6 @@
 ghost use Rattle.std.specs.Prelude.{◌≡◌, ◌↔◌, ℕ, ◌+◌, ◌-◌, ◌<◌, ◌≤◌, ◌^◌, length, replicate, sum, slice_index, take, IfOk, IfSome, IfNone, IsNone};
 ghost use Rattle.rds_wire.specs.declared.kind.TheConstants.{MAX_LENGTH as most};
-ghost use Rattle.rds_conn.specs.Freeing.{with_freed, HandsOut};
+ghost use Rattle.rds_conn.specs.Freeing.{with_freed, HandsOutFreed};
 
 use rds_wire::{MAX_LENGTH, Memory};
 use std::alloc::Global;
@@ -61,7 +61,7 @@ impl FreedBytes {
     /// Takes out bytes of the lowest slot that has any, at most those of one datagram.
     pub(crate) fn take(&mut self) -> Option<Freed>
         ensures none { IsNone result ↔ (sum self.old ≡ 0) }
-        ensures some { IfSome result (HandsOut self.old self.new) }
+        ensures some { IfSome result (HandsOutFreed self.old self.new) }
         ensures same { IfNone result (self.new ≡ self.old) }
     {
         if self.total == 0 {

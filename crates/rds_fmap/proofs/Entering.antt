@@ -4,10 +4,10 @@ use Rattle.std.proofs.lemmas.List.{append_assoc, length-append, append-nil}
 use Rattle.std.proofs.lemmas.List.Elements.{Contains-push_cases, Contains-push, Contains-append_left}
 use Rattle.std.specs.Prelude.{Contains, Result, Ok, Err, IsOk, MatchResult, is_err, false}
 use Rattle.crossbeam_utils.specs.Register.{Admits, TurnsAt}
-use Rattle.rds_words.proofs.Views.{each_set, each_snoc}
+use Rattle.rds_views.specs.ViewLaws.{each_set, each_snoc}
 use Rattle.rds_cong.specs.Map.{no_ports, has_port}
 use Rattle.rds_fmap.specs.Versions.{IsVersion}
-use Rattle.rds_fmap.specs.Entries.{newcomer, first_shown, entered, published, IsFound, IsLatest, LookDone, Takes, copy_reader_view, seen_of}
+use Rattle.rds_fmap.specs.Entries.{newcomer, first_shown, entered, published, IsFound, IsLatest, LookDone, TakesCopy, copy_reader_view, seen_of}
 use Rattle.rds_fmap.specs.TwoCopies.{IsShown}
 use Rattle.rds_fmap.specs.declared.seen.Seen.{Seen}
 use Rattle.rds_fmap.specs.declared.copies.shown.Shown.{Shown}
@@ -102,7 +102,7 @@ publishes seat v x y count next views h at =
     )
 
 -- the copy after an entry
-pub took : (v w : View) (old y : Shown) → IsLatest v.found old → entered v y y w → Takes v old w y
+pub took : (v w : View) (old y : Shown) → IsLatest v.found old → entered v y y w → TakesCopy v old w y
 took v w old y latest e =
     let new : w.found ≡ v.found ++ y ∷ [] = ap (λ (x : View). x.found) e.0 in
     let newest : (k : Shown) → Contains v.found k → k.version ≤ y.version = λ k m. (e.2 k m).0 in
@@ -123,7 +123,7 @@ same_copy v w old y latest e same = ⊎_elim
     latest.found_is
 
 -- and after a refusal
-pub refused : (v w : View) (old : Shown) → IsLatest v.found old → w ≡ v → Takes v old w old
+pub refused : (v w : View) (old : Shown) → IsLatest v.found old → w ≡ v → TakesCopy v old w old
 refused v w old latest same = record {
   step = inr (same, refl);
   latest = subst (λ (x : View). IsLatest x.found old) (sym same) latest;
@@ -131,7 +131,7 @@ refused v w old latest same = record {
 }
 
 -- what was found stays found
-still_found : (v w : View) (old new : Shown) → Takes v old w new → (e : Shown) → IsFound v.found e → IsFound w.found e
+still_found : (v w : View) (old new : Shown) → TakesCopy v old w new → (e : Shown) → IsFound v.found e → IsFound w.found e
 still_found v w old new t e k = ⊎_elim
     (λ (step : w ≡ record v { found = v.found ++ new ∷ [] }).
     let longer : w.found ≡ v.found ++ new ∷ [] = ap (λ (x : View). x.found) step in
@@ -139,7 +139,7 @@ still_found v w old new t e k = ⊎_elim
     (λ (step : (w ≡ v) × (new ≡ old)). subst (λ (x : View). IsFound x.found e) (sym step.0) k)
     t.step
 
-pub looks_by : (v w : View) (old new : Shown) (port : ℕ) (set : Bool) → Takes v old w new → set ≡ has_port new.map port
+pub looks_by : (v w : View) (old new : Shown) (port : ℕ) (set : Bool) → TakesCopy v old w new → set ≡ has_port new.map port
     → LookDone (copy_reader_view v old) (copy_reader_view w new) port (record { version = new.version; set = set })
 looks_by v w old new port set t is =
     let seen : Seen = record { version = new.version; set = set } in

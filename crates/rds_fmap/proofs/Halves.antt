@@ -9,7 +9,7 @@ use Rattle.byteorder.specs.Endian.{little_bytes}
 use Rattle.rds_wire.specs.Bytes.{IsBytes}
 use Rattle.rds_cong.specs.Map.{has_port, IsMap, no_ports}
 use Rattle.rds_cong.specs.declared.map.TheConstants.{MAP_BYTES}
-use Rattle.rds_cong.proofs.Digits.{byte-zero, byte_below, bit-byte}
+use Rattle.rds_cong.specs.DigitLaws.{byte-zero, byte_below, bit-byte}
 use Rattle.rds_fmap.specs.Halves.{IsHalf, bytes_of_halves}
 
 pub length-halves : (halves : List ℕ) → length (bytes_of_halves halves) ≡ 4 * length halves

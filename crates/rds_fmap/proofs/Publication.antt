@@ -5,7 +5,7 @@ use Rattle.std.proofs.lemmas.List.{get_or_push}
 use Rattle.std.proofs.Math.Nat.{mod-eq_of_lt}
 use Rattle.std.specs.Int.{bit_at}
 use Rattle.rds_cong.specs.Map.{no_ports, has_port, IsMap}
-use Rattle.rds_cong.proofs.Ports.{same_maps}
+use Rattle.rds_cong.specs.PortLaws.{same_maps}
 use Rattle.rds_fmap.specs.Halves.{IsHalf, bytes_of_halves}
 use Rattle.rds_fmap.specs.Views.{version_in, maps_begun, after_put}
 use Rattle.rds_fmap.specs.Versions.{IsSeenIn}

@@ -39,7 +39,7 @@ pub record IsLatest (found : List Shown) (copy : Shown) : Type 0 where
   pub newest : (e : Shown) → Contains found e → e.version ≤ copy.version
 
 -- an entry found what is now the copy, or was refused and changed nothing
-pub record Takes (v : View) (old : Shown) (w : View) (new : Shown) : Type 0 where
+pub record TakesCopy (v : View) (old : Shown) (w : View) (new : Shown) : Type 0 where
   pub step : (w ≡ record v { found = v.found ++ new ∷ [] }) ⊎ ((w ≡ v) × (new ≡ old))
   pub latest : IsLatest w.found new
   pub later : (e : Shown) → IsFound v.found e → e.version ≤ new.version

@@ -8,12 +8,12 @@ use Rattle.std.specs.List.{All, flat_map}
 use Rattle.rds_wire.specs.declared.frame.Frame.{Frame}
 use Rattle.rds_wire.specs.declared.kind.Malformed.{Malformed}
 use Rattle.rds_wire.specs.Bytes.{frame_bytes, header_bytes}
-use Rattle.rds_wire.proofs.Causes.{cause-rises}
-use Rattle.rds_wire.proofs.Headers.{length-header_bytes}
+use Rattle.rds_wire.specs.CauseLaws.{cause-rises}
+use Rattle.rds_wire.specs.HeaderLaws.{length-header_bytes}
 use Rattle.rds_frame.specs.declared.took.Took.{Took}
 use Rattle.rds_frame.specs.Splitting.{frames_bytes, IsClear, IsFrame, IsMalformed, IsPartial, IsSound, Splits}
-use Rattle.rds_frame.specs.Holding.{Held, held_bytes, IsFed, IsHeld, nothing_held}
-use Rattle.rds_frame.specs.Taking.{Refuses, Takes}
+use Rattle.rds_frame.specs.Holding.{SplitterView, held_bytes, IsFed, HoldsAtMostOneFrame, nothing_held}
+use Rattle.rds_frame.specs.Taking.{RefusesPiece, TakesPiece}
 use Rattle.rds_frame.proofs.OneSplit.{Splits-only}
 
 -- nothing was taken
@@ -34,8 +34,8 @@ clear-longer highest old taken new long are clear h more fits same =
     sym (take-append-le 48 old taken long) ∙ ap (take 48) (sym are ∙ same) ∙ take_at (header_bytes h) more 48 (length-header_bytes h fits) in
     clear h (drop 48 old) fits (sym (take-append-drop 48 old) ∙ (λ i. front i ++ drop 48 old))
 
-pub IsFed-take : (highest : ℕ) (bytes : List ℕ) (frames : List Frame) (old : Held) (piece : List ℕ) (took : Took) (new : Held)
-    → IsFed highest bytes frames old → Takes highest old piece took new → IsHeld new
+pub IsFed-take : (highest : ℕ) (bytes : List ℕ) (frames : List Frame) (old : SplitterView) (piece : List ℕ) (took : Took) (new : SplitterView)
+    → IsFed highest bytes frames old → TakesPiece highest old piece took new → HoldsAtMostOneFrame new
     → IsFed highest (bytes ++ take took.used piece) frames new
 IsFed-take highest bytes frames old piece took new fed takes held = record {
   bytes_are =
@@ -56,17 +56,17 @@ frames_bytes-push : (frames : List Frame) (f : Frame) → frames_bytes (frames +
 frames_bytes-push frames f =
     flat_map-append frame_bytes frames (f ∷ []) ∙ (λ i. frames_bytes frames ++ append-nil (frame_bytes f) i)
 
-alone : (held : Held) (f : Frame) → IsHeld held → held.waiting ≡ Some f
+alone : (held : SplitterView) (f : Frame) → HoldsAtMostOneFrame held → held.waiting ≡ Some f
     → IsFrame f × (held ≡ record { rest = []; waiting = Some f; refused = None })
 alone held f is waits =
     subst (λ (o : Option Frame). IfSome o (λ g. IsFrame g × (held ≡ record { rest = []; waiting = Some g; refused = None }))) waits is.waiting
 
-pub IsFed-done : (highest : ℕ) (bytes : List ℕ) (frames : List Frame) (old : Held) (f : Frame)
-    → IsFed highest bytes frames old → old.waiting ≡ Some f → IsHeld (record old { waiting = None })
+pub IsFed-done : (highest : ℕ) (bytes : List ℕ) (frames : List Frame) (old : SplitterView) (f : Frame)
+    → IsFed highest bytes frames old → old.waiting ≡ Some f → HoldsAtMostOneFrame (record old { waiting = None })
     → IsFed highest bytes (frames ++ f ∷ []) (record old { waiting = None })
 IsFed-done highest bytes frames old f fed waits held =
     let one = alone old f fed.held_is waits in
-    let none : old.rest ≡ [] = ap (λ (h : Held). h.rest) one.1 in
+    let none : old.rest ≡ [] = ap (λ (h : SplitterView). h.rest) one.1 in
     let are : held_bytes old ≡ frame_bytes f = ap held_bytes one.1 ∙ append-nil (frame_bytes f) in
     let sound : IsSound highest f = record { frame = one.0; cause = fed.clear f.header f.payload one.0.header are } in
     record {
@@ -84,8 +84,8 @@ IsFed-done highest bytes frames old f fed waits held =
     }
 
 -- a header was refused
-pub IsMalformed-refuses : (highest : ℕ) (bytes : List ℕ) (frames : List Frame) (old : Held) (piece : List ℕ) (fault : Malformed) (new : Held)
-    → IsFed highest bytes frames old → Refuses highest old piece fault new → IsMalformed highest (bytes ++ piece) fault
+pub IsMalformed-refuses : (highest : ℕ) (bytes : List ℕ) (frames : List Frame) (old : SplitterView) (piece : List ℕ) (fault : Malformed) (new : SplitterView)
+    → IsFed highest bytes frames old → RefusesPiece highest old piece fault new → IsMalformed highest (bytes ++ piece) fault
 IsMalformed-refuses highest bytes frames old piece fault new fed refuses =
     let n : ℕ = 48 - length (held_bytes old) in
     record {
@@ -123,7 +123,7 @@ IsMalformed-append highest bytes after fault is = record {
 }
 
 -- at the end the stream is the frames, and then less than a whole one
-pub Splits-fed : (highest : ℕ) (bytes : List ℕ) (frames : List Frame) (held : Held)
+pub Splits-fed : (highest : ℕ) (bytes : List ℕ) (frames : List Frame) (held : SplitterView)
     → IsFed highest bytes frames held → held.waiting ≡ None → Splits bytes frames held.rest
 Splits-fed highest bytes frames held fed none = record {
   whole = fed.bytes_are ∙ (λ i. frames_bytes frames ++ held_bytes (record held { waiting = none i }));
@@ -132,25 +132,25 @@ Splits-fed highest bytes frames held fed none = record {
 }
 
 -- in the midst of a piece
-pub record IsFeeding (highest : ℕ) (bytes piece left : List ℕ) (frames : List Frame) (held : Held) : Type 0 where
+pub record IsFeeding (highest : ℕ) (bytes piece left : List ℕ) (frames : List Frame) (held : SplitterView) : Type 0 where
   pub none_waits : held.waiting ≡ None
   pub taken : List ℕ
   pub cut : piece ≡ taken ++ left
   pub fed : IsFed highest (bytes ++ taken) frames held
 
 -- a piece was taken in part, and a frame handed out
-pub IsFeeding-more : (highest : ℕ) (bytes piece left rest : List ℕ) (frames more : List Frame) (old new done : Held) (took : Took) (f : Frame)
-    → IsFeeding highest bytes piece left frames old → Takes highest old left took new → IsHeld new
-    → new.waiting ≡ Some f → done ≡ record new { waiting = None } → IsHeld done
+pub IsFeeding-more : (highest : ℕ) (bytes piece left rest : List ℕ) (frames more : List Frame) (old new done : SplitterView) (took : Took) (f : Frame)
+    → IsFeeding highest bytes piece left frames old → TakesPiece highest old left took new → HoldsAtMostOneFrame new
+    → new.waiting ≡ Some f → done ≡ record new { waiting = None } → HoldsAtMostOneFrame done
     → more ≡ frames ++ f ∷ [] → rest ≡ drop took.used left
     → IsFeeding highest bytes piece rest more done
 IsFeeding-more highest bytes piece left rest frames more old new done took f feeding takes held waits after held_done grown cut =
     let here : List ℕ = take took.used left in
     let fed = IsFed-take highest (bytes ++ feeding.taken) frames old left took new feeding.fed takes held in
-    let held_after : IsHeld (record new { waiting = None }) = subst (λ (h : Held). IsHeld h) after held_done in
+    let held_after : HoldsAtMostOneFrame (record new { waiting = None }) = subst (λ (h : SplitterView). HoldsAtMostOneFrame h) after held_done in
     let next = IsFed-done highest (bytes ++ feeding.taken ++ here) frames new f fed waits held_after in
     record {
-      none_waits = ap (λ (h : Held). h.waiting) after;
+      none_waits = ap (λ (h : SplitterView). h.waiting) after;
       taken = feeding.taken ++ here;
       cut =
           feeding.cut
@@ -158,15 +158,15 @@ IsFeeding-more highest bytes piece left rest frames more old new done took f fee
           ∙ sym (append_assoc feeding.taken here (drop took.used left))
           ∙ (λ i. (feeding.taken ++ here) ++ sym cut i);
       fed =
-          subst (λ (h : Held). IsFed highest (bytes ++ (feeding.taken ++ here)) more h) (sym after)
+          subst (λ (h : SplitterView). IsFed highest (bytes ++ (feeding.taken ++ here)) more h) (sym after)
           (subst (λ (fs : List Frame). IsFed highest (bytes ++ (feeding.taken ++ here)) fs (record new { waiting = None })) (sym grown)
           (subst (λ (b : List ℕ). IsFed highest b (frames ++ f ∷ []) (record new { waiting = None }))
           (append_assoc bytes feeding.taken here) next));
     }
 
 -- a piece was taken whole
-pub IsFeeding-whole : (highest : ℕ) (bytes piece left : List ℕ) (frames : List Frame) (old new done : Held) (took : Took)
-    → IsFeeding highest bytes piece left frames old → Takes highest old left took new → IsHeld new
+pub IsFeeding-whole : (highest : ℕ) (bytes piece left : List ℕ) (frames : List Frame) (old new done : SplitterView) (took : Took)
+    → IsFeeding highest bytes piece left frames old → TakesPiece highest old left took new → HoldsAtMostOneFrame new
     → new.waiting ≡ None → done ≡ record new { waiting = None }
     → IsFed highest (bytes ++ piece) frames done
 IsFeeding-whole highest bytes piece left frames old new done took feeding takes held none after =
@@ -176,12 +176,12 @@ IsFeeding-whole highest bytes piece left frames old new done took feeding takes 
     let whole : bytes ++ feeding.taken ++ take took.used left ≡ bytes ++ piece =
     (λ i. bytes ++ feeding.taken ++ all i) ∙ append_assoc bytes feeding.taken left ∙ (λ i. bytes ++ sym feeding.cut i) in
     let same : new ≡ done = (λ i. record new { waiting = none i }) ∙ sym after in
-    subst (λ (h : Held). IsFed highest (bytes ++ piece) frames h) same
+    subst (λ (h : SplitterView). IsFed highest (bytes ++ piece) frames h) same
     (subst (λ (b : List ℕ). IsFed highest b frames new) whole fed)
 
 -- a header was refused in the midst of a piece
-pub IsFeeding-refuses : (highest : ℕ) (bytes piece left : List ℕ) (frames : List Frame) (old new : Held) (fault : Malformed)
-    → IsFeeding highest bytes piece left frames old → Refuses highest old left fault new
+pub IsFeeding-refuses : (highest : ℕ) (bytes piece left : List ℕ) (frames : List Frame) (old new : SplitterView) (fault : Malformed)
+    → IsFeeding highest bytes piece left frames old → RefusesPiece highest old left fault new
     → IsMalformed highest (bytes ++ piece) fault
 IsFeeding-refuses highest bytes piece left frames old new fault feeding refuses =
     let whole : bytes ++ feeding.taken ++ left ≡ bytes ++ piece =
@@ -200,7 +200,7 @@ flat_map-at f xs i x within is =
     ∙ sym (append_assoc (flat_map f (take i xs)) (f x) (flat_map f (drop (i + 1) xs)))
 
 -- a header was refused in one of the pieces
-pub IsMalformed-pieces : {X : Type 0} (f : X → List ℕ) (highest : ℕ) (xs : List X) (i : ℕ) (x : X) (frames : List Frame) (held : Held) (fault : Malformed)
+pub IsMalformed-pieces : {X : Type 0} (f : X → List ℕ) (highest : ℕ) (xs : List X) (i : ℕ) (x : X) (frames : List Frame) (held : SplitterView) (fault : Malformed)
     → i < length xs → x ≡ get_or xs i x → IsFed highest (flat_map f (take i xs)) frames held
     → IsMalformed highest (frames_bytes frames ++ held_bytes held ++ f x) fault
     → IsMalformed highest (flat_map f xs) fault
@@ -211,14 +211,14 @@ IsMalformed-pieces f highest xs i x frames held fault within is fed malformed =
     (IsMalformed-append highest (frames_bytes frames ++ held_bytes held ++ f x) (flat_map f (drop (i + 1) xs)) fault malformed)
 
 -- no other frames are the stream
-pub Splits-fed-only : (highest : ℕ) (bytes : List ℕ) (frames : List Frame) (held : Held)
+pub Splits-fed-only : (highest : ℕ) (bytes : List ℕ) (frames : List Frame) (held : SplitterView)
     → IsFed highest bytes frames held → held.waiting ≡ None
     → (others : List Frame) (rest : List ℕ) → Splits bytes others rest → frames ≡ others
 Splits-fed-only highest bytes frames held fed none others rest split =
     (Splits-only bytes frames others held.rest rest (Splits-fed highest bytes frames held fed none) split).0
 
 -- the highest number only rises
-pub IsFed-rises : (low high : ℕ) (bytes : List ℕ) (frames : List Frame) (held : Held)
+pub IsFed-rises : (low high : ℕ) (bytes : List ℕ) (frames : List Frame) (held : SplitterView)
     → low ≤ high → IsFed low bytes frames held → IsFed high bytes frames held
 IsFed-rises low high bytes frames held rises fed = record {
   bytes_are = fed.bytes_are;

@@ -5,7 +5,7 @@ use Rattle.rds_wire.specs.declared.header.Header.{Header}
 use Rattle.rds_wire.specs.declared.kind.Malformed.{Malformed}
 use Rattle.rds_wire.specs.Bytes.{frame_bytes, header_bytes, IsHeader}
 use Rattle.rds_wire.specs.Kinds.{cause}
-use Rattle.rds_wire.proofs.Headers.{length-header_bytes}
+use Rattle.rds_wire.specs.HeaderLaws.{length-header_bytes}
 use Rattle.rds_frame.specs.Splitting.{BeginsMalformed, IsPartial, IsSound}
 
 -- the first 48 bytes are those of this header, and the others follow

@@ -6,11 +6,11 @@ use Rattle.rds_wire.specs.declared.header.Header.{Header}
 use Rattle.rds_wire.specs.declared.frame.Frame.{Frame}
 use Rattle.rds_wire.specs.Bytes.{header_bytes, IsHeader}
 use Rattle.rds_frame.specs.Splitting.{IsFrame, IsPartial}
-use Rattle.rds_frame.specs.Holding.{Held, IsHeld, refusing}
+use Rattle.rds_frame.specs.Holding.{SplitterView, HoldsAtMostOneFrame, refusing}
 use Rattle.rds_frame.specs.Fields.{IsSplitter}
 
 -- what a splitter with these fields holds
-abbrev pub held_of : List ℕ → ℕ → List ℕ → Option Frame → Option Header → Held
+abbrev pub held_of : List ℕ → ℕ → List ℕ → Option Frame → Option Header → SplitterView
 held_of head came body waiting refused = record { rest = take came head ++ body; waiting = waiting; refused = refused }
 
 frame-alone : (head : List ℕ) (came : ℕ) (body : List ℕ) (waiting : Option Frame) (refused : Option Header)
@@ -60,7 +60,7 @@ rest-partial head came body waiting refused keeps still = elim (cases_lt came 48
 ]
 
 pub IsHeld-fields : (head : List ℕ) (came : ℕ) (body : List ℕ) (waiting : Option Frame) (refused : Option Header)
-    → IsSplitter head came body waiting refused → IsHeld (held_of head came body waiting refused)
+    → IsSplitter head came body waiting refused → HoldsAtMostOneFrame (held_of head came body waiting refused)
 IsHeld-fields head came body waiting refused keeps = record {
   waiting = frame-alone head came body waiting refused keeps;
   refused = header-alone head came body waiting refused keeps;

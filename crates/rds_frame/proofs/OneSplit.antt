@@ -7,8 +7,8 @@ use Rattle.std.specs.List.{All}
 use Rattle.rds_wire.specs.declared.header.Header.{Header}
 use Rattle.rds_wire.specs.declared.frame.Frame.{Frame}
 use Rattle.rds_wire.specs.Bytes.{frame_bytes, header_bytes, IsBytes}
-use Rattle.rds_wire.proofs.Headers.{header_bytes-append, length-header_bytes}
-use Rattle.rds_wire.proofs.Decoding.{header_of, header_bytes-header_of, IsHeader-header_of}
+use Rattle.rds_wire.specs.HeaderLaws.{header_bytes-append, length-header_bytes}
+use Rattle.rds_wire.specs.DecodingLaws.{header_of, header_bytes-header_of, IsHeader-header_of}
 use Rattle.rds_frame.specs.Splitting.{frames_bytes, IsFrame, IsPartial, Splits}
 
 -- what begins with a frame shows it, and what follows it

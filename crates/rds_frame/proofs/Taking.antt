@@ -8,12 +8,12 @@ use Rattle.rds_wire.specs.declared.frame.Frame.{Frame}
 use Rattle.rds_wire.specs.declared.kind.Malformed.{Malformed}
 use Rattle.rds_wire.specs.Bytes.{frame_bytes, header_bytes, IsHeader}
 use Rattle.rds_wire.specs.Kinds.{cause}
-use Rattle.rds_wire.proofs.Headers.{header_bytes-append, header_bytes-injective, length-header_bytes}
-use Rattle.rds_wire.proofs.Causes.{len-cause}
+use Rattle.rds_wire.specs.HeaderLaws.{header_bytes-append, header_bytes-injective, length-header_bytes}
+use Rattle.rds_wire.specs.CauseLaws.{len-cause}
 use Rattle.rds_frame.specs.Splitting.{IsClear, IsFrame}
-use Rattle.rds_frame.specs.Holding.{Held, held_bytes, IsHeld}
+use Rattle.rds_frame.specs.Holding.{SplitterView, held_bytes, HoldsAtMostOneFrame}
 use Rattle.rds_frame.specs.Fields.{IsLastFrame, IsLastHeader, IsSplitter}
-use Rattle.rds_frame.specs.Taking.{Refuses, Takes}
+use Rattle.rds_frame.specs.Taking.{RefusesPiece, TakesPiece}
 use Rattle.rds_frame.proofs.Keeping.{held_of}
 
 -- the front of the piece was put after the part of a header that came before
@@ -28,17 +28,17 @@ if_none P None none = tt
 if_none P (Some x) none = cc
 
 -- a splitter with these fields that is neither closed nor has a frame
-pub record IsOpen (old : Held) (head : List ℕ) (came : ℕ) (body : List ℕ) (waiting : Option Frame) (refused : Option Header) : Type 0 where
+pub record IsOpen (old : SplitterView) (head : List ℕ) (came : ℕ) (body : List ℕ) (waiting : Option Frame) (refused : Option Header) : Type 0 where
   pub keeps : IsSplitter head came body waiting refused
   pub view_is : held_of head came body waiting refused ≡ old
   pub none_waits : waiting ≡ None
   pub still_open : refused ≡ None
 
 -- the header isn't whole yet
-pub Takes-early : (old : Held) (head : List ℕ) (came : ℕ) (body : List ℕ) (waiting : Option Frame) (refused : Option Header)
+pub Takes-early : (old : SplitterView) (head : List ℕ) (came : ℕ) (body : List ℕ) (waiting : Option Frame) (refused : Option Header)
     → (highest : ℕ) (piece filled : List ℕ) (n : ℕ)
     → IsOpen old head came body waiting refused → Filled head came piece filled n → came + n < 48
-    → Takes highest old piece (record { used = n; ready = false }) (held_of filled (came + n) body waiting refused)
+    → TakesPiece highest old piece (record { used = n; ready = false }) (held_of filled (came + n) body waiting refused)
 Takes-early old head came body waiting refused highest piece filled n is fill early =
     let empty : body ≡ [] = is.keeps.early (omega arith) in
     let whole : n ≡ length piece = omega (arith, fill.used) in
@@ -83,7 +83,7 @@ pub record IsPassed (highest came : ℕ) (body : List ℕ) (d : Header) : Type 0
   pub short : came ≡ 48 → length body < d.len
   pub clear : came < 48 → cause d highest ≡ None
 
-pub IsPassed-whole : (old : Held) (head : List ℕ) (came : ℕ) (body : List ℕ) (waiting : Option Frame) (refused : Option Header)
+pub IsPassed-whole : (old : SplitterView) (head : List ℕ) (came : ℕ) (body : List ℕ) (waiting : Option Frame) (refused : Option Header)
     → (highest : ℕ) (piece filled : List ℕ) (n : ℕ) (d : Header)
     → IsOpen old head came body waiting refused → Filled head came piece filled n → 48 ≤ came + n
     → header_bytes d ≡ filled → IsHeader d → (came < 48 → cause d highest ≡ None)
@@ -113,7 +113,7 @@ IsPassed-whole old head came body waiting refused highest piece filled n d is fi
 ]
 
 -- the piece ends before the payload does
-pub Keeps-part : (old : Held) (head : List ℕ) (came : ℕ) (body : List ℕ) (waiting : Option Frame) (refused : Option Header)
+pub Keeps-part : (old : SplitterView) (head : List ℕ) (came : ℕ) (body : List ℕ) (waiting : Option Frame) (refused : Option Header)
     → (highest : ℕ) (piece filled grown : List ℕ) (n : ℕ) (d : Header)
     → IsOpen old head came body waiting refused → Filled head came piece filled n
     → header_bytes d ≡ filled → IsHeader d → IsPassed highest came body d
@@ -135,7 +135,7 @@ Keeps-part old head came body waiting refused highest piece filled grown n d is 
 }
 
 -- the payload is whole
-pub Keeps-frame : (old : Held) (head : List ℕ) (came : ℕ) (body : List ℕ) (waiting : Option Frame) (refused : Option Header)
+pub Keeps-frame : (old : SplitterView) (head : List ℕ) (came : ℕ) (body : List ℕ) (waiting : Option Frame) (refused : Option Header)
     → (piece filled rest payload : List ℕ) (n : ℕ) (d : Header)
     → IsOpen old head came body waiting refused → Filled head came piece filled n
     → IsHeader d → length body ≤ d.len → rest ≡ [] → payload ≡ body ++ take (d.len - length body) (drop n piece)
@@ -158,7 +158,7 @@ Keeps-frame old head came body waiting refused piece filled rest payload n d is 
 }
 
 -- the header is refused
-pub Keeps-refused : (old : Held) (head : List ℕ) (came : ℕ) (body : List ℕ) (waiting : Option Frame) (refused : Option Header)
+pub Keeps-refused : (old : SplitterView) (head : List ℕ) (came : ℕ) (body : List ℕ) (waiting : Option Frame) (refused : Option Header)
     → (piece filled : List ℕ) (n : ℕ) (d : Header)
     → IsOpen old head came body waiting refused → Filled head came piece filled n → came < 48
     → header_bytes d ≡ filled → IsHeader d
@@ -173,7 +173,7 @@ Keeps-refused old head came body waiting refused piece filled n d is fill early 
 }
 
 -- nothing of the payload was taken for want of memory
-pub Keeps-failed : (old : Held) (head : List ℕ) (came : ℕ) (body : List ℕ) (waiting : Option Frame) (refused : Option Header)
+pub Keeps-failed : (old : SplitterView) (head : List ℕ) (came : ℕ) (body : List ℕ) (waiting : Option Frame) (refused : Option Header)
     → (piece filled kept : List ℕ) (n : ℕ)
     → IsOpen old head came body waiting refused → Filled head came piece filled n → kept ≡ body
     → IsSplitter filled came kept waiting refused
@@ -195,13 +195,13 @@ Keeps-failed old head came body waiting refused piece filled kept n is fill same
 }
 
 -- what is held starts with the part of a header that came
-held-open : (old : Held) (head : List ℕ) (came : ℕ) (body : List ℕ) (waiting : Option Frame) (refused : Option Header)
+held-open : (old : SplitterView) (head : List ℕ) (came : ℕ) (body : List ℕ) (waiting : Option Frame) (refused : Option Header)
     → IsOpen old head came body waiting refused → held_bytes old ≡ take came head ++ body
 held-open old head came body waiting refused is =
     sym (ap held_bytes is.view_is) ∙ (λ i. held_bytes (held_of head came body (is.none_waits i) refused))
 
 -- so fewer bytes than a header has are held only where no header is whole
-early-held : (old : Held) (head : List ℕ) (came : ℕ) (body : List ℕ) (waiting : Option Frame) (refused : Option Header)
+early-held : (old : SplitterView) (head : List ℕ) (came : ℕ) (body : List ℕ) (waiting : Option Frame) (refused : Option Header)
     → IsOpen old head came body waiting refused → length (held_bytes old) < 48 → came < 48
 early-held old head came body waiting refused is short =
     let len : length (take came head) ≡ came = length-take-le came head (omega (arith, is.keeps.len, is.keeps.came_fits)) in
@@ -228,18 +228,18 @@ seam a body p q (inr empty) =
     ∙ (λ i. (a ++ body) ++ (sym empty i ++ q))
 
 -- which of the two it is
-seam-case : (old : Held) (head : List ℕ) (came : ℕ) (body : List ℕ) (waiting : Option Frame) (refused : Option Header) (piece filled : List ℕ) (n : ℕ)
+seam-case : (old : SplitterView) (head : List ℕ) (came : ℕ) (body : List ℕ) (waiting : Option Frame) (refused : Option Header) (piece filled : List ℕ) (n : ℕ)
     → IsOpen old head came body waiting refused → Filled head came piece filled n → (body ≡ []) ⊎ (take n piece ≡ [])
 seam-case old head came body waiting refused piece filled n is fill = elim (cases_lt came 48) [
   | inl short ↦ inl (is.keeps.early short)
   | inr full ↦ let none : n ≡ 0 = omega (arith, fill.used) in inr (ap (λ k. take k piece) none)
 ]
 
-pub Takes-part : (old : Held) (head : List ℕ) (came : ℕ) (body : List ℕ) (waiting : Option Frame) (refused : Option Header)
+pub Takes-part : (old : SplitterView) (head : List ℕ) (came : ℕ) (body : List ℕ) (waiting : Option Frame) (refused : Option Header)
     → (highest : ℕ) (piece filled grown : List ℕ) (n : ℕ) (d : Header)
     → IsOpen old head came body waiting refused → Filled head came piece filled n → 48 ≤ came + n
     → header_bytes d ≡ filled → IsHeader d → IsPassed highest came body d → grown ≡ body ++ drop n piece
-    → Takes highest old piece (record { used = length piece; ready = false })
+    → TakesPiece highest old piece (record { used = length piece; ready = false })
     (held_of filled 48 grown waiting refused)
 Takes-part old head came body waiting refused highest piece filled grown n d is fill late bytes fits passed grows =
     let old_bytes = held-open old head came body waiting refused is in
@@ -263,12 +263,12 @@ Takes-part old head came body waiting refused highest piece filled grown n d is 
       still_open = is.still_open;
     }
 
-pub Takes-frame : (old : Held) (head : List ℕ) (came : ℕ) (body : List ℕ) (waiting : Option Frame) (refused : Option Header)
+pub Takes-frame : (old : SplitterView) (head : List ℕ) (came : ℕ) (body : List ℕ) (waiting : Option Frame) (refused : Option Header)
     → (highest : ℕ) (piece filled rest payload : List ℕ) (n had : ℕ) (d : Header)
     → IsOpen old head came body waiting refused → Filled head came piece filled n → 48 ≤ came + n
     → header_bytes d ≡ filled → IsHeader d → IsPassed highest came body d → had ≡ length body
     → rest ≡ [] → payload ≡ body ++ take (d.len - length body) (drop n piece) → d.len ≤ length body + length (drop n piece)
-    → Takes highest old piece (record { used = n + (d.len - had); ready = true })
+    → TakesPiece highest old piece (record { used = n + (d.len - had); ready = true })
     (held_of filled 0 rest (Some (record { header = d; payload = payload })) refused)
 Takes-frame old head came body waiting refused highest piece filled rest payload n had d is fill late bytes fits passed had_is empty whole enough =
     let missing : ℕ = d.len - length body in
@@ -299,11 +299,11 @@ Takes-frame old head came body waiting refused highest piece filled rest payload
       still_open = is.still_open;
     }
 
-pub Refuses-header : (old : Held) (head : List ℕ) (came : ℕ) (body : List ℕ) (waiting : Option Frame) (refused : Option Header)
+pub Refuses-header : (old : SplitterView) (head : List ℕ) (came : ℕ) (body : List ℕ) (waiting : Option Frame) (refused : Option Header)
     → (highest : ℕ) (piece filled : List ℕ) (n : ℕ) (d : Header) (fault : Malformed)
     → IsOpen old head came body waiting refused → Filled head came piece filled n → 48 ≤ came + n → came < 48
     → header_bytes d ≡ filled → IsHeader d → cause d highest ≡ Some fault
-    → Refuses highest old piece fault (held_of filled 48 body waiting (Some d))
+    → RefusesPiece highest old piece fault (held_of filled 48 body waiting (Some d))
 Refuses-header old head came body waiting refused highest piece filled n d fault is fill late early bytes fits faulty =
     let empty : body ≡ [] = is.keeps.early early in
     let len : length (take came head) ≡ came = length-take-le came head (omega (arith, is.keeps.len)) in
@@ -326,19 +326,19 @@ Refuses-header old head came body waiting refused highest piece filled n d fault
     }
 
 -- a frame that waits has a header at least
-waiting-whole : (held : Held) (f : Frame) → IsFrame f → held ≡ record { rest = []; waiting = Some f; refused = None }
+waiting-whole : (held : SplitterView) (f : Frame) → IsFrame f → held ≡ record { rest = []; waiting = Some f; refused = None }
     → 48 ≤ length (held_bytes held)
 waiting-whole held f is same =
     let lens = ap length (ap held_bytes same ∙ append-nil (frame_bytes f)) in
     omega (arith, lens, length-append (header_bytes f.header) f.payload, length-header_bytes f.header is.header)
 
 -- nothing is taken where a frame waits
-pub Takes-nothing : (highest : ℕ) (old : Held) (piece : List ℕ) → IsHeld old → is_some old.waiting ≡ true
-    → Takes highest old piece (record { used = 0; ready = true }) old
+pub Takes-nothing : (highest : ℕ) (old : SplitterView) (piece : List ℕ) → HoldsAtMostOneFrame old → is_some old.waiting ≡ true
+    → TakesPiece highest old piece (record { used = 0; ready = true }) old
 Takes-nothing highest old piece held waits = from-waiting old.waiting refl waits held.waiting where
   from-waiting : (o : Option Frame) → old.waiting ≡ o → is_some o ≡ true
       → IfSome o (λ f. IsFrame f × (old ≡ record { rest = []; waiting = Some f; refused = None }))
-      → Takes highest old piece (record { used = 0; ready = true }) old
+      → TakesPiece highest old piece (record { used = 0; ready = true }) old
   from-waiting None is waits_too alone = cc
   from-waiting (Some f) is waits_too alone = record {
     used = omega arith;
@@ -347,7 +347,7 @@ Takes-nothing highest old piece held waits = from-waiting old.waiting refl waits
     all = λ no. cc;
     progress = λ none ready. cc;
     clear = λ short. let long = waiting-whole old f alone.0 alone.1 in absurd (omega arith);
-    still_open = ap (λ (h : Held). h.refused) alone.1;
+    still_open = ap (λ (h : SplitterView). h.refused) alone.1;
   }
 
 -- the frame that waited was handed out

@@ -6,10 +6,10 @@ use Rattle.rds_wire.specs.Bytes.{header_bytes, IsHeader}
 use Rattle.rds_wire.specs.Kinds.{cause}
 use Rattle.rds_frame.specs.declared.took.Took.{Took}
 use Rattle.rds_frame.specs.Splitting.{IsClear}
-use Rattle.rds_frame.specs.Holding.{Held, held_bytes, refusing}
+use Rattle.rds_frame.specs.Holding.{SplitterView, held_bytes, refusing}
 
 -- it took the front of the piece: all of it, or as much as makes a frame whole
-pub record Takes (highest : ℕ) (old : Held) (piece : List ℕ) (took : Took) (new : Held) : Type 0 where
+pub record TakesPiece (highest : ℕ) (old : SplitterView) (piece : List ℕ) (took : Took) (new : SplitterView) : Type 0 where
   pub used : took.used ≤ length piece
   pub bytes : held_bytes new ≡ held_bytes old ++ take took.used piece
   pub ready : took.ready ≡ is_some new.waiting
@@ -19,7 +19,7 @@ pub record Takes (highest : ℕ) (old : Held) (piece : List ℕ) (took : Took) (
   pub still_open : new.refused ≡ None
 
 -- with this piece a header became whole that has this fault, and it was refused
-pub record Refuses (highest : ℕ) (old : Held) (piece : List ℕ) (fault : Malformed) (new : Held) : Type 0 where
+pub record RefusesPiece (highest : ℕ) (old : SplitterView) (piece : List ℕ) (fault : Malformed) (new : SplitterView) : Type 0 where
   pub header : Header
   pub fits : IsHeader header
   pub cause : cause header highest ≡ Some fault

@@ -1,8 +1,8 @@
 ghost use Rattle.std.specs.Prelude.{◌≡◌, ◌↔◌, IfOk, OnOk, IsOk, IsSome, IsErrOf};
 ghost use Rattle.std.specs.Option.{option_copied};
 ghost use Rattle.rds_wire.specs.declared.kind.Malformed.{Malformed};
-ghost use Rattle.rds_frame.specs.Holding.{IsHeld, nothing_held};
-ghost use Rattle.rds_frame.specs.Taking.{Refuses, Takes};
+ghost use Rattle.rds_frame.specs.Holding.{HoldsAtMostOneFrame, nothing_held};
+ghost use Rattle.rds_frame.specs.Taking.{RefusesPiece, TakesPiece};
 
 use crate::body::advance;
 use crate::head::{fault_of, fill};
@@ -23,9 +23,9 @@ pub struct Splitter {
 
 impl Model for Splitter {
     ghost use Rattle.std.specs.Prelude.{◌++◌, take};
-    ghost use Rattle.rds_frame.specs.Holding.{Held};
+    ghost use Rattle.rds_frame.specs.Holding.{SplitterView};
 
-    ghost Value = { Held };
+    ghost Value = { SplitterView };
 
     ghost use Rattle.rds_frame.specs.Fields.{IsSplitter};
 
@@ -66,16 +66,16 @@ impl Splitter {
     /// Takes bytes of a piece, until the piece ends or a frame is whole. A header is checked as soon as it is whole,
     /// against the highest number that the reader has ever pulled.
     pub fn take(&mut self, piece: &[u8], highest: u64) -> Result<Took, FrameError>
-        ensures ok { IfOk result (λ took. Takes highest self.old piece.now took self.new) }
+        ensures ok { IfOk result (λ took. TakesPiece highest self.old piece.now took self.new) }
         ensures waiting { IsSome self.old.waiting → OnOk result (self.new ≡ self.old) }
 
         ensures malformed { (fault : Malformed) → result ≡ Err (FrameError.Malformed fault)
-            → Refuses highest self.old piece.now fault self.new }
+            → RefusesPiece highest self.old piece.now fault self.new }
         ensures closed { IsErrOf result FrameError.Closed ↔ IsSome self.old.refused }
         ensures closed_still { IsSome self.old.refused → self.new ≡ self.old }
         ensures memory { IsErrOf result FrameError.Memory → self.new ≡ self.old }
 
-        ensures held { IsHeld self.new }
+        ensures held { HoldsAtMostOneFrame self.new }
     {
         if self.refused.is_some() {
             return Err(FrameError::Closed);
@@ -92,12 +92,12 @@ impl Splitter {
     fn take_next(&mut self, piece: &[u8], highest: u64) -> Result<Took, FrameError>
         requires not_closed { self.old.refused ≡ None }
         requires none_waits { self.old.waiting ≡ None }
-        ensures ok { IfOk result (λ took. Takes highest self.old piece.now took self.new) }
+        ensures ok { IfOk result (λ took. TakesPiece highest self.old piece.now took self.new) }
         ensures malformed { (fault : Malformed) → result ≡ Err (FrameError.Malformed fault)
-            → Refuses highest self.old piece.now fault self.new }
+            → RefusesPiece highest self.old piece.now fault self.new }
         ensures not_closed { IsErrOf result FrameError.Closed → ⊥ }
         ensures memory { IsErrOf result FrameError.Memory → self.new ≡ self.old }
-        ensures held { IsHeld self.new }
+        ensures held { HoldsAtMostOneFrame self.new }
     {
         let filled = fill(&mut self.head, self.came, piece);
         if self.came + filled < 48 {
@@ -137,7 +137,7 @@ impl Splitter {
     /// The whole frame that waits.
     pub fn ready(&self) -> Option<&Frame>
         ensures frame { option_copied result ≡ self.now.waiting }
-        ensures held { IsHeld self.now }
+        ensures held { HoldsAtMostOneFrame self.now }
     {
         self.waiting.as_ref()
     }
@@ -146,7 +146,7 @@ impl Splitter {
     pub fn done(&mut self) -> Option<Frame>
         ensures frame { result ≡ self.old.waiting }
         ensures after { self.new ≡ record self.old { waiting = None } }
-        ensures held { IsHeld self.new }
+        ensures held { HoldsAtMostOneFrame self.new }
     {
         self.waiting.take()
     }
@@ -154,7 +154,7 @@ impl Splitter {
     /// The header that was refused.
     pub fn refused(&self) -> Option<&Header>
         ensures header { option_copied result ≡ self.now.refused }
-        ensures held { IsHeld self.now }
+        ensures held { HoldsAtMostOneFrame self.now }
     {
         self.refused.as_ref()
     }

@@ -4,11 +4,11 @@ use Rattle.std.proofs.lemmas.Bool.{true≢false, cases_Bool, cases_eq, cases_lt,
 use Rattle.rds_model.specs.declared.entry.Entry.{Entry}
 use Rattle.rds_model.specs.declared.entry.Entry.TheVariants.{Accept, Cancel, Open, Pull, Read, Shut, Bad}
 use Rattle.rds_model.specs.declared.entry.Target.{Target}
-use Rattle.rds_model.specs.Past.{Accepted, accepted, datagram, acked, passes, number}
+use Rattle.rds_model.specs.Past.{Accepted, accepted, datagram, highest_ack, passes, number}
 use Rattle.rds_model.specs.Streams.{was_passed}
 use Rattle.rds_model.specs.Alive.{aims_at, covers, is_alive, is_cancelled, was_taken_back}
-use Rattle.rds_model.proofs.Numbers.{number_of_known, datagram_newest, datagram_other}
-use Rattle.rds_model.proofs.Endings.{ended}
+use Rattle.rds_model.specs.NumberLaws.{number_of_known, datagram_newest, datagram_other}
+use Rattle.rds_model.specs.EndingLaws.{ended}
 use Rattle.rds_history.specs.declared.reporting.taken.Walk.{Walk}
 use Rattle.rds_history.specs.declared.reporting.cancellations.Cancellations.{Cancellations}
 use Rattle.rds_history.specs.Items.{flags, passes_number}
@@ -30,7 +30,7 @@ none_beyond past n beyond =
 
 pub dead_beyond : (past : List Entry) (n : ℕ) → accepted past < n → is_alive past n ≡ false
 dead_beyond past n beyond =
-    ap (λ (d : Option Accepted). is_some d && (not (is_cancelled past n) && nat_lt (acked past) n)) (none_beyond past n beyond)
+    ap (λ (d : Option Accepted). is_some d && (not (is_cancelled past n) && nat_lt (highest_ack past) n)) (none_beyond past n beyond)
 
 pub untaken_beyond : (past : List Entry) (n : ℕ) → accepted past < n → was_taken_back past n ≡ false
 untaken_beyond [] n beyond = refl
@@ -126,7 +126,7 @@ module _ (all : List Entry) (w w' : Walk) (slot sport dport : ℕ) (payload : Li
 -- a step over a cancellation
 pub walk_cancel : (all : List Entry) (w w' : Walk) (slot : ℕ) (target : Target) (past : List Entry) → IsWalk all w (Cancel slot target ∷ past) →
     w'.taken ≡ w.taken → w'.accepted ≡ w.accepted →
-    ((s d n : ℕ) → takes w'.cancellations s d n ≡ takes w.cancellations s d n || ((slot == s && aims_at target d) && nat_lt (acked past) n)) →
+    ((s d n : ℕ) → takes w'.cancellations s d n ≡ takes w.cancellations s d n || ((slot == s && aims_at target d) && nat_lt (highest_ack past) n)) →
     IsWalk all w' past
 walk_cancel all w w' slot target past is taken number more = record {
   flagged = ap (λ v. v.items) taken ∙ is.flagged;
@@ -149,9 +149,9 @@ walk_cancel all w w' slot target past is taken number more = record {
     dead_case false false false = refl
 
     two : (n : ℕ) (d : Accepted) → datagram past n ≡ Some d → (b : Bool) → is_alive past n ≡ b → (v t k : Bool) → was_taken_back past n ≡ t →
-        (((b && v) || t) || k) ≡ (t || (k || (v && nat_lt (acked past) n)))
+        (((b && v) || t) || k) ≡ (t || (k || (v && nat_lt (highest_ack past) n)))
     two n d there true alive v t k taken =
-        alive_case v t k ∙ ap (λ (b : Bool). t || (k || (v && b))) (sym (reached (is_some (datagram past n)) (not (is_cancelled past n)) (nat_lt (acked past) n) alive))
+        alive_case v t k ∙ ap (λ (b : Bool). t || (k || (v && b))) (sym (reached (is_some (datagram past n)) (not (is_cancelled past n)) (nat_lt (highest_ack past) n) alive))
       where
         reached : (a b c : Bool) → (a && (b && c)) ≡ true → c ≡ true
         reached true true c h = h
@@ -160,13 +160,13 @@ walk_cancel all w w' slot target past is taken number more = record {
     two n d there false dead v t k taken =
         let known : is_some (datagram past n) ≡ true = ap (λ (o : Option Accepted). is_some o) there in
         elim (ended past n known dead) [
-          | inl was ↦ ap (λ (x : Bool). (x || k)) (sym taken ∙ was) ∙ ap (λ (x : Bool). x || (k || (v && nat_lt (acked past) n))) (sym (sym taken ∙ was))
-          | inr enough ↦ dead_case v t k ∙ ap (λ (b : Bool). t || (k || (v && b))) (sym (le-ltb (acked past) n enough))
+          | inl was ↦ ap (λ (x : Bool). (x || k)) (sym taken ∙ was) ∙ ap (λ (x : Bool). x || (k || (v && nat_lt (highest_ack past) n))) (sym (sym taken ∙ was))
+          | inr enough ↦ dead_case v t k ∙ ap (λ (b : Bool). t || (k || (v && b))) (sym (le-ltb (highest_ack past) n enough))
         ]
 
     both : (n : ℕ) (d : Accepted) → datagram past n ≡ Some d →
         (was_taken_back (Cancel slot target ∷ past) n || takes w.cancellations d.slot d.dport n)
-        ≡ (was_taken_back past n || (takes w.cancellations d.slot d.dport n || ((slot == d.slot && aims_at target d.dport) && nat_lt (acked past) n)))
+        ≡ (was_taken_back past n || (takes w.cancellations d.slot d.dport n || ((slot == d.slot && aims_at target d.dport) && nat_lt (highest_ack past) n)))
     both n d there =
         ap (λ (o : Option Accepted). (is_alive past n && covers slot target o || was_taken_back past n) || takes w.cancellations d.slot d.dport n) there
         ∙ two n d there (is_alive past n) refl (slot == d.slot && aims_at target d.dport) (was_taken_back past n) (takes w.cancellations d.slot d.dport n) refl
@@ -176,4 +176,4 @@ pub length-acknowledgements : (past : List Entry) → length (acknowledgements p
 length-acknowledgements [] = refl
 length-acknowledgements (e ∷ past) =
     let h = length-acknowledgements past in
-    length-append (acknowledgements past) (acked past ∷ []) ∙ omega (arith, h)
+    length-append (acknowledgements past) (highest_ack past ∷ []) ∙ omega (arith, h)

@@ -6,7 +6,7 @@ use Rattle.rds_model.specs.declared.entry.Entry.TheVariants.{Open, Pull, Read}
 use Rattle.rds_model.specs.declared.entry.Outcome.{Outcome}
 use Rattle.rds_model.specs.declared.entry.Outcome.TheVariants as outcome
 use Rattle.rds_model.specs.Past.{open_stream}
-use Rattle.rds_model.specs.Streams.{wrote}
+use Rattle.rds_model.specs.Streams.{written_bytes}
 use Rattle.rds_cong.specs.Map.{no_ports, with_port, without_port}
 use Rattle.rds_history.specs.Events.{Event, Entered, Marked, Fed}
 
@@ -32,7 +32,7 @@ moved (_ ∷ past) = moved past
 -- the bytes that were written to a stream
 abbrev pub wrote_on : Option ℕ → List Entry → List ℕ
 wrote_on None past = []
-wrote_on (Some stream) past = wrote stream past
+wrote_on (Some stream) past = written_bytes stream past
 
 -- the bytes in flight from h to k: those written to the open stream that didn't go yet
 abbrev pub in_flight : (h k : ℕ) → List Event → List ℕ

@@ -8,7 +8,7 @@ use Rattle.rds_model.specs.declared.entry.Verdict.{Verdict}
 use Rattle.rds_model.specs.declared.entry.Verdict.TheVariants as verdict
 use Rattle.rds_model.specs.declared.entry.TheConstants.{NO_SLOT}
 use Rattle.rds_model.specs.Past.{open_stream}
-use Rattle.rds_model.specs.Owed.{owed}
+use Rattle.rds_model.specs.Owed.{owed_frame}
 use Rattle.rds_model.specs.Reading.{verdict_of}
 use Rattle.rds_history.specs.Events.{Event, Entered}
 use Rattle.rds_history.specs.Journals.{journal, own_map, newest_pull}
@@ -21,7 +21,7 @@ pulls_frame h k stream (Some f) past = Entered h k (Pull stream f) ∷ past
 
 abbrev pub pulls_on : (h k : ℕ) → Option ℕ → List Event → List Event
 pulls_on h k None past = past
-pulls_on h k (Some stream) past = pulls_frame h k stream (owed stream (journal h k past) (own_map h past)) past
+pulls_on h k (Some stream) past = pulls_frame h k stream (owed_frame stream (journal h k past) (own_map h past)) past
 
 -- host h pulls the frame that it owes to k, if a stream is open and one is owed
 abbrev pub pulls : (h k : ℕ) → List Event → List Event

@@ -4,7 +4,7 @@ use Rattle.std.specs.BTreeMap as tree
 use Rattle.std.specs.Ordering.{nat_cmp, ordering_then}
 use Rattle.std.specs.declared.cmp.Ordering.{Ordering}
 use Rattle.rds_model.specs.declared.entry.Entry.{Entry}
-use Rattle.rds_model.specs.Past.{Accepted, accepted, datagram, acked}
+use Rattle.rds_model.specs.Past.{Accepted, accepted, datagram, highest_ack}
 use Rattle.rds_model.specs.Alive.{was_taken_back}
 use Rattle.rds_history.specs.declared.reporting.cancellations.Cancellations.{Cancellations}
 use Rattle.rds_history.specs.declared.reporting.taken.Walk.{Walk}
@@ -17,12 +17,12 @@ before i past = drop (length past - i) past
 -- what was acknowledged before each entry, by the oldest first
 abbrev pub acknowledgements : List Entry → List ℕ
 acknowledgements [] = []
-acknowledgements (e ∷ past) = acknowledgements past ++ acked past ∷ []
+acknowledgements (e ∷ past) = acknowledgements past ++ highest_ack past ∷ []
 
 -- a number is above the acknowledged one, where there is one
 abbrev pub is_above : Option ℕ → ℕ → Bool
 is_above None n = false
-is_above (Some acked) n = nat_lt acked n
+is_above (Some highest_ack) n = nat_lt highest_ack n
 
 -- pairs of a slot and a port, by the slot and then the port
 abbrev pub pair_cmp : ℕ × ℕ → ℕ × ℕ → Ordering

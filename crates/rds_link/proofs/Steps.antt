@@ -11,10 +11,10 @@ use lib.ListN.{get_elem?}
 use Rattle.atomic_table.specs.Seated.{TableId}
 use Rattle.atomic_table.specs.Table.{Me, Allows, Splits, Joins, keeps}
 use Rattle.atomic_table.proofs.Lists.{at_set, at_snoc, set_again, set_else}
-use Rattle.rds_words.specs.Views.{At, Each, total}
-use Rattle.rds_words.proofs.Views.{at_here, at_there, each_set, each_snoc, total_set, total_snoc, total_at}
+use Rattle.rds_views.specs.Views.{At, Each, total}
+use Rattle.rds_views.specs.ViewLaws.{at_here, at_there, each_set, each_snoc, total_set, total_snoc, total_at}
 use Rattle.rds_link.specs.declared.words.view.View.{View}
-use Rattle.rds_link.specs.Seats.{first_view, kept_half, given_half, after_draw, after_look, after_shut, note_of, heard, spent, Found}
+use Rattle.rds_link.specs.Seats.{first_view, kept_half, given_half, after_draw, after_look, after_shut, note_of, heard, spent, FitsKnown}
 use Rattle.rds_link.specs.Rule.{Fits, Shared, Ruled}
 
 abbrev drawn_in : List ℕ → ℕ
@@ -100,10 +100,10 @@ quiet words views id v w h here draws number fits = changed words words views id
 }
 
 -- what stands in the second word fits what a view knows
-pub found_there : (words : List ℕ) (views : List View) (id : ℕ) (v : View) → Shared words views → At views id v → Found v (first_in words)
+pub found_there : (words : List ℕ) (views : List View) (id : ℕ) (v : View) → Shared words views → At views id v → FitsKnown v (first_in words)
 found_there words views id v h here = let f = h.fits id v here in record { few = let d = h.drawn in let m = h.named in omega arith; same = λ some. sym (f.known some); told = λ some. sym (f.told some); own = f.own }
 
-pub looks : (homes id : ℕ) (me : Me (Unit {0}) View) → Allows Ruled homes id me 1 (λ n. n) (λ found now. (now ≡ (after_look me.0 found, me.1)) × Found me.0 found)
+pub looks : (homes id : ℕ) (me : Me (Unit {0}) View) → Allows Ruled homes id me 1 (λ n. n) (λ found now. (now ≡ (after_look me.0 found, me.1)) × FitsKnown me.0 found)
 looks homes id me s h size here small =
     let f = h.fits id me.0 here in
     let n = first_in s.words in
@@ -115,7 +115,7 @@ looks homes id me s h size here small =
       (refl, found_there s.words s.views id me.0 h here),
     )
 
-pub learns : (homes id : ℕ) (me : Me (Unit {0}) View) → Allows Ruled homes id me 1 (λ n. n) (λ found now. (now ≡ me) × Found me.0 found)
+pub learns : (homes id : ℕ) (me : Me (Unit {0}) View) → Allows Ruled homes id me 1 (λ n. n) (λ found now. (now ≡ me) × FitsKnown me.0 found)
 learns homes id me s h size here small = (
   me.0,
   keeps,
@@ -186,7 +186,7 @@ if_other : (n a : ℕ) → n ≢ 0 → cond (eqb n 0) a n ≡ n
 if_other n a ne = ap (λ b. cond b a n) (ne_eqb n 0 ne)
 
 pub shuts : (homes id number : ℕ) (me : Me (Unit {0}) View) → number ≡ me.0.number → 1 ≤ number
-    → Allows Ruled homes id me 1 (λ n. either (eqb n 0) number n) (λ found now. (now ≡ (after_shut me.0 found, me.1)) × Found me.0 found)
+    → Allows Ruled homes id me 1 (λ n. either (eqb n 0) number n) (λ found now. (now ≡ (after_shut me.0 found, me.1)) × FitsKnown me.0 found)
 shuts homes id number me is some s h size here small =
     let n = first_in s.words in (
       after_shut me.0 n,

@@ -2,7 +2,7 @@
 use Rattle.std.specs.Prelude.{◌≡◌, ◌⊎◌, ℕ, ◌+◌, ◌-◌, ◌^◌, ◌≤◌, ◌↔◌, Bool, true, false, List, [], ◌++◌}
 use mathlib.Core.List.{IsPrefix}
 use Rattle.rds_link.specs.Failing.{next_call, NextFails}
-use Rattle.rds_link.specs.Stands.{Stand, fresh_stand, Failed}
+use Rattle.rds_link.specs.Standing.{Stand, fresh_stand, Failed}
 
 -- what is known of an end of this kind
 pub record Means (E : Type 0) : Type 1 where

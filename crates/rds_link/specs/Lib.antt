@@ -1,8 +1,8 @@
-pub mod Told
+pub mod Streaming
 pub mod Seats
 pub mod Rule
 pub mod Plays
-pub mod Stands
+pub mod Standing
 pub mod Ends
 pub mod Answers
 pub mod Failing

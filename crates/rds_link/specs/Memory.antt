@@ -4,7 +4,7 @@ use Rattle.rtrb.specs.Ring.{sent, received, known_items, known_free, IsPair}
 use Rattle.rds_link.specs.declared.memory_end.MemEnd.{MemEnd}
 use Rattle.rds_link.specs.Ends.{Means}
 use Rattle.rds_link.specs.Failing.{CallsView}
-use Rattle.rds_link.specs.Stands.{IsPaired}
+use Rattle.rds_link.specs.Standing.{AreTwoEnds}
 
 abbrev pub memory_means : Means MemEnd
 memory_means = record {
@@ -18,7 +18,7 @@ memory_means = record {
   stand = λ e. e.standing.stand;
   nothings = λ e. e.nothings;
   fulls = λ e. e.fulls;
-  meets = λ a b. IsPair a.out b.inp × IsPair b.out a.inp × IsPaired a.standing b.standing;
+  meets = λ a b. IsPair a.out b.inp × IsPair b.out a.inp × AreTwoEnds a.standing b.standing;
 }
 
 -- a wire in memory: which openings fail and how many were made, which calls of its ends fail, and its three counts

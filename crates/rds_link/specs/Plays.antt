@@ -2,7 +2,7 @@
 use Rattle.std.specs.Prelude.{◌≡◌, ℕ, ◌+◌, ◌≤◌}
 use Rattle.atomic_table.specs.Table.{Me, Step}
 use Rattle.rds_link.specs.declared.words.view.View.{View}
-use Rattle.rds_link.specs.Seats.{after_draw, after_look, after_shut, Found}
+use Rattle.rds_link.specs.Seats.{after_draw, after_look, after_shut, FitsKnown}
 
 abbrev pub Seated : Type 0
 Seated = Me (Unit {0}) View
@@ -12,10 +12,10 @@ abbrev pub drew : Step (Unit {0}) → Seated → ℕ → Seated → Type 0
 drew s me found now = (now ≡ (after_draw me.0 (found + 1), me.1)) × (me.0.floor ≤ found) × (found + me.0.draws ≤ 2)
 
 abbrev pub looked : Step (Unit {0}) → Seated → ℕ → Seated → Type 0
-looked s me found now = (now ≡ (after_look me.0 found, me.1)) × Found me.0 found
+looked s me found now = (now ≡ (after_look me.0 found, me.1)) × FitsKnown me.0 found
 
 abbrev pub shut : Step (Unit {0}) → Seated → ℕ → Seated → Type 0
-shut s me found now = (now ≡ (after_shut me.0 found, me.1)) × Found me.0 found
+shut s me found now = (now ≡ (after_shut me.0 found, me.1)) × FitsKnown me.0 found
 
 abbrev pub learned : Step (Unit {0}) → Seated → ℕ → Seated → Type 0
-learned s me found now = (now ≡ me) × Found me.0 found
+learned s me found now = (now ≡ me) × FitsKnown me.0 found

@@ -4,12 +4,12 @@ use Rattle.atomic_table.specs.Seated.{TableId}
 use Rattle.rds_link.specs.declared.words.view.View.{View}
 
 -- a seat, as contracts see it: which two words, and what it knows of them
-pub record SeatView : Type 0 where
+pub record StreamSeat : Type 0 where
   pub words : TableId
   pub view : View
 
 -- the seat after its view became w
-abbrev pub knowing : SeatView → View → SeatView
+abbrev pub knowing : StreamSeat → View → StreamSeat
 knowing s w = record { words = s.words; view = w }
 
 -- a view of these two words that knows of no shut
@@ -53,7 +53,7 @@ abbrev pub spent : View
 spent = fresh 0 0 0
 
 -- a number that was found in the second word fits what the end knew
-pub record Found (v : View) (found : ℕ) : Type 0 where
+pub record FitsKnown (v : View) (found : ℕ) : Type 0 where
   -- it is 0 or one of the two numbers
   pub few : found ≤ 2
   -- it never changes once it isn't 0

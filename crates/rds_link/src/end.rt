@@ -4,7 +4,7 @@ ghost use Rattle.rds_link.specs.declared.end.Got.TheVariants as got;
 ghost use Rattle.rds_link.specs.declared.end.Put.TheVariants as put;
 ghost use Rattle.rds_link.specs.Answers.{bytes_got, bytes_put};
 ghost use Rattle.rds_link.specs.Ends.{Means, Remains, SendsNothing, GetsNothing, CountsStay, FailsByNumber, RisesBy};
-ghost use Rattle.rds_link.specs.Stands.{IsOver, GoesOn, Shuts};
+ghost use Rattle.rds_link.specs.Standing.{IsOver, GoesOn, Shuts};
 
 use std::sync::Wait;
 

@@ -1,6 +1,6 @@
 ghost use Rattle.std.specs.Prelude.{◌≡◌, ◌<◌, ◌≤◌, ◌↔◌, ◌++◌, [], Some, min, length, take, IfOk, OnOk, OnErr, IsErr, Ok};
 ghost use Rattle.rds_link.specs.Failing.{next_call, NextFails};
-ghost use Rattle.rds_link.specs.Told.{HasRisen};
+ghost use Rattle.rds_link.specs.Streaming.{HasRisen};
 
 use crate::calls::Calls;
 use crate::{Failed, Sink, Source};
@@ -18,7 +18,7 @@ pub struct MemSource {
 
 impl Model for MemSource {
     ghost use Rattle.std.specs.Prelude.{◌≤◌, length, drop};
-    ghost use Rattle.rds_link.specs.Told.{Supply};
+    ghost use Rattle.rds_link.specs.Streaming.{Supply};
 
     ghost Value = { Supply };
 
@@ -95,7 +95,7 @@ pub struct MemSink {
 }
 
 impl Model for MemSink {
-    ghost use Rattle.rds_link.specs.Told.{Pile};
+    ghost use Rattle.rds_link.specs.Streaming.{Pile};
 
     ghost Value = { Pile };
 

@@ -1,7 +1,7 @@
 //! An end of a stream whose bytes stay in memory.
 ghost use Rattle.std.specs.Prelude.{◌≡◌, ◌↔◌, false, IsTrue, IsFalse};
 ghost use Rattle.rds_link.specs.Failing.{next_call, NextFails};
-ghost use Rattle.rds_link.specs.Stands.{standing as standing_of, IsOver, GoesOn, Failed};
+ghost use Rattle.rds_link.specs.Standing.{standing as standing_of, IsOver, GoesOn, Failed};
 
 use crate::calls::Calls;
 use crate::{End, Got, Put, Standing};

@@ -4,7 +4,7 @@ ghost use Rattle.rds_link.specs.declared.wire.WireError.TheVariants as errors;
 ghost use Rattle.rds_link.specs.Ends.{IsFresh};
 ghost use Rattle.rds_link.specs.Failing.{next_call, NextFails};
 ghost use Rattle.rds_link.specs.Memory.{memory_means};
-ghost use Rattle.rds_link.specs.Told.{HasRisen};
+ghost use Rattle.rds_link.specs.Streaming.{HasRisen};
 
 use crate::calls::Calls;
 use crate::{End, MemEnd, Standing, Wire, WireError};

@@ -1,5 +1,5 @@
 ghost use Rattle.std.specs.Prelude.{◌≡◌, ◌≤◌, ◌<◌, List, ℕ, Option, length, take, IfOk, OnOk, OnErr};
-ghost use Rattle.rds_link.specs.Told.{HasRisen, Takes, TakesFront};
+ghost use Rattle.rds_link.specs.Streaming.{HasRisen, SinkGained, SinkGainedFront};
 
 use crate::Failed;
 
@@ -16,7 +16,7 @@ pub trait Sink {
         requires { 0 < length piece.now }
         ensures some { IfOk result (λ n. 1 ≤ n) }
         ensures count { IfOk result (λ n. n ≤ length piece.now) }
-        ensures bytes { IfOk result (λ n. Takes (held self.old) (held self.new) (take n piece.now)) }
+        ensures bytes { IfOk result (λ n. SinkGained (held self.old) (held self.new) (take n piece.now)) }
         ensures kept { OnErr result (held self.new ≡ held self.old) }
         ensures failed { OnErr result (HasRisen (faults self.old) (faults self.new)) }
         ensures counts { faults self.old ≤ faults self.new };
@@ -24,8 +24,8 @@ pub trait Sink {
 
 /// Writes all the bytes. After a fault a beginning of them is written.
 pub fn write_all<K: Sink>(sink: &mut K, bytes: &[u8]) -> Result<(), Failed>
-    ensures ok { OnOk result (Takes (K.held sink.old) (K.held sink.new) bytes.now) }
-    ensures front { TakesFront (K.held sink.old) (K.held sink.new) bytes.now }
+    ensures ok { OnOk result (SinkGained (K.held sink.old) (K.held sink.new) bytes.now) }
+    ensures front { SinkGainedFront (K.held sink.old) (K.held sink.new) bytes.now }
     ensures failed { OnErr result (HasRisen (K.faults sink.old) (K.faults sink.new)) }
     ensures counts { K.faults sink.old ≤ K.faults sink.new }
 {

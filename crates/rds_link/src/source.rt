@@ -1,5 +1,5 @@
 ghost use Rattle.std.specs.Prelude.{◌≡◌, ◌≤◌, ◌<◌, List, ℕ, Option, length, take, IfOk, OnErr, IsErrOf};
-ghost use Rattle.rds_link.specs.Told.{HasRisen, Hands, HandsFront, HandsAll, IsAtEnd};
+ghost use Rattle.rds_link.specs.Streaming.{HasRisen, SourceGave, SourceGaveFront, SourceGaveAll, IsAtEnd};
 ghost use Rattle.rds_link.specs.declared.source.ReadError.TheVariants as errors;
 
 use crate::Failed;
@@ -17,7 +17,7 @@ pub trait Source {
     fn read(&mut self, buf: &mut [u8]) -> Result<usize, Failed>
         requires { 0 < length buf.old }
         ensures count { IfOk result (λ n. n ≤ length buf.old) }
-        ensures bytes { IfOk result (λ n. Hands (left self.old) (left self.new) (take n buf.new)) }
+        ensures bytes { IfOk result (λ n. SourceGave (left self.old) (left self.new) (take n buf.new)) }
         ensures end { result ≡ Ok 0 → IsAtEnd (left self.old) }
         ensures kept { OnErr result (left self.new ≡ left self.old) }
         ensures failed { OnErr result (HasRisen (faults self.old) (faults self.new)) }
@@ -36,9 +36,9 @@ const PIECE: usize = 65_536;
 
 /// Reads a source to its end, but stops after `most` bytes. Fewer than that are all that the source had.
 pub fn read_all<S: Source>(alloc: Global, source: &mut S, most: usize) -> Result<Vec<u8>, ReadError>
-    ensures bytes { IfOk result (λ v. HandsFront (S.left source.old) most v.items) }
-    ensures left { IfOk result (λ v. Hands (S.left source.old) (S.left source.new) v.items) }
-    ensures end { IfOk result (λ v. length v.items < most → HandsAll (S.left source.old) (S.left source.new) v.items) }
+    ensures bytes { IfOk result (λ v. SourceGaveFront (S.left source.old) most v.items) }
+    ensures left { IfOk result (λ v. SourceGave (S.left source.old) (S.left source.new) v.items) }
+    ensures end { IfOk result (λ v. length v.items < most → SourceGaveAll (S.left source.old) (S.left source.new) v.items) }
     ensures failed { IsErrOf result errors.Failed → HasRisen (S.faults source.old) (S.faults source.new) }
     ensures counts { S.faults source.old ≤ S.faults source.new }
 {

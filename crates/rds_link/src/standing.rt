@@ -1,6 +1,6 @@
 //! How an end stands towards the end of its stream: the same for every kind of end.
 ghost use Rattle.std.specs.Prelude.{◌≡◌, ◌⊎◌, IfOk, IsTrue, IsFalse, false};
-ghost use Rattle.rds_link.specs.Stands.{fresh_stand, standing, IsPaired, HadShut, Failed, Saw, GoesOn, Shuts, IsTold, HaveCause, HaveFirst};
+ghost use Rattle.rds_link.specs.Standing.{fresh_stand, standing, AreTwoEnds, HadShut, Failed, Saw, GoesOn, Shuts, LearnsOther, HaveCause, HaveFirst};
 
 use crate::words::EndSeat;
 use rds_wire::Memory;
@@ -20,7 +20,7 @@ pub struct Standing {
 impl Model for Standing {
     ghost use Rattle.std.specs.Prelude.{◌≡◌, ◌≤◌, ◌⊎◌, true};
     ghost use Rattle.rds_link.specs.Seats.{KnowsOther};
-    ghost use Rattle.rds_link.specs.Stands.{StandingView, stand_of};
+    ghost use Rattle.rds_link.specs.Standing.{StandingView, stand_of};
 
     ghost Value = { StandingView };
 
@@ -46,7 +46,7 @@ impl Standing {
 
     /// How the two ends of a new stream stand.
     pub fn pair(alloc: Global) -> Result<(Standing, Standing), Memory>
-        ensures pair { IfOk result (λ r. IsPaired r.0 r.1) }
+        ensures pair { IfOk result (λ r. AreTwoEnds r.0 r.1) }
         ensures fresh { IfOk result (λ r. (r.0.stand ≡ fresh_stand) × (r.1.stand ≡ fresh_stand)) }
     {
         let (first, second) = EndSeat::pair(alloc)?;
@@ -106,10 +106,10 @@ impl Standing {
 
     /// Each of the two ends is told whether the other has shut.
     pub fn meet(a: &mut Standing, b: &mut Standing)
-        requires { IsPaired a.old b.old }
+        requires { AreTwoEnds a.old b.old }
         ensures streams { (a.new ≡ standing a.old a.new.stand) × (b.new ≡ standing b.old b.new.stand) }
-        ensures first { IsTold a.old.stand a.new.stand b.old.stand }
-        ensures second { IsTold b.old.stand b.new.stand a.old.stand }
+        ensures first { LearnsOther a.old.stand a.new.stand b.old.stand }
+        ensures second { LearnsOther b.old.stand b.new.stand a.old.stand }
         ensures causes { HaveCause a.new.stand b.new.stand }
         ensures order { HaveFirst a.new.stand b.new.stand }
     {

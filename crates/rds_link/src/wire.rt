@@ -1,7 +1,7 @@
 ghost use Rattle.std.specs.Prelude.{◌≡◌, ◌≤◌, ℕ, IfOk, IsErrOf};
 ghost use Rattle.rds_link.specs.Ends.{Remains, MovesNothing, CountsStay, IsFresh, HasAll, RisesBy};
-ghost use Rattle.rds_link.specs.Stands.{IsTold, HaveCause, HaveFirst};
-ghost use Rattle.rds_link.specs.Told.{HasRisen};
+ghost use Rattle.rds_link.specs.Standing.{LearnsOther, HaveCause, HaveFirst};
+ghost use Rattle.rds_link.specs.Streaming.{HasRisen};
 ghost use Rattle.rds_link.specs.declared.wire.WireError.TheVariants as errors;
 
 use crate::End;
@@ -52,8 +52,8 @@ pub trait Wire {
     fn meet(a: &mut Self::End, b: &mut Self::End)
         requires { Self.End.means.meets a.old b.old }
         ensures pair { Self.End.means.meets a.new b.new }
-        ensures first { IsTold (Self.End.means.stand a.old) (Self.End.means.stand a.new) (Self.End.means.stand b.old) }
-        ensures second { IsTold (Self.End.means.stand b.old) (Self.End.means.stand b.new) (Self.End.means.stand a.old) }
+        ensures first { LearnsOther (Self.End.means.stand a.old) (Self.End.means.stand a.new) (Self.End.means.stand b.old) }
+        ensures second { LearnsOther (Self.End.means.stand b.old) (Self.End.means.stand b.new) (Self.End.means.stand a.old) }
         ensures causes { HaveCause (Self.End.means.stand a.new) (Self.End.means.stand b.new) }
         ensures order { HaveFirst (Self.End.means.stand a.new) (Self.End.means.stand b.new) }
         ensures one { MovesNothing Self.End.means a.old a.new × CountsStay Self.End.means a.old a.new × Remains Self.End.means a.old a.new }

@@ -3,11 +3,11 @@ use Rattle.std.proofs.Common.{◌≡◌, ◌≢◌, ◌⊎◌, ℕ, zero, suc, t
 use Rattle.std.proofs.lemmas.List.{append-nil}
 use mathlib.Core.Option.{some-injective, some-ne-none}
 use Rattle.atomic_table.proofs.Lists.{at_set}
-use Rattle.rds_words.specs.Views.{At, Each}
+use Rattle.rds_views.specs.Views.{At, Each}
 use Rattle.rds_mail.specs.declared.view.View.{View}
 use Rattle.rds_mail.specs.declared.view.Account.{Account}
 use Rattle.rds_mail.specs.Numbers.{Number, Numbered, items_of}
-use Rattle.rds_mail.specs.Shared.{Places, IsWhole, IsPart, Stands, Fits}
+use Rattle.rds_mail.specs.Shared.{Places, IsWhole, IsPart, PutterStands, PassFits}
 use Rattle.rds_mail.proofs.Numbers.{items_of-append, of_other}
 use Rattle.rds_mail.proofs.Places.{some_same}
 
@@ -44,7 +44,7 @@ not_place s j other apart is same = ⊎_elim (λ (z : s ≡ 0). absurd (omega ar
 
 module _ {T : Type 0} where
   abbrev pub AllFit : Places → List (Numbered T) → List (Numbered T) → ℕ → List (View T) → Type 0
-  AllFit places log got reader views = (place : ℕ) (v : View T) → At views place v → Fits places log got reader place v
+  AllFit places log got reader views = (place : ℕ) (v : View T) → At views place v → PassFits places log got reader place v
 
   pub part_whole : (log : List (Numbered T)) (a : Account T) → IsWhole log a → IsPart log a
   part_whole log a whole = ([], sym whole ∙ sym (append-nil a.put))
@@ -57,7 +57,7 @@ module _ {T : Type 0} where
 
   -- an item of another putter changes nothing for this one
   pub stands_put : (places : Places) (log : List (Numbered T)) (s n : ℕ) (a : Account T) (number : Number) (x : T)
-      → places number ≡ Some n → s ≢ n → Stands places log s a → Stands places (log ++ (number, x) ∷ []) s a
+      → places number ≡ Some n → s ≢ n → PutterStands places log s a → PutterStands places (log ++ (number, x) ∷ []) s a
   stands_put places log s n a number x at apart st = record {
     here = st.here;
     whole = st.whole ∙ sym (of_other a.number number log x (λ same. apart (some_same s n (sym st.here ∙ (ap places same ∙ at)))));
@@ -65,10 +65,10 @@ module _ {T : Type 0} where
   }
 
   pub fits_on : (places places' : Places) (log log' got got' : List (Numbered T)) (reader reader' j : ℕ) (u : View T)
-      → ((s : ℕ) (a : Account T) → (s ≡ 0) ⊎ (s ≡ suc j) → Stands places log s a → Stands places' log' s a)
+      → ((s : ℕ) (a : Account T) → (s ≡ 0) ⊎ (s ≡ suc j) → PutterStands places log s a → PutterStands places' log' s a)
       → ((a : Account T) → IsPart log a → IsPart log' a)
       → (u.gets ≡ true → (j ≡ reader) × (u.got ≡ got) → (j ≡ reader') × (u.got ≡ got'))
-      → Fits places log got reader j u → Fits places' log' got' reader' j u
+      → PassFits places log got reader j u → PassFits places' log' got' reader' j u
   fits_on places places' log log' got got' reader reader' j u stands part gets f = record {
     puts = λ is. stands (suc j) u.account (inr refl) (f.puts is);
     gets = λ is. gets is (f.gets is);

@@ -2,12 +2,12 @@
 use Rattle.std.proofs.Common.{◌≡◌, ◌≢◌, ℕ, suc, true, true≢false, List, ◌∷◌, ◌++◌, set, Some, None, sym, ap, ◌∙◌, ⊎_elim, arith}
 use Rattle.crossbeam_queue.specs.Fifo.{Merges}
 use Rattle.atomic_table.proofs.Lists.{at_set}
-use Rattle.rds_words.specs.Views.{At}
+use Rattle.rds_views.specs.Views.{At}
 use Rattle.rds_mail.specs.declared.view.View.{View}
 use Rattle.rds_mail.specs.declared.view.Account.{Account}
 use Rattle.rds_mail.specs.Numbers.{Number, Numbered}
 use Rattle.rds_mail.specs.Views.{told, joined, spent}
-use Rattle.rds_mail.specs.Shared.{Places, IsPart, Stands, Fits, IsMailed}
+use Rattle.rds_mail.specs.Shared.{Places, IsPart, PutterStands, PassFits, IsMailed}
 use Rattle.rds_mail.proofs.Places.{placed, placed_here, placed_else, unplaced, some_same, not_none}
 use Rattle.rds_mail.proofs.Fitting.{all_set, each_nil, each_snoc, not_place, fits_on}
 
@@ -19,13 +19,13 @@ module _ {T : Type 0} where
       (λ (t : (other ≢ id) × At views other u). t.1)
       (at_set views id other both u at)
 
-  nothing_left : (places : Places) (log got : List (Numbered T)) (reader place : ℕ) → Fits places log got reader place spent
+  nothing_left : (places : Places) (log got : List (Numbered T)) (reader place : ℕ) → PassFits places log got reader place spent
   nothing_left places log got reader place = record {
     puts = λ is. absurd (true≢false (sym is));
     gets = λ is. absurd (true≢false (sym is));
     notes = λ is. absurd (true≢false (sym is));
     told = each_nil (IsPart log);
-    joined = each_nil (Stands places log 0);
+    joined = each_nil (PutterStands places log 0);
   }
 
   pub tells : (id : ℕ) (v : View T) (other : ℕ) (u : View T) → u.notes ≡ true → Merges IsMailed id v other u (told v u) spent
@@ -34,14 +34,14 @@ module _ {T : Type 0} where
       let both : View T = told v u in
       let mine = h.fits id v at in
       let theirs = h.fits other u (was_there views id other both u apart at') in
-      let now : Fits h.places log h.got h.reader id both = record {
+      let now : PassFits h.places log h.got h.reader id both = record {
         puts = mine.puts;
         gets = mine.gets;
         notes = mine.notes;
         told = each_snoc (IsPart log) v.told u.account mine.told (theirs.notes note);
         joined = mine.joined;
       } in
-      let F : ℕ → View T → Type 0 = Fits h.places log h.got h.reader in
+      let F : ℕ → View T → Type 0 = PassFits h.places log h.got h.reader in
       record {
         places = h.places;
         reader = h.reader;
@@ -63,24 +63,24 @@ module _ {T : Type 0} where
       let st = (h.fits other u (was_there views id other both u apart at')).puts put in
       let else_none : (p : Number) → h.places p ≡ None → places p ≡ None =
       λ p none. placed_else number (Some 0) h.places p (λ same. not_none (suc other) (h.places p) (ap h.places (sym same) ∙ st.here) none) ∙ none in
-      let stands : (s : ℕ) (a : Account T) → s ≢ suc other → Stands h.places log s a → Stands places log s a = λ s a away old. record {
+      let stands : (s : ℕ) (a : Account T) → s ≢ suc other → PutterStands h.places log s a → PutterStands places log s a = λ s a away old. record {
         here = placed_else number (Some 0) h.places a.number (λ same. away (some_same s (suc other) (sym old.here ∙ (ap h.places (sym same) ∙ st.here)))) ∙ old.here;
         whole = old.whole;
         splits = λ k le. else_none (k ∷ a.number) (old.splits k le);
       } in
-      let ended : Stands places log 0 u.account = record {
+      let ended : PutterStands places log 0 u.account = record {
         here = placed_here number (Some 0) h.places;
         whole = st.whole;
         splits = λ k le. else_none (k ∷ number) (st.splits k le);
       } in
-      let F : ℕ → View T → Type 0 = Fits h.places log h.got h.reader in
-      let G : ℕ → View T → Type 0 = Fits places log h.got h.reader in
+      let F : ℕ → View T → Type 0 = PassFits h.places log h.got h.reader in
+      let G : ℕ → View T → Type 0 = PassFits places log h.got h.reader in
       let now : G id both = record {
         puts = λ is. stands (suc id) v.account (λ same. apart (omega arith)) (mine.puts is);
         gets = mine.gets;
         notes = mine.notes;
         told = mine.told;
-        joined = each_snoc (Stands places log 0) v.joined u.account (λ i a e. stands 0 a (λ z. absurd (omega arith)) (mine.joined i a e)) ended;
+        joined = each_snoc (PutterStands places log 0) v.joined u.account (λ i a e. stands 0 a (λ z. absurd (omega arith)) (mine.joined i a e)) ended;
       } in
       record {
         places = places;

@@ -2,18 +2,18 @@
 use Rattle.std.proofs.Common.{◌≡◌, ◌≢◌, ℕ, ◌<◌, ◌≤◌, true, List, [], ◌∷◌, ◌++◌, None, refl, sym, ap, subst, ◌∙◌, ⊎_elim}
 use Rattle.std.proofs.lemmas.Bool.{cases_lt}
 use Rattle.crossbeam_queue.specs.Fifo.{Learns}
-use Rattle.rds_words.specs.Views.{At, Each}
+use Rattle.rds_views.specs.Views.{At, Each}
 use Rattle.rds_mail.specs.declared.view.View.{View}
 use Rattle.rds_mail.specs.declared.view.Account.{Account}
 use Rattle.rds_mail.specs.Numbers.{Number, Numbered, items_of}
-use Rattle.rds_mail.specs.Shared.{Places, Stands, IsMailed}
+use Rattle.rds_mail.specs.Shared.{Places, PutterStands, IsMailed}
 use Rattle.rds_mail.specs.Merging.{AllBegin, HasNumber, AreAll}
 use Rattle.rds_mail.specs.Plays.{Compared}
 use Rattle.rds_mail.proofs.Numbers.{items_of-append, has_some}
 
 module _ {T : Type 0} where
   -- where all have ended, each putter that there is has ended
-  has_ended : (places : Places) (log : List (Numbered T)) (ended : List (Account T)) → Each ended (Stands places log 0) → AreAll ended
+  has_ended : (places : Places) (log : List (Numbered T)) (ended : List (Account T)) → Each ended (PutterStands places log 0) → AreAll ended
       → ((p : Number) (k : ℕ) → places p ≡ None → places (k ∷ p) ≡ None) → (p : Number) → places p ≢ None → HasNumber ended p
   has_ended places log ended stand all after [] there = all.first
   has_ended places log ended stand all after (k ∷ p) there =

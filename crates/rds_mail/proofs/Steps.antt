@@ -6,7 +6,7 @@ use Rattle.crossbeam_queue.specs.Fifo.{Pushes, Pops, Learns}
 use Rattle.rds_mail.specs.declared.view.View.{View}
 use Rattle.rds_mail.specs.Numbers.{Number, Numbered, items_of}
 use Rattle.rds_mail.specs.Views.{first_view, after_put, after_get}
-use Rattle.rds_mail.specs.Shared.{Places, IsWhole, IsPart, Stands, Fits, IsMailed}
+use Rattle.rds_mail.specs.Shared.{Places, IsWhole, IsPart, PutterStands, PassFits, IsMailed}
 use Rattle.rds_mail.specs.Plays.{Puts, Gets, Emptied}
 use Rattle.rds_mail.proofs.Numbers.{items-append, of_put, of_other, first_queued, none_queued}
 use Rattle.rds_mail.proofs.Places.{placed, not_none}
@@ -16,12 +16,12 @@ module _ {T : Type 0} where
   pub begins : IsMailed {T = T} [] (first_view ∷ [])
   begins =
       let places : Places = placed [] (Some 1) (λ _. None) in
-      let fits : Fits {T = T} places [] [] 0 0 first_view = record {
+      let fits : PassFits {T = T} places [] [] 0 0 first_view = record {
         puts = λ _. record { here = refl; whole = refl; splits = λ k _. refl };
         gets = λ _. (refl, refl);
         notes = λ is. absurd (true≢false (sym is));
         told = each_nil (IsPart []);
-        joined = each_nil (Stands places [] 0);
+        joined = each_nil (PutterStands places [] 0);
       } in
       record {
         places = places;
@@ -31,7 +31,7 @@ module _ {T : Type 0} where
         are = refl;
         after = λ number k _. refl;
         nothing = λ number _. refl;
-        fits = all_snoc (Fits places [] [] 0) [] first_view (λ j u e. absurd (some-ne-none u (sym e))) fits;
+        fits = all_snoc (PassFits places [] [] 0) [] first_view (λ j u e. absurd (some-ne-none u (sym e))) fits;
       }
 
   pub puts : (n id : ℕ) (v : View T) (x : T) → v.puts ≡ true → Pushes IsMailed n id v x (Puts v x)
@@ -43,7 +43,7 @@ module _ {T : Type 0} where
       let st = mine.puts may in
       let same : h.got ++ (h.queued ++ (number, x) ∷ []) ≡ log ++ (number, x) ∷ [] = sym (append_assoc h.got h.queued ((number, x) ∷ [])) in
       let whole : IsWhole (log ++ (number, x) ∷ []) w.account = ap (λ l. l ++ x ∷ []) st.whole ∙ sym (of_put number log x) in
-      let now : Fits h.places (log ++ (number, x) ∷ []) h.got h.reader id w = record {
+      let now : PassFits h.places (log ++ (number, x) ∷ []) h.got h.reader id w = record {
         puts = λ _. record { here = st.here; whole = whole; splits = st.splits };
         gets = mine.gets;
         notes = λ _. part_whole (log ++ (number, x) ∷ []) w.account whole;
@@ -60,7 +60,7 @@ module _ {T : Type 0} where
           after = h.after;
           nothing = λ p none. ap (items_of p) same ∙ (of_other p number log x (λ is. not_none (suc id) (h.places p) (ap h.places is ∙ st.here) none) ∙ h.nothing p none);
           fits = subst (λ l. AllFit h.places l h.got h.reader (set views id w)) (sym same)
-              (all_set (Fits h.places log h.got h.reader) (Fits h.places (log ++ (number, x) ∷ []) h.got h.reader) views id w h.fits now
+              (all_set (PassFits h.places log h.got h.reader) (PassFits h.places (log ++ (number, x) ∷ []) h.got h.reader) views id w h.fits now
               (λ j u apart f. fits_on h.places h.places log (log ++ (number, x) ∷ []) h.got h.got h.reader h.reader j u
               (λ s a c old. stands_put h.places log s (suc id) a number x st.here (not_place s j id apart c) old)
               (part_more log ((number, x) ∷ []))
@@ -80,7 +80,7 @@ module _ {T : Type 0} where
       let mine = h.fits id v at in
       let m = mine.gets may in
       let same : log ≡ got ++ rest = ap (λ l. h.got ++ l) first.2 ∙ sym (append_assoc h.got ((number, x) ∷ []) rest) in
-      let now : Fits h.places log got h.reader id w = record {
+      let now : PassFits h.places log got h.reader id w = record {
         puts = mine.puts;
         gets = λ _. (m.0, ap (λ l. l ++ (number, x) ∷ []) m.1);
         notes = mine.notes;
@@ -97,7 +97,7 @@ module _ {T : Type 0} where
           after = h.after;
           nothing = λ p none. ap (items_of p) (sym same) ∙ h.nothing p none;
           fits = subst (λ l. AllFit h.places l got h.reader (set views id w)) same
-              (all_set (Fits h.places log h.got h.reader) (Fits h.places log got h.reader) views id w h.fits now
+              (all_set (PassFits h.places log h.got h.reader) (PassFits h.places log got h.reader) views id w h.fits now
               (λ j u apart f. fits_on h.places h.places log log h.got got h.reader h.reader j u (λ s a c old. old) (λ a p. p)
               (λ _ t. absurd (apart (t.0 ∙ sym m.0))) f));
         },

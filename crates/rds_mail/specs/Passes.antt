@@ -10,24 +10,24 @@ use Rattle.rds_mail.specs.Numbers.{Number, Numbered}
 use Rattle.rds_mail.specs.Views as view
 
 -- which queue it is
-abbrev pub Line : Type 0
-Line = SegId Global
+abbrev pub QueueId : Type 0
+QueueId = SegId Global
 
 -- a mailbox is its queue and the name of its bell's source
 pub record Mailbox : Type 0 where
-  pub line : Line
+  pub line : QueueId
   pub bell : ℕ
 
 -- a putter of a queue, or a note of one
 pub record Putter (T : Type 0) : Type 0 where
-  pub mail : Line
+  pub mail : QueueId
   pub number : Number
   pub splits : ℕ
   pub put : List T
 
 -- the getter of a queue
 pub record Getter (T : Type 0) : Type 0 where
-  pub mail : Line
+  pub mail : QueueId
   pub got : List (Numbered T)
   pub told : List (Account T)
   pub joined : List (Account T)
@@ -37,30 +37,30 @@ abbrev pub Pass : Type 0 → Type 0
 Pass T = Seat (Option T) (Going T (View T)) Global
 
 module _ {T : Type 0} where
-  abbrev pub line_of : Pass T → Line
-  line_of p = record { web = p.web; heap = p.heap }
+  abbrev pub queue_of : Pass T → QueueId
+  queue_of p = record { web = p.web; heap = p.heap }
 
-  abbrev pub putter_of : Line → Account T → Putter T
+  abbrev pub putter_of : QueueId → Account T → Putter T
   putter_of mail a = record { mail = mail; number = a.number; splits = a.splits; put = a.put }
 
-  abbrev pub getter_of : Line → View T → Getter T
+  abbrev pub getter_of : QueueId → View T → Getter T
   getter_of mail v = record { mail = mail; got = v.got; told = v.told; joined = v.joined }
 
   abbrev pub putter : Pass T → Putter T
-  putter p = putter_of (line_of p) p.me.view.client.account
+  putter p = putter_of (queue_of p) p.me.view.client.account
 
   abbrev pub getter : Pass T → Getter T
-  getter p = getter_of (line_of p) p.me.view.client
+  getter p = getter_of (queue_of p) p.me.view.client
 
   abbrev pub account_of : Putter T → Account T
   account_of p = record { number = p.number; splits = p.splits; put = p.put }
 
   -- the first putter of a new mailbox
-  abbrev pub first_putter : Line → Putter T
+  abbrev pub first_putter : QueueId → Putter T
   first_putter mail = putter_of mail (view.fresh [])
 
   -- the getter of a new mailbox
-  abbrev pub first_getter : Line → Getter T
+  abbrev pub first_getter : QueueId → Getter T
   first_getter mail = record { mail = mail; got = []; told = []; joined = [] }
 
   abbrev pub after_put : Putter T → T → Putter T

@@ -8,8 +8,8 @@ use Rattle.std.specs.Int.{bit_at}
 use mathlib.Core.Logic.{dite}
 use native.Mathlib.Decide.{ℕ_discrete}
 use Rattle.atomic_table.specs.Table.{Me, Allows, keeps}
-use Rattle.rds_words.specs.Views.{At, Has}
-use Rattle.rds_words.proofs.Views.{at_here, each_set, total_set}
+use Rattle.rds_views.specs.Views.{At, Has}
+use Rattle.rds_views.specs.ViewLaws.{at_here, each_set, total_set}
 use Rattle.rds_meter.specs.declared.view.View.{View}
 use Rattle.rds_meter.specs.declared.view.Stage.{Stage}
 use Rattle.rds_meter.specs.declared.view.Stage.TheVariants.{Put}
@@ -19,7 +19,7 @@ use Rattle.rds_meter.specs.Places.{part}
 use Rattle.rds_meter.specs.Seats.{after_add, after_store, is_put_word}
 use Rattle.rds_meter.specs.Shared.{Shared, Ruled, HasStored, HasRaised, IsLimit, StageFits}
 use Rattle.rds_meter.proofs.Facts.{Rising, has_on, limit_on, stage_on}
-use Rattle.rds_meter.proofs.Parts.{part-push, amount_here, amount_there}
+use Rattle.rds_meter.specs.PartLaws.{part-push, amount_here, amount_there}
 use Rattle.rds_meter.proofs.Steps.{Counts, IsFew, stepped_one, plain_counts, totals_fit, part_within}
 
 -- a step that isn't a load leaves the loads

@@ -5,8 +5,8 @@ use mathlib.Core.Logic.{dite}
 use mathlib.Core.Option.{some-injective}
 use native.Mathlib.Decide.{ℕ_discrete}
 use lib.ListN.{get_elem?}
-use Rattle.rds_words.specs.Views.{At, Has, Each}
-use Rattle.rds_words.proofs.Views.{at_there, has_snoc, each_set, each_snoc}
+use Rattle.rds_views.specs.Views.{At, Has, Each}
+use Rattle.rds_views.specs.ViewLaws.{at_there, has_snoc, each_set, each_snoc}
 use Rattle.rds_meter.specs.declared.view.View.{View}
 use Rattle.rds_meter.specs.declared.view.Check.{Check}
 use Rattle.rds_meter.specs.declared.view.Stage.{Stage}
@@ -14,16 +14,16 @@ use Rattle.rds_meter.specs.declared.view.Stage.TheVariants.{Idle, Put, Limited}
 use Rattle.rds_meter.specs.declared.view.Step.TheVariants.{Loaded}
 use Rattle.rds_meter.specs.Places.{limit_word, put_word}
 use Rattle.rds_meter.specs.Seats.{must_raise}
-use Rattle.rds_meter.specs.Shared.{HasStored, IsLimit, HasRaised, BitsFit, Found, StageFits}
+use Rattle.rds_meter.specs.Shared.{HasStored, IsLimit, HasRaised, BitsFit, FitsSlot, StageFits}
 
 pub nothing_in : {X : Type 0} (x : X) → Contains [] x → ⊥
 nothing_in x m = let k = m.1 in omega arith
 
 abbrev pub Closed : List ℕ → List View → Check → Type 0
-Closed words views c = Found words views c.slot c.put c.limit × (is_some c.raised ≡ must_raise c)
+Closed words views c = FitsSlot words views c.slot c.put c.limit × (is_some c.raised ≡ must_raise c)
 
 abbrev pub Opened : List ℕ → List View → Check → Type 0
-Opened words views c = Found words views c.slot c.put c.limit × (must_raise c ≡ true) × (c.raised ≡ None)
+Opened words views c = FitsSlot words views c.slot c.put c.limit × (must_raise c ≡ true) × (c.raised ≡ None)
 
 pub record Facts (words : List ℕ) (views : List View) : Type 0 where
   pub limits : (slot : ℕ) → slot < 1024 → IsLimit views slot (slice_index words (limit_word slot))
@@ -58,7 +58,7 @@ module _ (words after : List ℕ) (views now : List View) (puts : Rising words a
   pub limit_on : (slot limit : ℕ) → IsLimit views slot limit → IsLimit now slot limit
   limit_on slot limit l = ⊎_elim inl (λ h. inr (stored slot limit h)) l
 
-  pub found_on : (slot put limit : ℕ) → Found words views slot put limit → Found after now slot put limit
+  pub found_on : (slot put limit : ℕ) → FitsSlot words views slot put limit → FitsSlot after now slot put limit
   found_on slot put limit f = record {
     slot_small = f.slot_small;
     put_within = (let a = puts slot f.slot_small in let b = f.put_within in omega arith);

@@ -4,15 +4,15 @@ use Rattle.std.proofs.lemmas.List.Elements.{Contains-append_left, Contains-appen
 use Rattle.std.specs.Prelude.{slice_index}
 use Rattle.atomic_table.specs.Table.{Joins, Splits}
 use Rattle.atomic_table.proofs.Lists.{set_else}
-use Rattle.rds_words.specs.Views.{At, Has}
-use Rattle.rds_words.proofs.Views.{at_here, at_there, each_set, each_snoc, has_snoc, total_set, total_snoc}
+use Rattle.rds_views.specs.Views.{At, Has}
+use Rattle.rds_views.specs.ViewLaws.{at_here, at_there, each_set, each_snoc, has_snoc, total_set, total_snoc}
 use Rattle.rds_meter.specs.declared.view.View.{View}
 use Rattle.rds_meter.specs.declared.view.Step.TheVariants.{Loaded}
 use Rattle.rds_meter.specs.Places.{part}
 use Rattle.rds_meter.specs.Seats.{joined, spent, after_split, newcomer}
 use Rattle.rds_meter.specs.Shared.{Shared, Ruled, HasStored, HasRaised, BitsFit}
 use Rattle.rds_meter.proofs.Facts.{Facts, Rising, nothing_in, has_on, limit_on, bits_on, facts_set, facts_snoc}
-use Rattle.rds_meter.proofs.Parts.{part-append}
+use Rattle.rds_meter.specs.PartLaws.{part-append}
 use Rattle.rds_meter.proofs.Steps.{IsFew, IsIdle, facts_of, shared_of}
 
 module _ (words : List ℕ) (views : List View) (id other : ℕ) (v w : View) (h : Shared words views) (here : At views id v) (apart : other ≢ id) (there : At views other w) (living : 1 ≤ v.weight) where

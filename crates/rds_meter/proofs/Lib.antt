@@ -1,5 +1,4 @@
 pub mod Facts
-pub mod Parts
 pub mod Steps
 pub mod Seated
 pub mod Adding

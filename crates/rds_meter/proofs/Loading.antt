@@ -5,8 +5,8 @@ use Rattle.std.proofs.lemmas.List.Elements.{Contains-append_left, Contains-appen
 use Rattle.std.specs.Prelude.{Contains, slice_index}
 use Rattle.atomic_table.specs.Table.{Me, Allows, keeps}
 use Rattle.atomic_table.proofs.Lists.{set_again}
-use Rattle.rds_words.specs.Views.{At, Has}
-use Rattle.rds_words.proofs.Views.{at_here}
+use Rattle.rds_views.specs.Views.{At, Has}
+use Rattle.rds_views.specs.ViewLaws.{at_here}
 use Rattle.rds_meter.specs.declared.view.View.{View}
 use Rattle.rds_meter.specs.declared.view.Check.{Check}
 use Rattle.rds_meter.specs.declared.view.Stage.{Stage}
@@ -14,7 +14,7 @@ use Rattle.rds_meter.specs.declared.view.Stage.TheVariants.{Idle, Put, Limited}
 use Rattle.rds_meter.specs.declared.view.Step.TheVariants.{Loaded}
 use Rattle.rds_meter.specs.Places.{part, taken_word}
 use Rattle.rds_meter.specs.Seats.{after_load, stage_after, completed, opening, closing, must_raise}
-use Rattle.rds_meter.specs.Shared.{Shared, Ruled, Taught, Alone, HasStored, HasRaised, IsLimit, BitsFit, Found, StageFits}
+use Rattle.rds_meter.specs.Shared.{Shared, Ruled, Taught, Alone, HasStored, HasRaised, IsLimit, BitsFit, FitsSlot, StageFits}
 use Rattle.rds_meter.proofs.Facts.{nothing_in, has_on, limit_on, bits_on}
 use Rattle.rds_meter.proofs.Steps.{stepped_one, plain_counts, part_within, totals_fit}
 use Rattle.rds_meter.proofs.Opening.{alone}
@@ -23,12 +23,12 @@ only_one : {X : Type 0} (x y : X) → Contains (x ∷ []) y → x ≡ y
 only_one x y m = ⊎_elim (λ none. absurd (nothing_in y none)) (λ e. e) (Contains-push_cases [] x y m)
 
 -- a load of the limit goes on from what the put word was
-stage_limit : (words : List ℕ) (views : List View) (slot put found q : ℕ) (b : Bool) → eqb q slot ≡ b → Found words views slot put 0 → (q ≡ slot → IsLimit views slot found)
+stage_limit : (words : List ℕ) (views : List View) (slot put found q : ℕ) (b : Bool) → eqb q slot ≡ b → FitsSlot words views slot put 0 → (q ≡ slot → IsLimit views slot found)
     → StageFits words views (cond b (Limited slot put found) (Put slot put))
 stage_limit words views slot put found q true is f limit = record { slot_small = f.slot_small; put_within = f.put_within; limit_was = limit (eqb-true q slot is) }
 stage_limit words views slot put found q false is f limit = f
 
-stage_taken : (words : List ℕ) (views : List View) (slot put l : ℕ) (b : Bool) → Found words views slot put l → StageFits words views (cond b Idle (Limited slot put l))
+stage_taken : (words : List ℕ) (views : List View) (slot put l : ℕ) (b : Bool) → FitsSlot words views slot put l → StageFits words views (cond b Idle (Limited slot put l))
 stage_taken words views slot put l true f = tt
 stage_taken words views slot put l false f = f
 
@@ -38,16 +38,16 @@ stage_loaded words views Idle q found f limit = tt
 stage_loaded words views (Put slot put) q found f limit = stage_limit words views slot put found q (eqb q slot) refl f (limit slot f.slot_small)
 stage_loaded words views (Limited slot put l) q found f limit = stage_taken words views slot put l (eqb q (taken_word slot)) f
 
-ended : (words : List ℕ) (views : List View) (slot put l found : ℕ) (b : Bool) (c : Check) → Found words views slot put l
-    → cond b (Some (record { slot = slot; put = put; limit = l; taken = found; raised = None })) None ≡ Some c → Found words views c.slot c.put c.limit × (c.raised ≡ None)
+ended : (words : List ℕ) (views : List View) (slot put l found : ℕ) (b : Bool) (c : Check) → FitsSlot words views slot put l
+    → cond b (Some (record { slot = slot; put = put; limit = l; taken = found; raised = None })) None ≡ Some c → FitsSlot words views c.slot c.put c.limit × (c.raised ≡ None)
 ended words views slot put l found true c f e =
     let k : Check = record { slot = slot; put = put; limit = l; taken = found; raised = None } in
     let same : k ≡ c = cc in
-    subst (λ (x : Check). Found words views x.slot x.put x.limit × (x.raised ≡ None)) same (f, refl)
+    subst (λ (x : Check). FitsSlot words views x.slot x.put x.limit × (x.raised ≡ None)) same (f, refl)
 ended words views slot put l found false c f e = absurd (cc)
 
 -- the check that a load completes has found what the stage had
-completed_fits : (words : List ℕ) (views : List View) (stage : Stage) (q found : ℕ) (c : Check) → StageFits words views stage → completed stage q found ≡ Some c → Found words views c.slot c.put c.limit × (c.raised ≡ None)
+completed_fits : (words : List ℕ) (views : List View) (stage : Stage) (q found : ℕ) (c : Check) → StageFits words views stage → completed stage q found ≡ Some c → FitsSlot words views c.slot c.put c.limit × (c.raised ≡ None)
 completed_fits words views Idle q found c f e = absurd (cc)
 completed_fits words views (Put slot put) q found c f e = absurd (cc)
 completed_fits words views (Limited slot put l) q found c f e = ended words views slot put l found (eqb q (taken_word slot)) c f e

@@ -1,15 +1,15 @@
 -- One step of one seat: its sums, its bits and its numbers, put together with what else holds of the views.
 use Rattle.std.proofs.Common.{◌≡◌, ℕ, ◌+◌, ◌*◌, ◌<◌, ◌≤◌, List, [], ◌∷◌, ◌++◌, length, set, ap, ◌∙◌, arith}
 use Rattle.std.specs.Prelude.{slice_index}
-use Rattle.rds_words.specs.Views.{At, Each, total}
-use Rattle.rds_words.proofs.Views.{each_set, total_set, total_at, total_below, total_times}
+use Rattle.rds_views.specs.Views.{At, Each, total}
+use Rattle.rds_views.specs.ViewLaws.{each_set, total_set, total_at, total_below, total_times}
 use Rattle.rds_meter.specs.declared.view.View.{View}
 use Rattle.rds_meter.specs.declared.view.Step.{Step}
 use Rattle.rds_meter.specs.declared.view.Stage.TheVariants.{Idle}
 use Rattle.rds_meter.specs.Places.{amount_in, part}
 use Rattle.rds_meter.specs.Shared.{Shared, BitsFit}
 use Rattle.rds_meter.proofs.Facts.{Facts, Change, facts_set}
-use Rattle.rds_meter.proofs.Parts.{part-push}
+use Rattle.rds_meter.specs.PartLaws.{part-push}
 
 pub facts_of : (words : List ℕ) (views : List View) → Shared words views → Facts words views
 facts_of words views h = record { limits = h.limits; closed = h.closed; opened = h.opened; staged = h.staged; loaded = h.loaded }

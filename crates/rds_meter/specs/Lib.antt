@@ -2,3 +2,4 @@ pub mod Places
 pub mod Seats
 pub mod Shared
 pub mod Plays
+pub mod PartLaws

@@ -1,7 +1,7 @@
 -- What a seat of the meter knows, and what each of its steps leaves it with. This project's own.
 use Rattle.std.specs.Prelude.{◌≡◌, ℕ, ◌+◌, ◌-◌, ◌==◌, ◌&&◌, nat_lt, nat_le, if◌then◌else◌, Bool, List, [], ◌∷◌, ◌++◌, Option, Some, None}
 use Rattle.atomic_table.specs.Seated.{TableId}
-use Rattle.rds_words.specs.Views.{Table}
+use Rattle.rds_views.specs.Views.{Table}
 use Rattle.rds_meter.specs.declared.view.View.{View}
 use Rattle.rds_meter.specs.declared.view.Check.{Check}
 use Rattle.rds_meter.specs.declared.view.Stage.{Stage}
@@ -11,20 +11,20 @@ use Rattle.rds_meter.specs.declared.mark.Mark.{Mark}
 use Rattle.rds_meter.specs.Places.{limit_word, taken_word}
 
 -- a seat, as contracts see it: its meter, the slot that it owns and what it knows
-pub record Held : Type 0 where
+pub record MeterSeat : Type 0 where
   pub table : Table
   pub slot : Option ℕ
   pub view : View
 
-abbrev pub held : TableId → Option ℕ → View → Held
-held id slot v = record { table = record { id = id; slots = v.slots }; slot = slot; view = v }
+abbrev pub meter_seat : TableId → Option ℕ → View → MeterSeat
+meter_seat id slot v = record { table = record { id = id; slots = v.slots }; slot = slot; view = v }
 
 -- the seat after its view became w
-abbrev pub knowing : Held → View → Held
+abbrev pub knowing : MeterSeat → View → MeterSeat
 knowing h w = record { table = h.table; slot = h.slot; view = w }
 
 -- the seat with this slot
-abbrev pub owning : Held → ℕ → Held
+abbrev pub owning : MeterSeat → ℕ → MeterSeat
 owning h slot = record { table = h.table; slot = Some slot; view = h.view }
 
 -- a seat that stands for so many and may split off so many, and has done nothing

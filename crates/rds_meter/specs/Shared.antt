@@ -2,7 +2,7 @@
 use Rattle.std.specs.Prelude.{◌≡◌, ◌⊎◌, ℕ, ◌+◌, ◌*◌, ◌%◌, ◌<◌, ◌≤◌, List, [], ◌∷◌, length, slice_index, Some, None, is_some, true, Contains}
 use Rattle.std.specs.Int.{bit_at}
 use Rattle.atomic_table.specs.Table.{State}
-use Rattle.rds_words.specs.Views.{Has, Each, total}
+use Rattle.rds_views.specs.Views.{Has, Each, total}
 use Rattle.rds_meter.specs.declared.view.View.{View}
 use Rattle.rds_meter.specs.declared.view.Check.{Check}
 use Rattle.rds_meter.specs.declared.view.Stage.{Stage}
@@ -28,7 +28,7 @@ abbrev pub BitsFit : List View → ℕ → ℕ → Type 0
 BitsFit views word bits = (port : ℕ) → port < 65536 → word ≡ map_word port → bit_at bits (port % 64) ≡ 1 → Has views (HasRaised port)
 
 -- what was found of a slot: no more was put than its put word says, and the limit is one of its limits
-pub record Found (words : List ℕ) (views : List View) (slot put limit : ℕ) : Type 0 where
+pub record FitsSlot (words : List ℕ) (views : List View) (slot put limit : ℕ) : Type 0 where
   pub slot_small : slot < 1024
   pub put_within : put ≤ slice_index words (put_word slot)
   pub limit_was : IsLimit views slot limit
@@ -36,8 +36,8 @@ pub record Found (words : List ℕ) (views : List View) (slot put limit : ℕ) :
 -- what a seat has found so far, of the check that it is at
 abbrev pub StageFits : List ℕ → List View → Stage → Type 0
 StageFits words views Idle = Unit {0}
-StageFits words views (Put slot put) = Found words views slot put 0
-StageFits words views (Limited slot put limit) = Found words views slot put limit
+StageFits words views (Put slot put) = FitsSlot words views slot put 0
+StageFits words views (Limited slot put limit) = FitsSlot words views slot put limit
 
 -- the words and the views of all seats
 pub record Shared (words : List ℕ) (views : List View) : Type 0 where
@@ -48,9 +48,9 @@ pub record Shared (words : List ℕ) (views : List View) : Type 0 where
   -- a limit word is 0 or a limit that some seat has stored
   pub limits : (slot : ℕ) → slot < 1024 → IsLimit views slot (slice_index words (limit_word slot))
   -- a closed check raised a bit exactly where it had to
-  pub closed : Each views (λ v. (c : Check) → Contains v.checks c → Found words views c.slot c.put c.limit × (is_some c.raised ≡ must_raise c))
+  pub closed : Each views (λ v. (c : Check) → Contains v.checks c → FitsSlot words views c.slot c.put c.limit × (is_some c.raised ≡ must_raise c))
   -- an open check has to raise a bit, and hasn't
-  pub opened : Each views (λ v. (c : Check) → Contains v.pending c → Found words views c.slot c.put c.limit × (must_raise c ≡ true) × (c.raised ≡ None))
+  pub opened : Each views (λ v. (c : Check) → Contains v.pending c → FitsSlot words views c.slot c.put c.limit × (must_raise c ≡ true) × (c.raised ≡ None))
   pub staged : Each views (λ v. StageFits words views v.stage)
   -- a bit of the map that is set was raised by some check
   pub bits : (word : ℕ) → BitsFit views word (slice_index words word)

@@ -19,7 +19,7 @@ pub struct Meter {
 
 impl Model for Meter {
     ghost use Rattle.std.specs.Prelude.{◌≡◌, ◌≤◌};
-    ghost use Rattle.rds_words.specs.Views.{Table};
+    ghost use Rattle.rds_views.specs.Views.{Table};
 
     ghost Value = { Table };
 

@@ -13,11 +13,11 @@ pub struct MeterSeat {
 
 impl Model for MeterSeat {
     ghost use Rattle.std.specs.Prelude.{◌≡◌, ◌<◌, ◌≤◌, ℕ, [], Some};
-    ghost use Rattle.rds_meter.specs.Seats.{Held, held};
+    ghost use Rattle.rds_meter.specs.Seats.{MeterSeat, meter_seat};
 
-    ghost Value = { Held };
+    ghost Value = { MeterSeat };
 
-    ghost view = { λ s. held s.seat.table_id s.slot s.seat.me.0 };
+    ghost view = { λ s. meter_seat s.seat.table_id s.slot s.seat.me.0 };
 
     ghost invariant = { λ s. (1 ≤ s.seat.me.0.weight) × (s.seat.me.1 ≡ []) × ((slot : ℕ) → s.slot ≡ Some slot → slot < 1024) };
 }

@@ -1,6 +1,6 @@
 //! Seats that are cut off and joined, and what the last of them knows.
 ghost use Rattle.std.specs.Prelude.{◌≡◌, ◌+◌, ◌<◌, ◌≤◌, Some, None};
-ghost use Rattle.rds_meter.specs.Seats.{Held, knowing, after_split, newcomer, joined, owning};
+ghost use Rattle.rds_meter.specs.Seats.{MeterSeat, knowing, after_split, newcomer, joined, owning};
 ghost use Rattle.rds_meter.specs.Shared.{Taught, Alone};
 
 use crate::meter::Meter;

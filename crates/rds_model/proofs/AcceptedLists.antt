@@ -7,7 +7,7 @@ use Rattle.rds_model.specs.declared.entry.Entry.{Entry}
 use Rattle.rds_model.specs.declared.entry.Entry.TheVariants.{Accept}
 use Rattle.rds_model.specs.Past.{now, before, Accepted, accepted, datagram}
 use Rattle.rds_model.specs.Pairs.{accepted_for}
-use Rattle.rds_model.proofs.Numbers.{datagram_newest, datagram_other, datagram_stays}
+use Rattle.rds_model.specs.NumberLaws.{datagram_newest, datagram_other, datagram_stays}
 use Rattle.rds_model.proofs.NumberLists.{in_nothing}
 
 -- a datagram of the pair

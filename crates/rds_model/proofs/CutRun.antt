@@ -5,7 +5,7 @@ use Rattle.std.proofs.lemmas.Bool.{cases_eq, ne_eqb}
 use Rattle.rds_wire.specs.declared.frame.Frame.{Frame}
 use Rattle.rds_wire.specs.declared.kind.TheConstants.{MAP_LENGTH}
 use Rattle.rds_model.specs.Past.{now}
-use Rattle.rds_model.specs.Streams.{pulls, reads}
+use Rattle.rds_model.specs.Streams.{pulled_frames, read_frames}
 use Rattle.rds_model.specs.Owed.{header_of}
 use Rattle.rds_model.specs.Legal.{IsWhole}
 use Rattle.rds_model.specs.Drained.{IsQuiet}
@@ -101,37 +101,37 @@ module _ (map : List ℕ) (long : length map ≡ MAP_LENGTH) where
   a0 = reading _ _ _ _ a1 refl b0 now (omega arith) refl refl
 
   -- on stream 1 the second datagram was pulled and not read; on stream 2 all was
-  forth : (k : ℕ) → (left : List Frame) × (pulls k (cut_sender map) ≡ reads k (cut_receiver map) ++ left)
-  forth k =
-      elim (cases_eq k 1) [
+  forth : (s : ℕ) → (left : List Frame) × (pulled_frames s (cut_sender map) ≡ read_frames s (cut_receiver map) ++ left)
+  forth s =
+      elim (cases_eq s 1) [
         | inl is ↦ (
           frame 2 0 4000 4001 0 (codes "second") ∷ [],
-          subst (λ (s : ℕ). pulls s (cut_sender map) ≡ reads s (cut_receiver map) ++ frame 2 0 4000 4001 0 (codes "second") ∷ []) (sym is) refl,
+          subst (λ (x : ℕ). pulled_frames x (cut_sender map) ≡ read_frames x (cut_receiver map) ++ frame 2 0 4000 4001 0 (codes "second") ∷ []) (sym is) refl,
         )
         | inr other ↦
-            elim (cases_eq k 2) [
-              | inl is ↦ ([], subst (λ (s : ℕ). pulls s (cut_sender map) ≡ reads s (cut_receiver map) ++ []) (sym is) refl)
+            elim (cases_eq s 2) [
+              | inl is ↦ ([], subst (λ (x : ℕ). pulled_frames x (cut_sender map) ≡ read_frames x (cut_receiver map) ++ []) (sym is) refl)
               | inr other_2 ↦
-                  let no : 1 == k ≡ false = ne_eqb 1 k (λ e. other (sym e)) in
-                  let no_2 : 2 == k ≡ false = ne_eqb 2 k (λ e. other_2 (sym e)) in
+                  let no : 1 == s ≡ false = ne_eqb 1 s (λ e. other (sym e)) in
+                  let no_2 : 2 == s ≡ false = ne_eqb 2 s (λ e. other_2 (sym e)) in
                   ([], simp (no, no_2))
             ]
       ]
 
   -- on stream 1 the map of the receiver was not read
-  back : (k : ℕ) → (left : List Frame) × (pulls k (cut_receiver map) ≡ reads k (cut_sender map) ++ left)
-  back k =
-      elim (cases_eq k 1) [
+  back : (s : ℕ) → (left : List Frame) × (pulled_frames s (cut_receiver map) ≡ read_frames s (cut_sender map) ++ left)
+  back s =
+      elim (cases_eq s 1) [
         | inl is ↦ (
           map_with 0 map ∷ [],
-          subst (λ (s : ℕ). pulls s (cut_receiver map) ≡ reads s (cut_sender map) ++ map_with 0 map ∷ []) (sym is) refl,
+          subst (λ (x : ℕ). pulled_frames x (cut_receiver map) ≡ read_frames x (cut_sender map) ++ map_with 0 map ∷ []) (sym is) refl,
         )
         | inr other ↦
-            elim (cases_eq k 2) [
-              | inl is ↦ ([], subst (λ (s : ℕ). pulls s (cut_receiver map) ≡ reads s (cut_sender map) ++ []) (sym is) refl)
+            elim (cases_eq s 2) [
+              | inl is ↦ ([], subst (λ (x : ℕ). pulled_frames x (cut_receiver map) ≡ read_frames x (cut_sender map) ++ []) (sym is) refl)
               | inr other_2 ↦
-                  let no : 1 == k ≡ false = ne_eqb 1 k (λ e. other (sym e)) in
-                  let no_2 : 2 == k ≡ false = ne_eqb 2 k (λ e. other_2 (sym e)) in
+                  let no : 1 == s ≡ false = ne_eqb 1 s (λ e. other (sym e)) in
+                  let no_2 : 2 == s ≡ false = ne_eqb 2 s (λ e. other_2 (sym e)) in
                   ([], simp (no, no_2))
             ]
       ]
@@ -141,8 +141,8 @@ module _ (map : List ℕ) (long : length map ≡ MAP_LENGTH) where
     sender = a0;
     receiver = b0;
     honest = record {
-      forth = λ k. begins k (cut_sender map) (cut_receiver map) (forth k).0 (forth k).1 refl;
-      back = λ k. begins k (cut_receiver map) (cut_sender map) (back k).0 (back k).1 refl;
+      forth = λ s. begins s (cut_sender map) (cut_receiver map) (forth s).0 (forth s).1 refl;
+      back = λ s. begins s (cut_receiver map) (cut_sender map) (back s).0 (back s).1 refl;
     };
   }
 

@@ -6,7 +6,7 @@ use Rattle.std.proofs.lemmas.List.Elements.{All-head, All-tail}
 use Rattle.rds_wire.specs.declared.frame.Frame.{Frame}
 use Rattle.rds_wire.specs.declared.header.Header.{Header}
 use Rattle.rds_wire.specs.Bytes.{header_bytes, IsHeader, frame_bytes}
-use Rattle.rds_wire.proofs.Headers.{length-header_bytes, header_bytes-append}
+use Rattle.rds_wire.specs.HeaderLaws.{length-header_bytes, header_bytes-append}
 
 -- each field of the header fits, and the payload has the length that it says
 pub record IsSound (f : Frame) : Type 0 where

@@ -9,17 +9,17 @@ use Rattle.rds_wire.specs.declared.kind.TheConstants.{MAP_LENGTH, MAX_LENGTH}
 use Rattle.rds_model.specs.declared.entry.Entry.{Entry}
 use Rattle.rds_model.specs.declared.entry.Entry.TheVariants.{Accept, Pull, Read}
 use Rattle.rds_model.specs.declared.entry.Outcome.{Outcome}
-use Rattle.rds_model.specs.Past.{Moment, accepted, open_stream, highest, last_passed}
-use Rattle.rds_model.specs.Streams.{pulls, reads, refused, wrote, got}
-use Rattle.rds_model.specs.Alive.{due}
+use Rattle.rds_model.specs.Past.{Moment, accepted, open_stream, highest_pulled, last_passed}
+use Rattle.rds_model.specs.Streams.{pulled_frames, read_frames, refused_bytes, written_bytes, read_bytes}
+use Rattle.rds_model.specs.Alive.{due_numbers}
 use Rattle.rds_model.specs.Honest.{Begins}
 use Rattle.rds_model.specs.Drained.{OwesNothing}
-use Rattle.rds_model.specs.Owed.{last_map, owed, owed_behind}
+use Rattle.rds_model.specs.Owed.{last_map, owed_frame, owed_after_map}
 use Rattle.rds_model.specs.Reading.{verdict_of, Obeys}
 use Rattle.rds_model.specs.Legal.{IsWhole, IsLawful, pong_to}
 use Rattle.rds_model.proofs.Moments.{past_of}
-use Rattle.rds_model.proofs.Legality.{legal_at, lawful_pull}
-use Rattle.rds_model.proofs.Owing.{owed_is_lawful, settled_continues, owed_behind_last}
+use Rattle.rds_model.specs.LegalityLaws.{legal_at, lawful_pull}
+use Rattle.rds_model.specs.OwingLaws.{owed_is_lawful, settled_continues, owed_behind_last}
 use Rattle.rds_model.proofs.SoundFrames.{lawful_frame_is_sound}
 
 -- one more entry that is lawful
@@ -28,21 +28,21 @@ more e past whole lawful settled =
     record { legal = (settled_continues past e whole.settled lawful, whole.legal); settled = settled }
 
 -- the pull of what is owed
-pub pulling : (k : ℕ) (f : Frame) (past : List Entry) (map : List ℕ) → IsWhole past → open_stream past ≡ Some k → length map ≡ MAP_LENGTH →
-    owed k past map ≡ Some f → IsWhole (Pull k f ∷ past)
-pulling k f past map whole on long is = more (Pull k f) past whole (owed_is_lawful k past map f whole.legal on long is) refl
+pub pulling : (s : ℕ) (f : Frame) (past : List Entry) (map : List ℕ) → IsWhole past → open_stream past ≡ Some s → length map ≡ MAP_LENGTH →
+    owed_frame s past map ≡ Some f → IsWhole (Pull s f ∷ past)
+pulling s f past map whole on long is = more (Pull s f) past whole (owed_is_lawful s past map f whole.legal on long is) refl
 
 -- the reading of a frame that the peer pulled
-pub reading : (k : ℕ) (f : Frame) (o : Outcome) (past : List Entry) {sender peer : List Entry} → IsWhole past → open_stream past ≡ Some k →
-    IsWhole peer → Moment (Pull k f ∷ sender) peer → last_passed sender ≤ highest past → Obeys (verdict_of past f.header) o →
-    pong_to (Read k f o ∷ past) ≡ None → IsWhole (Read k f o ∷ past)
-reading k f o past {sender} {peer} whole on peer_whole m known obeys settled =
-    let lawful = lawful_pull k f peer_whole.legal m in
-    more (Read k f o) past whole (record {
+pub reading : (s : ℕ) (f : Frame) (o : Outcome) (past : List Entry) {sender peer : List Entry} → IsWhole past → open_stream past ≡ Some s →
+    IsWhole peer → Moment (Pull s f ∷ sender) peer → last_passed sender ≤ highest_pulled past → Obeys (verdict_of past f.header) o →
+    pong_to (Read s f o ∷ past) ≡ None → IsWhole (Read s f o ∷ past)
+reading s f o past {sender} {peer} whole on peer_whole m known obeys settled =
+    let lawful = lawful_pull s f peer_whole.legal m in
+    more (Read s f o) past whole (record {
       on = on;
       header = lawful.header;
       whole = lawful.whole;
-      sound = lawful_frame_is_sound k sender f (highest past) (legal_at (past_of m) peer_whole.legal) lawful known;
+      sound = lawful_frame_is_sound s sender f (highest_pulled past) (legal_at (past_of m) peer_whole.legal) lawful known;
       obeys = obeys;
     }) settled
 
@@ -50,9 +50,9 @@ pub nothing_yet : IsWhole []
 nothing_yet = record { legal = tt; settled = refl }
 
 -- the pull of what is owed behind the last map
-pub pulling_behind : (k : ℕ) (f : Frame) (past : List Entry) (map : List ℕ) → IsWhole past → open_stream past ≡ Some k → length map ≡ MAP_LENGTH →
-    last_map k past ≡ Some map → owed_behind k past (due k past) ≡ Some f → IsWhole (Pull k f ∷ past)
-pulling_behind k f past map whole on long last is = pulling k f past map whole on long (owed_behind_last k past map last ∙ is)
+pub pulling_behind : (s : ℕ) (f : Frame) (past : List Entry) (map : List ℕ) → IsWhole past → open_stream past ≡ Some s → length map ≡ MAP_LENGTH →
+    last_map s past ≡ Some map → owed_after_map s past (due_numbers s past) ≡ Some f → IsWhole (Pull s f ∷ past)
+pulling_behind s f past map whole on long last is = pulling s f past map whole on long (owed_behind_last s past map last ∙ is)
 
 -- the acceptance of a datagram from slot 0
 pub accepting : (sport dport : ℕ) (payload : List ℕ) (past : List Entry) → IsWhole past → sport < 2 ^ 16 → dport < 2 ^ 16 →
@@ -67,19 +67,19 @@ accepting sport dport payload past whole fits_sport fits_dport short few =
     }) refl
 
 -- honest on a stream: the frames that were read are the first of those that were pulled, and no header was refused
-pub begins : (k : ℕ) (a b : List Entry) (left : List Frame) → pulls k a ≡ reads k b ++ left → refused k b ≡ [] → Begins (got k b) (wrote k a)
-begins k a b left frames none = (
+pub begins : (s : ℕ) (a b : List Entry) (left : List Frame) → pulled_frames s a ≡ read_frames s b ++ left → refused_bytes s b ≡ [] → Begins (read_bytes s b) (written_bytes s a)
+begins s a b left frames none = (
   flat_map frame_bytes left,
-  ap (flat_map frame_bytes) frames ∙ flat_map-append frame_bytes (reads k b) left
-      ∙ ap (λ (l : List ℕ). l ++ flat_map frame_bytes left) (sym (append-nil (flat_map frame_bytes (reads k b))))
-      ∙ ap (λ (l : List ℕ). (flat_map frame_bytes (reads k b) ++ l) ++ flat_map frame_bytes left) (sym none),
+  ap (flat_map frame_bytes) frames ∙ flat_map-append frame_bytes (read_frames s b) left
+      ∙ ap (λ (l : List ℕ). l ++ flat_map frame_bytes left) (sym (append-nil (flat_map frame_bytes (read_frames s b))))
+      ∙ ap (λ (l : List ℕ). (flat_map frame_bytes (read_frames s b) ++ l) ++ flat_map frame_bytes left) (sym none),
 )
 
 -- an end that owes nothing for the map that it pulled last
-pub owing_nothing : (k : ℕ) (past : List Entry) (map : List ℕ) → last_map k past ≡ Some map → owed_behind k past (due k past) ≡ None → OwesNothing k past
-owing_nothing k past map last none = record { map = map; pulled = last; nothing = owed_behind_last k past map last ∙ none }
+pub owing_nothing : (s : ℕ) (past : List Entry) (map : List ℕ) → last_map s past ≡ Some map → owed_after_map s past (due_numbers s past) ≡ None → OwesNothing s past
+owing_nothing s past map last none = record { map = map; pulled = last; nothing = owed_behind_last s past map last ∙ none }
 
 -- one end got all that the other wrote
-pub all_got : (k : ℕ) (a b : List Entry) → reads k b ≡ pulls k a → refused k b ≡ [] → got k b ≡ wrote k a
-all_got k a b frames none =
-    ap (λ (l : List ℕ). flat_map frame_bytes (reads k b) ++ l) none ∙ append-nil (flat_map frame_bytes (reads k b)) ∙ ap (flat_map frame_bytes) frames
+pub all_got : (s : ℕ) (a b : List Entry) → read_frames s b ≡ pulled_frames s a → refused_bytes s b ≡ [] → read_bytes s b ≡ written_bytes s a
+all_got s a b frames none =
+    ap (λ (l : List ℕ). flat_map frame_bytes (read_frames s b) ++ l) none ∙ append-nil (flat_map frame_bytes (read_frames s b)) ∙ ap (flat_map frame_bytes) frames

@@ -12,25 +12,25 @@ use Rattle.rds_model.specs.Streams.{was_read, was_passed}
 use Rattle.rds_model.specs.Alive.{is_cancelled, covers, was_taken_back, was_taken_back_unbegun}
 use Rattle.rds_model.specs.Fifo.{Carries, IsFifo}
 use Rattle.rds_model.proofs.Moments.{past_of, of_two_entries, first, second, same}
-use Rattle.rds_model.proofs.Numbers.{datagram_stays, alive_parts, cancelled_stays}
-use Rattle.rds_model.proofs.Legality.{lawful_read}
-use Rattle.rds_model.proofs.LawfulFrames.{ports_of_data}
+use Rattle.rds_model.specs.NumberLaws.{datagram_stays, alive_parts, cancelled_stays}
+use Rattle.rds_model.specs.LegalityLaws.{lawful_read}
+use Rattle.rds_model.specs.FrameLaws.{ports_of_data}
 use Rattle.rds_model.proofs.Outcomes.{old_kind}
 use Rattle.rds_model.proofs.Happenings.{was_passed_stays, was_passed_at, was_pulled_at, reading_of}
 use Rattle.rds_model.proofs.Matching.{ArePeers, pull_of_read}
 use Rattle.rds_model.proofs.Rise.{sent, rise, passed_datagram}
-use Rattle.rds_model.proofs.Endings.{taken_unbegun}
+use Rattle.rds_model.specs.EndingLaws.{taken_unbegun}
 use Rattle.rds_model.proofs.Skip.{arrival, skipped}
 use Rattle.rds_model.proofs.OldCopies.{read_is_passed}
 
 -- a datagram that was read is the one that was accepted under its number
-pub read_was_accepted : (k : ℕ) (f : Frame) (o : Outcome) {past a b : List Entry} → ArePeers a b → Moment (Read k f o ∷ past) b →
+pub read_was_accepted : (s : ℕ) (f : Frame) (o : Outcome) {past a b : List Entry} → ArePeers a b → Moment (Read s f o ∷ past) b →
     is_datagram f ≡ true → (d : Accepted) × (datagram a (number f) ≡ Some d) × Carries f d
-read_was_accepted k f o {past} {a} peers m is =
-    let pull = pull_of_read k f o peers m in
-    let this = sent k f peers.legal_a pull.at is in
+read_was_accepted s f o {past} {a} peers m is =
+    let pull = pull_of_read s f o peers m in
+    let this = sent s f peers.legal_a pull.at is in
     let d = this.pull.d in
-    let ports = ports_of_data k pull.past this.pull.n d in
+    let ports = ports_of_data s pull.past this.pull.n d in
     let carries : Carries f d = record {
       sport = ap (λ (g : Frame). g.header.sport) this.pull.is ∙ ports.0;
       dport = ap (λ (g : Frame). g.header.dport) this.pull.is ∙ ports.1;
@@ -73,19 +73,19 @@ unbegun_is_unread a b peers n was read =
     ]
 
 -- an old copy repeats a datagram that was passed before
-pub old_was_passed : (k : ℕ) (f : Frame) {past a b : List Entry} → ArePeers a b → Moment (Read k f outcome.Old ∷ past) b →
+pub old_was_passed : (s : ℕ) (f : Frame) {past a b : List Entry} → ArePeers a b → Moment (Read s f outcome.Old ∷ past) b →
     was_passed past (number f) ≡ true
-old_was_passed k f {past} {a} {b} peers m =
-    let kind = old_kind (kind_of f.header) past f.header (lawful_read k f outcome.Old peers.legal_b m).obeys in
+old_was_passed s f {past} {a} {b} peers m =
+    let kind = old_kind (kind_of f.header) past f.header (lawful_read s f outcome.Old peers.legal_b m).obeys in
     let carries = and_from (is_datagram f) (number f == number f) (ap is_data kind) (eq-eqb (number f) (number f) refl) in
-    read_is_passed (Read k f outcome.Old ∷ past) a b peers m (number f)
+    read_is_passed (Read s f outcome.Old ∷ past) a b peers m (number f)
     (or_left (carries_number (number f) f) (was_read past (number f)) carries)
 
 pub fifo : (a b : List Entry) → ArePeers a b → IsFifo a b
 fifo a b peers = record {
-  rise = λ k f o past m passed. rise k f o peers m passed;
-  accepted = λ k f o past m passed. read_was_accepted k f o peers m (passed_datagram k f o peers.legal_b m passed).0;
+  rise = λ s f o past m passed. rise s f o peers m passed;
+  accepted = λ s f o past m passed. read_was_accepted s f o peers m (passed_datagram s f o peers.legal_b m passed).0;
   none_lost = none_is_lost a b peers;
   unbegun = λ n was. false_from_ne_true (was_read b n) (unbegun_is_unread a b peers n was);
-  repeated = λ k f past m. old_was_passed k f peers m;
+  repeated = λ s f past m. old_was_passed s f peers m;
 }

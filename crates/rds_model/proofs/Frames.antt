@@ -8,7 +8,7 @@ use Rattle.rds_model.specs.declared.entry.Entry.{Entry}
 use Rattle.rds_model.specs.declared.entry.Entry.TheVariants.{Accept, Pull, Read}
 use Rattle.rds_model.specs.declared.entry.Outcome.{Outcome}
 use Rattle.rds_model.specs.Past.{Moment, now, before}
-use Rattle.rds_model.specs.Streams.{pulls, reads}
+use Rattle.rds_model.specs.Streams.{pulled_frames, read_frames}
 
 -- a list is empty or has a last element
 ends : (fs : List Frame) → (fs ≡ []) ⊎ ((front : List Frame) × (last : Frame) × (fs ≡ front ++ last ∷ []))
@@ -79,118 +79,118 @@ module _ (carried : Entry → Option Frame) where
           let both = same_from_push (frames carried past) (fs ++ f ∷ front) g last (is ∙ pushed) in
           carried_before fs f e past (older front both.0)
 
--- the frame that an entry pulls on stream k, or reads there
+-- the frame that an entry pulls on stream s, or reads there
 abbrev pulled_by : ℕ → Entry → Option Frame
-pulled_by k (Pull stream frame) = if stream == k then Some frame else None
-pulled_by k _ = None
+pulled_by s (Pull stream frame) = if stream == s then Some frame else None
+pulled_by s _ = None
 
 abbrev read_by : ℕ → Entry → Option Frame
-read_by k (Read stream frame outcome) = if stream == k then Some frame else None
-read_by k _ = None
+read_by s (Read stream frame outcome) = if stream == s then Some frame else None
+read_by s _ = None
 
-pulls_are : (k : ℕ) (j : List Entry) → frames (pulled_by k) j ≡ pulls k j
-pulls_are k [] = refl
-pulls_are k (Pull stream frame ∷ past) =
-    elim (stream == k) as (λ b. frames (pulled_by k) past ++ option_to_list (cond b (Some frame) None)
-    ≡ cond b (pulls k past ++ frame ∷ []) (pulls k past)) [
-      | true ↦ ap (λ (fs : List Frame). fs ++ frame ∷ []) (pulls_are k past)
-      | false ↦ append-nil (frames (pulled_by k) past) ∙ pulls_are k past
+pulls_are : (s : ℕ) (j : List Entry) → frames (pulled_by s) j ≡ pulled_frames s j
+pulls_are s [] = refl
+pulls_are s (Pull stream frame ∷ past) =
+    elim (stream == s) as (λ b. frames (pulled_by s) past ++ option_to_list (cond b (Some frame) None)
+    ≡ cond b (pulled_frames s past ++ frame ∷ []) (pulled_frames s past)) [
+      | true ↦ ap (λ (fs : List Frame). fs ++ frame ∷ []) (pulls_are s past)
+      | false ↦ append-nil (frames (pulled_by s) past) ∙ pulls_are s past
     ]
-pulls_are k (_ ∷ past) = append-nil (frames (pulled_by k) past) ∙ pulls_are k past
+pulls_are s (_ ∷ past) = append-nil (frames (pulled_by s) past) ∙ pulls_are s past
 
-reads_are : (k : ℕ) (j : List Entry) → frames (read_by k) j ≡ reads k j
-reads_are k [] = refl
-reads_are k (Read stream frame outcome ∷ past) =
-    elim (stream == k) as (λ b. frames (read_by k) past ++ option_to_list (cond b (Some frame) None)
-    ≡ cond b (reads k past ++ frame ∷ []) (reads k past)) [
-      | true ↦ ap (λ (fs : List Frame). fs ++ frame ∷ []) (reads_are k past)
-      | false ↦ append-nil (frames (read_by k) past) ∙ reads_are k past
+reads_are : (s : ℕ) (j : List Entry) → frames (read_by s) j ≡ read_frames s j
+reads_are s [] = refl
+reads_are s (Read stream frame outcome ∷ past) =
+    elim (stream == s) as (λ b. frames (read_by s) past ++ option_to_list (cond b (Some frame) None)
+    ≡ cond b (read_frames s past ++ frame ∷ []) (read_frames s past)) [
+      | true ↦ ap (λ (fs : List Frame). fs ++ frame ∷ []) (reads_are s past)
+      | false ↦ append-nil (frames (read_by s) past) ∙ reads_are s past
     ]
-reads_are k (_ ∷ past) = append-nil (frames (read_by k) past) ∙ reads_are k past
+reads_are s (_ ∷ past) = append-nil (frames (read_by s) past) ∙ reads_are s past
 
 -- the frames that were pulled by a moment are the first of all
-pub pulls_grow : (k : ℕ) {p j : List Entry} → Moment p j → (rest : List Frame) × (pulls k j ≡ pulls k p ++ rest)
-pulls_grow k {p} {j} m =
-    let grown = frames_grow (pulled_by k) m in
-    (grown.0, sym (pulls_are k j) ∙ grown.1 ∙ ap (λ (fs : List Frame). fs ++ grown.0) (pulls_are k p))
+pub pulls_grow : (s : ℕ) {p j : List Entry} → Moment p j → (rest : List Frame) × (pulled_frames s j ≡ pulled_frames s p ++ rest)
+pulls_grow s {p} {j} m =
+    let grown = frames_grow (pulled_by s) m in
+    (grown.0, sym (pulls_are s j) ∙ grown.1 ∙ ap (λ (fs : List Frame). fs ++ grown.0) (pulls_are s p))
 
-pub reads_grow : (k : ℕ) {p j : List Entry} → Moment p j → (rest : List Frame) × (reads k j ≡ reads k p ++ rest)
-reads_grow k {p} {j} m =
-    let grown = frames_grow (read_by k) m in
-    (grown.0, sym (reads_are k j) ∙ grown.1 ∙ ap (λ (fs : List Frame). fs ++ grown.0) (reads_are k p))
+pub reads_grow : (s : ℕ) {p j : List Entry} → Moment p j → (rest : List Frame) × (read_frames s j ≡ read_frames s p ++ rest)
+reads_grow s {p} {j} m =
+    let grown = frames_grow (read_by s) m in
+    (grown.0, sym (reads_are s j) ∙ grown.1 ∙ ap (λ (fs : List Frame). fs ++ grown.0) (reads_are s p))
 
 -- a frame stands behind those that were pulled, or read, before it
-pub pull_begins : (k : ℕ) (f : Frame) {p j : List Entry} → Moment (Pull k f ∷ p) j →
-    (rest : List Frame) × (pulls k j ≡ pulls k p ++ f ∷ rest)
-pull_begins k f {p} {j} m =
-    let begins = frame_begins (pulled_by k) (Pull k f) f (cond-true (k == k) (Some f) None (eq-eqb k k refl)) m in
-    (begins.0, sym (pulls_are k j) ∙ begins.1 ∙ ap (λ (fs : List Frame). fs ++ f ∷ begins.0) (pulls_are k p))
+pub pull_begins : (s : ℕ) (f : Frame) {p j : List Entry} → Moment (Pull s f ∷ p) j →
+    (rest : List Frame) × (pulled_frames s j ≡ pulled_frames s p ++ f ∷ rest)
+pull_begins s f {p} {j} m =
+    let begins = frame_begins (pulled_by s) (Pull s f) f (cond-true (s == s) (Some f) None (eq-eqb s s refl)) m in
+    (begins.0, sym (pulls_are s j) ∙ begins.1 ∙ ap (λ (fs : List Frame). fs ++ f ∷ begins.0) (pulls_are s p))
 
-pub read_begins : (k : ℕ) (f : Frame) (o : Outcome) {p j : List Entry} → Moment (Read k f o ∷ p) j →
-    (rest : List Frame) × (reads k j ≡ reads k p ++ f ∷ rest)
-read_begins k f o {p} {j} m =
-    let begins = frame_begins (read_by k) (Read k f o) f (cond-true (k == k) (Some f) None (eq-eqb k k refl)) m in
-    (begins.0, sym (reads_are k j) ∙ begins.1 ∙ ap (λ (fs : List Frame). fs ++ f ∷ begins.0) (reads_are k p))
+pub read_begins : (s : ℕ) (f : Frame) (o : Outcome) {p j : List Entry} → Moment (Read s f o ∷ p) j →
+    (rest : List Frame) × (read_frames s j ≡ read_frames s p ++ f ∷ rest)
+read_begins s f o {p} {j} m =
+    let begins = frame_begins (read_by s) (Read s f o) f (cond-true (s == s) (Some f) None (eq-eqb s s refl)) m in
+    (begins.0, sym (reads_are s j) ∙ begins.1 ∙ ap (λ (fs : List Frame). fs ++ f ∷ begins.0) (reads_are s p))
 
 -- a pull of the frame behind these, and a reading
-pub record PulledAfter (k : ℕ) (fs : List Frame) (f : Frame) (j : List Entry) : Type 0 where
+pub record PulledAfter (s : ℕ) (fs : List Frame) (f : Frame) (j : List Entry) : Type 0 where
   pub past : List Entry
-  pub at : Moment (Pull k f ∷ past) j
-  pub earlier : pulls k past ≡ fs
+  pub at : Moment (Pull s f ∷ past) j
+  pub earlier : pulled_frames s past ≡ fs
 
-pub record ReadAfter (k : ℕ) (fs : List Frame) (f : Frame) (j : List Entry) : Type 0 where
+pub record ReadAfter (s : ℕ) (fs : List Frame) (f : Frame) (j : List Entry) : Type 0 where
   pub outcome : Outcome
   pub past : List Entry
-  pub at : Moment (Read k f outcome ∷ past) j
-  pub earlier : reads k past ≡ fs
+  pub at : Moment (Read s f outcome ∷ past) j
+  pub earlier : read_frames s past ≡ fs
 
-is_pull : (k : ℕ) (e : Entry) (f : Frame) → pulled_by k e ≡ Some f → e ≡ Pull k f
-is_pull k (Pull stream frame) f is =
-    elim (cases_Bool (stream == k)) [
+is_pull : (s : ℕ) (e : Entry) (f : Frame) → pulled_by s e ≡ Some f → e ≡ Pull s f
+is_pull s (Pull stream frame) f is =
+    elim (cases_Bool (stream == s)) [
       | inl same ↦
-          let is_f : Some frame ≡ Some f = sym (cond-true (stream == k) (Some frame) None same) ∙ is in
-          let is_k = eqb-true stream k same in
+          let is_f : Some frame ≡ Some f = sym (cond-true (stream == s) (Some frame) None same) ∙ is in
+          let is_k = eqb-true stream s same in
           cc
       | inr other ↦
-          let is_f : None ≡ Some f = sym (cond-false (stream == k) (Some frame) None other) ∙ is in
+          let is_f : None ≡ Some f = sym (cond-false (stream == s) (Some frame) None other) ∙ is in
           cc
     ]
-is_pull k (Accept slot sport dport payload) f is = cc
-is_pull k _ f is = cc
+is_pull s (Accept slot sport dport payload) f is = cc
+is_pull s _ f is = cc
 
-is_read : (k : ℕ) (e : Entry) (f : Frame) → read_by k e ≡ Some f → (o : Outcome) × (e ≡ Read k f o)
-is_read k (Read stream frame outcome) f is =
-    elim (cases_Bool (stream == k)) [
+is_read : (s : ℕ) (e : Entry) (f : Frame) → read_by s e ≡ Some f → (o : Outcome) × (e ≡ Read s f o)
+is_read s (Read stream frame outcome) f is =
+    elim (cases_Bool (stream == s)) [
       | inl same ↦
-          let is_f : Some frame ≡ Some f = sym (cond-true (stream == k) (Some frame) None same) ∙ is in
-          let is_k = eqb-true stream k same in
+          let is_f : Some frame ≡ Some f = sym (cond-true (stream == s) (Some frame) None same) ∙ is in
+          let is_k = eqb-true stream s same in
           let is_frame : frame ≡ f = cc in
           (outcome, λ i. Read (is_k i) (is_frame i) outcome)
       | inr other ↦
-          let is_f : None ≡ Some f = sym (cond-false (stream == k) (Some frame) None other) ∙ is in
+          let is_f : None ≡ Some f = sym (cond-false (stream == s) (Some frame) None other) ∙ is in
           cc
     ]
-is_read k _ f is = cc
+is_read s _ f is = cc
 
 -- each pulled frame has its pull, and each that was read its reading
-pub pull_moment : (k : ℕ) (j : List Entry) (fs : List Frame) (f : Frame) (rest : List Frame) →
-    pulls k j ≡ fs ++ f ∷ rest → PulledAfter k fs f j
-pull_moment k j fs f rest is =
-    let found = frame_moment (pulled_by k) j fs f rest (pulls_are k j ∙ is) in
+pub pull_moment : (s : ℕ) (j : List Entry) (fs : List Frame) (f : Frame) (rest : List Frame) →
+    pulled_frames s j ≡ fs ++ f ∷ rest → PulledAfter s fs f j
+pull_moment s j fs f rest is =
+    let found = frame_moment (pulled_by s) j fs f rest (pulls_are s j ∙ is) in
     record {
       past = found.past;
-      at = subst (λ (e : Entry). Moment (e ∷ found.past) j) (is_pull k found.e f found.carries) found.at;
-      earlier = sym (pulls_are k found.past) ∙ found.earlier;
+      at = subst (λ (e : Entry). Moment (e ∷ found.past) j) (is_pull s found.e f found.carries) found.at;
+      earlier = sym (pulls_are s found.past) ∙ found.earlier;
     }
 
-pub read_moment : (k : ℕ) (j : List Entry) (fs : List Frame) (f : Frame) (rest : List Frame) →
-    reads k j ≡ fs ++ f ∷ rest → ReadAfter k fs f j
-read_moment k j fs f rest is =
-    let found = frame_moment (read_by k) j fs f rest (reads_are k j ∙ is) in
-    let reading = is_read k found.e f found.carries in
+pub read_moment : (s : ℕ) (j : List Entry) (fs : List Frame) (f : Frame) (rest : List Frame) →
+    read_frames s j ≡ fs ++ f ∷ rest → ReadAfter s fs f j
+read_moment s j fs f rest is =
+    let found = frame_moment (read_by s) j fs f rest (reads_are s j ∙ is) in
+    let reading = is_read s found.e f found.carries in
     record {
       outcome = reading.0;
       past = found.past;
       at = subst (λ (e : Entry). Moment (e ∷ found.past) j) reading.1 found.at;
-      earlier = sym (reads_are k found.past) ∙ found.earlier;
+      earlier = sym (reads_are s found.past) ∙ found.earlier;
     }

@@ -6,7 +6,7 @@ use Rattle.rds_model.specs.declared.entry.Entry.{Entry}
 use Rattle.rds_model.specs.declared.entry.Entry.TheVariants.{Pull, Read}
 use Rattle.rds_model.specs.declared.entry.Outcome.{Outcome}
 use Rattle.rds_model.specs.Past.{Moment, now, before, carries_number, number, passes}
-use Rattle.rds_model.specs.Streams.{pulls, reads, pulled_on, was_pulled, was_read, was_passed}
+use Rattle.rds_model.specs.Streams.{pulled_frames, read_frames, pulled_on, was_pulled, was_read, was_passed}
 use Rattle.rds_model.proofs.Frames.{pull_begins, read_moment}
 
 -- what happened once, has happened at every later moment
@@ -35,37 +35,37 @@ was_passed_stays now n was = was
 was_passed_stays (before {e} {j} m) n was = passed_step e j n (was_passed_stays m n was)
 
 -- by the moment of a pull, or of a passed reading
-pub was_pulled_at : (k : ℕ) (f : Frame) (n : ℕ) {p j : List Entry} → Moment (Pull k f ∷ p) j → carries_number n f ≡ true → was_pulled j n ≡ true
-was_pulled_at k f n {p} m carries = was_pulled_stays m n (or_left (carries_number n f) (was_pulled p n) carries)
+pub was_pulled_at : (s : ℕ) (f : Frame) (n : ℕ) {p j : List Entry} → Moment (Pull s f ∷ p) j → carries_number n f ≡ true → was_pulled j n ≡ true
+was_pulled_at s f n {p} m carries = was_pulled_stays m n (or_left (carries_number n f) (was_pulled p n) carries)
 
-pub was_passed_at : (k : ℕ) (f : Frame) (o : Outcome) (n : ℕ) {p j : List Entry} → Moment (Read k f o ∷ p) j → passes o ≡ true → number f ≡ n →
+pub was_passed_at : (s : ℕ) (f : Frame) (o : Outcome) (n : ℕ) {p j : List Entry} → Moment (Read s f o ∷ p) j → passes o ≡ true → number f ≡ n →
     was_passed j n ≡ true
-was_passed_at k f o n {p} m passed is =
+was_passed_at s f o n {p} m passed is =
     was_passed_stays m n
     (or_left (passes o && (number f == n)) (was_passed p n) (and_from (passes o) (number f == n) passed (eq-eqb (number f) n is)))
 
-pub was_read_at : (k : ℕ) (f : Frame) (o : Outcome) (n : ℕ) {p j : List Entry} → Moment (Read k f o ∷ p) j → carries_number n f ≡ true →
+pub was_read_at : (s : ℕ) (f : Frame) (o : Outcome) (n : ℕ) {p j : List Entry} → Moment (Read s f o ∷ p) j → carries_number n f ≡ true →
     was_read j n ≡ true
-was_read_at k f o n {p} m carries = was_read_stays m n (or_left (carries_number n f) (was_read p n) carries)
+was_read_at s f o n {p} m carries = was_read_stays m n (or_left (carries_number n f) (was_read p n) carries)
 
-pulled_on_step : (k : ℕ) (e : Entry) (past : List Entry) (n : ℕ) → pulled_on k past n ≡ true → pulled_on k (e ∷ past) n ≡ true
-pulled_on_step k (Pull stream frame) past n was = or_right (stream == k && carries_number n frame) _ was
-pulled_on_step k _ past n was = was
+pulled_on_step : (s : ℕ) (e : Entry) (past : List Entry) (n : ℕ) → pulled_on s past n ≡ true → pulled_on s (e ∷ past) n ≡ true
+pulled_on_step s (Pull stream frame) past n was = or_right (stream == s && carries_number n frame) _ was
+pulled_on_step s _ past n was = was
 
-pub pulled_on_at : (k n : ℕ) (f : Frame) {p j : List Entry} → Moment (Pull k f ∷ p) j → carries_number n f ≡ true → pulled_on k j n ≡ true
-pulled_on_at k n f {p} now carries =
-    or_left (k == k && carries_number n f) (pulled_on k p n) (and_from (k == k) (carries_number n f) (eq-eqb k k refl) carries)
-pulled_on_at k n f (before {e} {j} m) carries = pulled_on_step k e j n (pulled_on_at k n f m carries)
+pub pulled_on_at : (s n : ℕ) (f : Frame) {p j : List Entry} → Moment (Pull s f ∷ p) j → carries_number n f ≡ true → pulled_on s j n ≡ true
+pulled_on_at s n f {p} now carries =
+    or_left (s == s && carries_number n f) (pulled_on s p n) (and_from (s == s) (carries_number n f) (eq-eqb s s refl) carries)
+pulled_on_at s n f (before {e} {j} m) carries = pulled_on_step s e j n (pulled_on_at s n f m carries)
 
 -- pulled on one stream is pulled
-pub pulled_on_some : (k : ℕ) (p : List Entry) (n : ℕ) → pulled_on k p n ≡ true → was_pulled p n ≡ true
-pulled_on_some k [] n on = on
-pulled_on_some k (Pull stream frame ∷ past) n on =
-    elim (or_cases (stream == k && carries_number n frame) (pulled_on k past n) on) [
-      | inl this ↦ or_left (carries_number n frame) (was_pulled past n) (and_parts (stream == k) (carries_number n frame) this).1
-      | inr older ↦ or_right (carries_number n frame) (was_pulled past n) (pulled_on_some k past n older)
+pub pulled_on_some : (s : ℕ) (p : List Entry) (n : ℕ) → pulled_on s p n ≡ true → was_pulled p n ≡ true
+pulled_on_some s [] n on = on
+pulled_on_some s (Pull stream frame ∷ past) n on =
+    elim (or_cases (stream == s && carries_number n frame) (pulled_on s past n) on) [
+      | inl this ↦ or_left (carries_number n frame) (was_pulled past n) (and_parts (stream == s) (carries_number n frame) this).1
+      | inr older ↦ or_right (carries_number n frame) (was_pulled past n) (pulled_on_some s past n older)
     ]
-pulled_on_some k (_ ∷ past) n on = pulled_on_some k past n on
+pulled_on_some s (_ ∷ past) n on = pulled_on_some s past n on
 
 -- the reading of a number
 pub record ReadingOf (n : ℕ) (j : List Entry) : Type 0 where
@@ -90,35 +90,35 @@ reading_of n (Read stream frame outcome ∷ past) was =
 reading_of n (x ∷ past) was = reading_before n x past (reading_of n past was)
 
 -- the pull of a number on a stream
-pub record PullOf (k n : ℕ) (j : List Entry) : Type 0 where
+pub record PullOf (s n : ℕ) (j : List Entry) : Type 0 where
   pub frame : Frame
   pub past : List Entry
-  pub at : Moment (Pull k frame ∷ past) j
+  pub at : Moment (Pull s frame ∷ past) j
   pub carries : carries_number n frame ≡ true
 
-pull_before : (k n : ℕ) (e : Entry) (past : List Entry) → PullOf k n past → PullOf k n (e ∷ past)
-pull_before k n e past p = record { frame = p.frame; past = p.past; at = before p.at; carries = p.carries }
+pull_before : (s n : ℕ) (e : Entry) (past : List Entry) → PullOf s n past → PullOf s n (e ∷ past)
+pull_before s n e past p = record { frame = p.frame; past = p.past; at = before p.at; carries = p.carries }
 
-pub pull_of : (k n : ℕ) (j : List Entry) → pulled_on k j n ≡ true → PullOf k n j
-pull_of k n [] was = absurd (false≢true was)
-pull_of k n (Pull stream frame ∷ past) was =
-    elim (or_cases (stream == k && carries_number n frame) (pulled_on k past n) was) [
+pub pull_of : (s n : ℕ) (j : List Entry) → pulled_on s j n ≡ true → PullOf s n j
+pull_of s n [] was = absurd (false≢true was)
+pull_of s n (Pull stream frame ∷ past) was =
+    elim (or_cases (stream == s && carries_number n frame) (pulled_on s past n) was) [
       | inl this ↦
-          let both = and_parts (stream == k) (carries_number n frame) this in
+          let both = and_parts (stream == s) (carries_number n frame) this in
           record {
             frame = frame;
             past = past;
-            at = subst (λ (s : ℕ). Moment (Pull s frame ∷ past) (Pull stream frame ∷ past)) (eqb-true stream k both.0) now;
+            at = subst (λ (y : ℕ). Moment (Pull y frame ∷ past) (Pull stream frame ∷ past)) (eqb-true stream s both.0) now;
             carries = both.1;
           }
-      | inr older ↦ pull_before k n (Pull stream frame) past (pull_of k n past older)
+      | inr older ↦ pull_before s n (Pull stream frame) past (pull_of s n past older)
     ]
-pull_of k n (x ∷ past) was = pull_before k n x past (pull_of k n past was)
+pull_of s n (x ∷ past) was = pull_before s n x past (pull_of s n past was)
 
 -- where the frames of a stream that one end pulled are those that the other read, their numbers were read
-pub read_as_pulled : (k n : ℕ) (p q : List Entry) → pulls k p ≡ reads k q → pulled_on k p n ≡ true → was_read q n ≡ true
-read_as_pulled k n p q same on =
-    let pull = pull_of k n p on in
-    let begins = pull_begins k pull.frame pull.at in
-    let reading = read_moment k q (pulls k pull.past) pull.frame begins.0 (sym same ∙ begins.1) in
-    was_read_at k pull.frame reading.outcome n reading.at pull.carries
+pub read_as_pulled : (s n : ℕ) (p q : List Entry) → pulled_frames s p ≡ read_frames s q → pulled_on s p n ≡ true → was_read q n ≡ true
+read_as_pulled s n p q same on =
+    let pull = pull_of s n p on in
+    let begins = pull_begins s pull.frame pull.at in
+    let reading = read_moment s q (pulled_frames s pull.past) pull.frame begins.0 (sym same ∙ begins.1) in
+    was_read_at s pull.frame reading.outcome n reading.at pull.carries

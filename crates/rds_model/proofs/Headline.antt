@@ -14,7 +14,7 @@ use Rattle.rds_model.specs.Alive.{was_taken_back}
 use Rattle.rds_model.specs.Fifo.{Carries}
 use Rattle.rds_model.specs.Pairs.{accepted_for, is_between, read_with, is_delivery, is_delivery_to, is_drop, is_port_0, delivered, delivered_to, dropped, taken_by_port_0, taken_back, IsDeliveredOnce}
 use Rattle.rds_model.proofs.Moments.{past_of, of_two_entries, first, second, same}
-use Rattle.rds_model.proofs.Numbers.{number_of_known}
+use Rattle.rds_model.specs.NumberLaws.{number_of_known}
 use Rattle.rds_model.proofs.Matching.{ArePeers}
 use Rattle.rds_model.proofs.Rise.{PassedAt, passed_before, rise, passed_bounds}
 use Rattle.rds_model.proofs.Fifo.{fifo}
@@ -27,9 +27,9 @@ delivery_passes : (o : Outcome) → is_delivery o ≡ true → passes o ≡ true
 delivery_passes (outcome.Slot slot) is = refl
 delivery_passes _ is = absurd (false≢true is)
 
-delivery_to_slot : (s : ℕ) (o : Outcome) → is_delivery_to s o ≡ true → o ≡ outcome.Slot s
-delivery_to_slot s (outcome.Slot to) is = ap outcome.Slot (eqb-true to s is)
-delivery_to_slot s _ is = absurd (false≢true is)
+delivery_to_slot : (z : ℕ) (o : Outcome) → is_delivery_to z o ≡ true → o ≡ outcome.Slot z
+delivery_to_slot z (outcome.Slot to) is = ap outcome.Slot (eqb-true to z is)
+delivery_to_slot z _ is = absurd (false≢true is)
 
 fate : (o : Outcome) → passes o ≡ true → (is_delivery o ≡ true) ⊎ (is_drop o ≡ true) ⊎ (is_port_0 o ≡ true)
 fate (outcome.Slot slot) passed = inl refl
@@ -44,26 +44,26 @@ fate outcome.OddMap passed = absurd (false≢true passed)
 -- the passed read of a number
 passed_at : (n : ℕ) (j : List Entry) → was_passed j n ≡ true → PassedAt n j
 passed_at n [] was = absurd (false≢true was)
-passed_at n (Read k f o ∷ past) was =
+passed_at n (Read s f o ∷ past) was =
     elim (or_cases (passes o && (number f == n)) (was_passed past n) was) [
       | inl this ↦
           let both = and_parts (passes o) (number f == n) this in
-          record { stream = k; frame = f; outcome = o; past = past; at = now; passed = both.0; is = eqb-true (number f) n both.1 }
-      | inr older ↦ passed_before n (Read k f o) past (passed_at n past older)
+          record { stream = s; frame = f; outcome = o; past = past; at = now; passed = both.0; is = eqb-true (number f) n both.1 }
+      | inr older ↦ passed_before n (Read s f o) past (passed_at n past older)
     ]
 passed_at n (x ∷ past) was = passed_before n x past (passed_at n past was)
 
 -- two passed reads of one number are one
-read_once : (k l : ℕ) (f g : Frame) (o o' : Outcome) {p q a b : List Entry} → ArePeers a b → Moment (Read k f o ∷ p) b → Moment (Read l g o' ∷ q) b →
+read_once : (s l : ℕ) (f g : Frame) (o o' : Outcome) {p q a b : List Entry} → ArePeers a b → Moment (Read s f o ∷ p) b → Moment (Read l g o' ∷ q) b →
     passes o ≡ true → passes o' ≡ true → number f ≡ number g → o ≡ o'
-read_once k l f g o o' peers m n passed passed' is =
+read_once s l f g o o' peers m n passed passed' is =
     elim (of_two_entries m n) [
       | first before_it ↦
-          let bound = passed_bounds k f o peers before_it (past_of n) passed in
+          let bound = passed_bounds s f o peers before_it (past_of n) passed in
           absurd (omega (arith, bound, rise l g o' peers n passed'))
       | second before_it ↦
           let bound = passed_bounds l g o' peers before_it (past_of m) passed' in
-          absurd (omega (arith, bound, rise k f o peers m passed))
+          absurd (omega (arith, bound, rise s f o peers m passed))
       | same is_entry is_past ↦ cc
     ]
 
@@ -78,18 +78,18 @@ the_datagram j n d e is_d is_e = cc
 
 module _ (sport dport : ℕ) (a b : List Entry) (peers : ArePeers a b) where
   -- a number is delivered once, so to one slot
-  one_slot : (n s t : ℕ) → Contains (delivered_to s sport dport b) n → Contains (delivered_to t sport dport b) n → s ≡ t
-  one_slot n s t to_s to_t =
-      once (read_for (is_delivery_to s) sport dport n b to_s) (read_for (is_delivery_to t) sport dport n b to_t)
+  one_slot : (n z t : ℕ) → Contains (delivered_to z sport dport b) n → Contains (delivered_to t sport dport b) n → z ≡ t
+  one_slot n z t to_s to_t =
+      once (read_for (is_delivery_to z) sport dport n b to_s) (read_for (is_delivery_to t) sport dport n b to_t)
     where
-      once : ReadFor (is_delivery_to s) sport dport n b → ReadFor (is_delivery_to t) sport dport n b → s ≡ t
+      once : ReadFor (is_delivery_to z) sport dport n b → ReadFor (is_delivery_to t) sport dport n b → z ≡ t
       once x y =
-          let slot_x = delivery_to_slot s x.outcome x.is_such in
+          let slot_x = delivery_to_slot z x.outcome x.is_such in
           let slot_y = delivery_to_slot t y.outcome y.is_such in
           let is =
           read_once x.stream y.stream x.frame y.frame x.outcome y.outcome peers x.at y.at (ap passes slot_x) (ap passes slot_y)
           (x.is ∙ sym y.is) in
-          let slots : outcome.Slot s ≡ outcome.Slot t = sym slot_x ∙ is ∙ slot_y in
+          let slots : outcome.Slot z ≡ outcome.Slot t = sym slot_x ∙ is ∙ slot_y in
           cc
 
   -- what was delivered for the pair was accepted for it
@@ -142,7 +142,7 @@ module _ (sport dport : ℕ) (a b : List Entry) (peers : ArePeers a b) where
   delivered_once = record {
     rise = (rises is_delivery sport dport peers delivery_passes now).rising;
     one_slot = one_slot;
-    rise_at = λ s. (rises (is_delivery_to s) sport dport peers (λ o is. ap passes (delivery_to_slot s o is)) now).rising;
+    rise_at = λ z. (rises (is_delivery_to z) sport dport peers (λ o is. ap passes (delivery_to_slot z o is)) now).rising;
     accepted = delivered_accepted;
     bytes = (fifo a b peers).accepted;
     none_lost = accounted;

@@ -5,7 +5,7 @@ use Rattle.std.proofs.lemmas.List.{append-nil}
 use Rattle.std.proofs.lemmas.Bool.{cases_eq, ne_eqb}
 use Rattle.rds_wire.specs.declared.kind.TheConstants.{MAP_LENGTH}
 use Rattle.rds_model.specs.Past.{now, before}
-use Rattle.rds_model.specs.Streams.{pulls, reads}
+use Rattle.rds_model.specs.Streams.{pulled_frames, read_frames}
 use Rattle.rds_model.specs.Owed.{header_of}
 use Rattle.rds_model.specs.Legal.{IsWhole}
 use Rattle.rds_model.specs.Drained.{IsQuiet}
@@ -52,18 +52,18 @@ module _ (map : List ℕ) (long : length map ≡ MAP_LENGTH) where
   a0 = reading _ _ _ _ a1 refl b0 now (omega arith) refl refl
 
   -- all that was pulled on a stream was read
-  forth : (k : ℕ) → reads k (hello_receiver map) ≡ pulls k (hello_sender map)
-  forth k =
-      elim (cases_eq k 1) [
-        | inl is ↦ subst (λ (s : ℕ). reads s (hello_receiver map) ≡ pulls s (hello_sender map)) (sym is) refl
-        | inr other ↦ let no : 1 == k ≡ false = ne_eqb 1 k (λ e. other (sym e)) in simp no
+  forth : (s : ℕ) → read_frames s (hello_receiver map) ≡ pulled_frames s (hello_sender map)
+  forth s =
+      elim (cases_eq s 1) [
+        | inl is ↦ subst (λ (x : ℕ). read_frames x (hello_receiver map) ≡ pulled_frames x (hello_sender map)) (sym is) refl
+        | inr other ↦ let no : 1 == s ≡ false = ne_eqb 1 s (λ e. other (sym e)) in simp no
       ]
 
-  back : (k : ℕ) → reads k (hello_sender map) ≡ pulls k (hello_receiver map)
-  back k =
-      elim (cases_eq k 1) [
-        | inl is ↦ subst (λ (s : ℕ). reads s (hello_sender map) ≡ pulls s (hello_receiver map)) (sym is) refl
-        | inr other ↦ let no : 1 == k ≡ false = ne_eqb 1 k (λ e. other (sym e)) in simp no
+  back : (s : ℕ) → read_frames s (hello_sender map) ≡ pulled_frames s (hello_receiver map)
+  back s =
+      elim (cases_eq s 1) [
+        | inl is ↦ subst (λ (x : ℕ). read_frames x (hello_sender map) ≡ pulled_frames x (hello_receiver map)) (sym is) refl
+        | inr other ↦ let no : 1 == s ≡ false = ne_eqb 1 s (λ e. other (sym e)) in simp no
       ]
 
   pub hello_is_sound : AreSound (hello_sender map) (hello_receiver map)
@@ -71,8 +71,8 @@ module _ (map : List ℕ) (long : length map ≡ MAP_LENGTH) where
     sender = a0;
     receiver = b0;
     honest = record {
-      forth = λ k. begins k (hello_sender map) (hello_receiver map) [] (sym (forth k) ∙ sym (append-nil (reads k (hello_receiver map)))) refl;
-      back = λ k. begins k (hello_receiver map) (hello_sender map) [] (sym (back k) ∙ sym (append-nil (reads k (hello_sender map)))) refl;
+      forth = λ s. begins s (hello_sender map) (hello_receiver map) [] (sym (forth s) ∙ sym (append-nil (read_frames s (hello_receiver map)))) refl;
+      back = λ s. begins s (hello_receiver map) (hello_sender map) [] (sym (back s) ∙ sym (append-nil (read_frames s (hello_sender map)))) refl;
     };
   }
 

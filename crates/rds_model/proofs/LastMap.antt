@@ -12,12 +12,12 @@ use Rattle.rds_model.specs.declared.entry.Outcome.{Outcome}
 use Rattle.rds_model.specs.declared.entry.Outcome.TheVariants as outcome
 use Rattle.rds_model.specs.declared.entry.Verdict.TheVariants as verdict
 use Rattle.rds_model.specs.Past.{now, open_stream, newest_stream}
-use Rattle.rds_model.specs.Streams.{pulls, reads}
+use Rattle.rds_model.specs.Streams.{pulled_frames, read_frames}
 use Rattle.rds_model.specs.Owed.{is_map, is_map_kind, last_map}
 use Rattle.rds_model.specs.Reading.{is_old, verdict_of_kind, Obeys}
 use Rattle.rds_model.specs.Legal.{IsLegal}
 use Rattle.rds_model.specs.Drained.{map_of, last_map_read}
-use Rattle.rds_model.proofs.Legality.{lawful_read, lawful_open}
+use Rattle.rds_model.specs.LegalityLaws.{lawful_read, lawful_open}
 use Rattle.rds_model.proofs.StreamOrder.{open_is_newest}
 
 -- the last map among some frames, or the one that was last before them
@@ -41,17 +41,17 @@ among_some earlier (f ∷ fs) map is = by_kind (is_map f) is (among_some earlier
     by_kind false is more = more is
 
 -- the map that was pulled last on a stream
-pub last_pulled : (k : ℕ) (j : List Entry) → last_map k j ≡ last_among None (pulls k j)
-last_pulled k [] = refl
-last_pulled k (Pull s f ∷ past) = by_stream (s == k) (is_map f) (last_pulled k past) (among_more None (pulls k past) f)
+pub last_pulled : (s : ℕ) (j : List Entry) → last_map s j ≡ last_among None (pulled_frames s j)
+last_pulled s [] = refl
+last_pulled s (Pull y f ∷ past) = by_stream (y == s) (is_map f) (last_pulled s past) (among_more None (pulled_frames s past) f)
   where
-    by_stream : (on map : Bool) → last_map k past ≡ last_among None (pulls k past) →
-        last_among None (pulls k past ++ f ∷ []) ≡ cond map (Some f.payload) (last_among None (pulls k past)) →
-        cond (on && map) (Some f.payload) (last_map k past) ≡ last_among None (cond on (pulls k past ++ f ∷ []) (pulls k past))
+    by_stream : (on map : Bool) → last_map s past ≡ last_among None (pulled_frames s past) →
+        last_among None (pulled_frames s past ++ f ∷ []) ≡ cond map (Some f.payload) (last_among None (pulled_frames s past)) →
+        cond (on && map) (Some f.payload) (last_map s past) ≡ last_among None (cond on (pulled_frames s past ++ f ∷ []) (pulled_frames s past))
     by_stream true true older more = sym more
     by_stream true false older more = older ∙ sym more
     by_stream false map older more = older
-last_pulled k (_ ∷ past) = last_pulled k past
+last_pulled s (_ ∷ past) = last_pulled s past
 
 -- a frame that is read is a map exactly where its outcome is one
 map_outcome : (kind : Kind) (past : List Entry) (h : Header) (o : Outcome) (payload : List ℕ) (earlier : Option (List ℕ)) →
@@ -71,38 +71,38 @@ map_outcome Data past h o payload earlier obeys = by_ports (is_old past h) (h.dp
     by_ports false false from_0 _ obeys = refl
 
 -- on a stream that isn't opened yet nothing is read
-unread_stream : (k : ℕ) (past : List Entry) → IsLegal past → newest_stream past < k → reads k past ≡ []
-unread_stream k [] legal above = refl
-unread_stream k (Read s f o ∷ past) legal above =
-    let is = open_is_newest past s (lawful_read s f o legal now).on in
-    cond-false (s == k) (reads k past ++ f ∷ []) (reads k past) (ne_eqb s k (λ e. omega (arith, above, is))) ∙ unread_stream k past legal.1 above
-unread_stream k (Open s ∷ past) legal above = unread_stream k past legal.1 (omega (arith, above, (lawful_open s past legal).1))
-unread_stream k (Accept slot sport dport payload ∷ past) legal above = unread_stream k past legal.1 above
-unread_stream k (_ ∷ past) legal above = unread_stream k past legal.1 above
+unread_stream : (s : ℕ) (past : List Entry) → IsLegal past → newest_stream past < s → read_frames s past ≡ []
+unread_stream s [] legal above = refl
+unread_stream s (Read y f o ∷ past) legal above =
+    let is = open_is_newest past y (lawful_read y f o legal now).on in
+    cond-false (y == s) (read_frames s past ++ f ∷ []) (read_frames s past) (ne_eqb y s (λ e. omega (arith, above, is))) ∙ unread_stream s past legal.1 above
+unread_stream s (Open y ∷ past) legal above = unread_stream s past legal.1 (omega (arith, above, (lawful_open y past legal).1))
+unread_stream s (Accept slot sport dport payload ∷ past) legal above = unread_stream s past legal.1 above
+unread_stream s (_ ∷ past) legal above = unread_stream s past legal.1 above
 
-one_stream : (past : List Entry) (s k : ℕ) → open_stream past ≡ Some s → open_stream past ≡ Some k → s ≡ k
-one_stream past s k is_s is_k = cc
+one_stream : (past : List Entry) (y s : ℕ) → open_stream past ≡ Some y → open_stream past ≡ Some s → y ≡ s
+one_stream past y s is_s is_k = cc
 
 -- the map that was read last is the last one of the open stream, or an earlier one
-pub last_read : (k : ℕ) (j : List Entry) → IsLegal j → open_stream j ≡ Some k →
-    (earlier : Option (List ℕ)) × (last_map_read j ≡ last_among earlier (reads k j))
-last_read k [] legal on = cc
-last_read k (Open s ∷ past) legal on =
-    let is : s ≡ k = cc in
-    let unread = unread_stream k past legal.1 (omega (arith, is, (lawful_open s past legal).1)) in
+pub last_read : (s : ℕ) (j : List Entry) → IsLegal j → open_stream j ≡ Some s →
+    (earlier : Option (List ℕ)) × (last_map_read j ≡ last_among earlier (read_frames s j))
+last_read s [] legal on = cc
+last_read s (Open y ∷ past) legal on =
+    let is : y ≡ s = cc in
+    let unread = unread_stream s past legal.1 (omega (arith, is, (lawful_open y past legal).1)) in
     (last_map_read past, ap (last_among (last_map_read past)) (sym unread))
-last_read k (Shut s ∷ past) legal on = cc
-last_read k (Bad s h found ∷ past) legal on = cc
-last_read k (Read s f o ∷ past) legal on =
-    let older = last_read k past legal.1 on in
-    let reading = lawful_read s f o legal now in
-    let is = one_stream past s k reading.on on in
-    let here = cond-true (s == k) (reads k past ++ f ∷ []) (reads k past) (eq-eqb s k is) in (
+last_read s (Shut y ∷ past) legal on = cc
+last_read s (Bad y h found ∷ past) legal on = cc
+last_read s (Read y f o ∷ past) legal on =
+    let older = last_read s past legal.1 on in
+    let reading = lawful_read y f o legal now in
+    let is = one_stream past y s reading.on on in
+    let here = cond-true (y == s) (read_frames s past ++ f ∷ []) (read_frames s past) (eq-eqb y s is) in (
       older.0,
       map_outcome (kind_of f.header) past f.header o f.payload (last_map_read past) reading.obeys
           ∙ ap (λ (m : Option (List ℕ)). cond (is_map f) (Some f.payload) m) older.1
-          ∙ sym (among_more older.0 (reads k past) f) ∙ ap (last_among older.0) (sym here),
+          ∙ sym (among_more older.0 (read_frames s past) f) ∙ ap (last_among older.0) (sym here),
     )
-last_read k (Accept slot sport dport payload ∷ past) legal on = last_read k past legal.1 on
-last_read k (Cancel slot target ∷ past) legal on = last_read k past legal.1 on
-last_read k (Pull s f ∷ past) legal on = last_read k past legal.1 on
+last_read s (Accept slot sport dport payload ∷ past) legal on = last_read s past legal.1 on
+last_read s (Cancel slot target ∷ past) legal on = last_read s past legal.1 on
+last_read s (Pull y f ∷ past) legal on = last_read s past legal.1 on

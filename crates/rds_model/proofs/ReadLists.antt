@@ -39,47 +39,47 @@ module _ (such : Outcome → Bool) (sport dport : ℕ) where
     is = r.is;
   }
 
-  listed : (f : Frame) (o : Outcome) (k : ℕ) (past : List Entry) → (such o && is_between sport dport f) ≡ true →
-      read_with such sport dport (Read k f o ∷ past) ≡ read_with such sport dport past ++ number f ∷ []
-  listed f o k past is = cond-true _ (read_with such sport dport past ++ number f ∷ []) (read_with such sport dport past) is
+  listed : (f : Frame) (o : Outcome) (s : ℕ) (past : List Entry) → (such o && is_between sport dport f) ≡ true →
+      read_with such sport dport (Read s f o ∷ past) ≡ read_with such sport dport past ++ number f ∷ []
+  listed f o s past is = cond-true _ (read_with such sport dport past ++ number f ∷ []) (read_with such sport dport past) is
 
-  unlisted : (f : Frame) (o : Outcome) (k : ℕ) (past : List Entry) → (such o && is_between sport dport f) ≡ false →
-      read_with such sport dport (Read k f o ∷ past) ≡ read_with such sport dport past
-  unlisted f o k past is = cond-false _ (read_with such sport dport past ++ number f ∷ []) (read_with such sport dport past) is
+  unlisted : (f : Frame) (o : Outcome) (s : ℕ) (past : List Entry) → (such o && is_between sport dport f) ≡ false →
+      read_with such sport dport (Read s f o ∷ past) ≡ read_with such sport dport past
+  unlisted f o s past is = cond-false _ (read_with such sport dport past ++ number f ∷ []) (read_with such sport dport past) is
 
   pub read_for : (n : ℕ) (j : List Entry) → Contains (read_with such sport dport j) n → ReadFor such sport dport n j
   read_for n [] inside = absurd (in_nothing n inside)
-  read_for n (Read k f o ∷ past) inside =
+  read_for n (Read s f o ∷ past) inside =
       elim (cases_Bool (such o && is_between sport dport f)) [
         | inl this ↦
-            elim (Contains-push_cases (read_with such sport dport past) (number f) n (subst (λ (l : List ℕ). Contains l n) (listed f o k past this) inside)) [
-              | inl older ↦ read_before n (Read k f o) past (read_for n past older)
+            elim (Contains-push_cases (read_with such sport dport past) (number f) n (subst (λ (l : List ℕ). Contains l n) (listed f o s past this) inside)) [
+              | inl older ↦ read_before n (Read s f o) past (read_for n past older)
               | inr is ↦
                   let both = and_parts (such o) (is_between sport dport f) this in
-                  record { stream = k; frame = f; outcome = o; past = past; at = now; is_such = both.0; between = both.1; is = is }
+                  record { stream = s; frame = f; outcome = o; past = past; at = now; is_such = both.0; between = both.1; is = is }
             ]
         | inr other ↦
-            read_before n (Read k f o) past (read_for n past (subst (λ (l : List ℕ). Contains l n) (unlisted f o k past other) inside))
+            read_before n (Read s f o) past (read_for n past (subst (λ (l : List ℕ). Contains l n) (unlisted f o s past other) inside))
       ]
   read_for n (x ∷ past) inside = read_before n x past (read_for n past inside)
 
   listed_step : (e : Entry) (past : List Entry) (n : ℕ) → Contains (read_with such sport dport past) n →
       Contains (read_with such sport dport (e ∷ past)) n
-  listed_step (Read k f o) past n inside =
+  listed_step (Read s f o) past n inside =
       elim (cases_Bool (such o && is_between sport dport f)) [
         | inl this ↦
-            subst (λ (l : List ℕ). Contains l n) (sym (listed f o k past this)) (Contains-append_left (read_with such sport dport past) (number f ∷ []) n inside)
-        | inr other ↦ subst (λ (l : List ℕ). Contains l n) (sym (unlisted f o k past other)) inside
+            subst (λ (l : List ℕ). Contains l n) (sym (listed f o s past this)) (Contains-append_left (read_with such sport dport past) (number f ∷ []) n inside)
+        | inr other ↦ subst (λ (l : List ℕ). Contains l n) (sym (unlisted f o s past other)) inside
       ]
   listed_step _ past n inside = inside
 
   -- what was read with such an outcome, between the ports, is listed
-  pub listed_at : (k : ℕ) (f : Frame) (o : Outcome) {p j : List Entry} → Moment (Read k f o ∷ p) j → such o ≡ true →
+  pub listed_at : (s : ℕ) (f : Frame) (o : Outcome) {p j : List Entry} → Moment (Read s f o ∷ p) j → such o ≡ true →
       is_between sport dport f ≡ true → Contains (read_with such sport dport j) (number f)
-  listed_at k f o {p} now is between =
-      subst (λ (l : List ℕ). Contains l (number f)) (sym (listed f o k p (and_from (such o) (is_between sport dport f) is between)))
+  listed_at s f o {p} now is between =
+      subst (λ (l : List ℕ). Contains l (number f)) (sym (listed f o s p (and_from (such o) (is_between sport dport f) is between)))
       (Contains-push (read_with such sport dport p) (number f))
-  listed_at k f o (before {e} {j} m) is between = listed_step e j (number f) (listed_at k f o m is between)
+  listed_at s f o (before {e} {j} m) is between = listed_step e j (number f) (listed_at s f o m is between)
 
   -- the list rises, and stays at or below the last passed number
   pub record Rises (j : List Entry) : Type 0 where
@@ -95,24 +95,24 @@ module _ (such : Outcome → Bool) (sport dport : ℕ) where
 
   rises_step : {past a b : List Entry} (e : Entry) → ArePeers a b → ((o : Outcome) → such o ≡ true → passes o ≡ true) →
       Moment (e ∷ past) b → Rises past → Rises (e ∷ past)
-  rises_step {past} (Read k f o) peers passed m older =
+  rises_step {past} (Read s f o) peers passed m older =
       let grown = last_passed_grows peers (before now) m in
       elim (cases_Bool (such o && is_between sport dport f)) [
         | inl this ↦
             let pass = passed o (and_parts (such o) (is_between sport dport f) this).0 in
             let last = cond-true (passes o) (number f) (last_passed past) pass in
-            let above = rise k f o peers m pass in
+            let above = rise s f o peers m pass in
             let list = read_with such sport dport past in
-            rises_at (Read k f o ∷ past) (list ++ number f ∷ []) (listed f o k past this)
+            rises_at (Read s f o ∷ past) (list ++ number f ∷ []) (listed f o s past this)
             (rising_more list (number f) older.rising
             (All-weaker (λ n. n ≤ last_passed past) (λ n. n < number f) (λ n bound. omega (arith, bound, above)) list older.bounded))
-            (All-push (λ n. n ≤ last_passed (Read k f o ∷ past)) list (number f)
-            (All-weaker (λ n. n ≤ last_passed past) (λ n. n ≤ last_passed (Read k f o ∷ past)) (λ n bound. omega (arith, bound, grown)) list older.bounded)
+            (All-push (λ n. n ≤ last_passed (Read s f o ∷ past)) list (number f)
+            (All-weaker (λ n. n ≤ last_passed past) (λ n. n ≤ last_passed (Read s f o ∷ past)) (λ n bound. omega (arith, bound, grown)) list older.bounded)
             (omega (arith, last)))
         | inr other ↦
             let list = read_with such sport dport past in
-            rises_at (Read k f o ∷ past) list (unlisted f o k past other) older.rising
-            (All-weaker (λ n. n ≤ last_passed past) (λ n. n ≤ last_passed (Read k f o ∷ past)) (λ n bound. omega (arith, bound, grown)) list older.bounded)
+            rises_at (Read s f o ∷ past) list (unlisted f o s past other) older.rising
+            (All-weaker (λ n. n ≤ last_passed past) (λ n. n ≤ last_passed (Read s f o ∷ past)) (λ n bound. omega (arith, bound, grown)) list older.bounded)
       ]
   rises_step _ peers passed m older = record { rising = older.rising; bounded = older.bounded }
 
@@ -120,5 +120,5 @@ module _ (such : Outcome → Bool) (sport dport : ℕ) where
   rises {j} {a} {b} peers passed m = by_moment j m
     where
       by_moment : (j : List Entry) → Moment j b → Rises j
-      by_moment [] m = record { rising = λ k within. absurd (omega arith); bounded = All-nil (λ n. n ≤ 0) }
+      by_moment [] m = record { rising = λ s within. absurd (omega arith); bounded = All-nil (λ n. n ≤ 0) }
       by_moment (e ∷ past) m = rises_step e peers passed m (by_moment past (past_of m))

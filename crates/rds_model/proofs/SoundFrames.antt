@@ -12,9 +12,9 @@ use Rattle.rds_model.specs.declared.entry.Entry.{Entry}
 use Rattle.rds_model.specs.Past.{number, last_passed}
 use Rattle.rds_model.specs.Owed.{header_of, map_frame, ack_frame, data_frame, data_flags, flag_if, must_ask}
 use Rattle.rds_model.specs.Legal.{IsLegal, IsLawfulPull}
-use Rattle.rds_model.proofs.Numbers.{number_of_known}
-use Rattle.rds_model.proofs.LawfulFrames.{len_of_header, pull_acknowledges, data_pull_of, number_of_pull}
-use Rattle.rds_model.proofs.Bounds.{few_accepted, datagram_fits}
+use Rattle.rds_model.specs.NumberLaws.{number_of_known}
+use Rattle.rds_model.specs.FrameLaws.{len_of_header, pull_acknowledges, data_pull_of, number_of_pull}
+use Rattle.rds_model.specs.BoundLaws.{few_accepted, datagram_fits}
 
 none_of_four : (a b c d : Bool) (w x y z : Option Malformed) → a ≡ false → b ≡ false → c ≡ false → d ≡ false →
     cond a w (cond b x (cond c y (cond d z None))) ≡ None
@@ -44,22 +44,22 @@ sealed_header : (past : List Entry) (number len sport dport flags : ℕ) →
 unfolding header_of computed
 sealed_header past number len sport dport flags = refl
 
-sealed_pull : (k : ℕ) (past : List Entry) (f : Frame) → IsLawfulPull k past f → f.header.csum ≡ computed f.header
-sealed_pull k past f lawful =
+sealed_pull : (s : ℕ) (past : List Entry) (f : Frame) → IsLawfulPull s past f → f.header.csum ≡ computed f.header
+sealed_pull s past f lawful =
     let seal = λ (g : Frame) (is : f ≡ g) (sealed : g.header.csum ≡ computed g.header).
     ap (λ (x : Frame). x.header.csum) is ∙ sealed ∙ ap (λ (x : Frame). computed x.header) (sym is) in
     elim lawful.owed [
       | inl map ↦ seal (map_frame past f.payload) map.is (sealed_header past 0 MAP_LENGTH 0 0 CONG_BITMAP)
       | inr (inl pull) ↦
           let d = pull.d in
-          seal (data_frame k past pull.n d) pull.is
-          (sealed_header past pull.n (length d.payload) d.sport d.dport (data_flags k past pull.n d))
+          seal (data_frame s past pull.n d) pull.is
+          (sealed_header past pull.n (length d.payload) d.sport d.dport (data_flags s past pull.n d))
       | inr (inr ack) ↦
-          seal (ack_frame past (must_ask k past)) ack.is (sealed_header past 0 0 0 0 (flag_if (must_ask k past) ACK_REQUIRED))
+          seal (ack_frame past (must_ask s past)) ack.is (sealed_header past 0 0 0 0 (flag_if (must_ask s past) ACK_REQUIRED))
     ]
 
-short_pull : (k : ℕ) (past : List Entry) (f : Frame) → IsLegal past → IsLawfulPull k past f → f.header.len ≤ MAX_LENGTH
-short_pull k past f legal lawful =
+short_pull : (s : ℕ) (past : List Entry) (f : Frame) → IsLegal past → IsLawfulPull s past f → f.header.len ≤ MAX_LENGTH
+short_pull s past f legal lawful =
     let len = λ (g : Frame) (is : f ≡ g). ap (λ (x : Frame). x.header.len) is in
     elim lawful.owed [
       | inl map ↦ omega (arith, len (map_frame past f.payload) map.is, len_of_header past 0 MAP_LENGTH 0 0 CONG_BITMAP)
@@ -67,23 +67,23 @@ short_pull k past f legal lawful =
           let d = pull.d in
           omega (
             arith,
-            len (data_frame k past pull.n d) pull.is,
-            len_of_header past pull.n (length d.payload) d.sport d.dport (data_flags k past pull.n d),
+            len (data_frame s past pull.n d) pull.is,
+            len_of_header past pull.n (length d.payload) d.sport d.dport (data_flags s past pull.n d),
             (datagram_fits past pull.n d legal pull.known).short,
           )
       | inr (inr ack) ↦
-          omega (arith, len (ack_frame past (must_ask k past)) ack.is, len_of_header past 0 0 0 0 (flag_if (must_ask k past) ACK_REQUIRED))
+          omega (arith, len (ack_frame past (must_ask s past)) ack.is, len_of_header past 0 0 0 0 (flag_if (must_ask s past) ACK_REQUIRED))
     ]
 
 -- a lawful frame has no fault for a reader that has pulled what it acknowledges
-pub lawful_frame_is_sound : (k : ℕ) (past : List Entry) (f : Frame) (m : ℕ) → IsLegal past → IsLawfulPull k past f → last_passed past ≤ m →
+pub lawful_frame_is_sound : (s : ℕ) (past : List Entry) (f : Frame) (m : ℕ) → IsLegal past → IsLawfulPull s past f → last_passed past ≤ m →
     cause f.header m ≡ None
-lawful_frame_is_sound k past f m legal lawful known =
-    let acknowledges = pull_acknowledges k past f lawful in
-    no_fault f.header m (sealed_pull k past f lawful) (short_pull k past f legal lawful)
+lawful_frame_is_sound s past f m legal lawful known =
+    let acknowledges = pull_acknowledges s past f lawful in
+    no_fault f.header m (sealed_pull s past f lawful) (short_pull s past f legal lawful)
     (λ is.
-    let pull = data_pull_of k past f lawful is in
-    let number_is = number_of_pull k past f pull in
+    let pull = data_pull_of s past f lawful is in
+    let number_is = number_of_pull s past f pull in
     let range = number_of_known past pull.n (ap is_some pull.known) in
     (omega (arith, number_is, range), omega (arith, number_is, range, few_accepted past legal)))
     (omega (arith, acknowledges, known))

@@ -4,48 +4,48 @@ use Rattle.rds_model.specs.declared.entry.Entry.{Entry}
 use Rattle.rds_model.specs.declared.entry.Entry.TheVariants.{Accept, Cancel, Open, Pull, Read, Shut, Bad}
 use Rattle.rds_model.specs.Past.{Moment, now, before, open_stream, newest_stream}
 use Rattle.rds_model.specs.Legal.{IsLegal}
-use Rattle.rds_model.proofs.Legality.{lawful_open}
+use Rattle.rds_model.specs.LegalityLaws.{lawful_open}
 
 -- the open stream is the newest
-pub open_is_newest : (p : List Entry) (k : ℕ) → open_stream p ≡ Some k → newest_stream p ≡ k
-open_is_newest [] k is = cc
-open_is_newest (Open stream ∷ past) k is = cc
-open_is_newest (Shut stream ∷ past) k is = cc
-open_is_newest (Bad stream header cause ∷ past) k is = cc
-open_is_newest (Accept slot sport dport payload ∷ past) k is = open_is_newest past k is
-open_is_newest (Cancel slot target ∷ past) k is = open_is_newest past k is
-open_is_newest (Pull stream frame ∷ past) k is = open_is_newest past k is
-open_is_newest (Read stream frame outcome ∷ past) k is = open_is_newest past k is
+pub open_is_newest : (p : List Entry) (s : ℕ) → open_stream p ≡ Some s → newest_stream p ≡ s
+open_is_newest [] s is = cc
+open_is_newest (Open stream ∷ past) s is = cc
+open_is_newest (Shut stream ∷ past) s is = cc
+open_is_newest (Bad stream header cause ∷ past) s is = cc
+open_is_newest (Accept slot sport dport payload ∷ past) s is = open_is_newest past s is
+open_is_newest (Cancel slot target ∷ past) s is = open_is_newest past s is
+open_is_newest (Pull stream frame ∷ past) s is = open_is_newest past s is
+open_is_newest (Read stream frame outcome ∷ past) s is = open_is_newest past s is
 
 newest_step : (e : Entry) (past : List Entry) → IsLegal (e ∷ past) → newest_stream past ≤ newest_stream (e ∷ past)
-newest_step (Open k) past legal = omega (arith, (lawful_open k past legal).1)
+newest_step (Open s) past legal = omega (arith, (lawful_open s past legal).1)
 newest_step _ past legal = omega arith
 
 pub newest_grows : {p j : List Entry} → IsLegal j → Moment p j → newest_stream p ≤ newest_stream j
 newest_grows legal now = omega arith
 newest_grows legal (before {e} {j} m) = omega (arith, newest_step e j legal, newest_grows legal.1 m)
 
-opened_step : (n k : ℕ) (e : Entry) (past : List Entry) → IsLegal (e ∷ past) → n ≤ newest_stream past →
-    (open_stream past ≡ Some k → n < k) → open_stream (e ∷ past) ≡ Some k → n < k
-opened_step n k (Open stream) past legal behind older is =
-    let same : stream ≡ k = cc in
+opened_step : (n s : ℕ) (e : Entry) (past : List Entry) → IsLegal (e ∷ past) → n ≤ newest_stream past →
+    (open_stream past ≡ Some s → n < s) → open_stream (e ∷ past) ≡ Some s → n < s
+opened_step n s (Open stream) past legal behind older is =
+    let same : stream ≡ s = cc in
     omega (arith, (lawful_open stream past legal).1)
-opened_step n k (Shut stream) past legal behind older is = cc
-opened_step n k (Bad stream header cause) past legal behind older is = cc
-opened_step n k (Accept slot sport dport payload) past legal behind older is = older is
-opened_step n k (Cancel slot target) past legal behind older is = older is
-opened_step n k (Pull stream frame) past legal behind older is = older is
-opened_step n k (Read stream frame outcome) past legal behind older is = older is
+opened_step n s (Shut stream) past legal behind older is = cc
+opened_step n s (Bad stream header cause) past legal behind older is = cc
+opened_step n s (Accept slot sport dport payload) past legal behind older is = older is
+opened_step n s (Cancel slot target) past legal behind older is = older is
+opened_step n s (Pull stream frame) past legal behind older is = older is
+opened_step n s (Read stream frame outcome) past legal behind older is = older is
 
 -- where no stream is open, the one that is open later is newer than all before
-pub opened_later : (k : ℕ) {p j : List Entry} → IsLegal j → Moment p j → open_stream p ≡ None → open_stream j ≡ Some k →
-    newest_stream p < k
-opened_later k legal now none some = cc
-opened_later k {p} legal (before {e} {j} m) none some =
-    opened_step (newest_stream p) k e j legal (newest_grows legal.1 m) (opened_later k legal.1 m none) some
+pub opened_later : (s : ℕ) {p j : List Entry} → IsLegal j → Moment p j → open_stream p ≡ None → open_stream j ≡ Some s →
+    newest_stream p < s
+opened_later s legal now none some = cc
+opened_later s {p} legal (before {e} {j} m) none some =
+    opened_step (newest_stream p) s e j legal (newest_grows legal.1 m) (opened_later s legal.1 m none) some
 
 -- of two entries on one stream or on two, the one on the earlier stream stands first
-pub on_earlier_stream : (k l : ℕ) {p q : List Entry} → IsLegal q → Moment p q →
-    open_stream p ≡ Some k → open_stream q ≡ Some l → k ≤ l
-on_earlier_stream k l {p} {q} legal m is_k is_l =
-    omega (arith, newest_grows legal m, open_is_newest p k is_k, open_is_newest q l is_l)
+pub on_earlier_stream : (s l : ℕ) {p q : List Entry} → IsLegal q → Moment p q →
+    open_stream p ≡ Some s → open_stream q ≡ Some l → s ≤ l
+on_earlier_stream s l {p} {q} legal m is_k is_l =
+    omega (arith, newest_grows legal m, open_is_newest p s is_k, open_is_newest q l is_l)

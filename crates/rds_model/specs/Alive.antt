@@ -5,7 +5,7 @@ use Rattle.rds_model.specs.declared.entry.Entry.{Entry}
 use Rattle.rds_model.specs.declared.entry.Entry.TheVariants.{Cancel}
 use Rattle.rds_model.specs.declared.entry.Target.{Target}
 use Rattle.rds_model.specs.declared.entry.Target.TheVariants.{Port, All}
-use Rattle.rds_model.specs.Past.{Accepted, accepted, datagram, acked}
+use Rattle.rds_model.specs.Past.{Accepted, accepted, datagram, highest_ack}
 use Rattle.rds_model.specs.Streams.{pulled_on, was_pulled}
 
 -- a target covers the datagrams to a port
@@ -26,7 +26,7 @@ is_cancelled (_ ∷ past) n = is_cancelled past n
 
 -- number n was accepted, no cancellation covers it, and no frame that was read acknowledges it
 abbrev pub is_alive : List Entry → ℕ → Bool
-is_alive past n = is_some (datagram past n) && (not (is_cancelled past n) && nat_lt (acked past) n)
+is_alive past n = is_some (datagram past n) && (not (is_cancelled past n) && nat_lt (highest_ack past) n)
 
 -- the numbers from 1 to m
 abbrev pub up_to : ℕ → List ℕ
@@ -37,9 +37,9 @@ up_to (suc m) = up_to m ++ suc m ∷ []
 abbrev pub alive_numbers : List Entry → List ℕ
 alive_numbers past = filter (is_alive past) (up_to (accepted past))
 
--- the numbers that are alive and were not pulled on stream k, ascending
-abbrev pub due : ℕ → List Entry → List ℕ
-due k past = filter (λ n. is_alive past n && not (pulled_on k past n)) (up_to (accepted past))
+-- the numbers that are alive and were not pulled on stream s, ascending
+abbrev pub due_numbers : ℕ → List Entry → List ℕ
+due_numbers s past = filter (λ n. is_alive past n && not (pulled_on s past n)) (up_to (accepted past))
 
 -- number n was alive when a cancellation covered it
 abbrev pub was_taken_back : List Entry → ℕ → Bool

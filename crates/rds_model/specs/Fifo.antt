@@ -19,19 +19,19 @@ pub record Carries (f : Frame) (d : Accepted) : Type 0 where
 
 pub record IsFifo (a b : List Entry) : Type 0 where
   -- the numbers of the passed reads rise strictly
-  pub rise : (k : ℕ) (f : Frame) (o : Outcome) (past : List Entry) →
-      Moment (Read k f o ∷ past) b → passes o ≡ true → last_passed past < number f
+  pub rise : (s : ℕ) (f : Frame) (o : Outcome) (past : List Entry) →
+      Moment (Read s f o ∷ past) b → passes o ≡ true → last_passed past < number f
   -- a passed datagram is the one that was accepted under its number
-  pub accepted : (k : ℕ) (f : Frame) (o : Outcome) (past : List Entry) →
-      Moment (Read k f o ∷ past) b → passes o ≡ true → (d : Accepted) × (datagram a (number f) ≡ Some d) × Carries f d
+  pub accepted : (s : ℕ) (f : Frame) (o : Outcome) (past : List Entry) →
+      Moment (Read s f o ∷ past) b → passes o ≡ true → (d : Accepted) × (datagram a (number f) ≡ Some d) × Carries f d
   -- each number up to the last passed one was passed, or was alive when a cancellation covered it
   pub none_lost : (n : ℕ) → 0 < n → n ≤ last_passed b → (was_passed b n ≡ true) ⊎ (was_taken_back a n ≡ true)
   -- a number that was taken back before its first pull isn't read
   pub unbegun : (n : ℕ) → was_taken_back_unbegun a n ≡ true → was_read b n ≡ false
   -- an old copy has the number of a datagram that was passed before
-  pub repeated : (k : ℕ) (f : Frame) (past : List Entry) →
-      Moment (Read k f outcome.Old ∷ past) b → was_passed past (number f) ≡ true
+  pub repeated : (s : ℕ) (f : Frame) (past : List Entry) →
+      Moment (Read s f outcome.Old ∷ past) b → was_passed past (number f) ≡ true
 
 -- no header was refused
 abbrev pub HasNoBad : List Entry → Type 0
-HasNoBad j = (k : ℕ) (h : Header) (found : Malformed) (past : List Entry) → ¬ Moment (Bad k h found ∷ past) j
+HasNoBad j = (s : ℕ) (h : Header) (found : Malformed) (past : List Entry) → ¬ Moment (Bad s h found ∷ past) j

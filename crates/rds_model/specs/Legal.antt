@@ -11,7 +11,7 @@ use Rattle.rds_model.specs.declared.entry.Entry.TheVariants.{Accept, Cancel, Ope
 use Rattle.rds_model.specs.declared.entry.Outcome.{Outcome}
 use Rattle.rds_model.specs.declared.entry.Outcome.TheVariants as outcome
 use Rattle.rds_model.specs.declared.entry.TheConstants.{NO_SLOT}
-use Rattle.rds_model.specs.Past.{Accepted, open_stream, newest_stream, accepted, datagram, highest}
+use Rattle.rds_model.specs.Past.{Accepted, open_stream, newest_stream, accepted, datagram, highest_pulled}
 use Rattle.rds_model.specs.Streams.{pulled_on}
 use Rattle.rds_model.specs.Alive.{is_alive}
 use Rattle.rds_model.specs.Owed.{last_map, is_asked, must_ask, map_frame, ack_frame, data_frame}
@@ -26,60 +26,60 @@ pub record IsLawfulAccept (past : List Entry) (slot sport dport : ℕ) (payload 
   pub number_fits : suc (accepted past) < 2 ^ 63
 
 -- A map may be pulled where none was pulled on the stream, or the last one has other bytes.
-pub record IsMapPull (k : ℕ) (past : List Entry) (f : Frame) : Type 0 where
-  pub new : last_map k past ≢ Some f.payload
+pub record IsMapPull (s : ℕ) (past : List Entry) (f : Frame) : Type 0 where
+  pub new : last_map s past ≢ Some f.payload
   pub is : f ≡ map_frame past f.payload
 
 -- A datagram may be pulled behind a map, where it is alive, wasn't pulled on the stream, and each smaller number that is
 -- alive was.
-pub record IsDataPull (k : ℕ) (past : List Entry) (f : Frame) : Type 0 where
+pub record IsDataPull (s : ℕ) (past : List Entry) (f : Frame) : Type 0 where
   pub n : ℕ
   pub d : Accepted
-  pub behind_a_map : IsSome (last_map k past)
+  pub behind_a_map : IsSome (last_map s past)
   pub known : datagram past n ≡ Some d
   pub alive : is_alive past n ≡ true
-  pub once : pulled_on k past n ≡ false
-  pub least : (m : ℕ) → m < n → is_alive past m ≡ true → pulled_on k past m ≡ true
-  pub is : f ≡ data_frame k past n d
+  pub once : pulled_on s past n ≡ false
+  pub least : (m : ℕ) → m < n → is_alive past m ≡ true → pulled_on s past m ≡ true
+  pub is : f ≡ data_frame s past n d
 
 -- An acknowledgement may be pulled behind a map, where each number that is alive was pulled on the stream, and one is
 -- asked for or has to be.
-pub record IsAckPull (k : ℕ) (past : List Entry) (f : Frame) : Type 0 where
-  pub behind_a_map : IsSome (last_map k past)
-  pub all_pulled : (m : ℕ) → is_alive past m ≡ true → pulled_on k past m ≡ true
-  pub asked : is_asked k past || must_ask k past ≡ true
-  pub is : f ≡ ack_frame past (must_ask k past)
+pub record IsAckPull (s : ℕ) (past : List Entry) (f : Frame) : Type 0 where
+  pub behind_a_map : IsSome (last_map s past)
+  pub all_pulled : (m : ℕ) → is_alive past m ≡ true → pulled_on s past m ≡ true
+  pub asked : is_asked s past || must_ask s past ≡ true
+  pub is : f ≡ ack_frame past (must_ask s past)
 
--- a frame may be pulled on stream k: each of its fields fits, and its payload has as many bytes as its header says
-pub record IsLawfulPull (k : ℕ) (past : List Entry) (f : Frame) : Type 0 where
-  pub on : open_stream past ≡ Some k
+-- a frame may be pulled on stream s: each of its fields fits, and its payload has as many bytes as its header says
+pub record IsLawfulPull (s : ℕ) (past : List Entry) (f : Frame) : Type 0 where
+  pub on : open_stream past ≡ Some s
   pub header : IsHeader f.header
   pub whole : length f.payload ≡ f.header.len
-  pub owed : IsMapPull k past f ⊎ IsDataPull k past f ⊎ IsAckPull k past f
+  pub owed : IsMapPull s past f ⊎ IsDataPull s past f ⊎ IsAckPull s past f
 
--- a frame may be read on stream k with this outcome
-pub record IsLawfulRead (k : ℕ) (past : List Entry) (f : Frame) (outcome : Outcome) : Type 0 where
-  pub on : open_stream past ≡ Some k
+-- a frame may be read on stream s with this outcome
+pub record IsLawfulRead (s : ℕ) (past : List Entry) (f : Frame) (outcome : Outcome) : Type 0 where
+  pub on : open_stream past ≡ Some s
   pub header : IsHeader f.header
   pub whole : length f.payload ≡ f.header.len
-  pub sound : cause f.header (highest past) ≡ None
+  pub sound : cause f.header (highest_pulled past) ≡ None
   pub obeys : Obeys (verdict_of past f.header) outcome
 
--- a malformed header ends stream k
-pub record IsLawfulBad (k : ℕ) (past : List Entry) (h : Header) (found : Malformed) : Type 0 where
-  pub on : open_stream past ≡ Some k
+-- a malformed header ends stream s
+pub record IsLawfulBad (s : ℕ) (past : List Entry) (h : Header) (found : Malformed) : Type 0 where
+  pub on : open_stream past ≡ Some s
   pub header : IsHeader h
-  pub malformed : cause h (highest past) ≡ Some found
+  pub malformed : cause h (highest_pulled past) ≡ Some found
 
 -- the entry may stand behind this past, where no pong is owed
 abbrev pub IsLawful : List Entry → Entry → Type 0
 IsLawful past (Accept slot sport dport payload) = IsLawfulAccept past slot sport dport payload
 IsLawful past (Cancel slot target) = slot ≢ NO_SLOT
-IsLawful past (Open k) = (open_stream past ≡ None) × (newest_stream past < k)
-IsLawful past (Pull k f) = IsLawfulPull k past f
-IsLawful past (Read k f outcome) = IsLawfulRead k past f outcome
-IsLawful past (Shut k) = open_stream past ≡ Some k
-IsLawful past (Bad k h found) = IsLawfulBad k past h found
+IsLawful past (Open s) = (open_stream past ≡ None) × (newest_stream past < s)
+IsLawful past (Pull s f) = IsLawfulPull s past f
+IsLawful past (Read s f outcome) = IsLawfulRead s past f outcome
+IsLawful past (Shut s) = open_stream past ≡ Some s
+IsLawful past (Bad s h found) = IsLawfulBad s past h found
 
 abbrev pub pong_for : Outcome → ℕ → Option ℕ
 pong_for outcome.Ping sport = Some sport

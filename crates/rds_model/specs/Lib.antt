@@ -11,3 +11,12 @@ pub mod Pairs
 pub mod Drained
 pub mod Store
 pub mod Examples
+pub mod BoundLaws
+pub mod DueLaws
+pub mod EndingLaws
+pub mod FrameLaws
+pub mod PullLaws
+pub mod LeastDueLaws
+pub mod LegalityLaws
+pub mod NumberLaws
+pub mod OwingLaws

@@ -1,4 +1,4 @@
--- Which frame an end owes to the open stream k. The choice between frames and the rules of retransmission and
+-- Which frame an end owes to the open stream s. The choice between frames and the rules of retransmission and
 -- acknowledgement are this project's own; the flags are those of rds.h.
 use Rattle.std.specs.Prelude.{ℕ, ◌+◌, ◌==◌, ◌&&◌, ◌||◌, not, nat_eq, nat_lt, nat_le, if◌then◌else◌, Bool, true, false, Option, Some, None, List, [], ◌∷◌, length, sum_by, replicate}
 use Rattle.std.specs.List.{list_all}
@@ -16,7 +16,7 @@ use Rattle.rds_model.specs.declared.entry.Entry.TheVariants.{Pull, Read}
 use Rattle.rds_model.specs.declared.owed.TheConstants.{MAX_UNASKED, MAX_UNASKED_BYTES}
 use Rattle.rds_model.specs.Past.{Accepted, datagram, is_datagram, last_passed}
 use Rattle.rds_model.specs.Streams.{was_pulled}
-use Rattle.rds_model.specs.Alive.{due}
+use Rattle.rds_model.specs.Alive.{due_numbers}
 
 -- the frame asks for an acknowledgement
 abbrev pub asks : Frame → Bool
@@ -40,34 +40,34 @@ answers_kind OddMap = false
 abbrev pub wants_answer : Frame → Bool
 wants_answer f = asks f && answers_kind (kind_of f.header)
 
--- the congestion map that was pulled last on stream k
+-- the congestion map that was pulled last on stream s
 abbrev pub last_map : ℕ → List Entry → Option (List ℕ)
-last_map k [] = None
-last_map k (Pull stream frame ∷ past) =
-    if stream == k && is_map frame then Some frame.payload else last_map k past
-last_map k (_ ∷ past) = last_map k past
+last_map s [] = None
+last_map s (Pull stream frame ∷ past) =
+    if stream == s && is_map frame then Some frame.payload else last_map s past
+last_map s (_ ∷ past) = last_map s past
 
--- the datagrams that were pulled on stream k after the last frame on it that asks for an acknowledgement, newest first
+-- the datagrams that were pulled on stream s after the last frame on it that asks for an acknowledgement, newest first
 abbrev pub unasked : ℕ → List Entry → List Frame
-unasked k [] = []
-unasked k (Pull stream frame ∷ past) =
-    if not (stream == k) then unasked k past
-    else (if asks frame then [] else (if is_datagram frame then frame ∷ unasked k past else unasked k past))
-unasked k (_ ∷ past) = unasked k past
+unasked s [] = []
+unasked s (Pull stream frame ∷ past) =
+    if not (stream == s) then unasked s past
+    else (if asks frame then [] else (if is_datagram frame then frame ∷ unasked s past else unasked s past))
+unasked s (_ ∷ past) = unasked s past
 
--- a frame that wants an answer was read on stream k, and no frame was pulled on k after it
+-- a frame that wants an answer was read on stream s, and no frame was pulled on s after it
 abbrev pub is_asked : ℕ → List Entry → Bool
-is_asked k [] = false
-is_asked k (Pull stream frame ∷ past) = not (stream == k) && is_asked k past
-is_asked k (Read stream frame outcome ∷ past) = stream == k && wants_answer frame || is_asked k past
-is_asked k (_ ∷ past) = is_asked k past
+is_asked s [] = false
+is_asked s (Pull stream frame ∷ past) = not (stream == s) && is_asked s past
+is_asked s (Read stream frame outcome ∷ past) = stream == s && wants_answer frame || is_asked s past
+is_asked s (_ ∷ past) = is_asked s past
 
--- a datagram was pulled on stream k, and neither the last one nor any frame after it asks for an acknowledgement
+-- a datagram was pulled on stream s, and neither the last one nor any frame after it asks for an acknowledgement
 abbrev pub must_ask : ℕ → List Entry → Bool
-must_ask k [] = false
-must_ask k (Pull stream frame ∷ past) =
-    if stream == k then not (asks frame) && (is_datagram frame || must_ask k past) else must_ask k past
-must_ask k (_ ∷ past) = must_ask k past
+must_ask s [] = false
+must_ask s (Pull stream frame ∷ past) =
+    if stream == s then not (asks frame) && (is_datagram frame || must_ask s past) else must_ask s past
+must_ask s (_ ∷ past) = must_ask s past
 
 -- a header that acknowledges the last passed number; credit, padding and extensions are 0
 unfoldable pub header_of : List Entry → ℕ → ℕ → ℕ → ℕ → ℕ → Header
@@ -100,21 +100,21 @@ ack_frame past asking = record { header = header_of past 0 0 0 0 (flag_if asking
 -- datagram n has to ask for an acknowledgement: it was pulled before, or many datagrams or bytes went unasked, or no
 -- other is due
 abbrev pub asks_with : ℕ → List Entry → ℕ → Accepted → Bool
-asks_with k past n d =
+asks_with s past n d =
     was_pulled past n
-    || (nat_le MAX_UNASKED (length (unasked k past))
-    || (nat_lt MAX_UNASKED_BYTES (sum_by (λ (f : Frame). f.header.len) (unasked k past) + length d.payload)
-    || list_all (λ m. m == n) (due k past)))
+    || (nat_le MAX_UNASKED (length (unasked s past))
+    || (nat_lt MAX_UNASKED_BYTES (sum_by (λ (f : Frame). f.header.len) (unasked s past) + length d.payload)
+    || list_all (λ m. m == n) (due_numbers s past)))
 
 -- the flags of datagram n
 abbrev pub data_flags : ℕ → List Entry → ℕ → Accepted → ℕ
-data_flags k past n d =
-    flag_if (was_pulled past n) RETRANSMITTED + flag_if (asks_with k past n d) ACK_REQUIRED
+data_flags s past n d =
+    flag_if (was_pulled past n) RETRANSMITTED + flag_if (asks_with s past n d) ACK_REQUIRED
 
 -- the frame of datagram n
 abbrev pub data_frame : ℕ → List Entry → ℕ → Accepted → Frame
-data_frame k past n d = record {
-  header = header_of past n (length d.payload) d.sport d.dport (data_flags k past n d);
+data_frame s past n d = record {
+  header = header_of past n (length d.payload) d.sport d.dport (data_flags s past n d);
   payload = d.payload;
 }
 
@@ -125,18 +125,18 @@ is_last_map (Some last) map = pointwise nat_eq last map
 
 -- a frame where number n is due: its datagram, if it was accepted
 abbrev pub data_owed : ℕ → List Entry → ℕ → Option Accepted → Option Frame
-data_owed k past n None = None
-data_owed k past n (Some d) = Some (data_frame k past n d)
+data_owed s past n None = None
+data_owed s past n (Some d) = Some (data_frame s past n d)
 
 -- the frame that is owed behind the map: the least number that is due, else an acknowledgement where one is asked for or
 -- has to be
-abbrev pub owed_behind : ℕ → List Entry → List ℕ → Option Frame
-owed_behind k past (n ∷ due) = data_owed k past n (datagram past n)
-owed_behind k past [] =
-    if is_asked k past || must_ask k past then Some (ack_frame past (must_ask k past)) else None
+abbrev pub owed_after_map : ℕ → List Entry → List ℕ → Option Frame
+owed_after_map s past (n ∷ due_numbers) = data_owed s past n (datagram past n)
+owed_after_map s past [] =
+    if is_asked s past || must_ask s past then Some (ack_frame past (must_ask s past)) else None
 
--- the frame that is owed on stream k where this end's own map is `map`: the map where it is new there, and else what is
+-- the frame that is owed on stream s where this end's own map is `map`: the map where it is new there, and else what is
 -- owed behind it
-abbrev pub owed : ℕ → List Entry → List ℕ → Option Frame
-owed k past map =
-    if is_last_map (last_map k past) map then owed_behind k past (due k past) else Some (map_frame past map)
+abbrev pub owed_frame : ℕ → List Entry → List ℕ → Option Frame
+owed_frame s past map =
+    if is_last_map (last_map s past) map then owed_after_map s past (due_numbers s past) else Some (map_frame past map)

@@ -73,14 +73,14 @@ pub record IsDeliveredOnce (sport dport : ℕ) (a b : List Entry) : Type 0 where
   -- the numbers delivered, over all slots, rise strictly: each stands once
   pub rise : IsStrictlyIncreasing (delivered sport dport b)
   -- no number goes to two slots
-  pub one_slot : (n s t : ℕ) →
-      Contains (delivered_to s sport dport b) n → Contains (delivered_to t sport dport b) n → s ≡ t
+  pub one_slot : (n e t : ℕ) →
+      Contains (delivered_to e sport dport b) n → Contains (delivered_to t sport dport b) n → e ≡ t
   -- the numbers delivered to a slot rise strictly
-  pub rise_at : (s : ℕ) → IsStrictlyIncreasing (delivered_to s sport dport b)
+  pub rise_at : (e : ℕ) → IsStrictlyIncreasing (delivered_to e sport dport b)
   -- what was delivered was accepted for the pair
   pub accepted : (n : ℕ) → Contains (delivered sport dport b) n → Contains (accepted_for sport dport a) n
   -- and it has the bytes that were accepted
-  pub bytes : (k : ℕ) (f : Frame) (o : Outcome) (past : List Entry) → Moment (Read k f o ∷ past) b →
+  pub bytes : (s : ℕ) (f : Frame) (o : Outcome) (past : List Entry) → Moment (Read s f o ∷ past) b →
       passes o ≡ true → (d : Accepted) × (datagram a (number f) ≡ Some d) × Carries f d
   -- what was accepted for the pair, up to the last number that arrived, is accounted for
   pub none_lost : (n : ℕ) → Contains (accepted_for sport dport a) n → n ≤ last_passed b →

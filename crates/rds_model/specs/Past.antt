@@ -66,10 +66,10 @@ abbrev pub carries_number : ℕ → Frame → Bool
 carries_number n f = is_datagram f && (number f == n)
 
 -- the highest number of a datagram that was ever pulled, or 0
-abbrev pub highest : List Entry → ℕ
-highest [] = 0
-highest (Pull stream frame ∷ past) = if is_datagram frame then max (number frame) (highest past) else highest past
-highest (_ ∷ past) = highest past
+abbrev pub highest_pulled : List Entry → ℕ
+highest_pulled [] = 0
+highest_pulled (Pull stream frame ∷ past) = if is_datagram frame then max (number frame) (highest_pulled past) else highest_pulled past
+highest_pulled (_ ∷ past) = highest_pulled past
 
 -- the outcomes of a passed read: those of a datagram but `Old`
 abbrev pub passes : Outcome → Bool
@@ -89,7 +89,7 @@ last_passed (Read stream frame outcome ∷ past) = if passes outcome then number
 last_passed (_ ∷ past) = last_passed past
 
 -- the highest acknowledgement of a frame that was read, or 0
-abbrev pub acked : List Entry → ℕ
-acked [] = 0
-acked (Read stream frame outcome ∷ past) = max frame.header.ack (acked past)
-acked (_ ∷ past) = acked past
+abbrev pub highest_ack : List Entry → ℕ
+highest_ack [] = 0
+highest_ack (Read stream frame outcome ∷ past) = max frame.header.ack (highest_ack past)
+highest_ack (_ ∷ past) = highest_ack past

@@ -5,7 +5,7 @@ use Rattle.std.specs.Option.{option_map}
 use Rattle.rds_model.specs.declared.entry.Entry.{Entry}
 use Rattle.rds_model.specs.declared.entry.Msg.{Msg}
 use Rattle.rds_model.specs.Past.{Accepted, datagram, open_stream}
-use Rattle.rds_model.specs.Alive.{alive_numbers, due}
+use Rattle.rds_model.specs.Alive.{alive_numbers, due_numbers}
 
 -- the message of a datagram that was accepted under number n
 abbrev pub message : ℕ → Accepted → Msg
@@ -18,10 +18,10 @@ alive_messages past = filter_map (λ n. option_map (message n) (datagram past n)
 -- the numbers that are due on a stream, or all that are alive where none is open
 abbrev pub due_on : Option ℕ → List Entry → List ℕ
 due_on None past = alive_numbers past
-due_on (Some k) past = due k past
+due_on (Some s) past = due_numbers s past
 
 -- A store holds the messages of a journal: one for each number that is alive, ascending, and behind its mark those that
 -- weren't pulled on the open stream.
-pub record Holds (messages : List Msg) (mark : ℕ) (past : List Entry) : Type 0 where
+pub record HoldsMessages (messages : List Msg) (mark : ℕ) (past : List Entry) : Type 0 where
   pub alive : messages ≡ alive_messages past
   pub unpulled : map (λ (m : Msg). m.num) (drop mark messages) ≡ due_on (open_stream past) past

@@ -7,37 +7,37 @@ use Rattle.rds_model.specs.declared.entry.Entry.{Entry}
 use Rattle.rds_model.specs.declared.entry.Entry.TheVariants.{Pull, Read, Bad}
 use Rattle.rds_model.specs.Past.{carries_number, number, passes}
 
--- the frames that were pulled on stream k
-abbrev pub pulls : ℕ → List Entry → List Frame
-pulls k [] = []
-pulls k (Pull stream frame ∷ past) = if stream == k then pulls k past ++ frame ∷ [] else pulls k past
-pulls k (_ ∷ past) = pulls k past
+-- the frames that were pulled on stream s
+abbrev pub pulled_frames : ℕ → List Entry → List Frame
+pulled_frames s [] = []
+pulled_frames s (Pull stream frame ∷ past) = if stream == s then pulled_frames s past ++ frame ∷ [] else pulled_frames s past
+pulled_frames s (_ ∷ past) = pulled_frames s past
 
--- the frames that were read on stream k
-abbrev pub reads : ℕ → List Entry → List Frame
-reads k [] = []
-reads k (Read stream frame outcome ∷ past) = if stream == k then reads k past ++ frame ∷ [] else reads k past
-reads k (_ ∷ past) = reads k past
+-- the frames that were read on stream s
+abbrev pub read_frames : ℕ → List Entry → List Frame
+read_frames s [] = []
+read_frames s (Read stream frame outcome ∷ past) = if stream == s then read_frames s past ++ frame ∷ [] else read_frames s past
+read_frames s (_ ∷ past) = read_frames s past
 
--- the bytes of the malformed header that ended stream k, if one did
-abbrev pub refused : ℕ → List Entry → List ℕ
-refused k [] = []
-refused k (Bad stream header cause ∷ past) = if stream == k then header_bytes header else refused k past
-refused k (_ ∷ past) = refused k past
+-- the bytes of the malformed header that ended stream s, if one did
+abbrev pub refused_bytes : ℕ → List Entry → List ℕ
+refused_bytes s [] = []
+refused_bytes s (Bad stream header cause ∷ past) = if stream == s then header_bytes header else refused_bytes s past
+refused_bytes s (_ ∷ past) = refused_bytes s past
 
--- the bytes that were written to stream k
-abbrev pub wrote : ℕ → List Entry → List ℕ
-wrote k past = flat_map frame_bytes (pulls k past)
+-- the bytes that were written to stream s
+abbrev pub written_bytes : ℕ → List Entry → List ℕ
+written_bytes s past = flat_map frame_bytes (pulled_frames s past)
 
--- the bytes of stream k that were read as frames, and as a malformed header behind them
-abbrev pub got : ℕ → List Entry → List ℕ
-got k past = flat_map frame_bytes (reads k past) ++ refused k past
+-- the bytes of stream s that were read as frames, and as a malformed header behind them
+abbrev pub read_bytes : ℕ → List Entry → List ℕ
+read_bytes s past = flat_map frame_bytes (read_frames s past) ++ refused_bytes s past
 
--- the datagram of number n was pulled on stream k
+-- the datagram of number n was pulled on stream s
 abbrev pub pulled_on : ℕ → List Entry → ℕ → Bool
-pulled_on k [] n = false
-pulled_on k (Pull stream frame ∷ past) n = stream == k && carries_number n frame || pulled_on k past n
-pulled_on k (_ ∷ past) n = pulled_on k past n
+pulled_on s [] n = false
+pulled_on s (Pull stream frame ∷ past) n = stream == s && carries_number n frame || pulled_on s past n
+pulled_on s (_ ∷ past) n = pulled_on s past n
 
 -- the datagram of number n was pulled on some stream
 abbrev pub was_pulled : List Entry → ℕ → Bool

@@ -4,7 +4,7 @@ ghost use Rattle.rds_wire.specs.declared.kind.TheConstants.{MAP_LENGTH};
 ghost use Rattle.rds_model.specs.declared.entry.Entry.{Entry};
 ghost use Rattle.rds_model.specs.declared.entry.Entry.TheVariants.{Pull};
 ghost use Rattle.rds_model.specs.Past.{open_stream};
-ghost use Rattle.rds_model.specs.Owed.{owed};
+ghost use Rattle.rds_model.specs.Owed.{owed_frame};
 ghost use Rattle.rds_model.specs.Legal.{IsLegal, IsWhole, IsMapPull};
 ghost use Rattle.rds_model.specs.Honest.{IsHonest};
 ghost use Rattle.rds_model.specs.Fifo.{IsFifo, HasNoBad};
@@ -63,23 +63,23 @@ pub fn drained(a: &Journal, b: &Journal)
     requires legal_a { IsLegal a.now.past }
     requires legal_b { IsLegal b.now.past }
     requires honest { IsHonest a.now.past b.now.past }
-    ensures { (k : ℕ) → IsQuiet k a.now.past b.now.past → IsSettledBetween k a.now.past b.now.past }
+    ensures { (s : ℕ) → IsQuiet s a.now.past b.now.past → IsSettledBetween s a.now.past b.now.past }
 {}
 
 /// The same of all lists of entries.
 pub fn drained_of_all()
-    ensures { (a b : List Entry) → IsLegal a → IsLegal b → IsHonest a b → (k : ℕ) → IsQuiet k a b → IsSettledBetween k a b }
+    ensures { (a b : List Entry) → IsLegal a → IsLegal b → IsHonest a b → (s : ℕ) → IsQuiet s a b → IsSettledBetween s a b }
 {}
 
 /// What is owed and what may be pulled are one rule: the frame that is owed for a map may be pulled; where nothing is owed,
 /// only another map may be; and each frame that may be pulled is owed for some map.
 pub fn owed_is_lawful()
-    ensures lawful { (k : ℕ) (past : List Entry) (map : List ℕ) (f : Frame) → IsWhole past → open_stream past ≡ Some k →
-        length map ≡ MAP_LENGTH → owed k past map ≡ Some f → IsWhole (Pull k f ∷ past) }
-    ensures nothing { (k : ℕ) (past : List Entry) (map : List ℕ) (f : Frame) → owed k past map ≡ None →
-        IsWhole (Pull k f ∷ past) → IsMapPull k past f × (f.payload ≢ map) }
-    ensures only { (k : ℕ) (past : List Entry) (f : Frame) → IsWhole (Pull k f ∷ past) →
-        ((map : List ℕ) × (owed k past map ≡ Some f)) }
+    ensures lawful { (s : ℕ) (past : List Entry) (map : List ℕ) (f : Frame) → IsWhole past → open_stream past ≡ Some s →
+        length map ≡ MAP_LENGTH → owed_frame s past map ≡ Some f → IsWhole (Pull s f ∷ past) }
+    ensures nothing { (s : ℕ) (past : List Entry) (map : List ℕ) (f : Frame) → owed_frame s past map ≡ None →
+        IsWhole (Pull s f ∷ past) → IsMapPull s past f × (f.payload ≢ map) }
+    ensures only { (s : ℕ) (past : List Entry) (f : Frame) → IsWhole (Pull s f ∷ past) →
+        ((map : List ℕ) × (owed_frame s past map ≡ Some f)) }
 {}
 
 /// The premises of the laws are met: a plain run keeps all rules, and so does one with a cut in the middle of a payload, a

@@ -7,7 +7,7 @@ use Rattle.std.proofs.lemmas.List.Kept.{AllPairs-filter}
 use Rattle.std.specs.List.{All}
 use Rattle.rds_model.specs.declared.entry.Msg.{Msg}
 use Rattle.rds_model.specs.declared.entry.Target.{Target}
-use Rattle.rds_msgs.specs.Held.{IsAscending, IsStore, takes, left}
+use Rattle.rds_msgs.specs.Messages.{IsAscending, IsStore, covers_message, uncovered_messages}
 
 -- where the first number is above a bound, each is
 pub above_first : (bound : ℕ) (messages : List Msg) (m : Msg) → IsAscending messages → m ≡ slice_index_or messages 0 m
@@ -34,14 +34,14 @@ without_first_kept messages mark spare capacity s =
 -- and after a cancellation
 pub cancelled_kept : (slot : ℕ) (target : Target) (messages : List Msg) (mark spare capacity : ℕ)
     → IsStore messages mark spare capacity
-    → IsStore (left slot target messages) (length (left slot target (take mark messages))) spare capacity
+    → IsStore (uncovered_messages slot target messages) (length (uncovered_messages slot target (take mark messages))) spare capacity
 cancelled_kept slot target messages mark spare capacity s =
-    let p = λ (m : Msg). not (takes slot target m) in
-    let all = length-filter_both (takes slot target) p (λ _. refl) messages in
-    let split : left slot target messages ≡ left slot target (take mark messages) ++ left slot target (drop mark messages) =
+    let p = λ (m : Msg). not (covers_message slot target m) in
+    let all = length-filter_both (covers_message slot target) p (λ _. refl) messages in
+    let split : uncovered_messages slot target messages ≡ uncovered_messages slot target (take mark messages) ++ uncovered_messages slot target (drop mark messages) =
     ap (filter p) (sym (take-append-drop mark messages)) ∙ filter-append p (take mark messages) (drop mark messages) in
-    let n : length (left slot target messages) ≡ length (left slot target (take mark messages)) + length (left slot target (drop mark messages)) =
-    ap length split ∙ length-append (left slot target (take mark messages)) (left slot target (drop mark messages)) in
+    let n : length (uncovered_messages slot target messages) ≡ length (uncovered_messages slot target (take mark messages)) + length (uncovered_messages slot target (drop mark messages)) =
+    ap length split ∙ length-append (uncovered_messages slot target (take mark messages)) (uncovered_messages slot target (drop mark messages)) in
     record {
       ascending = AllPairs-filter (λ (a b : Msg). a.num < b.num) p messages s.ascending;
       pulled = omega arith;

@@ -1,6 +1,6 @@
 ghost use Rattle.std.specs.Prelude.{◌≡◌, ◌⊎◌, ◌≤◌, ◌<◌, ◌+◌, ◌-◌, ◌==◌, max, [], ◌∷◌, ◌++◌, length, slice_get, IfOk, OnOk, OnErr, IfSome, OnSome, IfNone, IsTrue, ◌↔◌, option_copied, All};
 ghost use Rattle.rds_model.specs.declared.entry.Target.TheVariants.{Port, All as Every};
-ghost use Rattle.rds_msgs.specs.Held.{IsAscending, numbers, bytes_of, taken, cancelled, without_first};
+ghost use Rattle.rds_msgs.specs.Messages.{IsAscending, message_numbers, bytes_of, covered_messages, after_cancel, without_first};
 
 use crate::Steps;
 use crate::walk::{covers, withdraw};
@@ -26,9 +26,9 @@ pub struct Store {
 
 impl Model for Store {
     ghost use Rattle.std.specs.VecDeque.{deque_capacity};
-    ghost use Rattle.rds_msgs.specs.Held.{Held, IsStore};
+    ghost use Rattle.rds_msgs.specs.Messages.{StoreView, IsStore};
 
-    ghost Value = { Held };
+    ghost Value = { StoreView };
 
     ghost view = { λ s. record { messages = s.messages.items; mark = s.mark; spare = s.spare; slots = s.slots } };
 
@@ -142,8 +142,8 @@ impl Store {
 
     /// Takes out the messages of a slot to a port, and gives their bytes.
     pub fn cancel<L: Ledger>(&mut self, slot: u16, dport: u16, steps: &mut Steps<L>) -> u64
-        ensures bytes { result ≡ bytes_of (taken slot (Port dport) self.old.messages) }
-        ensures rest { self.new ≡ cancelled slot (Port dport) self.old }
+        ensures bytes { result ≡ bytes_of (covered_messages slot (Port dport) self.old.messages) }
+        ensures rest { self.new ≡ after_cancel slot (Port dport) self.old }
         ensures cost { steps.new ≤ steps.old + length self.old.messages + 1 }
     {
         self.take_out(slot, Target::Port(dport), steps)
@@ -151,16 +151,16 @@ impl Store {
 
     /// Takes out the messages of a slot, and gives their bytes.
     pub fn cancel_all<L: Ledger>(&mut self, slot: u16, steps: &mut Steps<L>) -> u64
-        ensures bytes { result ≡ bytes_of (taken slot Every self.old.messages) }
-        ensures rest { self.new ≡ cancelled slot Every self.old }
+        ensures bytes { result ≡ bytes_of (covered_messages slot Every self.old.messages) }
+        ensures rest { self.new ≡ after_cancel slot Every self.old }
         ensures cost { steps.new ≤ steps.old + length self.old.messages + 1 }
     {
         self.take_out(slot, Target::All, steps)
     }
 
     fn take_out<L: Ledger>(&mut self, slot: u16, target: Target, steps: &mut Steps<L>) -> u64
-        ensures bytes { result ≡ bytes_of (taken slot target self.old.messages) }
-        ensures rest { self.new ≡ cancelled slot target self.old }
+        ensures bytes { result ≡ bytes_of (covered_messages slot target self.old.messages) }
+        ensures rest { self.new ≡ after_cancel slot target self.old }
         ensures cost { steps.new ≡ steps.old + length self.old.messages + 1 }
     {
         let withdrawn = withdraw(&mut self.messages, self.mark, slot, target, steps);
@@ -171,7 +171,7 @@ impl Store {
     /// Replaces `out` by the numbers of the messages that such a cancellation would take, ascending. On an error `out`
     /// is as before.
     pub fn covered(&self, slot: u16, target: &Target, out: &mut Vec<u64>) -> Result<(), Memory>
-        ensures ok { OnOk result (out.new.items ≡ numbers (taken slot target.now self.now.messages)) }
+        ensures ok { OnOk result (out.new.items ≡ message_numbers (covered_messages slot target.now self.now.messages)) }
         ensures err { OnErr result (out.new.items ≡ out.old.items) }
     {
         let found = self

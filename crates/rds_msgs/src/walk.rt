@@ -1,6 +1,6 @@
 ghost use Rattle.std.specs.Prelude.{◌≡◌, ◌≤◌, ◌+◌, ◌*◌, length, take};
 ghost use Rattle.std.specs.VecDeque.{deque_capacity};
-ghost use Rattle.rds_msgs.specs.Held.{bytes_of, left, taken, takes};
+ghost use Rattle.rds_msgs.specs.Messages.{bytes_of, uncovered_messages, covered_messages, covers_message};
 
 use crate::Steps;
 use crate::store::MAX_MESSAGES;
@@ -17,7 +17,7 @@ pub(crate) struct Withdrawn {
 
 /// Whether a cancellation by a slot covers a message.
 pub(crate) fn covers(slot: u16, target: Target, m: &Msg) -> bool
-    ensures { result ≡ takes slot target m.now }
+    ensures { result ≡ covers_message slot target m.now }
 {
     slot == m.slot
         && match target {
@@ -36,10 +36,10 @@ pub(crate) fn withdraw<L: Ledger>(
     steps: &mut Steps<L>,
 ) -> Withdrawn
     requires few { length messages.old.items ≤ MAX_MESSAGES }
-    ensures left { messages.new.items ≡ left slot target messages.old.items }
+    ensures left { messages.new.items ≡ uncovered_messages slot target messages.old.items }
     ensures room { deque_capacity messages.new ≡ deque_capacity messages.old }
-    ensures mark { result.mark ≡ length (left slot target (take mark messages.old.items)) }
-    ensures bytes { result.bytes ≡ bytes_of (taken slot target messages.old.items) }
+    ensures mark { result.mark ≡ length (uncovered_messages slot target (take mark messages.old.items)) }
+    ensures bytes { result.bytes ≡ bytes_of (covered_messages slot target messages.old.items) }
     ensures cost { steps.new ≡ steps.old + length messages.old.items + 1 }
 {
     steps.tick();

@@ -6,40 +6,40 @@ use Rattle.rds_wire.specs.declared.frame.Frame.{Frame}
 use Rattle.rds_model.specs.declared.entry.Entry.TheVariants.{Read}
 use Rattle.rds_model.specs.declared.entry.Outcome.{Outcome}
 use Rattle.rds_model.specs.declared.entry.Verdict.{Verdict}
-use Rattle.rds_model.specs.Owed.{owed}
+use Rattle.rds_model.specs.Owed.{owed_frame}
 use Rattle.rds_model.specs.Reading.{verdict_of}
 use Rattle.rds_model.specs.Legal.{pong_for}
 use Rattle.rds_conn.specs.declared.conn.Found.{Found}
 use Rattle.rds_conn.specs.declared.conn.Pulled.{Pulled}
-use Rattle.rds_conn.specs.Connection.{Connection, logged, stream_of}
+use Rattle.rds_conn.specs.Connection.{Connection, with_entries, stream_of}
 use Rattle.rds_conn.specs.Pulling.{Pulls}
-use Rattle.rds_conn.specs.Passing.{answering, outcome_of, passed as passed_at}
+use Rattle.rds_conn.specs.Passing.{with_pong, outcome_of, after_pass as passed_at}
 use Rattle.rds_pair.specs.Half.{side}
-use Rattle.rds_pair.specs.Changes.{found_for, passed, passed_on, pulled, pulled_as, pulled_on, pong, read_as}
+use Rattle.rds_pair.specs.Changes.{found_for, passed, passed_on, pulled, with_pull, with_owed_on, pong_entries, read_as}
 
 -- a pull
 pub pulled_side : (old new : Connection) (out out_new map : List ℕ) (came : Pulled) →
     (stream_of old ≡ None → (new ≡ old) × (out_new ≡ out)) →
-    IfSome (stream_of old) (λ k. Pulls k (owed k old.log.past map) old new out out_new came) →
+    IfSome (stream_of old) (λ s. Pulls s (owed_frame s old.log.past map) old new out out_new came) →
     side new out_new ≡ pulled map (side old out)
 pulled_side old new out out_new map came still pulls = by_stream (stream_of old) refl pulls
   where
-    by_owed : (k : ℕ) (o : Option Frame) → Pulls k o old new out out_new came → side new out_new ≡ pulled_as k o (side old out)
-    by_owed k None pulls = λ i. side (pulls.same i) (pulls.no_bytes i)
-    by_owed k (Some f) pulls = λ i. side (pulls.entry i) (pulls.bytes i)
+    by_owed : (s : ℕ) (o : Option Frame) → Pulls s o old new out out_new came → side new out_new ≡ with_pull s o (side old out)
+    by_owed s None pulls = λ i. side (pulls.same i) (pulls.no_bytes i)
+    by_owed s (Some f) pulls = λ i. side (pulls.entry i) (pulls.bytes i)
 
     by_stream : (o : Option ℕ) → stream_of old ≡ o →
-        IfSome o (λ k. Pulls k (owed k old.log.past map) old new out out_new came) →
-        side new out_new ≡ pulled_on o map (side old out)
+        IfSome o (λ s. Pulls s (owed_frame s old.log.past map) old new out out_new came) →
+        side new out_new ≡ with_owed_on o map (side old out)
     by_stream None closed pulls = let same = still closed in λ i. side (same.0 i) (same.1 i)
-    by_stream (Some k) on pulls = by_owed k (owed k old.log.past map) pulls
+    by_stream (Some s) on pulls = by_owed s (owed_frame s old.log.past map) pulls
 
 -- a frame was read on a stream, and a pong may stand behind it
-read_side : (old : Connection) (out freed : List ℕ) (k : ℕ) (f : Frame) (came : Outcome) (o : Option ℕ) →
-    side (record (answering o (record (logged (Read k f came ∷ []) old) { waiting = None })) { freed = freed }) out
-    ≡ record (side old out) { past = pong o ++ Read k f came ∷ old.log.past; waiting = None }
-read_side old out freed k f came None = refl
-read_side old out freed k f came (Some port) = refl
+read_side : (old : Connection) (out freed : List ℕ) (s : ℕ) (f : Frame) (came : Outcome) (o : Option ℕ) →
+    side (record (with_pong o (record (with_entries (Read s f came ∷ []) old) { waiting = None })) { freed = freed }) out
+    ≡ record (side old out) { past = pong_entries o ++ Read s f came ∷ old.log.past; waiting = None }
+read_side old out freed s f came None = refl
+read_side old out freed s f came (Some port) = refl
 
 -- the frame that waits was passed, as the slot says
 pub record Passes (old new : Connection) (slot : Option ℕ) : Type 0 where
@@ -48,8 +48,8 @@ pub record Passes (old new : Connection) (slot : Option ℕ) : Type 0 where
   pub verdict_is : option_map (λ (f : Frame). verdict_of old.log.past f.header) old.waiting ≡ Some verdict
   pub found_is : found ≡ found_for old.slots slot verdict
   pub on : IsSome (stream_of old)
-  pub entry : (k : ℕ) (f : Frame) → stream_of old ≡ Some k → old.waiting ≡ Some f →
-      new ≡ record (passed_at k f (outcome_of (verdict_of old.log.past f.header) found) old) { freed = new.freed }
+  pub entry : (s : ℕ) (f : Frame) → stream_of old ≡ Some s → old.waiting ≡ Some f →
+      new ≡ record (passed_at s f (outcome_of (verdict_of old.log.past f.header) found) old) { freed = new.freed }
 
 pub passed_side : (old new : Connection) (out : List ℕ) (slot : Option ℕ) → Passes old new slot →
     side new out ≡ passed slot (side old out)
@@ -59,11 +59,11 @@ passed_side old new out slot p = by_both (stream_of old) old.waiting refl refl p
         option_map (λ (f : Frame). verdict_of old.log.past f.header) w ≡ Some p.verdict →
         side new out ≡ passed_on o w slot (side old out)
     by_both None w closed waits on is = cc
-    by_both (Some k) None open_is waits on is = cc
-    by_both (Some k) (Some f) open_is waits on is =
+    by_both (Some s) None open_is waits on is = cc
+    by_both (Some s) (Some f) open_is waits on is =
         let verdict : p.verdict ≡ verdict_of old.log.past f.header = cc in
         let found : p.found ≡ found_for old.slots slot (verdict_of old.log.past f.header) = p.found_is ∙ ap (found_for old.slots slot) verdict in
         let came : Found → Outcome = outcome_of (verdict_of old.log.past f.header) in
-        ap (λ (c : Connection). side c out) (p.entry k f open_is waits)
-        ∙ read_side old out new.freed k f (came p.found) (pong_for (came p.found) f.header.sport)
-        ∙ ap (λ (n : Found). read_as k f (came n) (side old out)) found
+        ap (λ (c : Connection). side c out) (p.entry s f open_is waits)
+        ∙ read_side old out new.freed s f (came p.found) (pong_for (came p.found) f.header.sport)
+        ∙ ap (λ (n : Found). read_as s f (came n) (side old out)) found

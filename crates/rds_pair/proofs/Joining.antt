@@ -7,14 +7,14 @@ use Rattle.rds_model.specs.declared.entry.Outcome.{Outcome}
 use Rattle.rds_model.specs.declared.order.Order.{Order}
 use Rattle.rds_model.specs.declared.order.Order.TheVariants as order
 use Rattle.rds_model.specs.Past.{open_stream, newest_stream}
-use Rattle.rds_model.specs.Streams.{wrote, got}
-use Rattle.rds_model.specs.Owed.{owed}
+use Rattle.rds_model.specs.Streams.{written_bytes, read_bytes}
+use Rattle.rds_model.specs.Owed.{owed_frame}
 use Rattle.rds_model.specs.Reading.{verdict_of}
 use Rattle.rds_model.specs.Legal.{IsWhole, pong_for}
 use Rattle.rds_model.specs.Honest.{IsHonest}
 use Rattle.rds_conn.specs.Passing.{outcome_of}
-use Rattle.rds_pair.specs.Sides.{Side, taken}
-use Rattle.rds_pair.specs.Changes.{entries_of, found_for, is_allowed, lost, Moves, opened, ordered, passed, passed_on, pong, pulled, pulled_as, pulled_on, shut, shut_from}
+use Rattle.rds_pair.specs.Sides.{Side, unpassed_bytes}
+use Rattle.rds_pair.specs.Changes.{entries_of, found_for, is_allowed, without_flight, Moves, opened, ordered, passed, passed_on, pong_entries, pulled, with_pull, with_owed_on, shut_one, shut_from}
 use Rattle.rds_pair.specs.Joined.{IsJoined, IsOrderly}
 use Rattle.rds_pair.proofs.Flowing.{flows_ended, flows_moved, flows_opened, flows_passed, flows_pulled, flows_still}
 
@@ -30,12 +30,12 @@ honest_of n a b joined =
 
 -- one end changed, but what it wrote, got and took is the same, on the same streams
 record IsStill (old new : Side) : Type 0 where
-  wrote_is : (k : ℕ) → wrote k new.past ≡ wrote k old.past
-  got_is : (k : ℕ) → got k new.past ≡ got k old.past
+  wrote_is : (s : ℕ) → written_bytes s new.past ≡ written_bytes s old.past
+  got_is : (s : ℕ) → read_bytes s new.past ≡ read_bytes s old.past
   stream_is : open_stream new.past ≡ open_stream old.past
   newest_is : newest_stream new.past ≡ newest_stream old.past
   longer : length old.past ≤ length new.past
-  taken_is : taken new ≡ taken old
+  taken_is : unpassed_bytes new ≡ unpassed_bytes old
   flying_is : new.flying ≡ old.flying
 
 joined_still : (n : ℕ) (old new other : Side) → IsJoined n old other → IsStill old new → IsWhole new.past → IsJoined n new other
@@ -44,44 +44,44 @@ joined_still n old new other joined still whole =
     record {
       first = record { whole = whole; newest = still.newest_is ∙ first.newest; counted = omega (arith, first.counted, still.longer) };
       second = joined.second;
-      forth = flows_still old new other other joined.forth still.wrote_is (λ k. refl) (λ k on. on)
-          (λ k on. ap (λ (rest : List ℕ). taken other ++ rest) still.flying_is);
-      back = flows_still other other old new joined.back (λ k. refl) still.got_is (λ k on. sym still.stream_is ∙ on)
-          (λ k on. ap (λ (front : List ℕ). front ++ other.flying) still.taken_is);
+      forth = flows_still old new other other joined.forth still.wrote_is (λ s. refl) (λ s on. on)
+          (λ s on. ap (λ (rest : List ℕ). unpassed_bytes other ++ rest) still.flying_is);
+      back = flows_still other other old new joined.back (λ s. refl) still.got_is (λ s on. sym still.stream_is ∙ on)
+          (λ s on. ap (λ (front : List ℕ). front ++ other.flying) still.taken_is);
     }
 
 -- an order was given
-still_ordered : (o : Order) (s : Side) → IsStill s (record s { past = entries_of o ++ s.past })
-still_ordered (order.Send slot sport dport payload) s = record {
-  wrote_is = λ k. refl;
-  got_is = λ k. refl;
+still_ordered : (o : Order) (e : Side) → IsStill e (record e { past = entries_of o ++ e.past })
+still_ordered (order.Send slot sport dport payload) e = record {
+  wrote_is = λ s. refl;
+  got_is = λ s. refl;
   stream_is = refl;
   newest_is = refl;
   longer = omega arith;
   taken_is = refl;
   flying_is = refl;
 }
-still_ordered (order.Cancel slot dport) s = record {
-  wrote_is = λ k. refl;
-  got_is = λ k. refl;
+still_ordered (order.Cancel slot dport) e = record {
+  wrote_is = λ s. refl;
+  got_is = λ s. refl;
   stream_is = refl;
   newest_is = refl;
   longer = omega arith;
   taken_is = refl;
   flying_is = refl;
 }
-still_ordered (order.CloseSocket slot) s = record {
-  wrote_is = λ k. refl;
-  got_is = λ k. refl;
+still_ordered (order.CloseSocket slot) e = record {
+  wrote_is = λ s. refl;
+  got_is = λ s. refl;
   stream_is = refl;
   newest_is = refl;
   longer = omega arith;
   taken_is = refl;
   flying_is = refl;
 }
-still_ordered order.Cut s = record {
-  wrote_is = λ k. refl;
-  got_is = λ k. refl;
+still_ordered order.Cut e = record {
+  wrote_is = λ s. refl;
+  got_is = λ s. refl;
   stream_is = refl;
   newest_is = refl;
   longer = omega arith;
@@ -101,46 +101,46 @@ joined_ordered o n a b joined whole = by_test (is_allowed a.slots o) whole
 pub joined_pulled : (map : List ℕ) (n : ℕ) (a b : Side) → IsJoined n a b → IsWhole (pulled map a).past → IsJoined n (pulled map a) b
 joined_pulled map n a b joined whole = by_stream (open_stream a.past) refl whole
   where
-    by_owed : (k : ℕ) (o : Option Frame) → open_stream a.past ≡ Some k → IsWhole (pulled_as k o a).past → IsJoined n (pulled_as k o a) b
-    by_owed k None on whole = joined
-    by_owed k (Some f) on whole =
+    by_owed : (s : ℕ) (o : Option Frame) → open_stream a.past ≡ Some s → IsWhole (with_pull s o a).past → IsJoined n (with_pull s o a) b
+    by_owed s None on whole = joined
+    by_owed s (Some f) on whole =
         let first = joined.first in
         let second = joined.second in
         record {
           first = record { whole = whole; newest = first.newest; counted = omega (arith, first.counted) };
           second = second;
-          forth = flows_pulled a b k f joined.forth on (first.newest ∙ sym second.newest);
-          back = flows_still b b a (record a { past = entry.Pull k f ∷ a.past; flying = a.flying ++ frame_bytes f }) joined.back
+          forth = flows_pulled a b s f joined.forth on (first.newest ∙ sym second.newest);
+          back = flows_still b b a (record a { past = entry.Pull s f ∷ a.past; flying = a.flying ++ frame_bytes f }) joined.back
               (λ j. refl) (λ j. refl) (λ j here. here) (λ j here. refl);
         }
 
-    by_stream : (o : Option ℕ) → open_stream a.past ≡ o → IsWhole (pulled_on o map a).past → IsJoined n (pulled_on o map a) b
+    by_stream : (o : Option ℕ) → open_stream a.past ≡ o → IsWhole (with_owed_on o map a).past → IsJoined n (with_owed_on o map a) b
     by_stream None on whole = joined
-    by_stream (Some k) on whole = by_owed k (owed k a.past map) on whole
+    by_stream (Some s) on whole = by_owed s (owed_frame s a.past map) on whole
 
 -- the frame that waits was passed
-joined_read : (n : ℕ) (a b : Side) (k : ℕ) (f : Frame) (came : Outcome) (o : Option ℕ) → IsJoined n a b →
-    open_stream a.past ≡ Some k → a.waiting ≡ Some f → IsWhole (pong o ++ entry.Read k f came ∷ a.past) →
-    IsJoined n (record a { past = pong o ++ entry.Read k f came ∷ a.past; waiting = None }) b
-joined_read n a b k f came None joined on waits whole =
+joined_read : (n : ℕ) (a b : Side) (s : ℕ) (f : Frame) (came : Outcome) (o : Option ℕ) → IsJoined n a b →
+    open_stream a.past ≡ Some s → a.waiting ≡ Some f → IsWhole (pong_entries o ++ entry.Read s f came ∷ a.past) →
+    IsJoined n (record a { past = pong_entries o ++ entry.Read s f came ∷ a.past; waiting = None }) b
+joined_read n a b s f came None joined on waits whole =
     let first = joined.first in
     let was = first.whole in
     record {
       first = record { whole = whole; newest = first.newest; counted = omega (arith, first.counted) };
       second = joined.second;
-      forth = flows_still a (record a { past = entry.Read k f came ∷ a.past; waiting = None }) b b joined.forth
+      forth = flows_still a (record a { past = entry.Read s f came ∷ a.past; waiting = None }) b b joined.forth
           (λ j. refl) (λ j. refl) (λ j here. here) (λ j here. refl);
-      back = flows_passed b a k f came None joined.back was.legal on waits;
+      back = flows_passed b a s f came None joined.back was.legal on waits;
     }
-joined_read n a b k f came (Some port) joined on waits whole =
+joined_read n a b s f came (Some port) joined on waits whole =
     let first = joined.first in
     let was = first.whole in
     record {
       first = record { whole = whole; newest = first.newest; counted = omega (arith, first.counted) };
       second = joined.second;
-      forth = flows_still a (record a { past = pong (Some port) ++ entry.Read k f came ∷ a.past; waiting = None }) b b joined.forth
+      forth = flows_still a (record a { past = pong_entries (Some port) ++ entry.Read s f came ∷ a.past; waiting = None }) b b joined.forth
           (λ j. refl) (λ j. refl) (λ j here. here) (λ j here. refl);
-      back = flows_passed b a k f came (Some port) joined.back was.legal on waits;
+      back = flows_passed b a s f came (Some port) joined.back was.legal on waits;
     }
 
 pub joined_passed : (slot : Option ℕ) (n : ℕ) (a b : Side) → IsJoined n a b → IsWhole (passed slot a).past → IsJoined n (passed slot a) b
@@ -149,20 +149,20 @@ joined_passed slot n a b joined whole = by_both (open_stream a.past) a.waiting r
     by_both : (o : Option ℕ) (w : Option Frame) → open_stream a.past ≡ o → a.waiting ≡ w →
         IsWhole (passed_on o w slot a).past → IsJoined n (passed_on o w slot a) b
     by_both None w on waits whole = joined
-    by_both (Some k) None on waits whole = joined
-    by_both (Some k) (Some f) on waits whole =
+    by_both (Some s) None on waits whole = joined
+    by_both (Some s) (Some f) on waits whole =
         let verdict = verdict_of a.past f.header in
         let came = outcome_of verdict (found_for a.slots slot verdict) in
-        joined_read n a b k f came (pong_for came f.header.sport) joined on waits whole
+        joined_read n a b s f came (pong_for came f.header.sport) joined on waits whole
 
 -- the next stream was opened
-orderly_opened : (n : ℕ) (s : Side) → IsOrderly n s → IsWhole (opened (n + 1) s).past → IsOrderly (n + 1) (opened (n + 1) s)
-orderly_opened n s orderly whole = record { whole = whole; newest = refl; counted = omega (arith, orderly.counted) }
+orderly_opened : (n : ℕ) (e : Side) → IsOrderly n e → IsWhole (opened (n + 1) e).past → IsOrderly (n + 1) (opened (n + 1) e)
+orderly_opened n e orderly whole = record { whole = whole; newest = refl; counted = omega (arith, orderly.counted) }
 
 -- nothing of a stream was taken and not passed
-pub record IsIdle (s : Side) : Type 0 where
-  pub waiting : s.waiting ≡ None
-  pub rest : s.rest ≡ []
+pub record IsIdle (e : Side) : Type 0 where
+  pub waiting : e.waiting ≡ None
+  pub rest : e.rest ≡ []
 
 pub joined_opened : (n : ℕ) (a b : Side) → IsJoined n a b → IsIdle a → IsIdle b →
     IsWhole (opened (n + 1) a).past → IsWhole (opened (n + 1) b).past → IsJoined (n + 1) (opened (n + 1) a) (opened (n + 1) b)
@@ -182,26 +182,26 @@ joined_opened n a b joined idle_a idle_b whole_a whole_b =
 
 -- the end was shut: no stream is open
 record IsEnded (old new : Side) : Type 0 where
-  wrote_is : (k : ℕ) → wrote k new.past ≡ wrote k old.past
-  got_is : (k : ℕ) → got k new.past ≡ got k old.past
+  wrote_is : (s : ℕ) → written_bytes s new.past ≡ written_bytes s old.past
+  got_is : (s : ℕ) → read_bytes s new.past ≡ read_bytes s old.past
   newest_is : newest_stream new.past ≡ newest_stream old.past
   longer : length old.past ≤ length new.past
-  closed : (k : ℕ) → open_stream new.past ≡ Some k → ⊥
+  closed : (s : ℕ) → open_stream new.past ≡ Some s → ⊥
   flying_is : new.flying ≡ old.flying
 
-ended_shut : (s : Side) → IsEnded s (shut s)
-ended_shut s = by_stream (open_stream s.past) refl
+ended_shut : (e : Side) → IsEnded e (shut_one e)
+ended_shut e = by_stream (open_stream e.past) refl
   where
-    by_stream : (o : Option ℕ) → open_stream s.past ≡ o → IsEnded s (shut_from o s)
+    by_stream : (o : Option ℕ) → open_stream e.past ≡ o → IsEnded e (shut_from o e)
     by_stream None closed = record {
-      wrote_is = λ k. refl;
-      got_is = λ k. refl;
+      wrote_is = λ s. refl;
+      got_is = λ s. refl;
       newest_is = refl;
       longer = omega arith;
-      closed = λ k on. let never : None ≡ Some k = sym closed ∙ on in cc;
+      closed = λ s on. let never : None ≡ Some s = sym closed ∙ on in cc;
       flying_is = refl;
     }
-    by_stream (Some k) on = record {
+    by_stream (Some s) on = record {
       wrote_is = λ j. refl;
       got_is = λ j. refl;
       newest_is = refl;
@@ -210,37 +210,37 @@ ended_shut s = by_stream (open_stream s.past) refl
       flying_is = refl;
     }
 
-orderly_shut : (n : ℕ) (s : Side) → IsOrderly n s → IsWhole (shut s).past → IsOrderly n (shut s)
-orderly_shut n s orderly whole =
-    let ended = ended_shut s in
+orderly_shut : (n : ℕ) (e : Side) → IsOrderly n e → IsWhole (shut_one e).past → IsOrderly n (shut_one e)
+orderly_shut n e orderly whole =
+    let ended = ended_shut e in
     record { whole = whole; newest = ended.newest_is ∙ orderly.newest; counted = omega (arith, orderly.counted, ended.longer) }
 
-orderly_lost : (n : ℕ) (s : Side) → IsOrderly n s → IsOrderly n (lost s)
-orderly_lost n s orderly = record { whole = orderly.whole; newest = orderly.newest; counted = orderly.counted }
+orderly_lost : (n : ℕ) (e : Side) → IsOrderly n e → IsOrderly n (without_flight e)
+orderly_lost n e orderly = record { whole = orderly.whole; newest = orderly.newest; counted = orderly.counted }
 
 -- one end was shut
-pub joined_shut : (n : ℕ) (a b : Side) → IsJoined n a b → IsWhole (shut a).past → IsJoined n (shut a) (lost b)
+pub joined_shut : (n : ℕ) (a b : Side) → IsJoined n a b → IsWhole (shut_one a).past → IsJoined n (shut_one a) (without_flight b)
 joined_shut n a b joined whole =
     let ended = ended_shut a in
     record {
       first = orderly_shut n a joined.first whole;
       second = orderly_lost n b joined.second;
-      forth = flows_still a (shut a) b (lost b) joined.forth ended.wrote_is (λ k. refl) (λ k on. on)
-          (λ k on. ap (λ (rest : List ℕ). taken b ++ rest) ended.flying_is);
-      back = flows_ended b (lost b) a (shut a) joined.back (λ k. refl) ended.got_is ended.closed;
+      forth = flows_still a (shut_one a) b (without_flight b) joined.forth ended.wrote_is (λ s. refl) (λ s on. on)
+          (λ s on. ap (λ (rest : List ℕ). unpassed_bytes b ++ rest) ended.flying_is);
+      back = flows_ended b (without_flight b) a (shut_one a) joined.back (λ s. refl) ended.got_is ended.closed;
     }
 
 -- both ends were shut
-pub joined_cut : (n : ℕ) (a b : Side) → IsJoined n a b → IsWhole (shut a).past → IsWhole (shut b).past →
-    IsJoined n (lost (shut a)) (lost (shut b))
+pub joined_cut : (n : ℕ) (a b : Side) → IsJoined n a b → IsWhole (shut_one a).past → IsWhole (shut_one b).past →
+    IsJoined n (without_flight (shut_one a)) (without_flight (shut_one b))
 joined_cut n a b joined whole_a whole_b =
     let ended_a = ended_shut a in
     let ended_b = ended_shut b in
     record {
-      first = orderly_lost n (shut a) (orderly_shut n a joined.first whole_a);
-      second = orderly_lost n (shut b) (orderly_shut n b joined.second whole_b);
-      forth = flows_ended a (lost (shut a)) b (lost (shut b)) joined.forth ended_a.wrote_is ended_b.got_is ended_b.closed;
-      back = flows_ended b (lost (shut b)) a (lost (shut a)) joined.back ended_b.wrote_is ended_a.got_is ended_a.closed;
+      first = orderly_lost n (shut_one a) (orderly_shut n a joined.first whole_a);
+      second = orderly_lost n (shut_one b) (orderly_shut n b joined.second whole_b);
+      forth = flows_ended a (without_flight (shut_one a)) b (without_flight (shut_one b)) joined.forth ended_a.wrote_is ended_b.got_is ended_b.closed;
+      back = flows_ended b (without_flight (shut_one b)) a (without_flight (shut_one a)) joined.back ended_b.wrote_is ended_a.got_is ended_a.closed;
     }
 
 -- bytes moved
@@ -249,12 +249,12 @@ joined_moved n bytes used a a_new b b_new joined moves =
     let first = joined.first in
     let second = joined.second in
     record {
-      first = subst (λ (s : Side). IsOrderly n s) (sym moves.gone) (record { whole = first.whole; newest = first.newest; counted = first.counted });
-      second = subst (λ (s : Side). IsOrderly n s) (sym moves.rest_same) (record { whole = second.whole; newest = second.newest; counted = second.counted });
+      first = subst (λ (e : Side). IsOrderly n e) (sym moves.gone) (record { whole = first.whole; newest = first.newest; counted = first.counted });
+      second = subst (λ (e : Side). IsOrderly n e) (sym moves.rest_same) (record { whole = second.whole; newest = second.newest; counted = second.counted });
       forth = flows_moved bytes used a a_new b b_new joined.forth moves;
       back = flows_still b b_new a a_new joined.back
-          (λ k. ap (λ (s : Side). wrote k s.past) moves.rest_same)
-          (λ k. ap (λ (s : Side). got k s.past) moves.gone)
-          (λ k on. sym (ap (λ (s : Side). open_stream s.past) moves.gone) ∙ on)
-          (λ k on. λ i. (taken (moves.gone i)) ++ (moves.rest_same i).flying);
+          (λ s. ap (λ (e : Side). written_bytes s e.past) moves.rest_same)
+          (λ s. ap (λ (e : Side). read_bytes s e.past) moves.gone)
+          (λ s on. sym (ap (λ (e : Side). open_stream e.past) moves.gone) ∙ on)
+          (λ s on. λ i. (unpassed_bytes (moves.gone i)) ++ (moves.rest_same i).flying);
     }

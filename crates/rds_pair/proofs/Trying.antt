@@ -3,7 +3,7 @@ use Rattle.std.proofs.Common.{◌≡◌, ℕ, Result, Ok, Err, sym, subst}
 use Rattle.std.specs.Prelude.{OnOk, OnErr, IfOk}
 use Rattle.rds_model.specs.Legal.{IsWhole}
 use Rattle.rds_pair.specs.Sides.{Side}
-use Rattle.rds_pair.specs.Changes.{lost, Moves, shut}
+use Rattle.rds_pair.specs.Changes.{without_flight, Moves, shut_one}
 use Rattle.rds_pair.specs.Joined.{IsJoined}
 use Rattle.rds_pair.proofs.Joining.{joined_moved, joined_shut, swapped}
 
@@ -34,10 +34,10 @@ whole_as s s_is is whole = subst (λ (t : Side). IsWhole t.past) is whole
 
 -- one end was shut, or that failed
 pub joined_shut_tried : {T E : Type 0} (came : Result T E) (n : ℕ) (a a_new b b_new : Side) →
-    OnOk came ((a_new ≡ shut a) × (b_new ≡ lost b)) → OnErr came ((a_new ≡ a) × (b_new ≡ b)) → IsWhole a_new.past →
+    OnOk came ((a_new ≡ shut_one a) × (b_new ≡ without_flight b)) → OnErr came ((a_new ≡ a) × (b_new ≡ b)) → IsWhole a_new.past →
     IsJoined n a b → IsJoined n a_new b_new
 joined_shut_tried (Ok x) n a a_new b b_new ok err whole joined =
-    joined_as n (shut a) a_new (lost b) b_new ok.0 ok.1 (joined_shut n a b joined (whole_as (shut a) a_new ok.0 whole))
+    joined_as n (shut_one a) a_new (without_flight b) b_new ok.0 ok.1 (joined_shut n a b joined (whole_as (shut_one a) a_new ok.0 whole))
 joined_shut_tried (Err e) n a a_new b b_new ok err whole joined = joined_as n a a_new b b_new err.0 err.1 joined
 
 -- bytes were moved, or that failed

@@ -3,4 +3,4 @@ pub mod Changes
 pub mod Playing
 pub mod Joined
 pub mod Half
-pub mod Seen
+pub mod Invariant

@@ -3,8 +3,8 @@ use Rattle.std.specs.Prelude.{◌≡◌, ◌⊎◌, ◌+◌, ◌<◌, length, �
 use Rattle.rds_wire.specs.declared.frame.Frame.{Frame}
 use Rattle.rds_frame.specs.Holding.{waiting_bytes}
 use Rattle.rds_model.specs.declared.entry.Entry.{Entry}
-use Rattle.rds_pair.specs.declared.step.End.{End}
-use Rattle.rds_pair.specs.declared.step.End.TheVariants.{First, Second}
+use Rattle.rds_pair.specs.declared.step.PairEnd.{PairEnd}
+use Rattle.rds_pair.specs.declared.step.PairEnd.TheVariants.{First, Second}
 
 -- One end: below which number the slots of its sockets are; its journal, newest entry first, and how many entries that may
 -- have; of the open stream the whole frame that waits, and the bytes that are no whole frame yet; and the bytes that it
@@ -27,16 +27,16 @@ abbrev pub blank : ℕ → ℕ → Side
 blank slots limit = record { slots = slots; past = []; limit = limit; waiting = None; rest = []; flying = [] }
 
 -- the bytes that were taken of the open stream and not passed
-abbrev pub taken : Side → List ℕ
-taken s = waiting_bytes s.waiting ++ s.rest
+abbrev pub unpassed_bytes : Side → List ℕ
+unpassed_bytes s = waiting_bytes s.waiting ++ s.rest
 
 -- a change of one end
-abbrev pub at : End → (Side → Side) → Sides → Sides
-at First change p = record p { first = change p.first }
-at Second change p = record p { second = change p.second }
+abbrev pub with_end : PairEnd → (Side → Side) → Sides → Sides
+with_end First change p = record p { first = change p.first }
+with_end Second change p = record p { second = change p.second }
 
 -- one of the two
-abbrev pub of_end : End → Sides → Side
+abbrev pub of_end : PairEnd → Sides → Side
 of_end First p = p.first
 of_end Second p = p.second
 

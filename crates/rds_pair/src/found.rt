@@ -1,6 +1,6 @@
 ghost use Rattle.std.specs.Prelude.{◌≡◌};
 ghost use Rattle.rds_conn.specs.Passing.{IsLookedUp, Matches};
-ghost use Rattle.rds_pair.specs.Changes.{found_for as found_after, holder as holder_of};
+ghost use Rattle.rds_pair.specs.Changes.{found_for as found_after, found_slot as holder_of};
 
 use rds_conn::{Found, Verdict};
 

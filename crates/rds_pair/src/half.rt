@@ -7,7 +7,7 @@ ghost use Rattle.rds_conn.specs.Connection.{IsReady};
 ghost use Rattle.rds_pair.specs.declared.error.PairError.TheVariants as errors;
 ghost use Rattle.rds_pair.specs.Sides.{IsFull, blank};
 ghost use Rattle.rds_pair.specs.Half.{side_of};
-ghost use Rattle.rds_pair.specs.Changes.{ordered, pulled, passed, opened, shut, lost};
+ghost use Rattle.rds_pair.specs.Changes.{ordered, pulled, passed, opened, shut_one, without_flight};
 
 use crate::error::PairError;
 use crate::found::found_for;
@@ -132,7 +132,7 @@ impl Half {
     /// Shuts the open stream, if one is.
     pub fn shut(&mut self)
         requires { IsReady self.old.conn }
-        ensures shuts { side_of self.new ≡ shut (side_of self.old) }
+        ensures shuts { side_of self.new ≡ shut_one (side_of self.old) }
         ensures whole { IsWhole self.new.conn.log.past }
     {
         if self.conn.stream().is_some() {
@@ -143,7 +143,7 @@ impl Half {
 
     /// Loses what is in flight.
     pub fn lose(&mut self)
-        ensures { side_of self.new ≡ lost (side_of self.old) }
+        ensures { side_of self.new ≡ without_flight (side_of self.old) }
     {
         self.out.wipe();
     }

@@ -13,7 +13,7 @@ mod step;
 
 pub use error::PairError;
 pub use pair::Pair;
-pub use step::{End, Step};
+pub use step::{PairEnd, Step};
 
 #[cfg(test)]
 mod tests;

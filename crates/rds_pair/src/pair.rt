@@ -1,14 +1,14 @@
 ghost use Rattle.std.specs.Prelude.{◌≡◌, ℕ, Err, OnOk, OnErr};
 ghost use Rattle.rds_pair.specs.declared.error.PairError.TheVariants as errors;
 ghost use Rattle.rds_model.specs.Legal.{IsWhole};
-ghost use Rattle.rds_pair.specs.Changes.{shut as shut_side, lost};
+ghost use Rattle.rds_pair.specs.Changes.{shut_one as shut_side, without_flight};
 ghost use Rattle.rds_pair.specs.Half.{side_of};
 ghost use Rattle.rds_pair.specs.Sides.{IsFull};
 
 use crate::error::PairError;
 use crate::half::Half;
 use crate::moving::move_bytes;
-use crate::step::End;
+use crate::step::PairEnd;
 use rds_cong::PortMap;
 use rds_model::{Journal, Order, laws};
 use rds_msgs::Steps;
@@ -31,11 +31,11 @@ impl Model for Pair {
 
     ghost Value = { Sides };
 
-    ghost use Rattle.rds_pair.specs.Seen.{Keeps, seen};
+    ghost use Rattle.rds_pair.specs.Invariant.{PairInvariant, pair_view};
 
-    ghost view = { seen };
+    ghost view = { pair_view };
 
-    ghost invariant = { Keeps };
+    ghost invariant = { PairInvariant };
 }
 
 impl Pair {
@@ -46,9 +46,9 @@ impl Pair {
     ghost use Rattle.rds_model.specs.Fifo.{HasNoBad};
     ghost use Rattle.rds_model.specs.Pairs.{IsDeliveredOnce};
     ghost use Rattle.rds_model.specs.declared.journal.TheConstants.{MIN_ENTRIES, MAX_ENTRIES};
-    ghost use Rattle.rds_pair.specs.Sides.{HasFull, at, blank, of_end};
+    ghost use Rattle.rds_pair.specs.Sides.{HasFull, with_end, blank, of_end};
     ghost use Rattle.rds_pair.specs.Joined.{Flows};
-    ghost use Rattle.rds_pair.specs.Changes.{ordered, pulled, passed, opened_at_both, shut_at, cut, MovesTo};
+    ghost use Rattle.rds_pair.specs.Changes.{ordered, pulled, passed, opened_at_both, shut_at, cut_both, MovesTo};
 
     /// Two ends of a connection between two hosts, given by their IPv4 addresses, of which nothing has happened. The slots
     /// of sockets are below `slots`, and each journal may have `limit` entries.
@@ -74,17 +74,17 @@ impl Pair {
     /// A socket of an end gives an order, which the end takes if it is allowed.
     pub fn order<L: Ledger>(
         &mut self,
-        end: End,
+        end: PairEnd,
         order: &Order,
         visited: &mut Steps<L>,
     ) -> Result<(), PairError>
-        ensures ok { OnOk result (self.new ≡ at end (ordered order.now) self.old) }
+        ensures ok { OnOk result (self.new ≡ with_end end (ordered order.now) self.old) }
         ensures err { OnErr result (self.new ≡ self.old) }
         ensures spent { (entries : ℕ) → result ≡ Err (errors.Spent entries) → IsFull entries (of_end end self.old) }
     {
         match end {
-            End::First => self.first.order(order, visited),
-            End::Second => self.second.order(order, visited),
+            PairEnd::First => self.first.order(order, visited),
+            PairEnd::Second => self.second.order(order, visited),
         }
     }
 
@@ -108,20 +108,20 @@ impl Pair {
     }
 
     /// Shuts one end. What is in flight to it is lost; the other end goes on.
-    pub fn shut(&mut self, end: End) -> Result<(), PairError>
+    pub fn shut(&mut self, end: PairEnd) -> Result<(), PairError>
         ensures ok { OnOk result (self.new ≡ shut_at end self.old) }
         ensures err { OnErr result (self.new ≡ self.old) }
         ensures spent { (entries : ℕ) → result ≡ Err (errors.Spent entries) → IsFull entries (of_end end self.old) }
     {
         match end {
-            End::First => shut(&mut self.first, &mut self.second),
-            End::Second => shut(&mut self.second, &mut self.first),
+            PairEnd::First => shut(&mut self.first, &mut self.second),
+            PairEnd::Second => shut(&mut self.second, &mut self.first),
         }
     }
 
     /// Shuts both ends. What is in flight is lost.
     pub fn cut(&mut self) -> Result<(), PairError>
-        ensures ok { OnOk result (self.new ≡ cut self.old) }
+        ensures ok { OnOk result (self.new ≡ cut_both self.old) }
         ensures err { OnErr result (self.new ≡ self.old) }
         ensures spent { (entries : ℕ) → result ≡ Err (errors.Spent entries) → HasFull entries self.old }
     {
@@ -135,26 +135,26 @@ impl Pair {
     }
 
     /// An end pulls the frame that it owes, where its host's own congestion map is `map`.
-    pub fn pull(&mut self, end: End, map: &PortMap) -> Result<(), PairError>
-        ensures ok { OnOk result (self.new ≡ at end (pulled map.now) self.old) }
+    pub fn pull(&mut self, end: PairEnd, map: &PortMap) -> Result<(), PairError>
+        ensures ok { OnOk result (self.new ≡ with_end end (pulled map.now) self.old) }
         ensures err { OnErr result (self.new ≡ self.old) }
         ensures spent { (entries : ℕ) → result ≡ Err (errors.Spent entries) → IsFull entries (of_end end self.old) }
     {
         match end {
-            End::First => self.first.pull(map),
-            End::Second => self.second.pull(map),
+            PairEnd::First => self.first.pull(map),
+            PairEnd::Second => self.second.pull(map),
         }
     }
 
     /// Gives bytes that are in flight to an end to it, at most `bytes`. Answers how many. No header is ever refused.
-    pub fn move_bytes(&mut self, to: End, bytes: u32) -> Result<usize, PairError>
+    pub fn move_bytes(&mut self, to: PairEnd, bytes: u32) -> Result<usize, PairError>
         ensures ok { IfOk result (λ used. MovesTo to bytes used self.old self.new) }
         ensures err { OnErr result (self.new ≡ self.old) }
         ensures spent { (entries : ℕ) → result ≡ Err (errors.Spent entries) → IsFull entries (of_end to self.old) }
     {
         match to {
-            End::First => move_bytes(&mut self.second, &mut self.first, bytes),
-            End::Second => move_bytes(&mut self.first, &mut self.second, bytes),
+            PairEnd::First => move_bytes(&mut self.second, &mut self.first, bytes),
+            PairEnd::Second => move_bytes(&mut self.first, &mut self.second, bytes),
         }
     }
 
@@ -162,17 +162,17 @@ impl Pair {
     /// port.
     pub fn pass<L: Ledger>(
         &mut self,
-        end: End,
+        end: PairEnd,
         slot: Option<u16>,
         visited: &mut Steps<L>,
     ) -> Result<(), PairError>
-        ensures ok { OnOk result (self.new ≡ at end (passed slot) self.old) }
+        ensures ok { OnOk result (self.new ≡ with_end end (passed slot) self.old) }
         ensures err { OnErr result (self.new ≡ self.old) }
         ensures spent { (entries : ℕ) → result ≡ Err (errors.Spent entries) → IsFull entries (of_end end self.old) }
     {
         match end {
-            End::First => self.first.pass(slot, visited),
-            End::Second => self.second.pass(slot, visited),
+            PairEnd::First => self.first.pass(slot, visited),
+            PairEnd::Second => self.second.pass(slot, visited),
         }
     }
 
@@ -196,12 +196,12 @@ impl Pair {
     }
 
     /// The journal of an end.
-    pub fn journal(&self, end: End) -> &Journal
+    pub fn journal(&self, end: PairEnd) -> &Journal
         ensures { result.now.past ≡ (of_end end self.now).past }
     {
         match end {
-            End::First => self.first.conn.journal(),
-            End::Second => self.second.conn.journal(),
+            PairEnd::First => self.first.conn.journal(),
+            PairEnd::Second => self.second.conn.journal(),
         }
     }
 
@@ -220,7 +220,7 @@ impl Pair {
 
 // Shuts one end of a pair. What is in flight to it is lost.
 fn shut(half: &mut Half, other: &mut Half) -> Result<(), PairError>
-    ensures ok { OnOk result ((side_of half.new ≡ shut_side (side_of half.old)) × (side_of other.new ≡ lost (side_of other.old))) }
+    ensures ok { OnOk result ((side_of half.new ≡ shut_side (side_of half.old)) × (side_of other.new ≡ without_flight (side_of other.old))) }
     ensures err { OnErr result ((side_of half.new ≡ side_of half.old) × (side_of other.new ≡ side_of other.old)) }
     ensures spent { (entries : ℕ) → result ≡ Err (errors.Spent entries) → IsFull entries (side_of half.old) }
     ensures whole { IsWhole half.new.conn.log.past }

@@ -3,7 +3,7 @@ use rds_model::Order;
 
 /// One of the two ends of a pair.
 #[derive(Clone, Copy, Debug, PartialEq, Eq)]
-pub enum End {
+pub enum PairEnd {
     First,
     Second,
 }
@@ -12,17 +12,17 @@ pub enum End {
 #[derive(Drop)]
 pub enum Step {
     /// A socket of an end gives an order. A cut isn't one that an end takes.
-    Order { end: End, order: Order },
+    Order { end: PairEnd, order: Order },
     /// The next stream is opened at both ends, if none is open at either.
     Open,
     /// One end is shut, and what is in flight to it is lost. The other goes on with its stream until it is shut too.
-    Shut { end: End },
+    Shut { end: PairEnd },
     /// Both ends are shut, and what is in flight is lost.
     Cut,
     /// An end, whose host's own congestion map is `map`, pulls the frame that it owes.
-    Pull { end: End, map: PortMap },
+    Pull { end: PairEnd, map: PortMap },
     /// At most so many bytes that are in flight to an end are given to it.
-    Move { to: End, bytes: u32 },
+    Move { to: PairEnd, bytes: u32 },
     /// An end passes the frame that waits: a datagram goes to the socket of `slot`, or no socket holds its port.
-    Pass { end: End, slot: Option<u16> },
+    Pass { end: PairEnd, slot: Option<u16> },
 }

@@ -1,7 +1,7 @@
 ghost use Rattle.std.specs.Prelude.{◌≡◌, ◌<◌, ◌≤◌};
 ghost use Rattle.rds_model.specs.declared.journal.TheConstants.{MIN_ENTRIES, MAX_ENTRIES};
 
-use crate::{End, Pair, PairError, Step};
+use crate::{PairEnd, Pair, PairError, Step};
 use rds_cong::PortMap;
 use rds_model::{Entry, Order, Outcome};
 use rds_msgs::Steps;
@@ -41,7 +41,7 @@ fn counted<L: Ledger>(
 fn hello(alloc: Global) -> Result<Step, Fail> {
     let payload = Payload::copy_of(alloc, b"hello")?;
     Ok(Step::Order {
-        end: End::First,
+        end: PairEnd::First,
         order: Order::Send {
             slot: 0,
             sport: 4000,
@@ -51,13 +51,13 @@ fn hello(alloc: Global) -> Result<Step, Fail> {
     })
 }
 
-fn pull(alloc: Global, end: End) -> Result<Step, Fail> {
+fn pull(alloc: Global, end: PairEnd) -> Result<Step, Fail> {
     let map = PortMap::new(alloc)?;
     Ok(Step::Pull { end, map })
 }
 
 // A frame goes from one end to the other, which passes it.
-fn push_frame(alloc: Global, steps: &mut Vec<Step>, from: End, to: End) -> Result<(), Fail> {
+fn push_frame(alloc: Global, steps: &mut Vec<Step>, from: PairEnd, to: PairEnd) -> Result<(), Fail> {
     steps.push(pull(alloc, from)?)?;
     steps.push(Step::Move { to, bytes: 10_000 })?;
     steps.push(Step::Pass {
@@ -71,7 +71,7 @@ fn push_frame(alloc: Global, steps: &mut Vec<Step>, from: End, to: End) -> Resul
 fn push_beginning(alloc: Global, steps: &mut Vec<Step>) -> Result<(), Fail> {
     steps.push(hello(alloc)?)?;
     steps.push(Step::Open)?;
-    push_frame(alloc, steps, End::First, End::Second)
+    push_frame(alloc, steps, PairEnd::First, PairEnd::Second)
 }
 
 #[test]
@@ -79,8 +79,8 @@ fn hello_is_delivered_once(rt: HostRuntime) -> Result<(), Fail> {
     let alloc = rt.alloc();
     let mut steps = Vec::new(alloc);
     push_beginning(alloc, &mut steps)?;
-    push_frame(alloc, &mut steps, End::First, End::Second)?;
-    push_frame(alloc, &mut steps, End::Second, End::First)?;
+    push_frame(alloc, &mut steps, PairEnd::First, PairEnd::Second)?;
+    push_frame(alloc, &mut steps, PairEnd::Second, PairEnd::First)?;
     let (pair, ran) = after(alloc, 100, &steps)?;
     assert_eq!(rt; ran, Ok(()));
     let (first, second) = pair.into_journals();
@@ -112,19 +112,19 @@ fn hello_is_delivered_once_over_a_cut_in_its_payload(rt: HostRuntime) -> Result<
     let alloc = rt.alloc();
     let mut steps = Vec::new(alloc);
     push_beginning(alloc, &mut steps)?;
-    steps.push(pull(alloc, End::First)?)?;
+    steps.push(pull(alloc, PairEnd::First)?)?;
     steps.push(Step::Move {
-        to: End::Second,
+        to: PairEnd::Second,
         bytes: 50,
     })?;
     steps.push(Step::Cut)?;
     steps.push(Step::Open)?;
-    push_frame(alloc, &mut steps, End::First, End::Second)?;
-    push_frame(alloc, &mut steps, End::First, End::Second)?;
+    push_frame(alloc, &mut steps, PairEnd::First, PairEnd::Second)?;
+    push_frame(alloc, &mut steps, PairEnd::First, PairEnd::Second)?;
     let (pair, ran) = after(alloc, 100, &steps)?;
     assert_eq!(rt; ran, Ok(()));
-    assert_eq!(rt; pair.journal(End::First).len(), 8);
-    let second = pair.journal(End::Second);
+    assert_eq!(rt; pair.journal(PairEnd::First).len(), 8);
+    let second = pair.journal(PairEnd::Second);
     assert_eq!(rt; second.len(), 6);
     assert!(rt; matches!(second.at(2), Some(Entry::Shut { stream: 1 })));
     assert!(rt; matches!(second.at(3), Some(Entry::Open { stream: 2 })));
@@ -145,19 +145,19 @@ fn what_one_end_wrote_arrives_after_it_was_shut(rt: HostRuntime) -> Result<(), F
     let alloc = rt.alloc();
     let mut steps = Vec::new(alloc);
     push_beginning(alloc, &mut steps)?;
-    steps.push(pull(alloc, End::First)?)?;
-    steps.push(Step::Shut { end: End::First })?;
+    steps.push(pull(alloc, PairEnd::First)?)?;
+    steps.push(Step::Shut { end: PairEnd::First })?;
     steps.push(Step::Move {
-        to: End::Second,
+        to: PairEnd::Second,
         bytes: 60,
     })?;
     steps.push(Step::Pass {
-        end: End::Second,
+        end: PairEnd::Second,
         slot: None,
     })?;
     let (pair, ran) = after(alloc, 100, &steps)?;
     assert_eq!(rt; ran, Ok(()));
-    let second = pair.journal(End::Second);
+    let second = pair.journal(PairEnd::Second);
     assert!(rt;
         matches!(
             second.at(2),
@@ -175,9 +175,9 @@ fn a_run_stops_where_a_journal_is_full(rt: HostRuntime) -> Result<(), Fail> {
     let alloc = rt.alloc();
     let mut steps = Vec::new(alloc);
     push_beginning(alloc, &mut steps)?;
-    steps.push(pull(alloc, End::First)?)?;
+    steps.push(pull(alloc, PairEnd::First)?)?;
     let (pair, ran) = after(alloc, 4, &steps)?;
     assert_eq!(rt; ran, Err(PairError::Spent { entries: 3 }));
-    assert_eq!(rt; pair.journal(End::Second).len(), 2);
+    assert_eq!(rt; pair.journal(PairEnd::Second).len(), 2);
     Ok(())
 }

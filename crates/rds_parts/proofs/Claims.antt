@@ -5,7 +5,7 @@ use Rattle.std.proofs.lemmas.List.Elements.{All-push}
 use Rattle.rds_bindtab.specs.declared.view.View.{View}
 use Rattle.rds_bindtab.specs.declared.error.BindError.{BindError}
 use Rattle.rds_bindtab.specs.declared.error.BindError.TheVariants.{Reserved, InUse, NoneFree}
-use Rattle.rds_bindtab.specs.Seats.{Held, knowing, after_exchange}
+use Rattle.rds_bindtab.specs.Seats.{PortSeat, knowing, after_exchange}
 use Rattle.rds_bindtab.specs.Answers.{ClaimFits, after_claim}
 use Rattle.rds_parts.specs.Ports.{port_after, after_claims, IsTaken}
 
@@ -28,7 +28,7 @@ claims_more v p n [] word = ap (λ k. after_exchange v (port_after p k) word) (o
 claims_more v p n (x ∷ words) word = claims_more (after_exchange v (port_after p n) x) p (n + 1) words word
     ∙ ap (λ k. after_exchange (after_claims (after_exchange v (port_after p n) x) p (n + 1) words) (port_after p k) word) (omega arith)
 
-pub search_more : (old self now : Held) (p counter port next : ℕ) (words : List ℕ) (r : Result (Unit {0}) BindError)
+pub search_more : (old self now : PortSeat) (p counter port next : ℕ) (words : List ℕ) (r : Result (Unit {0}) BindError)
     → length words ≡ counter → All IsTaken words → port ≡ port_after p counter → self ≡ knowing old (after_claims old.view p 0 words) → IsSome self.view.slot
     → ClaimFits port r → is_ok r ≡ false → now ≡ knowing self (after_claim self.view port r) → next ≡ port_after port 1
     → (more : List ℕ) × (length more ≡ counter + 1) × All IsTaken more × (next ≡ port_after p (counter + 1)) × (now ≡ knowing old (after_claims old.view p 0 more)) × IsSome now.view.slot × (now.view.port ≡ None)
@@ -43,7 +43,7 @@ search_more old self now p counter port next words r size all at is slot fits no
       length_push words k.0 ∙ ap (λ n. n + 1) size,
       All-push IsTaken words k.0 all k.1,
       then ∙ port_next p counter port at,
-      one ∙ ap (λ (h : Held). knowing h (after_exchange h.view port k.0)) is ∙ ap (λ q. knowing old (after_exchange before q k.0)) place ∙ sym (ap (knowing old) (claims_more old.view p 0 words k.0)),
-      subst (λ (h : Held). IsSome h.view.slot) (sym one) slot,
-      ap (λ (h : Held). h.view.port) one ∙ free (eqb k.0 0) (ne_eqb k.0 0 k.1),
+      one ∙ ap (λ (h : PortSeat). knowing h (after_exchange h.view port k.0)) is ∙ ap (λ q. knowing old (after_exchange before q k.0)) place ∙ sym (ap (knowing old) (claims_more old.view p 0 words k.0)),
+      subst (λ (h : PortSeat). IsSome h.view.slot) (sym one) slot,
+      ap (λ (h : PortSeat). h.view.port) one ∙ free (eqb k.0 0) (ne_eqb k.0 0 k.1),
     )

@@ -3,7 +3,7 @@ use Rattle.std.specs.Prelude.{◌≡◌, ◌≢◌, ℕ, ◌<◌, ◌&&◌, nat_
 use Rattle.rds_model.specs.declared.order.Order.{Order}
 use Rattle.rds_model.specs.declared.order.Order.TheVariants as order
 use Rattle.rds_mail.specs.Numbers.{Number}
-use Rattle.rds_mail.specs.Passes.{Line, Putter, after_put}
+use Rattle.rds_mail.specs.Passes.{QueueId, Putter, after_put}
 use Rattle.rds_fmap.specs.declared.seen.Seen.{Seen}
 
 -- a route: the peer's address, the right to put on the order queue of its line, and a reader of the peer's map
@@ -15,7 +15,7 @@ pub record Lane (R : Type 0) : Type 0 where
 -- what no call on a socket changes of a route: its peer, its order queue, its putter's number and splits, and the pair of its reader
 pub record Fixed (P : Type 0) : Type 0 where
   pub peer : ℕ
-  pub mail : Line
+  pub mail : QueueId
   pub number : Number
   pub splits : ℕ
   pub pair : P

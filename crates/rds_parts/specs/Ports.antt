@@ -2,7 +2,7 @@
 use Rattle.std.specs.Prelude.{◌≡◌, ◌≢◌, ℕ, ◌+◌, ◌-◌, ◌%◌, ◌<◌, nat_lt, if◌then◌else◌, List, [], ◌∷◌, length, All, Option, Some, None, Contains}
 use Rattle.rds_bindtab.specs.declared.view.View.{View}
 use Rattle.rds_bindtab.specs.declared.view.Step.TheVariants.{Claimed}
-use Rattle.rds_bindtab.specs.Seats.{Held, knowing, after_exchange}
+use Rattle.rds_bindtab.specs.Seats.{PortSeat, knowing, after_exchange}
 
 -- a search from a reserved port begins at port 2
 abbrev pub first_port : ℕ → ℕ
@@ -22,7 +22,7 @@ after_claims v p n [] = v
 after_claims v p n (word ∷ words) = after_claims (after_exchange v (port_after p n) word) p (n + 1) words
 
 -- a search takes the first port from p on whose claim finds 0, and none where 65,534 claims have each found another word
-abbrev pub SearchFits : Held → ℕ → Option ℕ → Held → Type 0
+abbrev pub SearchFits : PortSeat → ℕ → Option ℕ → PortSeat → Type 0
 SearchFits old p (Some port) new = (words : List ℕ) × (length words < 65534) × All IsTaken words × (port ≡ port_after p (length words)) × (new ≡ knowing old (after_exchange (after_claims old.view p 0 words) port 0))
 SearchFits old p None new = (words : List ℕ) × (length words ≡ 65534) × All IsTaken words × (new ≡ knowing old (after_claims old.view p 0 words))
 

@@ -4,12 +4,12 @@ use Rattle.std.specs.Int.{bit_at}
 use Rattle.rds_meter.specs.declared.view.View.{View}
 use Rattle.rds_meter.specs.declared.view.Stage.TheVariants.{Idle}
 use Rattle.rds_meter.specs.Places.{put_word, taken_word, map_word, part}
-use Rattle.rds_meter.specs.Seats.{Held, knowing, after_add, after_load, after_lower, after_bump}
+use Rattle.rds_meter.specs.Seats.{MeterSeat, knowing, after_add, after_load, after_lower, after_bump}
 
 -- the words of a slot: the slot, and its seat at the meter
 pub record Purse : Type 0 where
   pub slot : ℕ
-  pub seat : Held
+  pub seat : MeterSeat
 
 abbrev pub purse_with : Purse → View → Purse
 purse_with p v = record { slot = p.slot; seat = knowing p.seat v }
@@ -40,7 +40,7 @@ abbrev pub IsReceipt : ℕ → ℕ → ℕ → Purse → Purse → Type 0
 IsReceipt port limit n old new = (taken put bits change : ℕ) × (new ≡ purse_with old (after_receipt old.seat.view old.slot port limit n taken put bits change))
 
 -- a socket's seat has made no check, and has added to its slot's taken word alone
-pub record IsQuiet (slot : ℕ) (v : View) : Type 0 where
+pub record IsQuietSeat (slot : ℕ) (v : View) : Type 0 where
   pub stage : v.stage ≡ Idle
   pub checks : v.checks ≡ []
   pub pending : v.pending ≡ []

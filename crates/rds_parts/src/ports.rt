@@ -22,9 +22,9 @@ pub struct Ports {
 impl Model for Ports {
     ghost use Rattle.std.specs.Prelude.{◌≡◌};
     ghost use Rattle.std.specs.Arc.{arc_value};
-    ghost use Rattle.rds_bindtab.specs.Seats.{Held};
+    ghost use Rattle.rds_bindtab.specs.Seats.{PortSeat};
 
-    ghost Value = { Held };
+    ghost Value = { PortSeat };
 
     ghost view = { λ p. p.seat };
 

@@ -10,7 +10,7 @@ use Rattle.rds_model.specs.declared.entry.Outcome.{Outcome}
 use Rattle.rds_model.specs.declared.entry.Outcome.TheVariants as outcome
 use Rattle.rds_model.specs.declared.entry.Target.TheVariants.{Port, All}
 use Rattle.rds_model.specs.declared.order.Datagram.{Datagram}
-use Rattle.rds_model.specs.Owed.{owed}
+use Rattle.rds_model.specs.Owed.{owed_frame}
 use Rattle.rds_model.specs.Past.{open_stream}
 use Rattle.rds_model.specs.Reading.{verdict_of}
 use Rattle.rds_text.specs.Ports.{below}
@@ -166,7 +166,7 @@ module _ (P : List Event → Type 0) (kept : IsKept P) where
 
   keeps_pulls : (o : Option ℕ) (h k : ℕ) (past : List Event) → P past → P (pulls_on h k o past)
   keeps_pulls None h k past p = p
-  keeps_pulls (Some stream) h k past p = keeps_frame (owed stream (journal h k past) (own_map h past)) h k stream past p
+  keeps_pulls (Some stream) h k past p = keeps_frame (owed_frame stream (journal h k past) (own_map h past)) h k stream past p
 
   keeps_answers : (k h : ℕ) (f : Frame) (o : Outcome) (past : List Event) → P past → P (answers k h f o past)
   keeps_answers k h f outcome.Ping past p = kept.entered k h (Accept NO_SLOT 0 f.header.sport []) past (λ j. refl) p

@@ -8,8 +8,8 @@ use Rattle.rds_model.specs.declared.entry.Entry.{Entry}
 use Rattle.rds_model.specs.declared.entry.Entry.TheVariants.{Accept, Cancel, Open, Pull, Read, Shut, Bad}
 use Rattle.rds_model.specs.Past.{now, newest_stream, open_stream}
 use Rattle.rds_model.specs.Legal.{IsLegal}
-use Rattle.rds_model.specs.Streams.{pulls, wrote}
-use Rattle.rds_model.proofs.Legality.{lawful_open, lawful_pull}
+use Rattle.rds_model.specs.Streams.{pulled_frames, written_bytes}
+use Rattle.rds_model.specs.LegalityLaws.{lawful_open, lawful_pull}
 use Rattle.rds_conn.proofs.Untouched.{open_is_newest}
 use Rattle.rds_history.specs.Events.{Event, Entered}
 use Rattle.rds_history.specs.Journals.{journal, fed, in_flight, wrote_on}
@@ -20,12 +20,12 @@ use Rattle.rds_play.proofs.Journaling.{journal_here, journal_there, same_pair, o
 use Rattle.rds_play.proofs.Places.{pair_replaced}
 
 -- nothing was pulled on a stream above all others
-pub none_pulled : (past : List Entry) → IsLegal past → (k : ℕ) → newest_stream past < k → pulls k past ≡ []
+pub none_pulled : (past : List Entry) → IsLegal past → (k : ℕ) → newest_stream past < k → pulled_frames k past ≡ []
 none_pulled [] legal k above = refl
 none_pulled (Open stream ∷ past) legal k above = none_pulled past legal.1 k (omega (arith, (lawful_open stream past legal).1))
 none_pulled (Pull stream f ∷ past) legal k above =
     let on = open_is_newest past legal.1 stream (lawful_pull stream f legal now).on in
-    cond-false (stream == k) (pulls k past ++ f ∷ []) (pulls k past) (ne_eqb stream k (λ e. omega (arith, on, e))) ∙ none_pulled past legal.1 k above
+    cond-false (stream == k) (pulled_frames k past ++ f ∷ []) (pulled_frames k past) (ne_eqb stream k (λ e. omega (arith, on, e))) ∙ none_pulled past legal.1 k above
 none_pulled (Accept slot sport dport payload ∷ past) legal k above = none_pulled past legal.1 k above
 none_pulled (Cancel slot target ∷ past) legal k above = none_pulled past legal.1 k above
 none_pulled (Read stream f o ∷ past) legal k above = none_pulled past legal.1 k above
@@ -43,8 +43,8 @@ out_same a b past later out fed_is journal_is t = record {
   bytes_are = t.bytes_are ∙ cc (fed_is, journal_is);
   within = λ stream on.
       let was = t.within stream (ap open_stream (sym journal_is) ∙ on) in
-      subst (λ (n : ℕ). n ≤ length (wrote stream (journal a b later))) (sym fed_is)
-      (subst (λ (j : List Entry). fed a b past ≤ length (wrote stream j)) (sym journal_is) was);
+      subst (λ (n : ℕ). n ≤ length (written_bytes stream (journal a b later))) (sym fed_is)
+      (subst (λ (j : List Entry). fed a b past ≤ length (written_bytes stream j)) (sym journal_is) was);
 }
 
 -- no stream, no bytes
@@ -58,7 +58,7 @@ opened_here : (h k stream : ℕ) (past : List Event) (out : List ℕ) → IsLega
     open_stream (journal h k past) ≡ None → TellsOut h k past out → TellsOut h k (Entered h k (Open stream) ∷ past) out
 opened_here h k stream past out legal newer closed t =
     let j : journal h k (Entered h k (Open stream) ∷ past) ≡ Open stream ∷ journal h k past = journal_here h k (Open stream) past in
-    let none : wrote stream (journal h k past) ≡ [] = ap (λ (fs : List Frame). flat_map frame_bytes fs) (none_pulled (journal h k past) legal stream newer) in
+    let none : written_bytes stream (journal h k past) ≡ [] = ap (λ (fs : List Frame). flat_map frame_bytes fs) (none_pulled (journal h k past) legal stream newer) in
     let flight : in_flight h k (Entered h k (Open stream) ∷ past) ≡ drop (fed h k (Entered h k (Open stream) ∷ past)) [] =
     ap (λ (x : List Entry). drop (fed h k (Entered h k (Open stream) ∷ past)) (wrote_on (open_stream x) x)) j
     ∙ ap (λ (bytes : List ℕ). drop (fed h k (Entered h k (Open stream) ∷ past)) bytes) none in

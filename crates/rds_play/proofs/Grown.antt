@@ -10,8 +10,8 @@ use Rattle.rds_conn.specs.declared.conn.Found.TheVariants as found
 use Rattle.rds_conn.specs.declared.conn.ConnError.{ConnError}
 use Rattle.rds_conn.specs.declared.conn.ConnError.TheVariants as errors
 use Rattle.rds_conn.specs.Connection.{Connection, stream_of}
-use Rattle.rds_conn.specs.Feeding.{Refuses}
-use Rattle.rds_conn.specs.Passing.{passed, outcome_of}
+use Rattle.rds_conn.specs.Feeding.{RefusesHeader}
+use Rattle.rds_conn.specs.Passing.{after_pass, outcome_of}
 use Rattle.rds_play.specs.Counting.{pongs}
 use Rattle.rds_play.specs.Growth.{Grows, Passes}
 
@@ -38,13 +38,13 @@ pub grows_not : (old new : Connection) → new ≡ old → Grows old new
 grows_not old new same =
     subst (λ (c : Connection). Grows old c) (sym same) (record { slots = refl; limit = refl; newest = refl; datagrams = refl; longer = omega arith })
 
-pub grows_refused : (piece : List ℕ) (fault : Malformed) (old new : Connection) → Refuses piece fault old new → Grows old new
+pub grows_refused : (piece : List ℕ) (fault : Malformed) (old new : Connection) → RefusesHeader piece fault old new → Grows old new
 grows_refused piece fault old new refused =
     subst (λ (c : Connection). Grows old c) (sym refused.entry) (record { slots = refl; limit = refl; newest = refl; datagrams = refl; longer = omega arith })
 
 -- whatever a piece was refused for
 pub grows_unfed : (piece : List ℕ) (old new : Connection) (e : ConnError) →
-    ((fault : Malformed) → e ≡ errors.Malformed fault → Refuses piece fault old new) →
+    ((fault : Malformed) → e ≡ errors.Malformed fault → RefusesHeader piece fault old new) →
     (e ≡ errors.Closed → stream_of old ≡ None) → (stream_of old ≡ None → new ≡ old) →
     (e ≡ errors.Memory → new ≡ old) → ((entries : ℕ) → e ≡ errors.Spent entries → ⊥) → Grows old new
 grows_unfed piece old new errors.Memory malformed closed still memory spent = grows_not old new (memory refl)
@@ -54,7 +54,7 @@ grows_unfed piece old new (errors.Spent entries) malformed closed still memory s
 grows_unfed piece old new errors.Closed malformed closed still memory spent = grows_not old new (still (closed refl))
 
 passes_by : (v : Verdict) (came : Found) (old : Connection) (freed : List ℕ) (k : ℕ) (f : Frame) →
-    Passes (pongs v) old (record (passed k f (outcome_of v came) old) { freed = freed })
+    Passes (pongs v) old (record (after_pass k f (outcome_of v came) old) { freed = freed })
 passes_by (verdict.Deliver dport) (found.Slot slot) old freed k f = record { slots = refl; limit = refl; newest = refl; datagrams = omega arith; longer = omega arith }
 passes_by (verdict.Deliver dport) found.NoSocket old freed k f = record { slots = refl; limit = refl; newest = refl; datagrams = omega arith; longer = omega arith }
 passes_by (verdict.Deliver dport) found.Unasked old freed k f = record { slots = refl; limit = refl; newest = refl; datagrams = omega arith; longer = omega arith }
@@ -67,6 +67,6 @@ passes_by verdict.OddMap _ old freed k f = record { slots = refl; limit = refl; 
 
 -- a frame was read, and a pong may stand behind it
 pub passes_read : (old new : Connection) (k : ℕ) (f : Frame) (v : Verdict) (found : Found) →
-    new ≡ record (passed k f (outcome_of v found) old) { freed = new.freed } → Passes (pongs v) old new
+    new ≡ record (after_pass k f (outcome_of v found) old) { freed = new.freed } → Passes (pongs v) old new
 passes_read old new k f v found entry =
     subst (λ (c : Connection). Passes (pongs v) old c) (sym entry) (passes_by v found old new.freed k f)

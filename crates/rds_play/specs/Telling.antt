@@ -4,7 +4,7 @@ use Rattle.std.specs.BTreeMap as tree
 use Rattle.std.specs.Ordering.{nat_cmp}
 use Rattle.rds_cong.specs.Map.{has_port}
 use Rattle.rds_model.specs.Past.{open_stream}
-use Rattle.rds_model.specs.Streams.{wrote}
+use Rattle.rds_model.specs.Streams.{written_bytes}
 use Rattle.rds_history.specs.Events.{Event}
 use Rattle.rds_history.specs.Journals.{journal, fed, in_flight, is_marked, own_map}
 use Rattle.rds_history.specs.Sockets.{binds, holder, send_buffer, receive_buffer, delivered, received, queue, queued}
@@ -25,7 +25,7 @@ pub record TellsLink (limit h k : ℕ) (past : List Event) (l : Link) : Type 0 w
 -- the bytes are those in flight from h to k
 pub record TellsOut (h k : ℕ) (past : List Event) (out : List ℕ) : Type 0 where
   pub bytes_are : out ≡ in_flight h k past
-  pub within : (stream : ℕ) → open_stream (journal h k past) ≡ Some stream → fed h k past ≤ length (wrote stream (journal h k past))
+  pub within : (stream : ℕ) → open_stream (journal h k past) ≡ Some stream → fed h k past ≤ length (written_bytes stream (journal h k past))
 
 -- a socket has its buffers, what waits at it, and what it handed out
 pub record TellsSocket (h slot : ℕ) (past : List Event) (s : Socket) : Type 0 where

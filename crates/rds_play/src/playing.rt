@@ -1,5 +1,5 @@
 ghost use Rattle.std.specs.Prelude.{◌≡◌, ◌≢◌, ◌⊎◌, ◌≤◌, ◌<◌, ◌++◌, ℕ, Err, IsOk, Ok, List, OnOk, IfOk, string_bytes};
-ghost use Rattle.rds_link.specs.Told.{HasRisen, Takes};
+ghost use Rattle.rds_link.specs.Streaming.{HasRisen, SinkGained};
 ghost use Rattle.rds_script.specs.Script.{IsScript};
 ghost use Rattle.rds_model.specs.declared.journal.TheConstants.{MIN_ENTRIES, MAX_ENTRIES};
 ghost use Rattle.rds_history.specs.Events.{Event};
@@ -45,14 +45,14 @@ pub fn play<K: Sink>(alloc: Global, script: &Script, limit: u32, sink: &mut K) -
     requires script { IsScript script.now }
     requires least { MIN_ENTRIES ≤ limit }
     requires most { limit ≤ MAX_ENTRIES }
-    ensures ok { result ≡ ended.Ok → (text : List ℕ) × Takes (K.held sink.old) (K.held sink.new) (text ++ end_line) }
+    ensures ok { result ≡ ended.Ok → (text : List ℕ) × SinkGained (K.held sink.old) (K.held sink.new) (text ++ end_line) }
     ensures spent { (host peer entries : ℕ) → result ≡ ended.Spent host peer entries →
-        Takes (K.held sink.old) (K.held sink.new) (line_of_spent host peer entries) }
+        SinkGained (K.held sink.old) (K.held sink.new) (line_of_spent host peer entries) }
     ensures exact { AreTold script.now → result ≡ ended.Ok →
-        IsOk (course script.now limit) × Takes (K.held sink.old) (K.held sink.new) (text script.now limit) }
+        IsOk (course script.now limit) × SinkGained (K.held sink.old) (K.held sink.new) (text script.now limit) }
     ensures exact_spent { AreTold script.now → (host peer entries : ℕ) → result ≡ ended.Spent host peer entries →
         (course script.now limit ≡ Err (record { host = host; peer = peer; entries = entries }))
-        × Takes (K.held sink.old) (K.held sink.new) (text script.now limit) }
+        × SinkGained (K.held sink.old) (K.held sink.new) (text script.now limit) }
     ensures in_order { (past : List Event) (h slot : ℕ) → course script.now limit ≡ Ok past → HandsOutInOrder h slot past }
     ensures fault { result ≡ ended.WriteFault → HasRisen (K.faults sink.old) (K.faults sink.new) }
     ensures counts { K.faults sink.old ≤ K.faults sink.new }
@@ -66,7 +66,7 @@ pub fn play<K: Sink>(alloc: Global, script: &Script, limit: u32, sink: &mut K) -
 
 // Writes the whole text, and answers how that ended.
 fn write<K: Sink>(sink: &mut K, text: &str, end: PlayEnd) -> PlayEnd
-    ensures written { (result ≡ end × Takes (K.held sink.old) (K.held sink.new) text.now)
+    ensures written { (result ≡ end × SinkGained (K.held sink.old) (K.held sink.new) text.now)
         ⊎ (result ≡ ended.WriteFault × HasRisen (K.faults sink.old) (K.faults sink.new)) }
     ensures counts { K.faults sink.old ≤ K.faults sink.new }
 {
@@ -80,7 +80,7 @@ fn write<K: Sink>(sink: &mut K, text: &str, end: PlayEnd) -> PlayEnd
 fn write_spent<K: Sink>(alloc: Global, full: Full, sink: &mut K) -> PlayEnd
     ensures ok { result ≢ ended.Ok }
     ensures spent { (host peer entries : ℕ) → result ≡ ended.Spent host peer entries →
-        IsFull host peer entries full × Takes (K.held sink.old) (K.held sink.new) (line_of_spent host peer entries) }
+        IsFull host peer entries full × SinkGained (K.held sink.old) (K.held sink.new) (line_of_spent host peer entries) }
     ensures fault { result ≡ ended.WriteFault → HasRisen (K.faults sink.old) (K.faults sink.new) }
     ensures counts { K.faults sink.old ≤ K.faults sink.new }
 {

@@ -1,7 +1,7 @@
 -- What is read of a source is the whole of its text, unless that is too large; and what follows for the answers of a call.
 use Rattle.std.proofs.Common.{◌≡◌, ◌⊎◌, inl, inr, ℕ, ◌+◌, ◌≤◌, List, length, take, Option, Some, None, refl, sym, ap, subst, ◌∙◌, arith}
 use Rattle.std.proofs.lemmas.List.{length-take, take_all}
-use Rattle.rds_link.specs.Told.{HandsFront}
+use Rattle.rds_link.specs.Streaming.{SourceGaveFront}
 use Rattle.rds_script.specs.declared.script.TheConstants.{MAX_TEXT}
 use Rattle.rds_script.specs.declared.cause.Cause.{Cause}
 use Rattle.rds_script.specs.declared.cause.Cause.TheVariants as cause
@@ -44,7 +44,7 @@ refused_whole all text line why handed refused (inl large) =
     subst (λ c. Refused all line c) (sym large) (too_large all text line handed (subst (λ c. Refused text line c) large refused))
 refused_whole all text line why handed refused (inr within) = subst (λ t. Refused t line why) (whole all text handed within) refused
 
-refused_at : (left : Option (List ℕ)) (text : List ℕ) (line : ℕ) (why : Cause) → HandsFront left (MAX_TEXT + 1) text →
+refused_at : (left : Option (List ℕ)) (text : List ℕ) (line : ℕ) (why : Cause) → SourceGaveFront left (MAX_TEXT + 1) text →
     Refused text line why → IsRefusedAt left line why
 refused_at None text line why handed refused = tt
 refused_at (Some all) text line why handed refused = refused_whole all text line why handed refused (small text line why refused)
@@ -60,7 +60,7 @@ refused_front all text line why handed refused (inr within) =
     subst (λ t. Refused t line why) (sym (handed ∙ take_all (MAX_TEXT + 1) all (omega (arith, within)))) refused
 
 -- what is read of a refused text is refused
-pub refused_told : (left : Option (List ℕ)) (text : List ℕ) (line : ℕ) (why : Cause) → HandsFront left (MAX_TEXT + 1) text →
+pub refused_told : (left : Option (List ℕ)) (text : List ℕ) (line : ℕ) (why : Cause) → SourceGaveFront left (MAX_TEXT + 1) text →
     IsToldRefused left line why → Refused text line why
 refused_told None text line why handed refused = absurd refused
 refused_told (Some all) text line why handed refused = refused_front all text line why handed refused (small all line why refused)
@@ -72,7 +72,7 @@ refuses_same l line c why held new write_then write_now s same came =
     subst (λ k. Refuses line k held new write_then write_now s) same.1
     (subst (λ n. Refuses n c held new write_then write_now s) same.0 came)
 
-spelled : (left : Option (List ℕ)) (text : List ℕ) (s : Meaning) → HandsFront left (MAX_TEXT + 1) text → Spells text s → IsSpelled left
+spelled : (left : Option (List ℕ)) (text : List ℕ) (s : Meaning) → SourceGaveFront left (MAX_TEXT + 1) text → Spells text s → IsSpelled left
 spelled None text s handed spells = tt
 spelled (Some all) text s handed spells = (s, subst (λ t. Spells t s) (whole all text handed spells.small) spells)
 
@@ -99,14 +99,14 @@ ends_of_refusal left line why read_then read_now held new write_then write_now e
 
 -- what a played script leaves is how a call may end
 pub ends_of_played : (left : Option (List ℕ)) (text : List ℕ) (m : Meaning) (read_then read_now : ℕ) (held new : Option (List ℕ))
-    (write_then write_now : ℕ) (s : Status) → HandsFront left (MAX_TEXT + 1) text → Spells text m →
+    (write_then write_now : ℕ) (s : Status) → SourceGaveFront left (MAX_TEXT + 1) text → Spells text m →
     Plays held new write_then write_now s → Ends left read_then read_now held new write_then write_now s
 ends_of_played left text m read_then read_now held new write_then write_now s handed spells played =
     ends_of_spelled left read_then read_now held new write_then write_now s (spelled left text m handed spells) played
 
 -- and so is what a refused text leaves
 pub ends_of_refused : (left : Option (List ℕ)) (text : List ℕ) (line : ℕ) (why : Cause) (read_then read_now : ℕ)
-    (held new : Option (List ℕ)) (write_then write_now : ℕ) (s : Status) → HandsFront left (MAX_TEXT + 1) text → Refused text line why →
+    (held new : Option (List ℕ)) (write_then write_now : ℕ) (s : Status) → SourceGaveFront left (MAX_TEXT + 1) text → Refused text line why →
     Refuses line why held new write_then write_now s → Ends left read_then read_now held new write_then write_now s
 ends_of_refused left text line why read_then read_now held new write_then write_now s handed refused came =
     ends_of_refusal left line why read_then read_now held new write_then write_now s (refused_at left text line why handed refused) came

@@ -1,6 +1,6 @@
 -- How a call of the program may end. Source: this project's own.
 use Rattle.std.specs.Prelude.{ℕ, Option, List, ◌++◌, MatchOption, IsSomeAnd}
-use Rattle.rds_link.specs.Told.{HasRisen, Takes}
+use Rattle.rds_link.specs.Streaming.{HasRisen, SinkGained}
 use Rattle.rds_script.specs.declared.cause.Cause.{Cause}
 use Rattle.rds_script.specs.Cause.{cause_text}
 use Rattle.rds_script.specs.Grammar.{Meaning, Spells}
@@ -25,7 +25,7 @@ IsRefusedAt left line cause = MatchOption left (Unit {0}) (λ text. Refused text
 -- the text of a source is refused, and the line that was written says where and why
 abbrev pub IsRefusal : Option (List ℕ) → Option (List ℕ) → Option (List ℕ) → Type 0
 IsRefusal left held new =
-    (line : ℕ) × (cause : Cause) × IsRefusedAt left line cause × Takes held new (bad_line line (cause_text cause))
+    (line : ℕ) × (cause : Cause) × IsRefusedAt left line cause × SinkGained held new (bad_line line (cause_text cause))
 
 -- the source tells what it has, and the whole of that is refused at this line for this cause
 abbrev pub IsToldRefused : Option (List ℕ) → ℕ → Cause → Type 0
@@ -33,16 +33,16 @@ IsToldRefused left line cause = IsSomeAnd left (λ text. Refused text line cause
 
 -- the line about a refusal was written, or a fault or want of memory kept it from that
 abbrev pub Refuses : ℕ → Cause → Option (List ℕ) → Option (List ℕ) → ℕ → ℕ → Status → Type 0
-Refuses line cause held new faults_then faults_now ended.Refused = Takes held new (bad_line line (cause_text cause))
+Refuses line cause held new faults_then faults_now ended.Refused = SinkGained held new (bad_line line (cause_text cause))
 Refuses line cause held new faults_then faults_now ended.WriteFault = HasRisen faults_then faults_now
 Refuses line cause held new faults_then faults_now ended.Memory = Unit {0}
 Refuses line cause held new faults_then faults_now _ = ⊥
 
 -- a script was played: its text was written, or the line of a full journal
 abbrev pub Plays : Option (List ℕ) → Option (List ℕ) → ℕ → ℕ → Status → Type 0
-Plays held new faults_then faults_now ended.Written = (text : List ℕ) × Takes held new (text ++ end_line)
+Plays held new faults_then faults_now ended.Written = (text : List ℕ) × SinkGained held new (text ++ end_line)
 Plays held new faults_then faults_now ended.Spent =
-    (host : ℕ) × (peer : ℕ) × (entries : ℕ) × Takes held new (spent_line host peer entries)
+    (host : ℕ) × (peer : ℕ) × (entries : ℕ) × SinkGained held new (spent_line host peer entries)
 Plays held new faults_then faults_now ended.WriteFault = HasRisen faults_then faults_now
 Plays held new faults_then faults_now ended.Memory = Unit {0}
 Plays held new faults_then faults_now _ = ⊥
@@ -55,8 +55,8 @@ Ends left read_then read_now held new write_then write_now ended.Written =
 Ends left read_then read_now held new write_then write_now ended.Spent =
     IsSpelled left × Plays held new write_then write_now ended.Spent
 Ends left read_then read_now held new write_then write_now ended.ReadFault =
-    HasRisen read_then read_now × Takes held new read_fault_line
-Ends left read_then read_now held new write_then write_now ended.Usage = Takes held new usage_line
+    HasRisen read_then read_now × SinkGained held new read_fault_line
+Ends left read_then read_now held new write_then write_now ended.Usage = SinkGained held new usage_line
 Ends left read_then read_now held new write_then write_now ended.Refused = IsRefusal left held new
 Ends left read_then read_now held new write_then write_now ended.WriteFault = HasRisen write_then write_now
 Ends left read_then read_now held new write_then write_now ended.Memory = Unit {0}

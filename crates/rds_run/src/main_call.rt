@@ -1,5 +1,5 @@
 ghost use Rattle.std.specs.Prelude.{◌≡◌, ◌≢◌, ◌⊎◌, ◌≤◌, ◌++◌, ℕ, List};
-ghost use Rattle.rds_link.specs.Told.{HasRisen, Takes};
+ghost use Rattle.rds_link.specs.Streaming.{HasRisen, SinkGained};
 ghost use Rattle.rds_script.specs.Script.{IsScript};
 ghost use Rattle.rds_history.specs.Lines.{end_line, spent_line};
 ghost use Rattle.rds_script.specs.declared.cause.Cause.{Cause as Why};
@@ -31,24 +31,24 @@ pub fn rds_main<S: Source, K: Sink>(
 ) -> u8
     ensures usage { (ArePlay words.now → ⊥) → (result ≡ 2) ⊎ ((result ≡ 4) ⊎ (result ≡ 6)) }
     ensures usage_only { result ≡ 2 → ArePlay words.now → ⊥ }
-    ensures usage_text { result ≡ 2 → Takes (K.held sink.old) (K.held sink.new) usage_line }
+    ensures usage_text { result ≡ 2 → SinkGained (K.held sink.old) (K.held sink.new) usage_line }
 
     ensures read_fault { result ≡ 3 → HasRisen (S.faults source.old) (S.faults source.new) }
-    ensures read_fault_text { result ≡ 3 → Takes (K.held sink.old) (K.held sink.new) read_fault_line }
+    ensures read_fault_text { result ≡ 3 → SinkGained (K.held sink.old) (K.held sink.new) read_fault_line }
     ensures write_fault { result ≡ 4 → HasRisen (K.faults sink.old) (K.faults sink.new) }
 
     // The text of the source is refused, and the line that was written says where and why.
     ensures refused { result ≡ 1 → IsRefusal (S.left source.old) (K.held sink.old) (K.held sink.new) }
     // A text that is refused is answered so, unless the source or the sink fails or memory runs out.
     ensures refuses { ArePlay words.now → (line : ℕ) → (cause : Why) → IsToldRefused (S.left source.old) line cause →
-        (result ≡ 1 × Takes (K.held sink.old) (K.held sink.new) (bad_line line (cause_text cause)))
+        (result ≡ 1 × SinkGained (K.held sink.old) (K.held sink.new) (bad_line line (cause_text cause)))
         ⊎ ((result ≡ 3) ⊎ ((result ≡ 4) ⊎ (result ≡ 6))) }
     // The text was read to its end and spells a script, and the whole answer was written.
     ensures read { result ≡ 0 → IsSpelled (S.left source.old) }
-    ensures written { result ≡ 0 → (text : List ℕ) × Takes (K.held sink.old) (K.held sink.new) (text ++ end_line) }
+    ensures written { result ≡ 0 → (text : List ℕ) × SinkGained (K.held sink.old) (K.held sink.new) (text ++ end_line) }
     ensures read_before_spent { result ≡ 7 → IsSpelled (S.left source.old) }
     ensures spent { result ≡ 7 → (host : ℕ) × (peer : ℕ) × (entries : ℕ)
-        × Takes (K.held sink.old) (K.held sink.new) (spent_line host peer entries) }
+        × SinkGained (K.held sink.old) (K.held sink.new) (spent_line host peer entries) }
 
     ensures known { (result ≤ 4) ⊎ ((result ≡ 6) ⊎ (result ≡ 7)) }
 {
@@ -61,7 +61,7 @@ pub fn rds_main<S: Source, K: Sink>(
 
 // Writes a line that is the whole text, and answers the status that goes with it, unless the sink fails.
 fn say<K: Sink>(sink: &mut K, line: &str, status: Status) -> Status
-    ensures said { (result ≡ status × Takes (K.held sink.old) (K.held sink.new) line.now)
+    ensures said { (result ≡ status × SinkGained (K.held sink.old) (K.held sink.new) line.now)
         ⊎ (result ≡ ended.WriteFault × HasRisen (K.faults sink.old) (K.faults sink.new)) }
 {
     match write_all(sink, line.as_bytes()) {

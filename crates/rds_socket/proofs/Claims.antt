@@ -4,7 +4,7 @@ use Rattle.std.proofs.lemmas.List.Elements.{Contains-push_cases, at_from_Contain
 use Rattle.rds_bindtab.specs.declared.view.View.{View}
 use Rattle.rds_bindtab.specs.declared.view.Step.{Step}
 use Rattle.rds_bindtab.specs.declared.view.Step.TheVariants.{Drew, Claimed, Released}
-use Rattle.rds_bindtab.specs.Seats.{Held, knowing, first_view, after_draw, after_exchange, after_release, slot_of, port_of}
+use Rattle.rds_bindtab.specs.Seats.{PortSeat, knowing, first_view, after_draw, after_exchange, after_release, slot_of, port_of}
 use Rattle.rds_parts.specs.Ports.{HasClaimedOnly, port_after, after_claims, IsTaken}
 
 -- a slot that had claimed none claims a port
@@ -44,9 +44,9 @@ claims_released v port only q s m =
     ⊎_elim (λ was. only q s was) (λ (e : Released (port_of v) ≡ Claimed q s 0). absurd (cc)) (Contains-push_cases v.steps (Released (port_of v)) (Claimed q s 0) m)
 
 -- a seat that has only drawn its slot
-pub claims_drawn : (old new : Held) (slots found : ℕ) → old.view ≡ first_view slots → new ≡ knowing old (after_draw old.view found) → HasClaimedOnly None new.view
+pub claims_drawn : (old new : PortSeat) (slots found : ℕ) → old.view ≡ first_view slots → new ≡ knowing old (after_draw old.view found) → HasClaimedOnly None new.view
 claims_drawn old new slots found first is =
     let fresh_only : HasClaimedOnly None (first_view slots) = λ q s m. absurd (let k = at_from_Contains [] (Claimed q s 0) m in let l = k.1 in omega arith) in
     let before : HasClaimedOnly None old.view = subst (HasClaimedOnly None) (sym first) fresh_only in
-    subst (λ (h : Held). HasClaimedOnly None h.view) (sym is)
+    subst (λ (h : PortSeat). HasClaimedOnly None h.view) (sym is)
     (λ q s m. ⊎_elim (λ was. before q s was) (λ (e : Drew found ≡ Claimed q s 0). absurd (cc)) (Contains-push_cases old.view.steps (Drew found) (Claimed q s 0) m))

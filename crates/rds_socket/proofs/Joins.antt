@@ -3,7 +3,7 @@ use Rattle.std.proofs.Common.{◌≡◌, ◌⊎◌, ℕ, zero, suc, ◌+◌, ◌
 use Rattle.std.proofs.lemmas.List.{length-append, append-nil}
 use Rattle.std.proofs.lemmas.List.Elements.{All-head, All-tail}
 use mathlib.Core.Option.{some-injective, some-ne-none}
-use Rattle.rds_words.specs.Views.{At, Each, Has}
+use Rattle.rds_views.specs.Views.{At, Each, Has}
 use Rattle.rds_model.specs.declared.order.Order.{Order}
 use Rattle.rds_model.specs.declared.order.Order.TheVariants as order
 use Rattle.rds_model.specs.declared.order.Datagram.{Datagram}
@@ -12,14 +12,14 @@ use Rattle.rds_mail.specs.Numbers.{Number, Numbered, same_number, items_of, item
 use Rattle.rds_mail.specs.Shared.{IsPart}
 use Rattle.rds_mail.specs.Merging.{is_key, by_key, IsKeyed, KeysBegin}
 use Rattle.rds_parts.specs.Lanes.{IsOf}
-use Rattle.rds_socket.specs.Joins.{slot_in, sender_in, IsFrom, AreMarked, AreTold, KeysAre}
+use Rattle.rds_socket.specs.Joins.{slot_of_order, sender_in, IsFrom, AreMarked, AreTold, KeysAre}
 
 each_of_all : {X : Type 0} (P : X → Type 0) (xs : List X) (i : ℕ) (x : X) → At xs i x → All P xs → P x
 each_of_all P [] i x at all = absurd (some-ne-none x (sym at))
 each_of_all P (y ∷ xs) zero x at all = subst P (some-injective y x at) (All-head P y xs all)
 each_of_all P (y ∷ xs) (suc i) x at all = each_of_all P xs i x at (All-tail P y xs all)
 
-pub key_of_slot : (slot : ℕ) (o : Order) → IsOf slot o → (slot_in o ≡ None) ⊎ (slot_in o ≡ Some slot)
+pub key_of_slot : (slot : ℕ) (o : Order) → IsOf slot o → (slot_of_order o ≡ None) ⊎ (slot_of_order o ≡ Some slot)
 key_of_slot slot (order.Send s sport dport payload) is = inr (ap Some is)
 key_of_slot slot (order.Cancel s dport) is = inr (ap Some is)
 key_of_slot slot (order.CloseSocket s) is = inr (ap Some is)

@@ -3,10 +3,10 @@ use Rattle.std.proofs.Common.{◌≡◌, ◌≤◌, ℕ, List, length, Option, S
 use Rattle.rds_meter.specs.declared.view.View.{View}
 use Rattle.rds_bindtab.specs.Seats as seats
 use Rattle.rds_parts.specs.Ports.{HasClaimedOnly}
-use Rattle.rds_parts.specs.Words.{Purse, purse_with, IsQuiet}
+use Rattle.rds_parts.specs.Words.{Purse, purse_with, IsQuietSeat}
 use Rattle.rds_parts.specs.Boxes.{Box}
 use Rattle.rds_parts.specs.Lanes.{Lane, ArePutOf}
-use Rattle.rds_socket.specs.Holding.{Holding, Open, IsHeld, IsVacant, IsOpen, IsEnded, told_of}
+use Rattle.rds_socket.specs.Holding.{Holding, Open, IsHolding, IsVacant, IsOpen, IsEnded, told_of}
 use Rattle.rds_socket.specs.Calls.{with_own}
 
 module _ {R : Type 0} where
@@ -15,12 +15,12 @@ module _ {R : Type 0} where
   moved h words inbox routes total = record { ports = h.ports; words = words; inbox = inbox; routes = routes; total = total }
 
   pub held_on : (port : Option ℕ) (h : Holding R) (words : Purse) (w : View) (inbox : Box) (routes : List (Lane R)) (total : ℕ)
-      → words ≡ purse_with h.words w → IsQuiet h.words.slot w → ArePutOf h.words.slot routes → total ≤ 18442240474098958336 → IsHeld port h → IsHeld port (moved h words inbox routes total)
+      → words ≡ purse_with h.words w → IsQuietSeat h.words.slot w → ArePutOf h.words.slot routes → total ≤ 18442240474098958336 → IsHolding port h → IsHolding port (moved h words inbox routes total)
   held_on port h words w inbox routes total is quiet orders most k =
-      subst (λ (p : Purse). IsHeld port (moved h p inbox routes total)) (sym is) (record { slot = k.slot; claimed = k.claimed; quiet = quiet; orders = orders; total = most })
+      subst (λ (p : Purse). IsHolding port (moved h p inbox routes total)) (sym is) (record { slot = k.slot; claimed = k.claimed; quiet = quiet; orders = orders; total = most })
 
   pub open_on : (o : Open R) (words : Purse) (w : View) (inbox : Box) (routes : List (Lane R)) (total : ℕ)
-      → words ≡ purse_with o.own.words w → IsQuiet o.own.words.slot w → ArePutOf o.own.words.slot routes → length routes ≡ length o.own.routes → total ≤ 18442240474098958336
+      → words ≡ purse_with o.own.words w → IsQuietSeat o.own.words.slot w → ArePutOf o.own.words.slot routes → length routes ≡ length o.own.routes → total ≤ 18442240474098958336
       → IsOpen o → IsOpen (with_own o (moved o.own words inbox routes total))
   open_on o words w inbox routes total is quiet orders same most k = record {
     port = k.port;
@@ -35,7 +35,7 @@ module _ {R : Type 0} where
   open_routes o routes orders same k = open_on o o.own.words o.own.words.seat.view o.own.inbox routes o.own.total refl k.held.quiet orders same k.held.total k
 
   -- steps on the words alone
-  pub open_words : (o : Open R) (words : Purse) (w : View) → words ≡ purse_with o.own.words w → IsQuiet o.own.words.slot w → IsOpen o → IsOpen (with_own o (moved o.own words o.own.inbox o.own.routes o.own.total))
+  pub open_words : (o : Open R) (words : Purse) (w : View) → words ≡ purse_with o.own.words w → IsQuietSeat o.own.words.slot w → IsOpen o → IsOpen (with_own o (moved o.own words o.own.inbox o.own.routes o.own.total))
   open_words o words w is quiet k = open_on o words w o.own.inbox o.own.routes o.own.total is quiet k.held.orders refl k.held.total k
 
   -- steps on the mailbox alone
@@ -58,10 +58,10 @@ module _ {R : Type 0} where
   pub ended_same_routes : (h : Holding R) (routes : List (Lane R)) → routes ≡ h.routes → IsEnded h → IsEnded (moved h h.words h.inbox routes h.total)
   ended_same_routes h routes same k = ended_routes h routes (subst (ArePutOf h.words.slot) (sym same) k.held.orders) k
 
-  pub open_same_ports : (o : Open R) (ports : seats.Held) → ports ≡ o.own.ports → IsOpen o → IsOpen (with_own o (record { ports = ports; words = o.own.words; inbox = o.own.inbox; routes = o.own.routes; total = o.own.total }))
-  open_same_ports o ports same k = subst (λ (p : seats.Held). IsOpen (with_own o (record { ports = p; words = o.own.words; inbox = o.own.inbox; routes = o.own.routes; total = o.own.total }))) (sym same) k
+  pub open_same_ports : (o : Open R) (ports : seats.PortSeat) → ports ≡ o.own.ports → IsOpen o → IsOpen (with_own o (record { ports = ports; words = o.own.words; inbox = o.own.inbox; routes = o.own.routes; total = o.own.total }))
+  open_same_ports o ports same k = subst (λ (p : seats.PortSeat). IsOpen (with_own o (record { ports = p; words = o.own.words; inbox = o.own.inbox; routes = o.own.routes; total = o.own.total }))) (sym same) k
 
   -- a slot made from its parts
-  pub vacant_of : (ports : seats.Held) (words : Purse) (inbox : Box) (routes : List (Lane R)) → ports.view.slot ≡ Some words.slot → ports.view.port ≡ None → HasClaimedOnly None ports.view
-      → IsQuiet words.slot words.seat.view → ArePutOf words.slot routes → IsVacant (record { ports = ports; words = words; inbox = inbox; routes = routes; total = 0 })
+  pub vacant_of : (ports : seats.PortSeat) (words : Purse) (inbox : Box) (routes : List (Lane R)) → ports.view.slot ≡ Some words.slot → ports.view.port ≡ None → HasClaimedOnly None ports.view
+      → IsQuietSeat words.slot words.seat.view → ArePutOf words.slot routes → IsVacant (record { ports = ports; words = words; inbox = inbox; routes = routes; total = 0 })
   vacant_of ports words inbox routes slot port claimed quiet orders = record { port = port; held = record { slot = slot; claimed = claimed; quiet = quiet; orders = orders; total = omega arith } }

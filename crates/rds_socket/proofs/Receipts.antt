@@ -4,7 +4,7 @@ use Rattle.rds_model.specs.declared.order.Datagram.{Datagram}
 use Rattle.rds_mail.specs.Numbers.{Number}
 use Rattle.rds_parts.specs.Words.{Purse, IsReceipt, after_receipt}
 use Rattle.rds_parts.specs.Boxes.{Box}
-use Rattle.rds_parts.proofs.Changes.{stay_same}
+use Rattle.rds_parts.specs.ChangeLaws.{stay_same}
 use Rattle.rds_fmap.specs.declared.seen.Seen.{Seen}
 use Rattle.rds_socket.specs.Holding.{Holding, Open, IsOpen}
 use Rattle.rds_socket.specs.Calls.{with_own, after_taking_out, IsReceived}

@@ -6,7 +6,7 @@ use Rattle.rds_model.specs.declared.order.Order.{Order}
 use Rattle.rds_fmap.specs.declared.seen.Seen.{Seen}
 use Rattle.rds_parts.specs.Words.{Purse}
 use Rattle.rds_parts.specs.Lanes.{Lane, At, LeadsTo, NoneTo, IsLookAt, IsLookTo, IsPutAt, IsPutTo, ArePutOf, RoutesStay, with_reader}
-use Rattle.rds_parts.proofs.Places.{here}
+use Rattle.rds_parts.specs.PlaceLaws.{here}
 use Rattle.std.proofs.lemmas.Option.{slice_get_within, same_Some}
 use Rattle.rds_socket.specs.declared.error.SendError.{SendError}
 use Rattle.rds_socket.specs.declared.error.SendError.TheVariants as refusal

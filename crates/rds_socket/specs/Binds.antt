@@ -11,15 +11,15 @@ use Rattle.rds_socket.specs.Holding.{Holding, Open}
 
 module _ {R : Type 0} where
   -- the limit word was set, and then the seat at the port table made its steps
-  abbrev pub after_claims_of : Holding R → ℕ → seats.Held → Holding R
+  abbrev pub after_claims_of : Holding R → ℕ → seats.PortSeat → Holding R
   after_claims_of h rcvbuf ports = record { ports = ports; words = purse_with h.words (after_store h.words.seat.view h.words.slot rcvbuf); inbox = h.inbox; routes = h.routes; total = h.total }
 
   -- a socket that was bound just now
-  abbrev pub bound : Holding R → ℕ → ℕ → ℕ → seats.Held → Open R
+  abbrev pub bound : Holding R → ℕ → ℕ → ℕ → seats.PortSeat → Open R
   bound h port sndbuf rcvbuf ports = record { port = port; sndbuf = sndbuf; rcvbuf = rcvbuf; told = None; own = after_claims_of h rcvbuf ports }
 
   -- the seat once its claim of a port was answered
-  abbrev pub after_answer : Holding R → ℕ → Result (Unit {0}) BindError → seats.Held
+  abbrev pub after_answer : Holding R → ℕ → Result (Unit {0}) BindError → seats.PortSeat
   after_answer h port answer = seats.knowing h.ports (after_claim h.ports.view port answer)
 
   -- a bind answers as its one claim

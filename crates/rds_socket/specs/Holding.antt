@@ -2,13 +2,13 @@
 use Rattle.std.specs.Prelude.{◌≡◌, ◌≤◌, ℕ, List, length, Option, Some, None, MatchOption, unwrap_or, is_some}
 use Rattle.rds_bindtab.specs.Seats as seats
 use Rattle.rds_parts.specs.Ports.{HasClaimedOnly}
-use Rattle.rds_parts.specs.Words.{Purse, IsQuiet}
+use Rattle.rds_parts.specs.Words.{Purse, IsQuietSeat}
 use Rattle.rds_parts.specs.Boxes.{Box}
 use Rattle.rds_parts.specs.Lanes.{Lane, ArePutOf}
 
 -- what each of them holds: its seat at the port table, its words, its mailbox, its routes, and the bytes that it has sent in all
 pub record Holding (R : Type 0) : Type 0 where
-  pub ports : seats.Held
+  pub ports : seats.PortSeat
   pub words : Purse
   pub inbox : Box
   pub routes : List (Lane R)
@@ -24,10 +24,10 @@ pub record Open (R : Type 0) : Type 0 where
 
 -- Both seats are of one slot, each port that it claimed is this one, its meter seat is quiet, its queues hold only orders of
 -- its slot and cuts, and its total leaves room for one send more.
-pub record IsHeld {R : Type 0} (port : Option ℕ) (h : Holding R) : Type 0 where
+pub record IsHolding {R : Type 0} (port : Option ℕ) (h : Holding R) : Type 0 where
   pub slot : h.ports.view.slot ≡ Some h.words.slot
   pub claimed : HasClaimedOnly port h.ports.view
-  pub quiet : IsQuiet h.words.slot h.words.seat.view
+  pub quiet : IsQuietSeat h.words.slot h.words.seat.view
   pub orders : ArePutOf h.words.slot h.routes
   pub total : h.total ≤ 18442240474098958336
 
@@ -39,12 +39,12 @@ module _ {R : Type 0} where
   -- a vacant slot holds no port and has claimed none
   pub record IsVacant (h : Holding R) : Type 0 where
     pub port : h.ports.view.port ≡ None
-    pub held : IsHeld None h
+    pub held : IsHolding None h
 
   -- a socket holds its port
   pub record IsOpen (o : Open R) : Type 0 where
     pub port : o.own.ports.view.port ≡ Some o.port
-    pub held : IsHeld (Some o.port) o.own
+    pub held : IsHolding (Some o.port) o.own
     pub sndbuf : (1 ≤ o.sndbuf) × (o.sndbuf ≤ 16777216)
     pub rcvbuf : (2 ≤ o.rcvbuf) × (o.rcvbuf ≤ 16777216)
     pub told : told_of o ≤ length o.own.routes
@@ -52,4 +52,4 @@ module _ {R : Type 0} where
   -- a slot whose use has ended has had one port at most
   pub record IsEnded (h : Holding R) : Type 0 where
     pub port : Option ℕ
-    pub held : IsHeld port h
+    pub held : IsHolding port h

@@ -1,6 +1,6 @@
 -- What passes that were joined show of a line's order queue and of a slot's mailbox. This project's own.
 use Rattle.std.specs.Prelude.{◌≡◌, ℕ, List, All, Option, Some, None}
-use Rattle.rds_words.specs.Views.{Has, Each}
+use Rattle.rds_views.specs.Views.{Has, Each}
 use Rattle.rds_model.specs.declared.order.Order.{Order}
 use Rattle.rds_model.specs.declared.order.Order.TheVariants as order
 use Rattle.rds_model.specs.declared.order.Datagram.{Datagram}
@@ -10,11 +10,11 @@ use Rattle.rds_mail.specs.Merging.{by_key}
 use Rattle.rds_parts.specs.Lanes.{IsOf}
 
 -- the slot of an order, which a cut has not
-abbrev pub slot_in : Order → Option ℕ
-slot_in (order.Send slot sport dport payload) = Some slot
-slot_in (order.Cancel slot dport) = Some slot
-slot_in (order.CloseSocket slot) = Some slot
-slot_in order.Cut = None
+abbrev pub slot_of_order : Order → Option ℕ
+slot_of_order (order.Send slot sport dport payload) = Some slot
+slot_of_order (order.Cancel slot dport) = Some slot
+slot_of_order (order.CloseSocket slot) = Some slot
+slot_of_order order.Cut = None
 
 -- the host that sent a datagram
 abbrev pub sender_in : Datagram → Option ℕ

@@ -8,7 +8,7 @@ ghost use Rattle.rds_model.specs.declared.order.Order.TheVariants as order;
 ghost use Rattle.rds_parts.specs.Lanes.{At, Lane, IsPutTo, ArePutOf};
 ghost use Rattle.rds_parts.specs.Ports.{HasClaimedOnly};
 ghost use Rattle.rds_parts.specs.Refusals.{AskRefused};
-ghost use Rattle.rds_parts.specs.Words.{IsQuiet};
+ghost use Rattle.rds_parts.specs.Words.{IsQuietSeat};
 ghost use Rattle.rds_socket.specs.Calls.{with_inbox, with_routes, after_taking_out};
 ghost use Rattle.rds_socket.specs.Stays.{HoldingStays};
 ghost use Rattle.rds_socket.specs.Holding.{IsEnded};

@@ -1,12 +1,12 @@
 //! What is known once the passes of a queue are joined: a line's order queue, and a slot's mailbox.
 ghost use Rattle.std.specs.Prelude.{◌≡◌, ◌++◌, ℕ, All, map};
-ghost use Rattle.rds_words.specs.Views.{Each};
+ghost use Rattle.rds_views.specs.Views.{Each};
 ghost use Rattle.rds_mail.specs.Numbers.{Number};
 ghost use Rattle.rds_mail.specs.Shared.{IsPart};
 ghost use Rattle.rds_mail.specs.Passes.{with_joined, account_of};
 ghost use Rattle.rds_mail.specs.Merging.{AreAll, KeysBegin};
 ghost use Rattle.rds_parts.specs.Lanes.{IsOf};
-ghost use Rattle.rds_socket.specs.Joins.{slot_in, sender_in, IsFrom, AreMarked, AreTold, KeysAre};
+ghost use Rattle.rds_socket.specs.Joins.{slot_of_order, sender_in, IsFrom, AreMarked, AreTold, KeysAre};
 
 use rds_mail::{Asked, GetPass, Mail, PutPass};
 use rds_model::Datagram;
@@ -24,8 +24,8 @@ pub fn join_orders<W: Wait>(
     requires puts { All (λ p. p.mail ≡ mail.now.line) puts.items }
     requires all { AreAll (get.old.joined ++ map account_of puts.items) }
     ensures joined { get.new ≡ with_joined get.old (map account_of puts.items) }
-    ensures begin { (slot_at : Number → ℕ) → AreMarked IsOf slot_at get.new.joined → KeysBegin slot_in slot_at get.new.got get.new.joined }
-    ensures emptied { (slot_at : Number → ℕ) → AreMarked IsOf slot_at get.new.joined → Each get.new.told (IsPart get.new.got) → AreTold get.new.told get.new.joined → KeysAre slot_in slot_at get.new.got get.new.joined }
+    ensures begin { (slot_at : Number → ℕ) → AreMarked IsOf slot_at get.new.joined → KeysBegin slot_of_order slot_at get.new.got get.new.joined }
+    ensures emptied { (slot_at : Number → ℕ) → AreMarked IsOf slot_at get.new.joined → Each get.new.told (IsPart get.new.got) → AreTold get.new.told get.new.joined → KeysAre slot_of_order slot_at get.new.got get.new.joined }
 {
     mail.gather_keyed(rt, get, puts);
 }

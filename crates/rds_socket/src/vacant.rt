@@ -5,7 +5,7 @@ ghost use Rattle.rds_bindtab.specs.Seats.{slot_of};
 ghost use Rattle.rds_model.specs.declared.order.Order.TheVariants as order;
 ghost use Rattle.rds_meter.specs.Places.{part};
 ghost use Rattle.rds_parts.specs.Ports.{HasClaimedOnly};
-ghost use Rattle.rds_parts.specs.Words.{IsQuiet, Purse};
+ghost use Rattle.rds_parts.specs.Words.{IsQuietSeat, Purse};
 ghost use Rattle.rds_parts.specs.Boxes.{Box};
 ghost use Rattle.rds_parts.specs.Lanes.{Ascend, peers_of, ArePutOf, IsPutTo};
 ghost use Rattle.rds_parts.specs.Refusals.{AskRefused};
@@ -57,7 +57,7 @@ impl<R: MapReader> Vacant<R> {
         requires mail { get.mail ≡ (arc_value inbox).line }
         requires slot { (seat.view.slot ≡ Some (slot_of seat.view)) × (own.slot ≡ Some (slot_of seat.view)) × (slot_of seat.view < 1024) }
         requires port { (seat.view.port ≡ None) × HasClaimedOnly None seat.view }
-        requires quiet { IsQuiet (slot_of seat.view) own.view }
+        requires quiet { IsQuietSeat (slot_of seat.view) own.view }
         requires parts { (word : ℕ) → part word own.view.steps ≡ 0 }
         requires orders { ArePutOf (slot_of seat.view) routes.items }
         requires ascend { Ascend (peers_of routes.items) }

@@ -5,7 +5,7 @@ use Rattle.byteorder.specs.Endian.{big_bytes}
 use Rattle.rds_wire.specs.declared.ext.Ext.{Ext}
 use Rattle.rds_wire.specs.declared.ext.Ext.TheVariants.{Version, RdmaKey, RdmaDest, Paths, Generation}
 use Rattle.rds_wire.specs.Extensions.{ext_bytes, IsExt, StandsAt}
-use Rattle.rds_wire.proofs.Headers.{big_bytes-injective}
+use Rattle.rds_wire.specs.HeaderLaws.{big_bytes-injective}
 
 -- the number of the type
 type_of : Ext → ℕ

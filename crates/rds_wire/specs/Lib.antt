@@ -1,3 +1,6 @@
 pub mod Bytes
 pub mod Kinds
 pub mod Extensions
+pub mod CauseLaws
+pub mod DecodingLaws
+pub mod HeaderLaws

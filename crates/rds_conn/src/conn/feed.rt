@@ -3,7 +3,7 @@ ghost use Rattle.rds_frame.specs.Holding.{nothing_held};
 ghost use Rattle.rds_model.specs.declared.entry.Entry.TheVariants as entry;
 ghost use Rattle.rds_wire.specs.declared.kind.Malformed.{Malformed};
 ghost use Rattle.rds_conn.specs.Connection.{IsReady, stream_of};
-ghost use Rattle.rds_conn.specs.Feeding.{Feeds, Refuses};
+ghost use Rattle.rds_conn.specs.Feeding.{Feeds, RefusesHeader};
 ghost use Rattle.rds_conn.specs.declared.conn.ConnError.TheVariants as errors;
 
 use super::{Conn, ConnError, Fed};
@@ -20,7 +20,7 @@ impl Conn {
 
         ensures closed { (result ≡ Err errors.Closed) ↔ (stream_of self.old ≡ None) }
         ensures closed_still { stream_of self.old ≡ None → self.new ≡ self.old }
-        ensures malformed { (fault : Malformed) → result ≡ Err (errors.Malformed fault) → Refuses piece.now fault self.old self.new }
+        ensures malformed { (fault : Malformed) → result ≡ Err (errors.Malformed fault) → RefusesHeader piece.now fault self.old self.new }
         ensures memory { result ≡ Err errors.Memory → self.new ≡ self.old }
         ensures spent { (entries : ℕ) → result ≢ Err (errors.Spent entries) }
     {

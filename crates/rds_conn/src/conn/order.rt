@@ -3,9 +3,9 @@ ghost use Rattle.rds_wire.specs.declared.kind.TheConstants.{MAX_LENGTH};
 ghost use Rattle.rds_model.specs.declared.entry.Entry.TheVariants as entry;
 ghost use Rattle.rds_model.specs.declared.entry.Target.TheVariants as target;
 ghost use Rattle.rds_model.specs.declared.entry.Msg.{Msg};
-ghost use Rattle.rds_conn.specs.Connection.{IsReady, held, logged};
-ghost use Rattle.rds_conn.specs.Gone.{gone};
-ghost use Rattle.rds_conn.specs.Orders.{IsOrderFor, ordered};
+ghost use Rattle.rds_conn.specs.Connection.{IsReady, freed_bytes_of, with_entries};
+ghost use Rattle.rds_conn.specs.Released.{released_bytes};
+ghost use Rattle.rds_conn.specs.Orders.{IsOrderFor, after_order};
 
 use super::Conn;
 use rds_model::{Entry, Journal, Msg, NO_SLOT, Order, Target};
@@ -18,9 +18,9 @@ impl Conn {
     pub fn order<L: Ledger>(&mut self, order: Order, steps: &mut Steps<L>)
         requires ready { IsReady self.old }
         requires allowed { IsOrderFor self.old.slots order }
-        ensures entry { self.new ≡ record (ordered order self.old) { freed = self.new.freed } }
+        ensures entry { self.new ≡ record (after_order order self.old) { freed = self.new.freed } }
         ensures freed { (slot : ℕ) → slot < self.old.slots →
-            held slot self.new + gone slot self.old.log.past ≡ held slot self.old + gone slot self.new.log.past }
+            freed_bytes_of slot self.new + released_bytes slot self.old.log.past ≡ freed_bytes_of slot self.old + released_bytes slot self.new.log.past }
     {
         match order {
             Order::Send {
@@ -40,8 +40,8 @@ impl Conn {
         requires slot { slot < self.old.slots }
         requires fits { length payload ≤ MAX_LENGTH }
         ensures entry { self.new ≡
-            record (logged (entry.Accept slot sport dport payload ∷ []) self.old) { store_spare = self.old.store_spare - 1 } }
-        ensures gone { (s : ℕ) → gone s self.new.log.past ≡ gone s self.old.log.past }
+            record (with_entries (entry.Accept slot sport dport payload ∷ []) self.old) { store_spare = self.old.store_spare - 1 } }
+        ensures gone { (s : ℕ) → released_bytes s self.new.log.past ≡ released_bytes s self.old.log.past }
     {
         self.accepted += 1;
         accept(
@@ -60,9 +60,9 @@ impl Conn {
     fn cancel<L: Ledger>(&mut self, slot: u16, dport: u16, steps: &mut Steps<L>)
         requires ready { IsReady self.old }
         requires slot { slot < self.old.slots }
-        ensures entry { self.new ≡ record (logged (entry.Cancel slot (target.Port dport) ∷ []) self.old) { freed = self.new.freed } }
+        ensures entry { self.new ≡ record (with_entries (entry.Cancel slot (target.Port dport) ∷ []) self.old) { freed = self.new.freed } }
         ensures freed { (s : ℕ) → s < self.old.slots →
-            held s self.new + gone s self.old.log.past ≡ held s self.old + gone s self.new.log.past }
+            freed_bytes_of s self.new + released_bytes s self.old.log.past ≡ freed_bytes_of s self.old + released_bytes s self.new.log.past }
     {
         let bytes = self.store.cancel(slot, dport, steps);
         self.freed.add(slot, bytes);
@@ -76,9 +76,9 @@ impl Conn {
     fn cancel_all<L: Ledger>(&mut self, slot: u16, steps: &mut Steps<L>)
         requires ready { IsReady self.old }
         requires slot { slot < self.old.slots }
-        ensures entry { self.new ≡ record (logged (entry.Cancel slot target.All ∷ []) self.old) { freed = self.new.freed } }
+        ensures entry { self.new ≡ record (with_entries (entry.Cancel slot target.All ∷ []) self.old) { freed = self.new.freed } }
         ensures freed { (s : ℕ) → s < self.old.slots →
-            held s self.new + gone s self.old.log.past ≡ held s self.old + gone s self.new.log.past }
+            freed_bytes_of s self.new + released_bytes s self.old.log.past ≡ freed_bytes_of s self.old + released_bytes s self.new.log.past }
     {
         let bytes = self.store.cancel_all(slot, steps);
         self.freed.add(slot, bytes);

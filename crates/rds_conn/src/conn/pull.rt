@@ -2,8 +2,8 @@ ghost use Rattle.std.specs.Prelude.{◌≡◌, ◌↔◌, ℕ, ◌<◌, [], fals
 ghost use Rattle.rds_wire.specs.declared.frame.Frame.{Frame};
 ghost use Rattle.rds_model.specs.Past.{Accepted, datagram};
 ghost use Rattle.rds_model.specs.Streams.{was_pulled as pulled_before};
-ghost use Rattle.rds_model.specs.Alive.{due, is_alive};
-ghost use Rattle.rds_model.specs.Owed.{asks_with, data_frame as owed_data, header_of as owed_header, is_last_map, last_map, map_frame as owed_map, owed, owed_behind};
+ghost use Rattle.rds_model.specs.Alive.{due_numbers, is_alive};
+ghost use Rattle.rds_model.specs.Owed.{asks_with, data_frame as owed_data, header_of as owed_header, is_last_map, last_map, map_frame as owed_map, owed_frame, owed_after_map};
 ghost use Rattle.rds_conn.specs.Choosing.{IsFirstDue, IsMessage, IsNextDue};
 ghost use Rattle.rds_conn.specs.Connection.{IsReady, stream_of};
 ghost use Rattle.rds_conn.specs.Pulling.{Pulls, PullsFrame};
@@ -24,8 +24,8 @@ impl Conn {
         requires { IsReady self.old }
         ensures down { (result ≡ Ok pulled.Down) ↔ (stream_of self.old ≡ None) }
         ensures still { stream_of self.old ≡ None → (self.new ≡ self.old) × (out.new ≡ out.old) }
-        ensures owed { IfSome (stream_of self.old) (λ k.
-            IfOk result (Pulls k (owed k self.old.log.past map.now) self.old self.new out.old out.new)) }
+        ensures owed { IfSome (stream_of self.old) (λ s.
+            IfOk result (Pulls s (owed_frame s self.old.log.past map.now) self.old self.new out.old out.new)) }
         ensures err { OnErr result ((self.new ≡ self.old) × (out.new ≡ out.old)) }
         ensures memory { IfErr result (λ e. e ≡ errors.Memory) }
     {
@@ -43,13 +43,13 @@ impl Conn {
 
     // Whether the map was pulled last on the open stream.
     fn has_pulled(&self, map: &PortMap) -> bool
-        ensures { (k : ℕ) → stream_of self.now ≡ Some k → result ≡ is_last_map (last_map k self.now.log.past) map.now }
+        ensures { (s : ℕ) → stream_of self.now ≡ Some s → result ≡ is_last_map (last_map s self.now.log.past) map.now }
     {
         self.mapped && self.map.same(map)
     }
 
     fn next_due(&self) -> Option<Msg>
-        ensures { (k : ℕ) → stream_of self.now ≡ Some k → IsNextDue k self.now.log.past result }
+        ensures { (s : ℕ) → stream_of self.now ≡ Some s → IsNextDue s self.now.log.past result }
     {
         self.store.next_to_pull().copied()
     }
@@ -117,8 +117,8 @@ impl Conn {
         requires ready { IsReady self.old }
         requires on { stream_of self.old ≡ Some stream }
         requires behind { IsSome (last_map stream self.old.log.past) }
-        requires none { due stream self.old.log.past ≡ [] }
-        ensures owed { IfOk result (Pulls stream (owed_behind stream self.old.log.past []) self.old self.new out.old out.new) }
+        requires none { due_numbers stream self.old.log.past ≡ [] }
+        ensures owed { IfOk result (Pulls stream (owed_after_map stream self.old.log.past []) self.old self.new out.old out.new) }
         ensures err { OnErr result ((self.new ≡ self.old) × (out.new ≡ out.old)) }
         ensures memory { IfErr result (λ e. e ≡ errors.Memory) }
     {

@@ -6,11 +6,11 @@ ghost use Rattle.rds_model.specs.declared.entry.Outcome.TheVariants as outcomes;
 ghost use Rattle.rds_model.specs.declared.entry.Verdict.TheVariants as verdict;
 ghost use Rattle.rds_model.specs.Legal.{pong_for};
 ghost use Rattle.rds_model.specs.Reading.{verdict_of as verdict_after, Obeys};
-ghost use Rattle.rds_msgs.specs.Held.{bytes_of};
-ghost use Rattle.rds_conn.specs.Connection.{IsReady, held, stream_of};
+ghost use Rattle.rds_msgs.specs.Messages.{bytes_of};
+ghost use Rattle.rds_conn.specs.Connection.{IsReady, freed_bytes_of, stream_of};
 ghost use Rattle.rds_conn.specs.Freeing.{Frees, acknowledged};
-ghost use Rattle.rds_conn.specs.Gone.{gone};
-ghost use Rattle.rds_conn.specs.Passing.{Matches, outcome_of as outcome_after, passed};
+ghost use Rattle.rds_conn.specs.Released.{released_bytes};
+ghost use Rattle.rds_conn.specs.Passing.{Matches, outcome_of as outcome_after, after_pass};
 
 use super::order::accept;
 use super::{Conn, Found};
@@ -44,11 +44,11 @@ impl Conn {
         requires ready { IsReady self.old }
         requires waiting { IsSome self.old.waiting }
         requires found { IfSome self.old.waiting (λ f. Matches self.old.slots (verdict_after self.old.log.past f.header) found) }
-        ensures entry { (k : ℕ) (f : Frame) → stream_of self.old ≡ Some k → self.old.waiting ≡ Some f →
-            self.new ≡ record (passed k f (outcome_after (verdict_after self.old.log.past f.header) found) self.old)
+        ensures entry { (s : ℕ) (f : Frame) → stream_of self.old ≡ Some s → self.old.waiting ≡ Some f →
+            self.new ≡ record (after_pass s f (outcome_after (verdict_after self.old.log.past f.header) found) self.old)
             { freed = self.new.freed } }
         ensures freed { (slot : ℕ) → slot < self.old.slots →
-            held slot self.new + gone slot self.old.log.past ≡ held slot self.old + gone slot self.new.log.past }
+            freed_bytes_of slot self.new + released_bytes slot self.old.log.past ≡ freed_bytes_of slot self.old + released_bytes slot self.new.log.past }
         ensures on { IsSome (stream_of self.old) }
     {
         self.known();
@@ -66,10 +66,10 @@ impl Conn {
         requires waiting { IsSome self.old.waiting }
         requires lawful { IfSome self.old.waiting (λ f. Obeys (verdict_after self.old.log.past f.header) outcome) }
         requires no_pong { (port : ℕ) → pong_for outcome port ≡ None }
-        ensures entry { (k : ℕ) (f : Frame) → stream_of self.old ≡ Some k → self.old.waiting ≡ Some f →
-            self.new ≡ record (passed k f outcome self.old) { freed = self.new.freed } }
+        ensures entry { (s : ℕ) (f : Frame) → stream_of self.old ≡ Some s → self.old.waiting ≡ Some f →
+            self.new ≡ record (after_pass s f outcome self.old) { freed = self.new.freed } }
         ensures freed { (slot : ℕ) → slot < self.old.slots →
-            held slot self.new + gone slot self.old.log.past ≡ held slot self.old + gone slot self.new.log.past }
+            freed_bytes_of slot self.new + released_bytes slot self.old.log.past ≡ freed_bytes_of slot self.old + released_bytes slot self.new.log.past }
         ensures on { IsSome (stream_of self.old) }
     {
         let Some(stream) = self.stream else {
@@ -94,10 +94,10 @@ impl Conn {
         requires ready { IsReady self.old }
         requires waiting { IfSome self.old.waiting (λ f. verdict_after self.old.log.past f.header ≡ verdict.Ping) }
         requires one { IsSome self.old.waiting }
-        ensures entry { (k : ℕ) (f : Frame) → stream_of self.old ≡ Some k → self.old.waiting ≡ Some f →
-            self.new ≡ record (passed k f outcomes.Ping self.old) { freed = self.new.freed } }
+        ensures entry { (s : ℕ) (f : Frame) → stream_of self.old ≡ Some s → self.old.waiting ≡ Some f →
+            self.new ≡ record (after_pass s f outcomes.Ping self.old) { freed = self.new.freed } }
         ensures freed { (slot : ℕ) → slot < self.old.slots →
-            held slot self.new + gone slot self.old.log.past ≡ held slot self.old + gone slot self.new.log.past }
+            freed_bytes_of slot self.new + released_bytes slot self.old.log.past ≡ freed_bytes_of slot self.old + released_bytes slot self.new.log.past }
         ensures on { IsSome (stream_of self.old) }
     {
         let Some(stream) = self.stream else {

@@ -1,6 +1,6 @@
 ghost use Rattle.std.specs.Prelude.{◌≡◌, ◌≢◌, ℕ, ◌+◌, ◌<◌, [], OnOk, OnErr, IfSome, IsSome, length};
 ghost use Rattle.rds_wire.specs.declared.kind.Malformed.{Malformed};
-ghost use Rattle.rds_conn.specs.Connection.{readied};
+ghost use Rattle.rds_conn.specs.Connection.{with_room};
 ghost use Rattle.rds_conn.specs.Readying.{unready_as};
 ghost use Rattle.rds_conn.specs.declared.conn.ConnError.TheVariants as errors;
 
@@ -12,7 +12,7 @@ use std::alloc::Global;
 impl Conn {
     /// Makes the connection ready for one more call: room for two entries and a message, and the payload of a pong.
     pub fn reserve(&mut self) -> Result<(), ConnError>
-        ensures ok { OnOk result (self.new ≡ readied self.old) }
+        ensures ok { OnOk result (self.new ≡ with_room self.old) }
         ensures err { OnErr result (self.new ≡ self.old) }
         ensures spent { (entries : ℕ) → result ≡ Err (errors.Spent entries) →
             (entries ≡ length self.old.log.past) × (self.old.log.limit < length self.old.log.past + 2) }

@@ -1,7 +1,7 @@
 ghost use Rattle.std.specs.Prelude.{◌≡◌, ◌<◌, [], ◌∷◌, None, IsSome, IfSome};
 ghost use Rattle.rds_model.specs.declared.entry.Entry.TheVariants as entry;
 ghost use Rattle.rds_model.specs.Past.{newest_stream};
-ghost use Rattle.rds_conn.specs.Connection.{IsReady, logged, stream_of};
+ghost use Rattle.rds_conn.specs.Connection.{IsReady, with_entries, stream_of};
 
 use super::Conn;
 use crate::asking::Asking;
@@ -13,7 +13,7 @@ impl Conn {
         requires ready { IsReady self.old }
         requires closed { stream_of self.old ≡ None }
         requires newer { newest_stream self.old.log.past < stream }
-        ensures { self.new ≡ logged (entry.Open stream ∷ []) self.old }
+        ensures { self.new ≡ with_entries (entry.Open stream ∷ []) self.old }
     {
         self.journal.push(Entry::Open { stream });
         self.spare -= 1;
@@ -26,8 +26,8 @@ impl Conn {
     pub fn shut(&mut self)
         requires ready { IsReady self.old }
         requires on { IsSome (stream_of self.old) }
-        ensures { IfSome (stream_of self.old) (λ k. self.new ≡
-            record (logged (entry.Shut k ∷ []) self.old) { waiting = None; rest = [] }) }
+        ensures { IfSome (stream_of self.old) (λ s. self.new ≡
+            record (with_entries (entry.Shut s ∷ []) self.old) { waiting = None; rest = [] }) }
     {
         let Some(stream) = self.stream else {
             return;

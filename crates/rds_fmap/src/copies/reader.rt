@@ -1,5 +1,5 @@
 ghost use Rattle.left_right.specs.Sides.{view};
-ghost use Rattle.rds_fmap.specs.Entries.{IsLatest, LookDone, Takes};
+ghost use Rattle.rds_fmap.specs.Entries.{IsLatest, LookDone, TakesCopy};
 
 use super::plays::Enter;
 use super::shown::Shown;
@@ -65,7 +65,7 @@ impl Reader {
 // Tries to enter, and takes the map that is shown into the copy.
 fn take(ruled: RuledReader, copy: &mut Shown) -> RuledReader
     requires { IsLatest (view ruled.place).found copy.old }
-    ensures { Takes (view ruled.place) copy.old (view result.place) copy.new }
+    ensures { TakesCopy (view ruled.place) copy.old (view result.place) copy.new }
 {
     match ruled.enter_as::<Enter>() {
         Ok(reading) => {

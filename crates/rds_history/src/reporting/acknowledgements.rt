@@ -1,6 +1,6 @@
 ghost use Rattle.std.specs.Prelude.{◌≡◌, ◌∷◌, List, IfOk};
 ghost use Rattle.rds_model.specs.declared.entry.Entry.{Entry as Event};
-ghost use Rattle.rds_model.specs.Past.{acked as acked_in};
+ghost use Rattle.rds_model.specs.Past.{highest_ack as acked_in};
 ghost use Rattle.rds_history.specs.Walks.{acknowledgements as acknowledgements_of};
 
 use rds_model::{Entry, Journal};

@@ -1,7 +1,7 @@
 ghost use Rattle.std.specs.Prelude.{◌≡◌, ◌∷◌, ℕ, false, List, IfOk, OnOk};
 ghost use Rattle.rds_model.specs.declared.entry.Entry.{Entry as Event};
 ghost use Rattle.rds_model.specs.declared.entry.Entry.TheVariants as entries;
-ghost use Rattle.rds_model.specs.Past.{accepted, acked as acked_in};
+ghost use Rattle.rds_model.specs.Past.{accepted, highest_ack as acked_in};
 ghost use Rattle.rds_model.specs.Alive.{was_taken_back};
 ghost use Rattle.rds_history.specs.Items.{flags};
 ghost use Rattle.rds_history.specs.Walks.{IsWalk};

@@ -1,6 +1,6 @@
 //! What two ends tell each other once one caller has both.
 ghost use Rattle.std.specs.Prelude.{◌≡◌, ℕ};
-ghost use Rattle.rds_link.specs.Seats.{knowing, heard, Found, IsEnd};
+ghost use Rattle.rds_link.specs.Seats.{knowing, heard, FitsKnown, IsEnd};
 
 use crate::words::plays::{Hearing, Learn, Noting};
 use crate::words::seat::{EndSeat, FIRST};
@@ -11,8 +11,8 @@ impl EndSeat {
         requires { a.old.words ≡ b.old.words }
         ensures first { a.new ≡ knowing a.old (heard a.old.view b.old.view) }
         ensures second { b.new ≡ knowing b.old (heard b.old.view a.old.view) }
-        ensures there { (n : ℕ) × Found a.new.view n }
-        ensures back { (n : ℕ) × Found b.new.view n }
+        ensures there { (n : ℕ) × FitsKnown a.new.view n }
+        ensures back { (n : ℕ) × FitsKnown b.new.view n }
         ensures ends { IsEnd a.new.view × IsEnd b.new.view }
     {
         a.hear(b);
@@ -35,7 +35,7 @@ impl EndSeat {
     // A load that changes nothing, and finds a number that fits what the end knows.
     fn learn(&mut self)
         ensures same { self.new ≡ self.old }
-        ensures found { (n : ℕ) × Found self.old.view n }
+        ensures found { (n : ℕ) × FitsKnown self.old.view n }
         ensures end { IsEnd self.old.view }
     {
         let shared = &self.words.shared;

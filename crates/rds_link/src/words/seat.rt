@@ -1,5 +1,5 @@
 ghost use Rattle.std.specs.Prelude.{◌≡◌, ◌↔◌, ◌+◌, ◌≤◌, ◌<◌, ℕ, IfOk, IsTrue, true};
-ghost use Rattle.rds_link.specs.Seats.{knowing, fresh, after_draw, after_look, after_shut, Found, KnowsOther};
+ghost use Rattle.rds_link.specs.Seats.{knowing, fresh, after_draw, after_look, after_shut, FitsKnown, KnowsOther};
 
 use crate::words::plays::{Draw, Halving, Look, Shut};
 use crate::words::rule::StreamRule;
@@ -28,9 +28,9 @@ pub struct EndSeat {
 impl Model for EndSeat {
     ghost use Rattle.std.specs.Prelude.{◌≡◌, ◌≤◌, [], true};
     ghost use Rattle.std.specs.Arc.{arc_value};
-    ghost use Rattle.rds_link.specs.Seats.{SeatView};
+    ghost use Rattle.rds_link.specs.Seats.{StreamSeat};
 
-    ghost Value = { SeatView };
+    ghost Value = { StreamSeat };
 
     ghost view = { λ s. record { words = s.seat.table_id; view = s.seat.me.0 } };
 
@@ -78,7 +78,7 @@ impl EndSeat {
     /// Whether one load finds that the other end shut first.
     pub fn look(&mut self) -> bool
         ensures seat { self.new ≡ knowing self.old (after_look self.old.view self.new.view.first) }
-        ensures found { Found self.old.view self.new.view.first }
+        ensures found { FitsKnown self.old.view self.new.view.first }
         ensures other { IsTrue result ↔ KnowsOther self.new.view }
     {
         let shared = &self.words.shared;
@@ -89,7 +89,7 @@ impl EndSeat {
     /// Shuts the end by one compare and exchange. The end shut first where it finds 0.
     pub fn shut(&mut self)
         ensures seat { self.new ≡ knowing self.old (record self.old.view { first = self.new.view.first; shut = true }) }
-        ensures found { (n : ℕ) × (self.new.view ≡ after_shut self.old.view n) × Found self.old.view n }
+        ensures found { (n : ℕ) × (self.new.view ≡ after_shut self.old.view n) × FitsKnown self.old.view n }
         ensures again { self.old.view.shut ≡ true → self.new ≡ self.old }
     {
         let shared = &self.words.shared;

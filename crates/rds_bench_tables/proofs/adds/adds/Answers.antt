@@ -1,7 +1,7 @@
 use Rattle.std.proofs.Common.{ap, ◌∙◌, arith}
 use Rattle.rds_meter.specs.Places.{part}
-use Rattle.rds_meter.specs.Seats.{Held}
-use Rattle.rds_meter.proofs.Parts.{part-after_add}
+use Rattle.rds_meter.specs.Seats.{MeterSeat}
+use Rattle.rds_meter.specs.PartLaws.{part-after_add}
 use Rattle.rds_bench_tables.proofs.adds.adds.Goals as goal
 
 pub loop-preserved : goal.loop-preserved
@@ -9,6 +9,6 @@ loop-preserved c =
     let i = c.loop.invariant in
     let e = c.put_add.ensures.seat in
     let p = part-after_add c.loop.seat.view 2048 1 c.put_add.result in
-    let s = ap (λ (h : Held). part 2048 h.view.steps) e in
+    let s = ap (λ (h : MeterSeat). part 2048 h.view.steps) e in
     let m = i.part in
-    record { table = ap (λ (h : Held). h.table) e ∙ i.table; part = omega arith }
+    record { table = ap (λ (h : MeterSeat). h.table) e ∙ i.table; part = omega arith }

@@ -3,7 +3,7 @@ use Rattle.std.specs.Prelude.{IfOk}
 use Rattle.rds_wire.specs.declared.kind.Malformed.{Malformed}
 use Rattle.rds_model.specs.Past.{newest_stream}
 use Rattle.rds_conn.specs.Connection.{Connection, stream_of}
-use Rattle.rds_conn.specs.Feeding.{Feeds, Refuses}
+use Rattle.rds_conn.specs.Feeding.{Feeds, RefusesHeader}
 use Rattle.rds_conn.specs.declared.conn.Fed.{Fed}
 use Rattle.rds_conn.specs.declared.conn.ConnError.{ConnError}
 use Rattle.rds_conn.specs.declared.conn.ConnError.TheVariants as errors
@@ -16,7 +16,7 @@ newest c = newest_stream c.log.past
 newest_fed : (piece : List ℕ) (old new : Connection) (result : Result Fed ConnError) →
     IfOk result (Feeds piece old new) →
     (result ≡ Err errors.Closed → stream_of old ≡ None) → (stream_of old ≡ None → new ≡ old) →
-    ((fault : Malformed) → result ≡ Err (errors.Malformed fault) → Refuses piece fault old new) →
+    ((fault : Malformed) → result ≡ Err (errors.Malformed fault) → RefusesHeader piece fault old new) →
     (result ≡ Err errors.Memory → new ≡ old) →
     ((entries : ℕ) → result ≡ Err (errors.Spent entries) → ⊥) → newest new ≡ newest old
 newest_fed piece old new (Ok fed) feeds closed still malformed memory spent = ap newest feeds.rest_same

@@ -10,17 +10,17 @@ use Rattle.rds_conn.proofs.tests.pull.Goals as goal
 abbrev newest : Connection → ℕ
 newest c = newest_stream c.log.past
 
-newest_of : (k : ℕ) (frame : Option Frame) (old new : Connection) (out_old out_new : List ℕ) (came : Pulled) →
-    Pulls k frame old new out_old out_new came → newest new ≡ newest old
-newest_of k None old new out_old out_new came pulls = ap newest pulls.same
-newest_of k (Some f) old new out_old out_new came pulls = ap newest pulls.entry
+newest_of : (s : ℕ) (frame : Option Frame) (old new : Connection) (out_old out_new : List ℕ) (came : Pulled) →
+    Pulls s frame old new out_old out_new came → newest new ≡ newest old
+newest_of s None old new out_old out_new came pulls = ap newest pulls.same
+newest_of s (Some f) old new out_old out_new came pulls = ap newest pulls.entry
 
 -- no pull opens a stream
 newest_pulled : (on : Option ℕ) (frame : ℕ → Option Frame) (old new : Connection) (out_old out_new : List ℕ) (came : Pulled) →
-    (on ≡ None → (new ≡ old) × (out_new ≡ out_old)) → IfSome on (λ k. Pulls k (frame k) old new out_old out_new came) →
+    (on ≡ None → (new ≡ old) × (out_new ≡ out_old)) → IfSome on (λ s. Pulls s (frame s) old new out_old out_new came) →
     newest new ≡ newest old
 newest_pulled None frame old new out_old out_new came still pulls = ap newest (still refl).0
-newest_pulled (Some k) frame old new out_old out_new came still pulls = newest_of k (frame k) old new out_old out_new came pulls
+newest_pulled (Some s) frame old new out_old out_new came still pulls = newest_of s (frame s) old new out_old out_new came pulls
 
 pub returns : goal.returns
 returns c =

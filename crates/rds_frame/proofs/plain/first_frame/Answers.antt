@@ -3,7 +3,7 @@ use Rattle.std.proofs.lemmas.List.{length-take-le}
 use Rattle.rds_wire.specs.declared.frame.Frame.{Frame}
 use Rattle.rds_wire.specs.declared.kind.Malformed.{Malformed}
 use Rattle.rds_wire.specs.Kinds.{cause, kind_of}
-use Rattle.rds_wire.proofs.Causes.{answered-err, answered-ok, len-cause}
+use Rattle.rds_wire.specs.CauseLaws.{answered-err, answered-ok, len-cause}
 use Rattle.rds_frame.specs.declared.took.FrameError.{FrameError}
 use Rattle.rds_frame.specs.declared.took.FrameError.TheVariants as errors
 use Rattle.rds_frame.proofs.FirstFrame.{IsFront, BeginsMalformed-front, IsPartial-front, IsSound-front}

@@ -4,15 +4,15 @@ use Rattle.std.specs.List.{flat_map}
 use Rattle.std.proofs.lemmas.Result.{err_from_is_err_and}
 use Rattle.rds_wire.specs.declared.frame.Frame.{Frame}
 use Rattle.rds_frame.specs.Splitting.{frames_bytes, IsMalformed}
-use Rattle.rds_frame.specs.Holding.{Held, held_bytes, IsFed, nothing_held}
+use Rattle.rds_frame.specs.Holding.{SplitterView, held_bytes, IsFed, nothing_held}
 use Rattle.rds_frame.proofs.Feeding.{IsFed-nothing, IsMalformed-pieces, Splits-fed-only}
 use Rattle.rds_frame.proofs.stream.frames_of.Goals as goal
 
 pub loop-piece-init : goal.loop-piece-init
 loop-piece-init c =
     let new = c.in_ok-splitter.ensures {u = tt} in (
-      ap (λ (h : Held). h.waiting) new.fresh,
-      subst (λ (h : Held). IsFed c.args.highest [] c.new-frames.result.items h) (sym new.fresh)
+      ap (λ (h : SplitterView). h.waiting) new.fresh,
+      subst (λ (h : SplitterView). IsFed c.args.highest [] c.new-frames.result.items h) (sym new.fresh)
           (subst (λ (frames : List Frame). IsFed c.args.highest [] frames nothing_held) (sym c.new-frames.ensures.items) (IsFed-nothing c.args.highest)),
     )
 

@@ -1,6 +1,6 @@
 use Rattle.std.proofs.Common.{◌≡◌, Global, String, Err, List, ◌++◌, subst}
 use Rattle.std.specs.Prelude.{string_bytes}
-use Rattle.rds_link.specs.Told.{Takes}
+use Rattle.rds_link.specs.Streaming.{SinkGained}
 use Rattle.rds_history.specs.Events.{Event}
 use Rattle.rds_history.specs.History.{ends}
 use Rattle.rds_history.specs.Report.{report}
@@ -19,7 +19,7 @@ returns-in-Err-Spent-clause-exact_spent g c = λ told host peer entries is.
     c.in-Err-Spent.field-0-is (c.in-Err-Spent.ensures.exact told) in
     let line = line_made (λ (past : List Event) (made : String Global). string_bytes made ≡ lines past ++ report (ends s.hosts past)) s.hosts host peer entries
     (course s c.args.limit) c.in-Err-Spent.full here wrote.0 in
-    (line.0, subst (Takes (g.K.Sink.held c.args.sink.now) (g.K.Sink.held c.write_spent.new.sink)) line.1 wrote.1)
+    (line.0, subst (SinkGained (g.K.Sink.held c.args.sink.now) (g.K.Sink.held c.write_spent.new.sink)) line.1 wrote.1)
 
 pub returns-in-Ok-clause-in_order : goal.returns-in-Ok-clause-in_order
 returns-in-Ok-clause-in_order g c = λ past h slot is. in_order_at_last c.args.script.now c.args.limit past h slot is

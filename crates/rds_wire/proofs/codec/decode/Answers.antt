@@ -1,6 +1,6 @@
 use Rattle.std.proofs.Common.{get_or, refl, arith}
 use Rattle.rds_wire.specs.declared.header.Header.{Header}
-use Rattle.rds_wire.proofs.Decoding.{header_bytes-shown}
+use Rattle.rds_wire.specs.DecodingLaws.{header_bytes-shown}
 use Rattle.rds_wire.proofs.codec.decode.Goals as goal
 
 pub returns : goal.returns

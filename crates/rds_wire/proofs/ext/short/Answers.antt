@@ -1,5 +1,5 @@
 use Rattle.std.proofs.Common.{arith}
-use Rattle.rds_wire.proofs.Decoding.{take-number_2}
+use Rattle.rds_wire.specs.DecodingLaws.{take-number_2}
 use Rattle.rds_wire.proofs.ext.short.Goals as goal
 
 pub returns-clause-found : goal.returns-clause-found

@@ -1,5 +1,5 @@
-use Rattle.rds_wire.proofs.Decoding.{header_of, header_bytes-header_of, IsHeader-header_of}
-use Rattle.rds_wire.proofs.Headers.{length-header_bytes, IsBytes-header_bytes, header_bytes-injective}
+use Rattle.rds_wire.specs.DecodingLaws.{header_of, header_bytes-header_of, IsHeader-header_of}
+use Rattle.rds_wire.specs.HeaderLaws.{length-header_bytes, IsBytes-header_bytes, header_bytes-injective}
 use Rattle.rds_wire.proofs.laws.one_header.Goals as goal
 
 pub returns : goal.returns

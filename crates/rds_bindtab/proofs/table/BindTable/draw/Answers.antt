@@ -1,5 +1,5 @@
 use Rattle.std.proofs.Common.{sym, ap, ◌∙◌, arith}
-use Rattle.rds_bindtab.specs.Seats.{Held}
+use Rattle.rds_bindtab.specs.Seats.{PortSeat}
 use Rattle.rds_bindtab.proofs.Seated.{same_table}
 use Rattle.rds_bindtab.proofs.Draws.{draws}
 use Rattle.rds_bindtab.proofs.table.BindTable.draw.Goals as goal
@@ -8,6 +8,6 @@ pub fetch_add-found-requires : goal.fetch_add-found-requires
 fetch_add-found-requires c =
     let of = same_table _ _ _ _ _ _ c.seat.view_is c.self.view_is c.requires.table in
     let i = c.seat.invariant in
-    let slot = ap (λ (h : Held). h.view.slot) c.seat.view_is ∙ c.requires.slot in
-    let few = ap (λ (h : Held). h.view.draws) c.seat.view_is in
+    let slot = ap (λ (h : PortSeat). h.view.slot) c.seat.view_is ∙ c.requires.slot in
+    let few = ap (λ (h : PortSeat). h.view.draws) c.seat.view_is in
     (of.0, (let w = c.self.invariant.1 in omega arith), draws _ _ _ c.seat.inside.seat.me slot (sym i.1 ∙ i.4 (i.0 ∙ slot)) (of.1 ∙ sym c.self.invariant.0) (let e = c.requires.draws in omega arith) i.2)

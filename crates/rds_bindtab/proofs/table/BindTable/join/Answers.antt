@@ -1,5 +1,5 @@
 use Rattle.std.proofs.Common.{ap, ◌∙◌, arith}
-use Rattle.rds_bindtab.specs.Seats.{Held}
+use Rattle.rds_bindtab.specs.Seats.{PortSeat}
 use Rattle.rds_bindtab.proofs.Seated.{same_table}
 use Rattle.rds_bindtab.proofs.Joins.{joins}
 use Rattle.rds_bindtab.proofs.table.BindTable.join.Goals as goal
@@ -12,5 +12,5 @@ join_seat-requires c =
       from.0,
       c.from.invariant.3,
       (let w = c.self.invariant.1 in omega arith),
-      joins _ _ _ c.into.inside.seat.me.0 c.from.inside.seat.me.0 (ap (λ (h : Held). h.view.port) c.from.view_is ∙ c.requires.port),
+      joins _ _ _ c.into.inside.seat.me.0 c.from.inside.seat.me.0 (ap (λ (h : PortSeat). h.view.port) c.from.view_is ∙ c.requires.port),
     )

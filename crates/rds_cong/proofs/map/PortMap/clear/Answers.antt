@@ -1,7 +1,7 @@
 use Rattle.std.proofs.Common.{subst, ap, ◌∙◌}
 use Rattle.rds_cong.specs.Map.{IsMap, without_port}
 use Rattle.rds_cong.proofs.InPlace.{taken_at, ports_taken}
-use Rattle.rds_cong.proofs.Words.{IsMap-bytes}
+use Rattle.rds_cong.specs.WordLaws.{IsMap-bytes}
 use Rattle.rds_cong.proofs.map.PortMap.clear.Goals as goal
 
 pub returns-clause-value : goal.returns-clause-value

@@ -1,6 +1,6 @@
 use Rattle.std.proofs.Common.{subst}
 use Rattle.rds_cong.specs.Map.{IsMap}
-use Rattle.rds_cong.proofs.Words.{IsMap-bytes}
+use Rattle.rds_cong.specs.WordLaws.{IsMap-bytes}
 use Rattle.rds_cong.proofs.map.PortMap.known.Goals as goal
 
 pub returns : goal.returns

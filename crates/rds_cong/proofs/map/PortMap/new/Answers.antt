@@ -1,8 +1,8 @@
 use Rattle.std.proofs.Common.{refl}
 use Rattle.rds_cong.specs.Map.{no_ports}
 use Rattle.rds_cong.specs.declared.map.TheConstants.{WORDS, MAP_BYTES}
-use Rattle.rds_cong.proofs.Words.{bytes-zeros, IsWords-zeros}
-use Rattle.rds_cong.proofs.Ports.{has_port-zeros}
+use Rattle.rds_cong.specs.WordLaws.{bytes-zeros, IsWords-zeros}
+use Rattle.rds_cong.specs.PortLaws.{has_port-zeros}
 use Rattle.rds_cong.proofs.map.PortMap.new.Goals as goal
 
 pub invariant_of-result : goal.invariant_of-result

@@ -1,6 +1,6 @@
 use Rattle.std.proofs.Common.{sym, ap, ◌∙◌, ◌≡◌, ◌<◌, ◌*◌, length, subst, arith}
 use Rattle.std.proofs.lemmas.List.{with_items_is, get_or_default}
-use Rattle.rds_cong.proofs.Words.{bytes_of, bytes-read}
+use Rattle.rds_cong.specs.WordLaws.{bytes_of, bytes-read}
 use Rattle.rds_cong.proofs.map.PortMap.of_bytes.Goals as goal
 
 pub returns : goal.returns

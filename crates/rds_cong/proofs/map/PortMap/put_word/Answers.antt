@@ -1,8 +1,8 @@
 use Rattle.std.proofs.Common.{ap, sym, subst, ◌<◌, ◌∙◌, ◌==◌, ◌/◌, ◌%◌, if◌then◌else◌}
 use Rattle.std.specs.Int.{bit_at}
 use Rattle.rds_cong.specs.Map.{has_port, with_word}
-use Rattle.rds_cong.proofs.Words.{bytes-set}
-use Rattle.rds_cong.proofs.Ports.{has_port-word}
+use Rattle.rds_cong.specs.WordLaws.{bytes-set}
+use Rattle.rds_cong.specs.PortLaws.{has_port-word}
 use Rattle.rds_cong.proofs.map.PortMap.put_word.Goals as goal
 
 pub returns-clause-value : goal.returns-clause-value

@@ -1,7 +1,7 @@
 use Rattle.std.proofs.Common.{sym, ap, ◌∙◌, rules, ◌≡◌, subst}
 use Rattle.rds_cong.specs.Map.{IsMap}
-use Rattle.rds_cong.proofs.Words.{bytes_of, same_words, IsMap-bytes}
-use Rattle.rds_cong.proofs.Ports.{same_maps}
+use Rattle.rds_cong.specs.WordLaws.{bytes_of, same_words, IsMap-bytes}
+use Rattle.rds_cong.specs.PortLaws.{same_maps}
 use Rattle.rds_cong.proofs.map.PortMap.same.Goals as goal
 
 pub returns-clause-value : goal.returns-clause-value

@@ -1,7 +1,7 @@
 use Rattle.std.proofs.Common.{subst, ap, ◌∙◌}
 use Rattle.rds_cong.specs.Map.{IsMap, with_port}
 use Rattle.rds_cong.proofs.InPlace.{put_at, ports_put, IsWords-put}
-use Rattle.rds_cong.proofs.Words.{IsMap-bytes}
+use Rattle.rds_cong.specs.WordLaws.{IsMap-bytes}
 use Rattle.rds_cong.proofs.map.PortMap.set.Goals as goal
 
 pub returns-clause-value : goal.returns-clause-value

@@ -2,8 +2,8 @@ use Rattle.std.proofs.Common.{ap, sym, subst, ◌<◌, ◌∙◌, ◌==◌, ◌+
 use Rattle.std.proofs.lemmas.List.{get_or_default}
 use Rattle.std.specs.Int.{bit_at}
 use Rattle.rds_cong.specs.Map.{has_port, word_at}
-use Rattle.rds_cong.proofs.Words.{word-bytes}
-use Rattle.rds_cong.proofs.Ports.{has_port-at}
+use Rattle.rds_cong.specs.WordLaws.{word-bytes}
+use Rattle.rds_cong.specs.PortLaws.{has_port-at}
 use Rattle.rds_cong.proofs.map.PortMap.word.Goals as goal
 
 pub returns-clause-value : goal.returns-clause-value

@@ -1,9 +1,9 @@
 use Rattle.std.proofs.Common.{◌≡◌, ap, subst, refl, arith, None, [], ◌∷◌}
 use Rattle.rds_wire.specs.declared.kind.Malformed.{Malformed}
 use Rattle.rds_model.specs.declared.entry.Entry.TheVariants.{Bad}
-use Rattle.rds_conn.specs.Connection.{Connection, logged}
-use Rattle.rds_conn.specs.Feeding.{Refuses}
-use Rattle.rds_conn.specs.Keeping.{seen}
+use Rattle.rds_conn.specs.Connection.{Connection, with_entries}
+use Rattle.rds_conn.specs.Feeding.{RefusesHeader}
+use Rattle.rds_conn.specs.Invariant.{connection_view}
 use Rattle.rds_conn.proofs.KeepsReads.{keeps_fed, lawful_refusal, refused_bytes, recorded, is_refused}
 use Rattle.rds_conn.proofs.KeepsStreams.{keeps_bad}
 use Rattle.rds_conn.proofs.conn.Conn.feed.Goals as goal
@@ -35,6 +35,6 @@ returns-in-Err-Malformed-clause-malformed c =
     rw (← c.self.view_is, entry, c.refuse.ensures.fresh)
     (λ fault same.
     let fault_is : c.in-Err-Malformed.fault ≡ fault = cc in
-    let new : Connection = record (logged (Bad c.in-Some.stream refused.header c.in-Err-Malformed.fault ∷ []) (seen c.self.inside)) { waiting = None; rest = [] } in
-    subst (λ f. Refuses c.args.piece.now f (seen c.self.inside) new) fault_is
+    let new : Connection = record (with_entries (Bad c.in-Some.stream refused.header c.in-Err-Malformed.fault ∷ []) (connection_view c.self.inside)) { waiting = None; rest = [] } in
+    subst (λ f. RefusesHeader c.args.piece.now f (connection_view c.self.inside) new) fault_is
     (refused_bytes c.self.inside c.in-Some.stream c.args.piece.now c.in-Err-Malformed.fault c.take.new.self c.self.invariant c.in-Some.is refused new refl))

@@ -1,7 +1,7 @@
 use Rattle.std.proofs.Common.{◌≡◌, ◌||◌, subst, ap, ◌∙◌, sym, false, nat_le, nat_lt, ◌+◌}
 use Rattle.rds_model.specs.Streams.{was_pulled}
 use Rattle.rds_model.specs.declared.owed.TheConstants.{MAX_UNASKED, MAX_UNASKED_BYTES}
-use Rattle.rds_model.proofs.Due.{least_due}
+use Rattle.rds_model.specs.DueLaws.{least_due}
 use Rattle.rds_conn.specs.Choosing.{IsFirstDue}
 use Rattle.rds_conn.specs.Connection.{Connection, stream_of}
 use Rattle.rds_conn.proofs.KeepsPulls.{asks_here, counts_fit}

@@ -4,12 +4,12 @@ use Rattle.rds_wire.specs.Bytes.{frame_bytes}
 use Rattle.rds_model.specs.declared.entry.Entry.{Entry}
 use Rattle.rds_model.specs.Past.{Accepted, datagram}
 use Rattle.rds_model.specs.Owed.{data_frame, last_map, asks_with}
-use Rattle.rds_model.proofs.Due.{least_due}
-use Rattle.rds_model.proofs.Numbers.{number_of_known}
-use Rattle.rds_model.proofs.LawfulFrames.{kind_of_data_frame}
+use Rattle.rds_model.specs.DueLaws.{least_due}
+use Rattle.rds_model.specs.NumberLaws.{number_of_known}
+use Rattle.rds_model.specs.FrameLaws.{kind_of_data_frame}
 use Rattle.rds_conn.specs.Choosing.{IsFirstDue}
 use Rattle.rds_conn.specs.Connection.{Connection, stream_of}
-use Rattle.rds_conn.specs.Pulling.{pulled_as}
+use Rattle.rds_conn.specs.Pulling.{name_of_pull}
 use Rattle.rds_conn.proofs.KeepsPulls.{keeps_data, counts_fit, framed_data}
 use Rattle.rds_conn.proofs.conn.Conn.pull_data.Goals as goal
 
@@ -51,5 +51,5 @@ returns-clause-owed c = λ d known.
     record {
       entry = rw (c.push.ensures, frame_is, ← c.self.view_is) refl;
       bytes = c.in_ok-append.ensures.ok ∙ ap (λ (f : Frame). c.args.out.now ++ frame_bytes f) frame_is;
-      named = sym (ap pulled_as (kind_of_data_frame c.args.stream c.args.self.now.log.past c.args.msg.num d above));
+      named = sym (ap name_of_pull (kind_of_data_frame c.args.stream c.args.self.now.log.past c.args.msg.num d above));
     }

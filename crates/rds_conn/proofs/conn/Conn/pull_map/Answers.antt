@@ -2,9 +2,9 @@ use Rattle.std.proofs.Common.{◌≡◌, ◌++◌, refl, sym, ◌∙◌, ap, ari
 use Rattle.rds_wire.specs.declared.frame.Frame.{Frame}
 use Rattle.rds_wire.specs.Bytes.{frame_bytes}
 use Rattle.rds_model.specs.Owed.{map_frame, last_map, is_last_map}
-use Rattle.rds_model.proofs.LawfulFrames.{kind_of_map_frame}
+use Rattle.rds_model.specs.FrameLaws.{kind_of_map_frame}
 use Rattle.rds_conn.specs.Connection.{Connection, stream_of}
-use Rattle.rds_conn.specs.Pulling.{pulled_as}
+use Rattle.rds_conn.specs.Pulling.{name_of_pull}
 use Rattle.rds_conn.proofs.KeepsPulls.{keeps_map}
 use Rattle.rds_conn.proofs.conn.Conn.pull_map.Goals as goal
 
@@ -23,4 +23,4 @@ returns-clause-owed c =
     let bytes : c.append.new.self ≡ c.args.out.now ++ frame_bytes (map_frame c.self.inside.journal.past c.args.map.now) =
     c.in_ok-append.ensures.ok ∙ ap (λ (f : Frame). c.args.out.now ++ frame_bytes f) frame_is in
     rw (← c.self.view_is, c.push.ensures, frame_is)
-    (record { entry = refl; bytes = bytes; named = sym (ap pulled_as (kind_of_map_frame c.self.inside.journal.past c.args.map.now)) })
+    (record { entry = refl; bytes = bytes; named = sym (ap name_of_pull (kind_of_map_frame c.self.inside.journal.past c.args.map.now)) })

@@ -1,7 +1,7 @@
 use Rattle.std.proofs.Common.{ap, arith}
 use Rattle.rds_conn.specs.Connection.{Connection}
 use Rattle.rds_conn.proofs.KeepsOrders.{keeps_send, takes_message}
-use Rattle.rds_conn.proofs.GoneBytes.{gone_after_accept}
+use Rattle.rds_conn.proofs.ReleasedBytes.{gone_after_accept}
 use Rattle.rds_conn.proofs.conn.Conn.send.Goals as goal
 
 pub overflow_add-self : goal.overflow_add-self

@@ -5,7 +5,7 @@ use Rattle.rds_wire.specs.declared.kind.Malformed.{Malformed}
 use Rattle.rds_frame.specs.declared.took.Took.{Took}
 use Rattle.rds_frame.specs.declared.took.FrameError.{FrameError}
 use Rattle.rds_frame.specs.declared.took.FrameError.TheVariants as errors
-use Rattle.rds_frame.specs.Holding.{Held}
+use Rattle.rds_frame.specs.Holding.{SplitterView}
 use Rattle.rds_frame.proofs.Taking.{IsOpen, Filled, IsPassed, IsPassed-whole, Takes-early, Takes-part, Takes-frame, Refuses-header, Keeps-part, Keeps-frame, Keeps-refused, Keeps-failed}
 use Rattle.rds_frame.proofs.Keeping.{IsHeld-fields}
 use Rattle.rds_frame.proofs.splitter.Splitter.take_next.Goals as goal
@@ -17,15 +17,15 @@ some_fault same = cc
 pub returns-then-self-filled-lt48-clause-ok : goal.returns-then-self-filled-lt48-clause-ok
 returns-then-self-filled-lt48-clause-ok c =
     let s = c.self.inside in
-    let old : Held = c.args.self.now in
+    let old : SplitterView = c.args.self.now in
     let piece = c.args.piece.now in
     let filled = c.fill-filled.new.head in
     let n = c.fill-filled.result in
     let is : IsOpen old s.head s.came s.body.items s.waiting s.refused = record {
       keeps = c.self.invariant;
       view_is = c.self.view_is;
-      none_waits = ap (λ (h : Held). h.waiting) c.self.view_is ∙ c.requires.none_waits;
-      still_open = ap (λ (h : Held). h.refused) c.self.view_is ∙ c.requires.not_closed;
+      none_waits = ap (λ (h : SplitterView). h.waiting) c.self.view_is ∙ c.requires.none_waits;
+      still_open = ap (λ (h : SplitterView). h.refused) c.self.view_is ∙ c.requires.not_closed;
     } in
     let fill : Filled s.head s.came piece filled n =
     record { used = c.fill-filled.ensures.used; bytes = c.fill-filled.ensures.came; len = c.fill-filled.ensures.len } in
@@ -34,15 +34,15 @@ returns-then-self-filled-lt48-clause-ok c =
 pub returns-in-Some-clause-malformed : goal.returns-in-Some-clause-malformed
 returns-in-Some-clause-malformed c =
     let s = c.self.inside in
-    let old : Held = c.args.self.now in
+    let old : SplitterView = c.args.self.now in
     let piece = c.args.piece.now in
     let filled = c.fill-filled.new.head in
     let n = c.fill-filled.result in
     let is : IsOpen old s.head s.came s.body.items s.waiting s.refused = record {
       keeps = c.self.invariant;
       view_is = c.self.view_is;
-      none_waits = ap (λ (h : Held). h.waiting) c.self.view_is ∙ c.requires.none_waits;
-      still_open = ap (λ (h : Held). h.refused) c.self.view_is ∙ c.requires.not_closed;
+      none_waits = ap (λ (h : SplitterView). h.waiting) c.self.view_is ∙ c.requires.none_waits;
+      still_open = ap (λ (h : SplitterView). h.refused) c.self.view_is ∙ c.requires.not_closed;
     } in
     let fill : Filled s.head s.came piece filled n =
     record { used = c.fill-filled.ensures.used; bytes = c.fill-filled.ensures.came; len = c.fill-filled.ensures.len } in
@@ -60,15 +60,15 @@ returns-in-Some-clause-malformed c =
 pub returns-in-Some-clause-held : goal.returns-in-Some-clause-held
 returns-in-Some-clause-held c =
     let s = c.self.inside in
-    let old : Held = c.args.self.now in
+    let old : SplitterView = c.args.self.now in
     let piece = c.args.piece.now in
     let filled = c.fill-filled.new.head in
     let n = c.fill-filled.result in
     let is : IsOpen old s.head s.came s.body.items s.waiting s.refused = record {
       keeps = c.self.invariant;
       view_is = c.self.view_is;
-      none_waits = ap (λ (h : Held). h.waiting) c.self.view_is ∙ c.requires.none_waits;
-      still_open = ap (λ (h : Held). h.refused) c.self.view_is ∙ c.requires.not_closed;
+      none_waits = ap (λ (h : SplitterView). h.waiting) c.self.view_is ∙ c.requires.none_waits;
+      still_open = ap (λ (h : SplitterView). h.refused) c.self.view_is ∙ c.requires.not_closed;
     } in
     let fill : Filled s.head s.came piece filled n =
     record { used = c.fill-filled.ensures.used; bytes = c.fill-filled.ensures.came; len = c.fill-filled.ensures.len } in
@@ -86,15 +86,15 @@ returns-in-Some-clause-held c =
 pub overflow_sub-missing : goal.overflow_sub-missing
 overflow_sub-missing c =
     let s = c.self.inside in
-    let old : Held = c.args.self.now in
+    let old : SplitterView = c.args.self.now in
     let piece = c.args.piece.now in
     let filled = c.fill-filled.new.head in
     let n = c.fill-filled.result in
     let is : IsOpen old s.head s.came s.body.items s.waiting s.refused = record {
       keeps = c.self.invariant;
       view_is = c.self.view_is;
-      none_waits = ap (λ (h : Held). h.waiting) c.self.view_is ∙ c.requires.none_waits;
-      still_open = ap (λ (h : Held). h.refused) c.self.view_is ∙ c.requires.not_closed;
+      none_waits = ap (λ (h : SplitterView). h.waiting) c.self.view_is ∙ c.requires.none_waits;
+      still_open = ap (λ (h : SplitterView). h.refused) c.self.view_is ∙ c.requires.not_closed;
     } in
     let fill : Filled s.head s.came piece filled n =
     record { used = c.fill-filled.ensures.used; bytes = c.fill-filled.ensures.came; len = c.fill-filled.ensures.len } in
@@ -110,15 +110,15 @@ overflow_sub-missing c =
 pub advance-requires-clause-came : goal.advance-requires-clause-came
 advance-requires-clause-came c =
     let s = c.self.inside in
-    let old : Held = c.args.self.now in
+    let old : SplitterView = c.args.self.now in
     let piece = c.args.piece.now in
     let filled = c.fill-filled.new.head in
     let n = c.fill-filled.result in
     let is : IsOpen old s.head s.came s.body.items s.waiting s.refused = record {
       keeps = c.self.invariant;
       view_is = c.self.view_is;
-      none_waits = ap (λ (h : Held). h.waiting) c.self.view_is ∙ c.requires.none_waits;
-      still_open = ap (λ (h : Held). h.refused) c.self.view_is ∙ c.requires.not_closed;
+      none_waits = ap (λ (h : SplitterView). h.waiting) c.self.view_is ∙ c.requires.none_waits;
+      still_open = ap (λ (h : SplitterView). h.refused) c.self.view_is ∙ c.requires.not_closed;
     } in
     let fill : Filled s.head s.came piece filled n =
     record { used = c.fill-filled.ensures.used; bytes = c.fill-filled.ensures.came; len = c.fill-filled.ensures.len } in
@@ -134,15 +134,15 @@ advance-requires-clause-came c =
 pub advance-requires-clause-limit : goal.advance-requires-clause-limit
 advance-requires-clause-limit c =
     let s = c.self.inside in
-    let old : Held = c.args.self.now in
+    let old : SplitterView = c.args.self.now in
     let piece = c.args.piece.now in
     let filled = c.fill-filled.new.head in
     let n = c.fill-filled.result in
     let is : IsOpen old s.head s.came s.body.items s.waiting s.refused = record {
       keeps = c.self.invariant;
       view_is = c.self.view_is;
-      none_waits = ap (λ (h : Held). h.waiting) c.self.view_is ∙ c.requires.none_waits;
-      still_open = ap (λ (h : Held). h.refused) c.self.view_is ∙ c.requires.not_closed;
+      none_waits = ap (λ (h : SplitterView). h.waiting) c.self.view_is ∙ c.requires.none_waits;
+      still_open = ap (λ (h : SplitterView). h.refused) c.self.view_is ∙ c.requires.not_closed;
     } in
     let fill : Filled s.head s.came piece filled n =
     record { used = c.fill-filled.ensures.used; bytes = c.fill-filled.ensures.came; len = c.fill-filled.ensures.len } in
@@ -158,15 +158,15 @@ advance-requires-clause-limit c =
 pub returns-in_err-advance-clause-held : goal.returns-in_err-advance-clause-held
 returns-in_err-advance-clause-held c =
     let s = c.self.inside in
-    let old : Held = c.args.self.now in
+    let old : SplitterView = c.args.self.now in
     let piece = c.args.piece.now in
     let filled = c.fill-filled.new.head in
     let n = c.fill-filled.result in
     let is : IsOpen old s.head s.came s.body.items s.waiting s.refused = record {
       keeps = c.self.invariant;
       view_is = c.self.view_is;
-      none_waits = ap (λ (h : Held). h.waiting) c.self.view_is ∙ c.requires.none_waits;
-      still_open = ap (λ (h : Held). h.refused) c.self.view_is ∙ c.requires.not_closed;
+      none_waits = ap (λ (h : SplitterView). h.waiting) c.self.view_is ∙ c.requires.none_waits;
+      still_open = ap (λ (h : SplitterView). h.refused) c.self.view_is ∙ c.requires.not_closed;
     } in
     let fill : Filled s.head s.came piece filled n =
     record { used = c.fill-filled.ensures.used; bytes = c.fill-filled.ensures.came; len = c.fill-filled.ensures.len } in
@@ -184,15 +184,15 @@ returns-in_err-advance-clause-held c =
 pub invariant_of-self-in-None : goal.invariant_of-self-in-None
 invariant_of-self-in-None c =
     let s = c.self.inside in
-    let old : Held = c.args.self.now in
+    let old : SplitterView = c.args.self.now in
     let piece = c.args.piece.now in
     let filled = c.fill-filled.new.head in
     let n = c.fill-filled.result in
     let is : IsOpen old s.head s.came s.body.items s.waiting s.refused = record {
       keeps = c.self.invariant;
       view_is = c.self.view_is;
-      none_waits = ap (λ (h : Held). h.waiting) c.self.view_is ∙ c.requires.none_waits;
-      still_open = ap (λ (h : Held). h.refused) c.self.view_is ∙ c.requires.not_closed;
+      none_waits = ap (λ (h : SplitterView). h.waiting) c.self.view_is ∙ c.requires.none_waits;
+      still_open = ap (λ (h : SplitterView). h.refused) c.self.view_is ∙ c.requires.not_closed;
     } in
     let fill : Filled s.head s.came piece filled n =
     record { used = c.fill-filled.ensures.used; bytes = c.fill-filled.ensures.came; len = c.fill-filled.ensures.len } in
@@ -211,15 +211,15 @@ invariant_of-self-in-None c =
 pub returns-in-None-clause-ok : goal.returns-in-None-clause-ok
 returns-in-None-clause-ok c =
     let s = c.self.inside in
-    let old : Held = c.args.self.now in
+    let old : SplitterView = c.args.self.now in
     let piece = c.args.piece.now in
     let filled = c.fill-filled.new.head in
     let n = c.fill-filled.result in
     let is : IsOpen old s.head s.came s.body.items s.waiting s.refused = record {
       keeps = c.self.invariant;
       view_is = c.self.view_is;
-      none_waits = ap (λ (h : Held). h.waiting) c.self.view_is ∙ c.requires.none_waits;
-      still_open = ap (λ (h : Held). h.refused) c.self.view_is ∙ c.requires.not_closed;
+      none_waits = ap (λ (h : SplitterView). h.waiting) c.self.view_is ∙ c.requires.none_waits;
+      still_open = ap (λ (h : SplitterView). h.refused) c.self.view_is ∙ c.requires.not_closed;
     } in
     let fill : Filled s.head s.came piece filled n =
     record { used = c.fill-filled.ensures.used; bytes = c.fill-filled.ensures.came; len = c.fill-filled.ensures.len } in
@@ -238,15 +238,15 @@ returns-in-None-clause-ok c =
 pub returns-in-None-clause-held : goal.returns-in-None-clause-held
 returns-in-None-clause-held c =
     let s = c.self.inside in
-    let old : Held = c.args.self.now in
+    let old : SplitterView = c.args.self.now in
     let piece = c.args.piece.now in
     let filled = c.fill-filled.new.head in
     let n = c.fill-filled.result in
     let is : IsOpen old s.head s.came s.body.items s.waiting s.refused = record {
       keeps = c.self.invariant;
       view_is = c.self.view_is;
-      none_waits = ap (λ (h : Held). h.waiting) c.self.view_is ∙ c.requires.none_waits;
-      still_open = ap (λ (h : Held). h.refused) c.self.view_is ∙ c.requires.not_closed;
+      none_waits = ap (λ (h : SplitterView). h.waiting) c.self.view_is ∙ c.requires.none_waits;
+      still_open = ap (λ (h : SplitterView). h.refused) c.self.view_is ∙ c.requires.not_closed;
     } in
     let fill : Filled s.head s.came piece filled n =
     record { used = c.fill-filled.ensures.used; bytes = c.fill-filled.ensures.came; len = c.fill-filled.ensures.len } in
@@ -266,15 +266,15 @@ returns-in-None-clause-held c =
 pub invariant_of-self-in-Some-2 : goal.invariant_of-self-in-Some-2
 invariant_of-self-in-Some-2 c =
     let s = c.self.inside in
-    let old : Held = c.args.self.now in
+    let old : SplitterView = c.args.self.now in
     let piece = c.args.piece.now in
     let filled = c.fill-filled.new.head in
     let n = c.fill-filled.result in
     let is : IsOpen old s.head s.came s.body.items s.waiting s.refused = record {
       keeps = c.self.invariant;
       view_is = c.self.view_is;
-      none_waits = ap (λ (h : Held). h.waiting) c.self.view_is ∙ c.requires.none_waits;
-      still_open = ap (λ (h : Held). h.refused) c.self.view_is ∙ c.requires.not_closed;
+      none_waits = ap (λ (h : SplitterView). h.waiting) c.self.view_is ∙ c.requires.none_waits;
+      still_open = ap (λ (h : SplitterView). h.refused) c.self.view_is ∙ c.requires.not_closed;
     } in
     let fill : Filled s.head s.came piece filled n =
     record { used = c.fill-filled.ensures.used; bytes = c.fill-filled.ensures.came; len = c.fill-filled.ensures.len } in
@@ -294,15 +294,15 @@ invariant_of-self-in-Some-2 c =
 pub returns-in-Some-2-clause-ok : goal.returns-in-Some-2-clause-ok
 returns-in-Some-2-clause-ok c =
     let s = c.self.inside in
-    let old : Held = c.args.self.now in
+    let old : SplitterView = c.args.self.now in
     let piece = c.args.piece.now in
     let filled = c.fill-filled.new.head in
     let n = c.fill-filled.result in
     let is : IsOpen old s.head s.came s.body.items s.waiting s.refused = record {
       keeps = c.self.invariant;
       view_is = c.self.view_is;
-      none_waits = ap (λ (h : Held). h.waiting) c.self.view_is ∙ c.requires.none_waits;
-      still_open = ap (λ (h : Held). h.refused) c.self.view_is ∙ c.requires.not_closed;
+      none_waits = ap (λ (h : SplitterView). h.waiting) c.self.view_is ∙ c.requires.none_waits;
+      still_open = ap (λ (h : SplitterView). h.refused) c.self.view_is ∙ c.requires.not_closed;
     } in
     let fill : Filled s.head s.came piece filled n =
     record { used = c.fill-filled.ensures.used; bytes = c.fill-filled.ensures.came; len = c.fill-filled.ensures.len } in
@@ -322,15 +322,15 @@ returns-in-Some-2-clause-ok c =
 pub returns-in-Some-2-clause-held : goal.returns-in-Some-2-clause-held
 returns-in-Some-2-clause-held c =
     let s = c.self.inside in
-    let old : Held = c.args.self.now in
+    let old : SplitterView = c.args.self.now in
     let piece = c.args.piece.now in
     let filled = c.fill-filled.new.head in
     let n = c.fill-filled.result in
     let is : IsOpen old s.head s.came s.body.items s.waiting s.refused = record {
       keeps = c.self.invariant;
       view_is = c.self.view_is;
-      none_waits = ap (λ (h : Held). h.waiting) c.self.view_is ∙ c.requires.none_waits;
-      still_open = ap (λ (h : Held). h.refused) c.self.view_is ∙ c.requires.not_closed;
+      none_waits = ap (λ (h : SplitterView). h.waiting) c.self.view_is ∙ c.requires.none_waits;
+      still_open = ap (λ (h : SplitterView). h.refused) c.self.view_is ∙ c.requires.not_closed;
     } in
     let fill : Filled s.head s.came piece filled n =
     record { used = c.fill-filled.ensures.used; bytes = c.fill-filled.ensures.came; len = c.fill-filled.ensures.len } in

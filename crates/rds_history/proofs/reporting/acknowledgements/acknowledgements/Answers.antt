@@ -1,5 +1,5 @@
 use Rattle.std.proofs.Common.{◌≡◌, ◌∙◌, ◌+◌, ◌++◌, ◌∷◌, [], ℕ, List, sym, ap}
-use Rattle.rds_model.specs.Past.{acked}
+use Rattle.rds_model.specs.Past.{highest_ack}
 use Rattle.rds_history.specs.Walks.{before, acknowledgements}
 use Rattle.rds_history.proofs.Steps.{before_more}
 use Rattle.rds_history.proofs.reporting.acknowledgements.acknowledgements.Goals as goal
@@ -13,5 +13,5 @@ loop-i-preserved c =
       acks =
           c.in_ok-push.ensures.items ∙ ap (λ (l : List ℕ). l ++ c.loop-i.acked ∷ []) c.loop-i.invariant.acks
           ∙ ap (λ (n : ℕ). acknowledgements past ++ n ∷ []) c.loop-i.invariant.acked ∙ sym (ap acknowledgements more);
-      acked = c.acknowledged-acked.ensures past c.loop-i.invariant.acked ∙ sym (ap acked more);
+      acked = c.acknowledged-acked.ensures past c.loop-i.invariant.acked ∙ sym (ap highest_ack more);
     }

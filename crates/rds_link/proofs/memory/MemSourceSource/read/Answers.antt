@@ -3,7 +3,7 @@ use Rattle.std.proofs.Math.Nat.{min-eq_left, min-eq_right}
 use Rattle.std.proofs.lemmas.List.{nil_from_length}
 use mathlib.Core.Logic.{dite}
 use native.Mathlib.Decide.{dec_le}
-use Rattle.rds_link.specs.Told.{Supply}
+use Rattle.rds_link.specs.Streaming.{Supply}
 use Rattle.rds_link.proofs.Loops.{front_handed}
 use Rattle.rds_link.proofs.memory.MemSourceSource.read.Goals as goal
 

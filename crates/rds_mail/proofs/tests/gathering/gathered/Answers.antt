@@ -1,6 +1,6 @@
 use Rattle.std.proofs.Common.{◌≡◌, ℕ, zero, suc, ◌<◌, List, [], ◌∷◌, ◌++◌, map, sym, ap, subst, refl, ◌∙◌, arith}
 use mathlib.Core.Option.{some-injective, some-ne-none}
-use Rattle.rds_words.specs.Views.{At}
+use Rattle.rds_views.specs.Views.{At}
 use Rattle.rds_mail.specs.declared.view.Account.{Account}
 use Rattle.rds_mail.specs.Passes.{Putter, Getter, account_of}
 use Rattle.rds_mail.specs.Merging.{AreAll, HasNumber}

@@ -1,5 +1,5 @@
 use Rattle.std.proofs.Common.{◌<◌, refl, ap, ◌∙◌, arith, rules}
-use Rattle.rds_meter.specs.Seats.{Held, after_raise}
+use Rattle.rds_meter.specs.Seats.{MeterSeat, after_raise}
 use Rattle.rds_meter.proofs.Seated.{same_table, kept}
 use Rattle.rds_meter.proofs.Bits.{raises_by, raised_port}
 use Rattle.rds_meter.proofs.meter.Meter.raise.Goals as goal
@@ -13,7 +13,7 @@ fetch_or-requires c =
     let word = place.0 in (
       of,
       (let w = c.self.invariant.0 in omega arith),
-      raises_by _ _ c.args.mark.now.port _ _ c.seat.inside.seat.me _ check.1 place.0 place.1 c.seat.invariant.0 small (ap (λ (h : Held). h.view.pending) c.seat.view_is ∙ check.2),
+      raises_by _ _ c.args.mark.now.port _ _ c.seat.inside.seat.me _ check.1 place.0 place.1 c.seat.invariant.0 small (ap (λ (h : MeterSeat). h.view.pending) c.seat.view_is ∙ check.2),
     )
 
 pub returns : goal.returns

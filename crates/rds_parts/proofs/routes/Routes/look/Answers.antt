@@ -1,8 +1,8 @@
 use Rattle.std.proofs.Common.{◌≡◌, ◌<◌, ap, sym, subst, length}
 use Rattle.std.specs.Prelude.{List, slice_set}
 use Rattle.rds_parts.specs.Lanes.{Lane, Fixed, At, HasSeen, RoutesStay, with_reader}
-use Rattle.rds_parts.proofs.Changes.{at_read, stay_in}
-use Rattle.rds_parts.proofs.Places.{here}
+use Rattle.rds_parts.specs.ChangeLaws.{at_read, stay_in}
+use Rattle.rds_parts.specs.PlaceLaws.{here}
 use Rattle.rds_parts.proofs.routes.Routes.look.Goals as goal
 
 pub returns-clause-look : goal.returns-clause-look

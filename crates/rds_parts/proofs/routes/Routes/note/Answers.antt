@@ -1,5 +1,5 @@
 use Rattle.rds_parts.specs.Lanes.{Lane, At}
-use Rattle.rds_parts.proofs.Changes.{at_read}
+use Rattle.rds_parts.specs.ChangeLaws.{at_read}
 use Rattle.rds_parts.proofs.routes.Routes.note.Goals as goal
 
 pub returns-clause-note : goal.returns-clause-note

@@ -2,7 +2,7 @@ use Rattle.std.proofs.Common.{◌≡◌, List, [], ◌∷◌, ◌++◌, ap, ◌�
 use Rattle.rds_mail.specs.Passes.{Putter}
 use Rattle.rds_model.specs.declared.order.Order.{Order}
 use Rattle.rds_parts.specs.Lanes.{Lane, At, IsPutAt, with_order, RoutesStay}
-use Rattle.rds_parts.proofs.Changes.{at_read, stay_put}
+use Rattle.rds_parts.specs.ChangeLaws.{at_read, stay_put}
 use Rattle.rds_parts.proofs.routes.Routes.put.Goals as goal
 use Rattle.rds_parts.proofs.routes.Routes.put.Goals.{in-Ok, in-Err}
 

@@ -2,7 +2,7 @@ use Rattle.std.proofs.Common.{◌≡◌, ◌<◌, ◌∙◌, sym, subst, length,
 use Rattle.rds_model.specs.declared.order.Order.{Order}
 use Rattle.rds_model.specs.declared.order.Order.TheVariants as order
 use Rattle.rds_parts.specs.Lanes.{IsPutAt}
-use Rattle.rds_parts.proofs.Changes.{put_more, stay_on, on_ok}
+use Rattle.rds_parts.specs.ChangeLaws.{put_more, stay_on, on_ok}
 use Rattle.rds_parts.proofs.routes.Routes.tell.Goals as goal
 
 pub returns-then-is_err-clause-stay : goal.returns-then-is_err-clause-stay

@@ -1,5 +1,5 @@
 use Rattle.rds_meter.specs.Places.{taken_word}
-use Rattle.rds_parts.proofs.Tied.{tied_on, part-after_lower, part-after_bump}
+use Rattle.rds_parts.specs.TiedLaws.{tied_on, part-after_lower, part-after_bump}
 use Rattle.rds_parts.proofs.words.Words.clear.Goals as goal
 
 pub invariant_of-self : goal.invariant_of-self

@@ -1,6 +1,6 @@
 use Rattle.std.proofs.Common.{◌≡◌, ◌+◌, ◌/◌, nat_lt, true, false, ◌∙◌, ap, sym}
 use Rattle.rds_meter.specs.Places.{taken_word, put_word}
-use Rattle.rds_parts.proofs.Tied.{tied_on, part-after_load}
+use Rattle.rds_parts.specs.TiedLaws.{tied_on, part-after_load}
 use Rattle.rds_parts.proofs.Receipts.{received_low, received_high}
 use Rattle.rds_parts.proofs.words.Words.receive.Goals as goal
 

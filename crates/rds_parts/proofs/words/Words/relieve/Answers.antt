@@ -1,7 +1,7 @@
 use Rattle.std.proofs.Common.{◌+◌, ◌/◌, ◌%◌, ◌∙◌, sym}
 use Rattle.std.proofs.lemmas.Nat.Bits.{shr_and_one}
 use Rattle.rds_meter.specs.Places.{taken_word}
-use Rattle.rds_parts.proofs.Tied.{tied_on, part-after_load}
+use Rattle.rds_parts.specs.TiedLaws.{tied_on, part-after_load}
 use Rattle.rds_parts.proofs.Receipts.{relieved}
 use Rattle.rds_parts.proofs.words.Words.relieve.Goals as goal
 

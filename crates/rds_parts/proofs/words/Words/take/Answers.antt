@@ -1,7 +1,7 @@
 use Rattle.std.proofs.Common.{◌≡◌, ◌+◌, ◌≤◌, ◌∙◌, ap, sym, arith}
 use Rattle.rds_meter.specs.Places.{taken_word}
 use Rattle.rds_meter.specs.Seats.{knowing, after_add}
-use Rattle.rds_parts.proofs.Tied.{tied_on, tied_more, part-after_load}
+use Rattle.rds_parts.specs.TiedLaws.{tied_on, tied_more, part-after_load}
 use Rattle.rds_parts.proofs.words.Words.take.Goals as goal
 
 pub invariant_of-self : goal.invariant_of-self
