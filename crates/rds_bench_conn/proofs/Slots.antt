@@ -1,6 +1,5 @@
 -- No call of a connection changes how many slots its host has.
 use Rattle.std.proofs.Common.{◌≡◌, ℕ, Option, Some, None, List, [], ◌∷◌, refl, ap}
-use Rattle.std.specs.Prelude.{IsSome}
 use Rattle.rds_wire.specs.declared.frame.Frame.{Frame}
 use Rattle.rds_wire.specs.declared.kind.Malformed.{Malformed}
 use Rattle.rds_model.specs.declared.entry.Entry.TheVariants.{Read}
@@ -11,11 +10,6 @@ use Rattle.rds_conn.specs.declared.conn.ConnError.TheVariants as errors
 use Rattle.rds_conn.specs.Connection.{Connection, with_entries, stream_of}
 use Rattle.rds_conn.specs.Feeding.{RefusesHeader}
 use Rattle.rds_conn.specs.Passing.{with_pong, after_pass}
-
--- what an option that isn't empty has
-pub some_of : {A : Type 0} (o : Option A) → IsSome o → (x : A) × (o ≡ Some x)
-some_of None h = cc
-some_of (Some x) h = (x, refl)
 
 -- a connection that is the same has the same
 pub slots_of : (old new : Connection) → new ≡ old → new.slots ≡ old.slots

@@ -8,7 +8,7 @@ use Rattle.rds_model.specs.declared.entry.Msg.{Msg}
 use Rattle.rds_msgs.specs.Messages.{StoreView, bytes_of, without_first}
 use Rattle.rds_conn.specs.Freeing.{with_freed, bytes_of_slot, acknowledged, Frees}
 use Rattle.rds_conn.proofs.Totals.{total-cons}
-use Rattle.rds_conn.proofs.KeepsOrders.{freed_same, freed_other, length-with_freed, sum-with_freed}
+use Rattle.rds_conn.proofs.Charging.{freed_same, freed_other, length-with_freed, sum-with_freed}
 
 pub record Acknowledging (upto : ℕ) (store_first : StoreView) (freed_first : List ℕ) (store : StoreView) (freed : List ℕ) : Type 0 where
   pub same : acknowledged upto store ≡ acknowledged upto store_first

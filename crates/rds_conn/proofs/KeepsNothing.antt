@@ -19,19 +19,22 @@ pub record IsNew (c : Inside) (limit : ℕ) : Type 0 where
   pub store : c.store ≡ record { messages = []; mark = 0; spare = 0; slots = c.slots }
   pub splitter : c.splitter ≡ nothing_held
   pub freed : c.freed ≡ replicate c.slots 0
+  pub charges : c.charges ≡ replicate c.slots 0
 
 pub keeps_nothing : (c : Inside) (limit : ℕ) → IsNew c limit → c.slots ≤ MAX_SLOTS → limit ≤ MAX_ENTRIES →
-    ConnectionInvariant (record c { spare = 0; store_spare = 0; pong = None; stream = None; accepted = 0; highest = 0; last = 0 })
+    ConnectionInvariant (record c { spare = 0; store_spare = 0; pong = None; newest = 0; stream = None; accepted = 0; highest = 0; last = 0 })
 keeps_nothing c limit new few most =
-    rw (new.journal, new.store, new.splitter, new.freed)
+    rw (new.journal, new.store, new.splitter, new.freed, new.charges)
     (record {
       whole = record { legal = tt; settled = refl };
       room = record { entries = omega arith; within = omega arith; most = most; messages = omega arith };
       pong = tt;
+      newest = refl;
       stream = refl;
       counted = record { accepted_is = refl; highest_is = refl; last_is = refl };
       linked = tt;
       reading = reading_nothing None 0;
       stored = record { holds = record { alive = refl; unpulled = refl }; marked = omega arith; slots_are = refl; few = few };
       freed = record { slots_are = length-replicate {A = ℕ} c.slots 0; bounded = (let none = sum_none c.slots in omega (arith, none)) };
+      charged = record { wide = length-replicate {A = ℕ} c.slots 0; each = λ s within. omega arith };
     })

@@ -29,8 +29,10 @@ use Rattle.rds_conn.proofs.Messages.{numbers_of, alive_known, messages_after_can
 use Rattle.rds_conn.proofs.MessagesHeld.{AllTell, messages_tell, numbers_sieved, holds_after_accept, holds_after_cancel}
 use Rattle.rds_conn.proofs.Totals.{total_sieved, total_all, total_none}
 use Rattle.rds_conn.specs.Released.{released_bytes}
-use Rattle.rds_conn.proofs.ReleasedBytes.{gone_after_cancel}
+use Rattle.rds_conn.specs.Unacked.{alive_bytes}
+use Rattle.rds_conn.proofs.ReleasedBytes.{gone_after_cancel, conserved_by}
 use Rattle.rds_conn.proofs.KeepsStreams.{whole_with}
+use Rattle.rds_conn.proofs.Charging.{freed_same, freed_other, length-with_freed, sum-with_freed, charged_after_accept, charged_after, charge_within}
 
 -- each message has a number that was accepted
 pub messages_below : (past : List Entry) (ms : List Msg) → AllTell past ms → All (λ (m : Msg). m.num < suc (accepted past)) ms
@@ -100,7 +102,7 @@ freed_after_accept slot sport dport payload past store freed slots short is =
           omega (arith, more, one, short, is.bounded);
     }
 
-pub keeps_send : (c : Inside) (slot sport dport : ℕ) (payload : List ℕ) → ConnectionInvariant c → 1 ≤ c.spare → 1 ≤ c.store_spare →
+pub keeps_send : (c : Inside) (slot sport dport : ℕ) (payload : List ℕ) → ConnectionInvariant c → 1 ≤ c.spare → 1 ≤ c.store_spare → slot < c.slots →
     IsLawfulAccept c.journal.past slot sport dport payload →
     ConnectionInvariant (record c {
       journal = record c.journal { past = Accept slot sport dport payload ∷ c.journal.past; spare = c.journal.spare - 1 };
@@ -109,10 +111,11 @@ pub keeps_send : (c : Inside) (slot sport dport : ℕ) (payload : List ℕ) → 
         spare = c.store.spare - 1;
       };
       spare = c.spare - 1;
+      charges = with_freed slot (length payload) c.charges;
       store_spare = c.store_spare - 1;
       accepted = c.accepted + 1;
     })
-keeps_send c slot sport dport payload keeps some store_some lawful =
+keeps_send c slot sport dport payload keeps some store_some within lawful =
     let past : List Entry = c.journal.past in
     let number : c.accepted + 1 ≡ suc (accepted past) = omega (arith, keeps.counted.accepted_is) in
     let store_with : ℕ → StoreView = λ n. record c.store {
@@ -128,6 +131,7 @@ keeps_send c slot sport dport payload keeps some store_some lawful =
         messages = omega (arith, keeps.room.messages);
       };
       pong = keeps.pong;
+      newest = keeps.newest;
       stream = keeps.stream;
       counted = record { accepted_is = number; highest_is = keeps.counted.highest_is; last_is = keeps.counted.last_is };
       linked = linked_after c.stream keeps.linked;
@@ -136,6 +140,8 @@ keeps_send c slot sport dport payload keeps some store_some lawful =
           (stored_after_accept slot sport dport payload past c.store c.slots keeps.whole.legal keeps.stored);
       freed = subst (λ n. IsFreed (Accept slot sport dport payload ∷ past) (store_with n) c.freed c.slots) (sym number)
           (freed_after_accept slot sport dport payload past c.store c.freed c.slots lawful.payload_fits keeps.freed);
+      charged = charged_after_accept (record { num = c.accepted + 1; place = length past; slot = slot; dport = dport; len = length payload })
+          c.store.messages c.freed c.charges c.slots within keeps.charged;
     }
   where
     linked_after : (o : Option ℕ) → IfSome o (λ s. IsLinked s c.journal.past c.mapped c.map c.asking) →
@@ -154,23 +160,6 @@ marked_after keep (suc mark) (m ∷ ms) =
     elim (keep m) as (λ b. length (cond b (m ∷ filter keep (take mark ms)) (filter keep (take mark ms))) ≤ length (cond b (m ∷ filter keep ms) (filter keep ms))) [
       | true ↦ omega (arith, marked_after keep mark ms)
       | false ↦ marked_after keep mark ms
-    ]
-
--- freed bytes of a slot, and of the others
-pub freed_same : (slot bytes : ℕ) (freed : List ℕ) → slot < length freed → get_or (with_freed slot bytes freed) slot 0 ≡ get_or freed slot 0 + bytes
-freed_same slot bytes freed within = get_or-set_same freed slot (get_or freed slot 0 + bytes) 0 within
-
-pub freed_other : (slot y bytes : ℕ) (freed : List ℕ) → y ≢ slot → get_or (with_freed slot bytes freed) y 0 ≡ get_or freed y 0
-freed_other slot y bytes freed other = get_or-set_other freed slot y (get_or freed slot 0 + bytes) 0 other
-
-pub length-with_freed : (slot bytes : ℕ) (freed : List ℕ) → length (with_freed slot bytes freed) ≡ length freed
-length-with_freed slot bytes freed = length-set freed slot (get_or freed slot 0 + bytes)
-
-pub sum-with_freed : (slot bytes : ℕ) (freed : List ℕ) → sum (with_freed slot bytes freed) ≤ sum freed + bytes
-sum-with_freed slot bytes freed =
-    elim (cases_lt slot (length freed)) [
-      | inl within ↦ (let more = sum_by-set (λ x. x) freed slot (get_or freed slot 0 + bytes) 0 within in omega (arith, more))
-      | inr past ↦ (let same = ap sum (set_past freed slot (get_or freed slot 0 + bytes) past) in omega (arith, same))
     ]
 
 -- the bytes of a slot's messages that a cancellation takes are freed
@@ -252,6 +241,7 @@ keeps_cancel c slot target keeps some within =
         messages = keeps.room.messages;
       };
       pong = keeps.pong;
+      newest = keeps.newest;
       stream = keeps.stream;
       counted = record { accepted_is = keeps.counted.accepted_is; highest_is = keeps.counted.highest_is; last_is = keeps.counted.last_is };
       linked = linked_after c.stream keeps.linked;
@@ -264,6 +254,9 @@ keeps_cancel c slot target keeps some within =
       };
       freed = freed_after past (Cancel slot target ∷ past) c.store (after_cancel slot target c.store) c.freed
           (with_freed slot (bytes_of (covered_messages slot target c.store.messages)) c.freed) c.slots refl (frees_cancelled slot target c.store c.freed) keeps.freed;
+      charged = charged_after c.store (after_cancel slot target c.store) c.freed
+          (with_freed slot (bytes_of (covered_messages slot target c.store.messages)) c.freed) c.charges c.slots keeps.freed.slots_are
+          (frees_cancelled slot target c.store c.freed) keeps.charged;
     }
   where
     linked_after : (o : Option ℕ) → IfSome o (λ s. IsLinked s c.journal.past c.mapped c.map c.asking) →
@@ -285,6 +278,14 @@ frees_cancel c slot target y keeps within =
     (gone_after_cancel slot y target past) (let slots = keeps.freed.slots_are in omega (arith, slots, within))
     (frees_cancelled slot target c.store c.freed)
 
+pub conserved_cancel : (c : Inside) (slot : ℕ) (target : Target) (y : ℕ) → ConnectionInvariant c → y < c.slots →
+    get_or (with_freed slot (bytes_of (covered_messages slot target c.store.messages)) c.freed) y 0 + alive_bytes y (Cancel slot target ∷ c.journal.past)
+    ≡ get_or c.freed y 0 + alive_bytes y c.journal.past
+conserved_cancel c slot target y keeps within =
+    conserved_by y c.journal.past (Cancel slot target ∷ c.journal.past) (get_or c.freed y 0)
+    (get_or (with_freed slot (bytes_of (covered_messages slot target c.store.messages)) c.freed) y 0)
+    (frees_cancel c slot target y keeps within) (gone_after_cancel slot y target c.journal.past)
+
 -- the bytes of a cancellation are within 64 bits
 pub freed_fits : (past : List Entry) (store : StoreView) (freed : List ℕ) (slots : ℕ) → length past < 4294967296 → IsFreed past store freed slots →
     sum freed + bytes_of store.messages < 2 ^ 64
@@ -295,6 +296,14 @@ cancel_fits c slot target keeps =
     let both = sum_by-filter_both (covers_message slot target) (λ m. not (covers_message slot target m)) (λ m. refl) (λ (m : Msg). m.len) c.store.messages in
     let fits = freed_fits c.journal.past c.store c.freed c.slots (let within = keeps.room.within in let most = keeps.room.most in omega (arith, within, most)) keeps.freed in
     omega (arith, both, fits)
+
+-- one datagram more is within 64 bits
+pub charge_fits : (c : Inside) (slot len : ℕ) → ConnectionInvariant c → slot < c.slots → len ≤ MAX_LENGTH → get_or c.charges slot 0 + len < 2 ^ 64
+charge_fits c slot len keeps within short =
+    let most = charge_within c.store.messages c.freed c.charges c.slots slot keeps.freed.slots_are within keeps.charged in
+    let few = accepted_within c.journal.past in
+    let room = keeps.room in
+    omega (arith, most, short, keeps.freed.bounded, few, room.within, room.most)
 
 -- a connection that is ready can take one message more
 pub record TakesMessage (c : Inside) : Type 0 where

@@ -25,12 +25,13 @@ use Rattle.rds_conn.specs.declared.asking.Asking.{Asking}
 use Rattle.rds_conn.specs.declared.conn.Conn.TheInside.{Inside}
 use Rattle.rds_conn.specs.Freeing.{acknowledged, Frees}
 use Rattle.rds_conn.specs.Released.{released_bytes}
-use Rattle.rds_conn.specs.Invariant.{ConnectionInvariant, IsCounted, IsLinked, IsReading, IsStored, IsFreed}
+use Rattle.rds_conn.specs.Invariant.{ConnectionInvariant, IsCounted, IsLinked, IsReading, IsStored, IsFreed, IsCharged}
 use Rattle.rds_conn.proofs.Messages.{messages_after_read}
 use Rattle.rds_conn.proofs.MessagesHeld.{holds_after_read}
 use Rattle.rds_conn.proofs.ReleasedBytes.{gone_after_read, gone_after_accept}
 use Rattle.rds_conn.proofs.KeepsStreams.{whole_with, reading_nothing}
 use Rattle.rds_conn.proofs.Bounds.{accepted_within}
+use Rattle.rds_conn.proofs.Charging.{charged_after, charged_after_pong}
 use Rattle.rds_conn.proofs.KeepsOrders.{IsNext, next_message, marked_after, freed_after, frees_gone, freed_fits, stored_after_accept, freed_after_accept}
 use Rattle.rds_conn.proofs.Reading.{waiting_sound}
 
@@ -99,6 +100,7 @@ pub record IsAcknowledged (c : Inside) (f : Frame) (store : StoreView) (freed : 
 record AfterRead (c : Inside) (s : ℕ) (f : Frame) (o : Outcome) (store : StoreView) (freed : List ℕ) : Type 0 where
   stored : IsStored (Read s f o ∷ c.journal.past) store c.slots
   freed_is : IsFreed (Read s f o ∷ c.journal.past) store freed c.slots
+  charged : IsCharged store.messages freed c.charges c.slots
   linked : IfSome c.stream (λ y. IsLinked y (Read s f o ∷ c.journal.past) c.mapped c.map (asking_after c.asking f.header))
   counted : IsCounted (Read s f o ∷ c.journal.past) c.accepted c.highest (cond (passes o) (number f) c.last)
 
@@ -108,6 +110,7 @@ after_read c s f o store freed keeps on acked = record {
   stored = subst (λ (h : StoreView). IsStored (Read s f o ∷ c.journal.past) h c.slots) (sym acked.store_is)
       (stored_after_read s f o c.journal.past c.store c.slots keeps.stored);
   freed_is = freed_after c.journal.past (Read s f o ∷ c.journal.past) c.store store c.freed freed c.slots refl acked.frees keeps.freed;
+  charged = charged_after c.store store c.freed freed c.charges c.slots keeps.freed.slots_are acked.frees keeps.charged;
   linked =
       subst (λ y. IfSome y (λ n. IsLinked n (Read s f o ∷ c.journal.past) c.mapped c.map (asking_after c.asking f.header))) (sym on)
       (linked_after_read s f o c.journal.past c.mapped c.map c.asking (subst (λ y. IfSome y (λ n. IsLinked n c.journal.past c.mapped c.map c.asking)) on keeps.linked));
@@ -142,12 +145,14 @@ keeps_passed c s f o store freed keeps some on is obeys no_pong acked =
         messages = (let spare = ap (λ (h : StoreView). h.spare) acked.store_is in omega (arith, spare, keeps.room.messages));
       };
       pong = keeps.pong;
+      newest = keeps.newest;
       stream = keeps.stream;
       counted = after.counted;
       linked = after.linked;
       reading = subst (λ (y : Frames). IsReading c.stream c.highest (record y { waiting = None })) (sym w.alone) (reading_nothing c.stream c.highest);
       stored = after.stored;
       freed = after.freed_is;
+      charged = after.charged;
     }
 
 pub frees_passed : (c : Inside) (s : ℕ) (f : Frame) (o : Outcome) (store : StoreView) (freed : List ℕ) (y : ℕ) → ConnectionInvariant c → y < c.slots →
@@ -225,6 +230,7 @@ keeps_answered c s f store freed keeps some store_some on is ping acked =
         messages = (let spare = ap (λ (h : StoreView). h.spare) acked.store_is in omega (arith, spare, keeps.room.messages));
       };
       pong = tt;
+      newest = keeps.newest;
       stream = keeps.stream;
       counted = record { accepted_is = number; highest_is = keeps.counted.highest_is; last_is = refl };
       linked = linked_after c.stream so_far.after.linked;
@@ -233,6 +239,8 @@ keeps_answered c s f store freed keeps some store_some on is ping acked =
           (stored_after_accept NO_SLOT 0 port [] past store c.slots so_far.legal so_far.after.stored);
       freed = subst (λ n. IsFreed (e ∷ past) (with_pong n (length past) port store) freed c.slots) (sym number)
           (freed_after_accept NO_SLOT 0 port [] past store freed c.slots (omega arith) so_far.after.freed_is);
+      charged = charged_after_pong (record { num = c.accepted + 1; place = length past; slot = NO_SLOT; dport = port; len = 0 })
+          store.messages freed c.charges c.slots refl so_far.after.charged;
     }
   where
     linked_after : (o : Option ℕ) → IfSome o (λ y. IsLinked y (Read s f outcome.Ping ∷ c.journal.past) c.mapped c.map (asking_after c.asking f.header)) →

@@ -54,6 +54,7 @@ keeps_pulled c s f mark top mapped map asking keeps some on lawful holds marked 
     messages = keeps.room.messages;
   };
   pong = keeps.pong;
+  newest = keeps.newest;
   stream = keeps.stream;
   counted = record { accepted_is = keeps.counted.accepted_is; highest_is = top_is; last_is = keeps.counted.last_is };
   linked = subst (λ o. IfSome o (λ y. IsLinked y (Pull s f ∷ c.journal.past) mapped map asking)) (sym on) linked;
@@ -65,6 +66,7 @@ keeps_pulled c s f mark top mapped map asking keeps some on lawful holds marked 
   };
   stored = record { holds = holds; marked = marked; slots_are = keeps.stored.slots_are; few = keeps.stored.few };
   freed = record { slots_are = keeps.freed.slots_are; bounded = keeps.freed.bounded };
+  charged = keeps.charged;
 }
 
 -- the fields tell of the open stream

@@ -6,9 +6,11 @@ use Rattle.rds_wire.specs.Kinds.{cause}
 use Rattle.rds_wire.specs.HeaderLaws.{length-header_bytes}
 use Rattle.rds_frame.specs.declared.took.Took.{Took}
 use Rattle.rds_frame.specs.Holding.{SplitterView as Frames, HoldsAtMostOneFrame, held_bytes, refusing}
+use Rattle.rds_frame.specs.Splitting.{IsClear}
 use Rattle.rds_frame.specs.Taking.{TakesPiece, RefusesPiece as FrameRefuses}
 use Rattle.rds_model.specs.declared.entry.Entry.TheVariants.{Bad}
 use Rattle.rds_model.specs.Log.{Log}
+use Rattle.rds_model.specs.Past.{highest_pulled}
 use Rattle.rds_model.specs.Legal.{IsLawfulBad}
 use Rattle.rds_conn.specs.declared.conn.Conn.TheInside.{Inside}
 use Rattle.rds_conn.specs.Connection.{Connection, with_entries}
@@ -22,6 +24,7 @@ keeps_fed c s piece took splitter keeps on takes held = record {
   whole = keeps.whole;
   room = keeps.room;
   pong = keeps.pong;
+  newest = keeps.newest;
   stream = keeps.stream;
   counted = keeps.counted;
   linked = keeps.linked;
@@ -33,7 +36,14 @@ keeps_fed c s piece took splitter keeps on takes held = record {
   };
   stored = keeps.stored;
   freed = keeps.freed;
+  charged = keeps.charged;
 }
+
+-- no header with a fault became whole
+pub clear_fed : (c : Inside) (s : ℕ) (piece : List ℕ) (took : Took) (splitter : Frames) → ConnectionInvariant c → c.stream ≡ Some s →
+    TakesPiece c.highest c.splitter piece took splitter → HoldsAtMostOneFrame splitter → IsClear (highest_pulled c.journal.past) (held_bytes splitter)
+clear_fed c s piece took splitter keeps on takes held =
+    subst (λ n. IsClear n (held_bytes splitter)) keeps.counted.highest_is (keeps_fed c s piece took splitter keeps on takes held).reading.clear
 
 -- a header that the splitter refused is a lawful end of the stream
 pub lawful_refusal : (c : Inside) (s : ℕ) (piece : List ℕ) (fault : Malformed) (splitter : Frames) → ConnectionInvariant c → c.stream ≡ Some s →

@@ -56,6 +56,7 @@ pub keeps_open : (c : Inside) (s : ℕ) → ConnectionInvariant c → 1 ≤ c.sp
     ConnectionInvariant (record c {
       journal = record c.journal { past = Open s ∷ c.journal.past; spare = c.journal.spare - 1 };
       spare = c.spare - 1;
+      newest = s;
       stream = Some s;
       mapped = false;
       asking = record { unasked = 0; bytes = 0; is_asked = false; must_ask = false };
@@ -67,6 +68,7 @@ keeps_open c s keeps some closed newer =
       whole = whole_with (Open s) past keeps.whole (closed, newer) refl;
       room = room_once (Open s) c.journal c.spare c.store c.store_spare some keeps.room;
       pong = keeps.pong;
+      newest = refl;
       stream = refl;
       counted = record { accepted_is = keeps.counted.accepted_is; highest_is = keeps.counted.highest_is; last_is = keeps.counted.last_is };
       linked = record {
@@ -84,6 +86,7 @@ keeps_open c s keeps some closed newer =
         few = keeps.stored.few;
       };
       freed = record { slots_are = keeps.freed.slots_are; bounded = keeps.freed.bounded };
+      charged = keeps.charged;
     }
 
 -- the end of the open stream, by this entry
@@ -91,6 +94,7 @@ pub keeps_end : (c : Inside) (e : Entry) → ConnectionInvariant c → 1 ≤ c.s
     IsLawful c.journal.past e → pong_to (e ∷ c.journal.past) ≡ None → open_stream (e ∷ c.journal.past) ≡ None →
     ((store : StoreView) → HoldsMessages store.messages store.mark c.journal.past → HoldsMessages store.messages 0 (e ∷ c.journal.past)) →
     IsCounted (e ∷ c.journal.past) c.accepted c.highest c.last → accepted (e ∷ c.journal.past) ≡ accepted c.journal.past →
+    newest_stream (e ∷ c.journal.past) ≡ newest_stream c.journal.past →
     ConnectionInvariant (record c {
       journal = record c.journal { past = e ∷ c.journal.past; spare = c.journal.spare - 1 };
       spare = c.spare - 1;
@@ -98,12 +102,13 @@ pub keeps_end : (c : Inside) (e : Entry) → ConnectionInvariant c → 1 ≤ c.s
       splitter = nothing_held;
       store = record c.store { mark = 0 };
     })
-keeps_end c e keeps some lawful settled ended holds counted same =
+keeps_end c e keeps some lawful settled ended holds counted same same_newest =
     record {
       whole = whole_with e c.journal.past keeps.whole lawful settled;
       room = room_once e c.journal c.spare (record c.store { mark = 0 }) c.store_spare some
           (record { entries = keeps.room.entries; within = keeps.room.within; most = keeps.room.most; messages = keeps.room.messages });
       pong = keeps.pong;
+      newest = keeps.newest ∙ sym same_newest;
       stream = sym ended;
       counted = counted;
       linked = tt;
@@ -115,6 +120,7 @@ keeps_end c e keeps some lawful settled ended holds counted same =
         few = keeps.stored.few;
       };
       freed = record { slots_are = keeps.freed.slots_are; bounded = subst (λ n. sum c.freed + bytes_of c.store.messages ≤ MAX_LENGTH * n) (sym same) keeps.freed.bounded };
+      charged = keeps.charged;
     }
 
 pub keeps_shut : (c : Inside) (s : ℕ) → ConnectionInvariant c → 1 ≤ c.spare → open_stream c.journal.past ≡ Some s →
@@ -128,7 +134,7 @@ pub keeps_shut : (c : Inside) (s : ℕ) → ConnectionInvariant c → 1 ≤ c.sp
 keeps_shut c s keeps some on =
     keeps_end c (Shut s) keeps some on refl refl
     (λ store holds. holds_all (Shut s ∷ c.journal.past) store.messages holds.alive refl)
-    (record { accepted_is = keeps.counted.accepted_is; highest_is = keeps.counted.highest_is; last_is = keeps.counted.last_is }) refl
+    (record { accepted_is = keeps.counted.accepted_is; highest_is = keeps.counted.highest_is; last_is = keeps.counted.last_is }) refl refl
 
 pub keeps_bad : (c : Inside) (s : ℕ) (h : Header) (fault : Malformed) → ConnectionInvariant c → 1 ≤ c.spare → IsLawfulBad s c.journal.past h fault →
     ConnectionInvariant (record c {
@@ -141,4 +147,4 @@ pub keeps_bad : (c : Inside) (s : ℕ) (h : Header) (fault : Malformed) → Conn
 keeps_bad c s h fault keeps some lawful =
     keeps_end c (Bad s h fault) keeps some lawful refl refl
     (λ store holds. holds_all (Bad s h fault ∷ c.journal.past) store.messages holds.alive refl)
-    (record { accepted_is = keeps.counted.accepted_is; highest_is = keeps.counted.highest_is; last_is = keeps.counted.last_is }) refl
+    (record { accepted_is = keeps.counted.accepted_is; highest_is = keeps.counted.highest_is; last_is = keeps.counted.last_is }) refl refl

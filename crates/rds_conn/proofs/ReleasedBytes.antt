@@ -1,5 +1,5 @@
 -- The bytes that are freed are those that are gone.
-use Rattle.std.proofs.Common.{◌≡◌, ℕ, suc, ◌+◌, ◌&&◌, ◌==◌, not, Bool, true, cond, Option, Some, None, is_some, List, [], ◌∷◌, length, sum_by, refl, sym, ◌∙◌, ap, add-zero}
+use Rattle.std.proofs.Common.{◌≡◌, ℕ, suc, ◌+◌, ◌&&◌, ◌==◌, not, Bool, true, cond, Option, Some, None, is_some, List, [], ◌∷◌, length, sum_by, refl, sym, ◌∙◌, ap, arith, add-zero}
 use Rattle.std.specs.List.{cons_option}
 use Rattle.std.specs.Option.{option_map}
 use Rattle.std.proofs.lemmas.Bool.{false≢true}
@@ -16,9 +16,11 @@ use Rattle.rds_model.specs.Store.{message, alive_messages}
 use Rattle.rds_model.specs.Legal.{IsLegal}
 use Rattle.rds_conn.specs.Freeing.{bytes_of_slot}
 use Rattle.rds_conn.specs.Released.{is_from, payload_bytes, is_released, released_bytes}
+use Rattle.rds_conn.specs.Unacked.{alive_bytes}
+use Rattle.rds_conn.proofs.Charging.{left_after}
 use Rattle.rds_conn.proofs.Totals.{total, total-cons, total-append, total_same_up_to, total_split}
 use Rattle.rds_conn.proofs.Filters.{filter-filter}
-use Rattle.rds_conn.proofs.Messages.{messages_of, AllKnown, alive_known}
+use Rattle.rds_conn.proofs.Messages.{messages_of, AllKnown, alive_known, messages_after_accept}
 use Rattle.rds_conn.proofs.AliveSteps.{datagram_other, alive_newest, alive_other}
 
 -- the bytes that a slot sent, and of those the ones that are alive
@@ -44,6 +46,30 @@ sizes_of slot past (n ∷ ns) known = go (datagram past n) refl known.0 (sizes_o
         ∙ ap (λ t. cond (d.slot == slot) (length d.payload) 0 + t) rest
         ∙ sym (total-cons (λ (m : Msg). m.len) (λ m. m.slot == slot) (message n d) (messages_of past ns))
         ∙ sym (ap (λ o. bytes_of_slot slot (cons_option (option_map (message n) o) (messages_of past ns))) some)
+
+-- what is left of a slot's messages is alive
+pub left_alive : (slot : ℕ) (past : List Entry) (ms : List Msg) → ms ≡ alive_messages past → bytes_of_slot slot ms ≡ alive_bytes slot past
+left_alive slot past ms is = ap (bytes_of_slot slot) is ∙ sym (sizes_of slot past (alive_numbers past) (alive_known past))
+
+-- an accepted datagram is alive, and its bytes are those of its slot
+pub alive_bytes_after_accept : (x slot sport dport : ℕ) (payload : List ℕ) (past : List Entry) → IsLegal past →
+    alive_bytes x (Accept slot sport dport payload ∷ past) ≡ alive_bytes x past + cond (slot == x) (length payload) 0
+alive_bytes_after_accept x slot sport dport payload past legal =
+    let e : Entry = Accept slot sport dport payload in
+    let m : Msg = record { num = suc (accepted past); place = length past; slot = slot; dport = dport; len = length payload } in
+    sym (left_alive x (e ∷ past) (alive_messages (e ∷ past)) refl)
+    ∙ ap (bytes_of_slot x) (messages_after_accept slot sport dport payload past legal)
+    ∙ left_after x m (alive_messages past)
+    ∙ ap (λ t. t + cond (slot == x) (length payload) 0) (left_alive x past (alive_messages past) refl)
+
+-- as long as no datagram is accepted, what isn't alive any more is freed
+pub conserved_by : (x : ℕ) (past later : List Entry) (held held_later : ℕ) → held_later + released_bytes x past ≡ held + released_bytes x later →
+    released_bytes x later + bytes_of_slot x (alive_messages later) ≡ released_bytes x past + bytes_of_slot x (alive_messages past) →
+    held_later + alive_bytes x later ≡ held + alive_bytes x past
+conserved_by x past later held held_later freed same =
+    let before = left_alive x past (alive_messages past) refl in
+    let after = left_alive x later (alive_messages later) refl in
+    omega (arith, freed, same, before, after)
 
 -- what a slot sent is gone or alive
 pub gone_or_left : (slot : ℕ) (past : List Entry) →

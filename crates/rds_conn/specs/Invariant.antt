@@ -1,12 +1,13 @@
 -- What the fields of a connection keep.
-use Rattle.std.specs.Prelude.{◌≡◌, ℕ, ◌+◌, ◌*◌, ◌≤◌, Bool, if◌then◌else◌, Option, Some, None, is_some, IfSome, List, [], length, sum}
+use Rattle.std.specs.Prelude.{◌≡◌, ℕ, ◌+◌, ◌*◌, ◌<◌, ◌≤◌, Bool, if◌then◌else◌, Option, Some, None, is_some, IfSome, List, [], length, sum, slice_index}
 use Rattle.rds_wire.specs.declared.kind.TheConstants.{MAX_LENGTH}
 use Rattle.rds_frame.specs.Holding.{SplitterView as Frames, HoldsAtMostOneFrame, held_bytes, nothing_held}
 use Rattle.rds_frame.specs.Splitting.{IsClear}
 use Rattle.rds_model.specs.declared.entry.Entry.{Entry}
+use Rattle.rds_model.specs.declared.entry.Msg.{Msg}
 use Rattle.rds_model.specs.declared.journal.TheConstants.{MAX_ENTRIES}
 use Rattle.rds_model.specs.Log.{Log}
-use Rattle.rds_model.specs.Past.{open_stream, accepted, highest_pulled, last_passed}
+use Rattle.rds_model.specs.Past.{open_stream, newest_stream, accepted, highest_pulled, last_passed}
 use Rattle.rds_model.specs.Owed.{last_map}
 use Rattle.rds_model.specs.declared.entry.TheConstants.{MAX_SLOTS}
 use Rattle.rds_model.specs.Legal.{IsWhole}
@@ -16,6 +17,7 @@ use Rattle.rds_conn.specs.declared.conn.Conn.TheInside.{Inside}
 use Rattle.rds_conn.specs.declared.asking.Asking.{Asking}
 use Rattle.rds_conn.specs.Asking.{IsAsking}
 use Rattle.rds_conn.specs.Connection.{Connection}
+use Rattle.rds_conn.specs.Freeing.{bytes_of_slot}
 
 -- the journal has room for the entries that are counted, and the store for the messages
 pub record HasRoom (log : Log) (spare : ℕ) (store : StoreView) (store_spare : ℕ) : Type 0 where
@@ -54,6 +56,11 @@ pub record IsFreed (past : List Entry) (store : StoreView) (freed : List ℕ) (s
   pub slots_are : length freed ≡ slots
   pub bounded : sum freed + bytes_of store.messages ≤ MAX_LENGTH * accepted past
 
+-- for each slot the bytes are counted that its messages have, or that are freed and held
+pub record IsCharged (messages : List Msg) (freed charges : List ℕ) (slots : ℕ) : Type 0 where
+  pub wide : length charges ≡ slots
+  pub each : (slot : ℕ) → slot < slots → slice_index charges slot ≡ slice_index freed slot + bytes_of_slot slot messages
+
 -- a pong's payload is empty
 abbrev pub IsPongPayload : Option (List ℕ) → Type 0
 IsPongPayload payload = IfSome payload (λ bytes. bytes ≡ [])
@@ -63,12 +70,14 @@ pub record ConnectionInvariant (c : Inside) : Type 0 where
   pub whole : IsWhole c.journal.past
   pub room : HasRoom c.journal c.spare c.store c.store_spare
   pub pong : IsPongPayload c.pong
+  pub newest : c.newest ≡ newest_stream c.journal.past
   pub stream : c.stream ≡ open_stream c.journal.past
   pub counted : IsCounted c.journal.past c.accepted c.highest c.last
   pub linked : IfSome c.stream (λ s. IsLinked s c.journal.past c.mapped c.map c.asking)
   pub reading : IsReading c.stream c.highest c.splitter
   pub stored : IsStored c.journal.past c.store c.slots
   pub freed : IsFreed c.journal.past c.store c.freed c.slots
+  pub charged : IsCharged c.store.messages c.freed c.charges c.slots
 
 -- the connection that contracts see
 abbrev pub connection_view : Inside → Connection

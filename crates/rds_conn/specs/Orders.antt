@@ -1,5 +1,5 @@
 -- What the orders of sockets do to a journal. Source: rds(7) for the cancellation by destination.
-use Rattle.std.specs.Prelude.{ℕ, ◌-◌, ◌<◌, ◌≤◌, [], ◌∷◌, length}
+use Rattle.std.specs.Prelude.{ℕ, ◌-◌, ◌<◌, ◌≤◌, ◌==◌, if◌then◌else◌, [], ◌∷◌, length}
 use Rattle.rds_wire.specs.declared.kind.TheConstants.{MAX_LENGTH}
 use Rattle.rds_model.specs.declared.entry.Entry.TheVariants as entry
 use Rattle.rds_model.specs.declared.entry.Target.TheVariants as target
@@ -22,3 +22,10 @@ after_order (order.Send slot sport dport payload) c =
 after_order (order.Cancel slot dport) c = with_entries (entry.Cancel slot (target.Port dport) ∷ []) c
 after_order (order.CloseSocket slot) c = with_entries (entry.Cancel slot target.All ∷ []) c
 after_order order.Cut c = c
+
+-- how many bytes more the datagrams of a slot have after an order
+abbrev pub put_bytes : ℕ → Order → ℕ
+put_bytes s (order.Send slot sport dport payload) = if slot == s then length payload else 0
+put_bytes s (order.Cancel slot dport) = 0
+put_bytes s (order.CloseSocket slot) = 0
+put_bytes s order.Cut = 0

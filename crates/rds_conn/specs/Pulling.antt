@@ -1,5 +1,5 @@
 -- What a pull does. Source: this project's own.
-use Rattle.std.specs.Prelude.{◌≡◌, ℕ, Option, Some, None, List, [], ◌∷◌, ◌++◌}
+use Rattle.std.specs.Prelude.{◌≡◌, ℕ, Bool, true, false, Option, Some, None, List, [], ◌∷◌, ◌++◌}
 use Rattle.rds_wire.specs.declared.frame.Frame.{Frame}
 use Rattle.rds_wire.specs.declared.kind.Kind.{Kind}
 use Rattle.rds_wire.specs.declared.kind.Kind.TheVariants as kind
@@ -16,6 +16,14 @@ name_of_pull kind.Data = pulled.Data
 name_of_pull kind.Ack = pulled.Ack
 name_of_pull kind.Map = pulled.Map
 name_of_pull kind.OddMap = pulled.Map
+
+-- a frame was pulled
+abbrev pub is_frame : Pulled → Bool
+is_frame pulled.Data = true
+is_frame pulled.Ack = true
+is_frame pulled.Map = true
+is_frame pulled.Nothing = false
+is_frame pulled.Down = false
 
 -- the frame that is owed to stream s goes to the journal, and its bytes to the queue
 pub record PullsFrame (s : ℕ) (f : Frame) (old new : Connection) (out_old out_new : List ℕ) (came : Pulled) : Type 0 where

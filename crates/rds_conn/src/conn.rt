@@ -2,6 +2,7 @@ ghost use Rattle.std.specs.Prelude.{◌≡◌, ℕ, ◌+◌, ◌≤◌, ◌↔�
 ghost use Rattle.rds_conn.specs.declared.conn.ConnError.TheVariants as errors;
 
 use crate::asking::Asking;
+use crate::charges::Charges;
 use crate::freed::{Freed, FreedBytes};
 use rds_cong::PortMap;
 use rds_frame::Splitter;
@@ -11,22 +12,26 @@ use rds_wire::{Malformed, Memory, Payload};
 use std::alloc::Global;
 use std::marker::Model;
 
+mod counts;
 mod feed;
 mod order;
 mod pull;
 mod read;
 mod ready;
 mod streams;
+mod uncounted;
 
 /// Why a call on a connection did nothing, or ended its stream.
 #[derive(Clone, Copy, Debug, PartialEq, Eq)]
 pub enum ConnError {
+    /// There is no memory for what the call needs. The connection is as before.
     Memory,
-    /// A malformed header came, which ended the stream.
+    /// A header came that is malformed for this cause. It went to the journal, and the stream is over.
     Malformed(Malformed),
-    /// The journal has this many entries, and two more would pass its limit.
+    /// The journal has this many entries, and two more would pass its limit. The connection is as before, and can't be
+    /// made ready any more.
     Spent { entries: u32 },
-    /// No stream is open.
+    /// No stream is open. The connection is as before.
     Closed,
 }
 
@@ -41,8 +46,11 @@ impl From<Memory> for ConnError {
 /// Which frame was pulled, or why none was.
 #[derive(Clone, Copy, Debug, PartialEq, Eq)]
 pub enum Pulled {
+    /// The datagram of the least number that is alive and wasn't pulled on the open stream.
     Data,
+    /// An acknowledgement without data, where the peer asks for one or this end has to.
     Ack,
+    /// The congestion map of this host, which isn't the one pulled last on the open stream.
     Map,
     /// No frame is owed.
     Nothing,
@@ -50,28 +58,31 @@ pub enum Pulled {
     Down,
 }
 
-/// What a connection took of a piece of the stream.
+/// What a connection took of a piece of the open stream.
 #[derive(Clone, Copy, Debug, PartialEq, Eq)]
 pub struct Fed {
-    /// How many bytes, from the front.
+    /// How many bytes, from the front: all of them, or as many as made a frame whole, and 0 where one waited already.
     pub used: usize,
-    /// Whether a whole frame waits.
+    /// Whether a whole frame waits, which has to be passed before more is taken.
     pub waiting: bool,
 }
 
-/// What the port table says of a datagram's port.
+/// What the port table says of the destination port of the frame that waits. It was asked exactly where the verdict is
+/// `Deliver`.
 #[derive(Clone, Copy, Debug, PartialEq, Eq)]
 pub enum Found {
-    /// The socket of this slot holds it.
+    /// The socket of this slot holds it, which is below the slots of the connection.
     Slot(u16),
-    /// No socket holds it.
+    /// No socket of this host holds it.
     NoSocket,
-    /// The frame isn't to be delivered, so nothing was looked up.
+    /// The verdict isn't `Deliver`, so nothing was looked up.
     Unasked,
 }
 
-/// A connection with a peer, as one host sees it. Contracts see its journal, what is ready for the next call, and what
-/// was taken of the open stream.
+/// A connection with a peer, as one host sees it: the datagrams that its sockets sent to the peer, and one stream at a
+/// time, over which frames go both ways. Each call appends its lawful entry to the journal, or does nothing. Contracts see
+/// the journal, what is ready for the next call, what was taken of the open stream and isn't passed, and for each slot
+/// the freed bytes that weren't handed out.
 #[derive(Drop)]
 pub struct Conn {
     alloc: Global,
@@ -82,11 +93,14 @@ pub struct Conn {
     store: Store,
     splitter: Splitter,
     freed: FreedBytes,
+    charges: Charges,
     // What `reserve` has made ready: room for entries and messages, and the payload of a pong.
     spare: u32,
     store_spare: u32,
     pong: Option<Payload>,
-    // The open stream, whether a map was pulled on it and which was the last, and what was asked on it.
+    // The newest stream or 0, the open one, whether a map was pulled on it and which was the last, and what was asked
+    // on it.
+    newest: u32,
     stream: Option<u32>,
     mapped: bool,
     map: PortMap,
@@ -111,17 +125,24 @@ impl Model for Conn {
 
 impl Conn {
     ghost use Rattle.rds_model.specs.Alive.{alive_numbers, covers, is_alive};
-    ghost use Rattle.rds_model.specs.Past.{datagram, highest_pulled, last_passed};
+    ghost use Rattle.rds_model.specs.Past.{datagram, highest_pulled};
     ghost use Rattle.rds_model.specs.Streams.{was_pulled};
     ghost use Rattle.rds_model.specs.Legal.{IsWhole};
     ghost use Rattle.rds_frame.specs.Splitting.{IsClear, IsPartial, IsSound};
     ghost use Rattle.rds_model.specs.declared.entry.TheConstants.{MAX_SLOTS};
+    ghost use Rattle.rds_model.specs.Reading.{verdict_of};
+    ghost use Rattle.rds_model.specs.declared.entry.Verdict.TheVariants as verdict;
+    ghost use Rattle.rds_wire.specs.declared.kind.TheConstants.{MAX_LENGTH, MAP_LENGTH};
     ghost use Rattle.rds_model.specs.declared.journal.TheConstants.{MIN_ENTRIES, MAX_ENTRIES};
     ghost use Rattle.rds_conn.specs.Connection.{stream_of, taken_bytes};
     ghost use Rattle.rds_conn.specs.Freeing.{HandsOutFreed};
 
     /// A connection of the host `me` with `peer`, both IPv4 addresses: an empty journal of at most `limit` entries, and
-    /// no stream.
+    /// no stream. The sockets of this host have slots below `slots`, at most `MAX_SLOTS`.
+    ///
+    /// # Errors
+    ///
+    /// Where there is no memory for its tables.
     pub fn new(alloc: Global, me: u32, peer: u32, slots: u16, limit: u32) -> Result<Conn, Memory>
         requires slots { slots ≤ MAX_SLOTS }
         requires least { MIN_ENTRIES ≤ limit }
@@ -147,9 +168,11 @@ impl Conn {
             store: Store::new(alloc, slots)?,
             splitter: Splitter::new(alloc)?,
             freed: FreedBytes::new(alloc, slots)?,
+            charges: Charges::new(alloc, slots)?,
             spare: 0,
             store_spare: 0,
             pong: None,
+            newest: 0,
             stream: None,
             mapped: false,
             map: PortMap::new(alloc)?,
@@ -160,14 +183,14 @@ impl Conn {
         })
     }
 
-    /// The address of this host.
+    /// The IPv4 address of this host.
     pub fn me(&self) -> u32
         ensures { result ≡ self.now.me }
     {
         self.me
     }
 
-    /// The address of the other host.
+    /// The IPv4 address of the other host.
     pub fn peer(&self) -> u32
         ensures { result ≡ self.now.peer }
     {
@@ -181,7 +204,7 @@ impl Conn {
         self.slots
     }
 
-    /// What every connection keeps.
+    /// What every connection keeps. It does nothing: a caller gets these facts from it.
     pub fn known(&self)
         ensures whole { IsWhole self.now.log.past }
         ensures room { length self.now.log.past + self.now.log.spare ≤ self.now.log.limit }
@@ -190,6 +213,9 @@ impl Conn {
         ensures freed { length self.now.freed ≡ self.now.slots }
         ensures idle { stream_of self.now ≡ None → (self.now.waiting ≡ None) × (self.now.rest ≡ []) }
         ensures sound { IfSome self.now.waiting (IsSound (highest_pulled self.now.log.past)) }
+        ensures size { IfSome self.now.waiting (λ f. length f.payload ≤ MAX_LENGTH) }
+        ensures map { IfSome self.now.waiting (λ f. verdict_of self.now.log.past f.header ≡ verdict.Map →
+            length f.payload ≡ MAP_LENGTH) }
         ensures alone { IfSome self.now.waiting (λ f. self.now.rest ≡ []) }
         ensures partial { self.now.waiting ≡ None → IsPartial self.now.rest }
         ensures clear { IsClear (highest_pulled self.now.log.past) (taken_bytes self.now) }
@@ -200,7 +226,11 @@ impl Conn {
         let _ = &self.slots;
     }
 
-    /// The numbers that such a cancellation would take back now, ascending.
+    /// Replaces `out` by the numbers of the datagrams that a cancellation by this socket would take back now, ascending.
+    ///
+    /// # Errors
+    ///
+    /// Where there is no memory for them. `out` is as before.
     pub fn covered(&self, slot: u16, target: &Target, out: &mut Vec<u64>) -> Result<(), Memory>
         ensures ok { OnOk result (out.new.items ≡
             filter (λ n. covers slot target.now (datagram self.now.log.past n)) (alive_numbers self.now.log.past)) }
@@ -209,16 +239,25 @@ impl Conn {
         self.store.covered(slot, target, out)
     }
 
-    /// Takes out freed bytes of one socket, at most those of one datagram.
+    /// Takes out freed bytes of one socket: bytes of its datagrams that were acknowledged or taken back, so that the
+    /// socket may send as many again. At most 1,048,576 at a time, from the lowest slot that has any; `None` where no slot
+    /// has.
     pub fn take_freed(&mut self) -> Option<Freed>
         ensures none { IsNone result ↔ (sum self.old.freed ≡ 0) }
         ensures some { IfSome result (HandsOutFreed self.old.freed self.new.freed) }
         ensures same { IfNone result (self.new ≡ self.old) }
         ensures rest { self.new ≡ record self.old { freed = self.new.freed } }
     {
-        self.freed.take()
+        match self.freed.take() {
+            Some(freed) => {
+                self.charges.take(freed.slot, freed.bytes);
+                Some(freed)
+            }
+            None => None,
+        }
     }
 
+    /// What has happened, as a list of entries.
     pub fn journal(&self) -> &Journal
         ensures past { result.now.past ≡ self.now.log.past }
         ensures limit { result.now.limit ≡ self.now.log.limit }
@@ -226,34 +265,14 @@ impl Conn {
         &self.journal
     }
 
-    /// The open stream.
+    /// The number of the open stream, if one is.
     pub fn stream(&self) -> Option<u32>
         ensures { result ≡ stream_of self.now }
     {
         self.stream
     }
 
-    /// The highest number that was ever pulled, or 0.
-    pub fn highest(&self) -> u64
-        ensures { result ≡ highest_pulled self.now.log.past }
-    {
-        self.highest
-    }
-
-    /// The number of the last passed datagram, or 0.
-    pub fn last_passed(&self) -> u64
-        ensures { result ≡ last_passed self.now.log.past }
-    {
-        self.last
-    }
-
-    /// How many accepted datagrams are neither acknowledged nor taken back.
-    pub fn unacked(&self) -> u32
-        ensures { result ≡ length (alive_numbers self.now.log.past) }
-    {
-        self.store.len()
-    }
-
+    /// Gives up the connection, and keeps what has happened.
     pub fn into_journal(self) -> Journal
         ensures past { result.past ≡ self.log.past }
         ensures limit { result.limit ≡ self.log.limit }

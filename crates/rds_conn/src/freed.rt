@@ -9,8 +9,9 @@ use std::marker::Model;
 /// Bytes of one socket's datagrams that were acknowledged or taken back.
 #[derive(Clone, Copy, Debug, PartialEq, Eq)]
 pub struct Freed {
+    /// The slot of the socket.
     pub slot: u16,
-    /// 1 to 1,048,576.
+    /// How many, 1 to 1,048,576.
     pub bytes: u64,
 }
 
@@ -43,6 +44,14 @@ impl FreedBytes {
             total: 0,
             first: 0,
         })
+    }
+
+    /// The bytes of a slot.
+    pub(crate) fn of(&self, slot: u16) -> u64
+        requires { slot < length self.now }
+        ensures { result ≡ slice_index self.now slot }
+    {
+        self.bytes[usize::from(slot)]
     }
 
     /// Adds bytes of a slot, where the slot is one of these.

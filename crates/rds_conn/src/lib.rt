@@ -2,6 +2,7 @@
 #![tactic(auto)]
 
 mod asking;
+mod charges;
 mod conn;
 mod freed;
 mod header;
@@ -15,3 +16,5 @@ pub use rds_model::Verdict;
 
 #[cfg(test)]
 mod tests;
+#[cfg(test)]
+mod tests_upper;

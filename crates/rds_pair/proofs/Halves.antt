@@ -1,6 +1,5 @@
 -- What the calls of a connection do to one end.
-use Rattle.std.proofs.Common.{◌≡◌, ℕ, Option, Some, None, IfSome, List, [], ◌∷◌, ◌++◌, refl, ◌∙◌, ap}
-use Rattle.std.specs.Prelude.{IsSome}
+use Rattle.std.proofs.Common.{◌≡◌, ℕ, Option, Some, None, IfSome, List, [], ◌∷◌, ◌++◌, refl, sym, ◌∙◌, ap, subst}
 use Rattle.std.specs.Option.{option_map}
 use Rattle.rds_wire.specs.declared.frame.Frame.{Frame}
 use Rattle.rds_model.specs.declared.entry.Entry.TheVariants.{Read}
@@ -13,7 +12,7 @@ use Rattle.rds_conn.specs.declared.conn.Found.{Found}
 use Rattle.rds_conn.specs.declared.conn.Pulled.{Pulled}
 use Rattle.rds_conn.specs.Connection.{Connection, with_entries, stream_of}
 use Rattle.rds_conn.specs.Pulling.{Pulls}
-use Rattle.rds_conn.specs.Passing.{with_pong, outcome_of, after_pass as passed_at}
+use Rattle.rds_conn.specs.Passing.{Passes, with_pong, outcome_of}
 use Rattle.rds_pair.specs.Half.{side}
 use Rattle.rds_pair.specs.Changes.{found_for, passed, passed_on, pulled, with_pull, with_owed_on, pong_entries, read_as}
 
@@ -42,28 +41,19 @@ read_side old out freed s f came None = refl
 read_side old out freed s f came (Some port) = refl
 
 -- the frame that waits was passed, as the slot says
-pub record Passes (old new : Connection) (slot : Option ℕ) : Type 0 where
-  pub verdict : Verdict
-  pub found : Found
-  pub verdict_is : option_map (λ (f : Frame). verdict_of old.log.past f.header) old.waiting ≡ Some verdict
-  pub found_is : found ≡ found_for old.slots slot verdict
-  pub on : IsSome (stream_of old)
-  pub entry : (s : ℕ) (f : Frame) → stream_of old ≡ Some s → old.waiting ≡ Some f →
-      new ≡ record (passed_at s f (outcome_of (verdict_of old.log.past f.header) found) old) { freed = new.freed }
-
-pub passed_side : (old new : Connection) (out : List ℕ) (slot : Option ℕ) → Passes old new slot →
-    side new out ≡ passed slot (side old out)
-passed_side old new out slot p = by_both (stream_of old) old.waiting refl refl p.on p.verdict_is
-  where
-    by_both : (o : Option ℕ) (w : Option Frame) → stream_of old ≡ o → old.waiting ≡ w → IsSome o →
-        option_map (λ (f : Frame). verdict_of old.log.past f.header) w ≡ Some p.verdict →
-        side new out ≡ passed_on o w slot (side old out)
-    by_both None w closed waits on is = cc
-    by_both (Some s) None open_is waits on is = cc
-    by_both (Some s) (Some f) open_is waits on is =
-        let verdict : p.verdict ≡ verdict_of old.log.past f.header = cc in
-        let found : p.found ≡ found_for old.slots slot (verdict_of old.log.past f.header) = p.found_is ∙ ap (found_for old.slots slot) verdict in
-        let came : Found → Outcome = outcome_of (verdict_of old.log.past f.header) in
-        ap (λ (c : Connection). side c out) (p.entry s f open_is waits)
-        ∙ read_side old out new.freed s f (came p.found) (pong_for (came p.found) f.header.sport)
-        ∙ ap (λ (n : Found). read_as s f (came n) (side old out)) found
+pub passed_side : (old new : Connection) (out : List ℕ) (slot : Option ℕ) (verdict : Verdict) (found : Found) →
+    option_map (λ (f : Frame). verdict_of old.log.past f.header) old.waiting ≡ Some verdict → found ≡ found_for old.slots slot verdict →
+    Passes found old new → side new out ≡ passed slot (side old out)
+passed_side old new out slot verdict found verdict_is found_is p =
+    let s : ℕ = p.stream in
+    let f : Frame = p.frame in
+    let shown : Some (verdict_of old.log.past f.header) ≡ Some verdict =
+    sym (ap (option_map (λ (g : Frame). verdict_of old.log.past g.header)) p.waits) ∙ verdict_is in
+    let verdict_there : verdict ≡ verdict_of old.log.past f.header = cc in
+    let came : Found → Outcome = outcome_of (verdict_of old.log.past f.header) in
+    let read : side new out ≡ read_as s f (came (found_for old.slots slot (verdict_of old.log.past f.header))) (side old out) =
+    ap (λ (c : Connection). side c out) p.entry
+    ∙ read_side old out new.freed s f (came found) (pong_for (came found) f.header.sport)
+    ∙ ap (λ (n : Found). read_as s f (came n) (side old out)) (found_is ∙ ap (found_for old.slots slot) verdict_there) in
+    subst (λ o. side new out ≡ passed_on o old.waiting slot (side old out)) (sym p.on)
+    (subst (λ w. side new out ≡ passed_on (Some s) w slot (side old out)) (sym p.waits) read)

@@ -1,8 +1,10 @@
 ghost use Rattle.std.specs.Prelude.{◌≡◌, ◌≢◌, ℕ, ◌-◌, ◌≤◌, ◌↔◌, ◌∷◌, None, IfOk, IsSome, IfSome, OnOk};
 ghost use Rattle.rds_frame.specs.Holding.{nothing_held};
+ghost use Rattle.rds_frame.specs.Splitting.{IsClear};
 ghost use Rattle.rds_model.specs.declared.entry.Entry.TheVariants as entry;
+ghost use Rattle.rds_model.specs.Past.{highest_pulled};
 ghost use Rattle.rds_wire.specs.declared.kind.Malformed.{Malformed};
-ghost use Rattle.rds_conn.specs.Connection.{IsReady, stream_of};
+ghost use Rattle.rds_conn.specs.Connection.{IsReady, stream_of, taken_bytes};
 ghost use Rattle.rds_conn.specs.Feeding.{Feeds, RefusesHeader};
 ghost use Rattle.rds_conn.specs.declared.conn.ConnError.TheVariants as errors;
 
@@ -12,10 +14,17 @@ use rds_model::{Entry, Journal};
 use rds_wire::Malformed;
 
 impl Conn {
-    /// Takes bytes of the open stream, until the piece ends or a frame is whole. A malformed header ends the stream.
+    /// Takes bytes of the open stream from the front of a piece, until the piece ends or a frame is whole. It takes none
+    /// where a frame waits. A header is checked as soon as its 48 bytes are there.
+    ///
+    /// # Errors
+    ///
+    /// `Closed` where no stream is open, and `Memory` where there is none for a payload: nothing was taken. `Malformed`
+    /// where a header is malformed: it goes to the journal, the stream is over, and what was taken of it is given up.
     pub fn feed(&mut self, piece: &[u8]) -> Result<Fed, ConnError>
         requires { IsReady self.old }
         ensures ok { IfOk result (Feeds piece.now self.old self.new) }
+        ensures clear { OnOk result (IsClear (highest_pulled self.old.log.past) (taken_bytes self.new)) }
         ensures waited { IsSome self.old.waiting → OnOk result (self.new ≡ self.old) }
 
         ensures closed { (result ≡ Err errors.Closed) ↔ (stream_of self.old ≡ None) }

@@ -1,11 +1,12 @@
-ghost use Rattle.std.specs.Prelude.{◌≡◌, ℕ, ◌+◌, ◌-◌, ◌<◌, ◌≤◌, ◌⊎◌, [], ◌∷◌, ◌++◌, length, All};
+ghost use Rattle.std.specs.Prelude.{◌≡◌, ℕ, ◌+◌, ◌-◌, ◌<◌, ◌≤◌, ◌⊎◌, ◌==◌, if◌then◌else◌, [], ◌∷◌, ◌++◌, length, All};
 ghost use Rattle.rds_wire.specs.declared.kind.TheConstants.{MAX_LENGTH};
 ghost use Rattle.rds_model.specs.declared.entry.Entry.TheVariants as entry;
 ghost use Rattle.rds_model.specs.declared.entry.Target.TheVariants as target;
 ghost use Rattle.rds_model.specs.declared.entry.Msg.{Msg};
 ghost use Rattle.rds_conn.specs.Connection.{IsReady, freed_bytes_of, with_entries};
 ghost use Rattle.rds_conn.specs.Released.{released_bytes};
-ghost use Rattle.rds_conn.specs.Orders.{IsOrderFor, after_order};
+ghost use Rattle.rds_conn.specs.Orders.{IsOrderFor, after_order, put_bytes};
+ghost use Rattle.rds_conn.specs.Unacked.{alive_bytes};
 
 use super::Conn;
 use rds_model::{Entry, Journal, Msg, NO_SLOT, Order, Target};
@@ -14,13 +15,17 @@ use rds_wire::Payload;
 use std::sync::ledger::Ledger;
 
 impl Conn {
-    /// Takes an order of a socket.
+    /// Takes an order of a socket: a datagram is accepted under the next number, or those of the socket that are alive
+    /// are taken back, to one port (as rds(7) has it) or all, and their bytes are freed. The journal has it before the call
+    /// returns. A connection takes no `Cut`. Each message that is visited is a step.
     pub fn order<L: Ledger>(&mut self, order: Order, steps: &mut Steps<L>)
         requires ready { IsReady self.old }
         requires allowed { IsOrderFor self.old.slots order }
         ensures entry { self.new ≡ record (after_order order self.old) { freed = self.new.freed } }
         ensures freed { (slot : ℕ) → slot < self.old.slots →
             freed_bytes_of slot self.new + released_bytes slot self.old.log.past ≡ freed_bytes_of slot self.old + released_bytes slot self.new.log.past }
+        ensures conserved { (slot : ℕ) → slot < self.old.slots → freed_bytes_of slot self.new + alive_bytes slot self.new.log.past
+            ≡ freed_bytes_of slot self.old + alive_bytes slot self.old.log.past + put_bytes slot order }
     {
         match order {
             Order::Send {
@@ -42,8 +47,11 @@ impl Conn {
         ensures entry { self.new ≡
             record (with_entries (entry.Accept slot sport dport payload ∷ []) self.old) { store_spare = self.old.store_spare - 1 } }
         ensures gone { (s : ℕ) → released_bytes s self.new.log.past ≡ released_bytes s self.old.log.past }
+        ensures alive { (s : ℕ) → alive_bytes s self.new.log.past
+            ≡ alive_bytes s self.old.log.past + (if slot == s then length payload else 0) }
     {
         self.accepted += 1;
+        self.charges.add(slot, u64::from(payload.len()));
         accept(
             &mut self.journal,
             &mut self.store,
@@ -63,6 +71,8 @@ impl Conn {
         ensures entry { self.new ≡ record (with_entries (entry.Cancel slot (target.Port dport) ∷ []) self.old) { freed = self.new.freed } }
         ensures freed { (s : ℕ) → s < self.old.slots →
             freed_bytes_of s self.new + released_bytes s self.old.log.past ≡ freed_bytes_of s self.old + released_bytes s self.new.log.past }
+        ensures conserved { (s : ℕ) → s < self.old.slots →
+            freed_bytes_of s self.new + alive_bytes s self.new.log.past ≡ freed_bytes_of s self.old + alive_bytes s self.old.log.past }
     {
         let bytes = self.store.cancel(slot, dport, steps);
         self.freed.add(slot, bytes);
@@ -79,6 +89,8 @@ impl Conn {
         ensures entry { self.new ≡ record (with_entries (entry.Cancel slot target.All ∷ []) self.old) { freed = self.new.freed } }
         ensures freed { (s : ℕ) → s < self.old.slots →
             freed_bytes_of s self.new + released_bytes s self.old.log.past ≡ freed_bytes_of s self.old + released_bytes s self.new.log.past }
+        ensures conserved { (s : ℕ) → s < self.old.slots →
+            freed_bytes_of s self.new + alive_bytes s self.new.log.past ≡ freed_bytes_of s self.old + alive_bytes s self.old.log.past }
     {
         let bytes = self.store.cancel_all(slot, steps);
         self.freed.add(slot, bytes);

@@ -1,4 +1,4 @@
-ghost use Rattle.std.specs.Prelude.{◌≡◌, ◌↔◌, ℕ, ◌<◌, [], false, true, None, Some, IfOk, IfErr, IfSome, IsSome, OnErr, length};
+ghost use Rattle.std.specs.Prelude.{◌≡◌, ◌≢◌, ◌↔◌, ℕ, ◌<◌, List, [], false, true, None, Some, IfOk, IfErr, IfSome, IsSome, OnOk, OnErr, length};
 ghost use Rattle.rds_wire.specs.declared.frame.Frame.{Frame};
 ghost use Rattle.rds_model.specs.Past.{Accepted, datagram};
 ghost use Rattle.rds_model.specs.Streams.{was_pulled as pulled_before};
@@ -6,7 +6,7 @@ ghost use Rattle.rds_model.specs.Alive.{due_numbers, is_alive};
 ghost use Rattle.rds_model.specs.Owed.{asks_with, data_frame as owed_data, header_of as owed_header, is_last_map, last_map, map_frame as owed_map, owed_frame, owed_after_map};
 ghost use Rattle.rds_conn.specs.Choosing.{IsFirstDue, IsMessage, IsNextDue};
 ghost use Rattle.rds_conn.specs.Connection.{IsReady, stream_of};
-ghost use Rattle.rds_conn.specs.Pulling.{Pulls, PullsFrame};
+ghost use Rattle.rds_conn.specs.Pulling.{Pulls, PullsFrame, is_frame};
 ghost use Rattle.rds_conn.specs.declared.conn.Pulled.TheVariants as pulled;
 ghost use Rattle.rds_conn.specs.declared.conn.ConnError.TheVariants as errors;
 
@@ -19,13 +19,21 @@ use rds_wire::{Frame, Memory};
 
 impl Conn {
     /// Pulls the frame that is owed to the open stream, where the host's own map is `map`: it goes to the journal, and
-    /// its bytes to `out`.
+    /// its bytes to the end of `out`. The map comes first where it isn't the one pulled last on the stream, then the
+    /// datagrams that are alive, in the order of their numbers, then an acknowledgement if one is owed.
+    ///
+    /// # Errors
+    ///
+    /// `Memory` where there is none for the bytes or for a map: nothing was pulled, and `out` is as before.
     pub fn pull(&mut self, map: &PortMap, out: &mut Out) -> Result<Pulled, ConnError>
         requires { IsReady self.old }
         ensures down { (result ≡ Ok pulled.Down) ↔ (stream_of self.old ≡ None) }
         ensures still { stream_of self.old ≡ None → (self.new ≡ self.old) × (out.new ≡ out.old) }
         ensures owed { IfSome (stream_of self.old) (λ s.
             IfOk result (Pulls s (owed_frame s self.old.log.past map.now) self.old self.new out.old out.new)) }
+        ensures some { IfOk result (λ came. is_frame came ≡ true → out.new ≢ []) }
+        ensures stream { stream_of self.new ≡ stream_of self.old }
+        ensures behind { IfSome (stream_of self.old) (λ s. OnOk result (last_map s self.new.log.past ≡ Some map.now)) }
         ensures err { OnErr result ((self.new ≡ self.old) × (out.new ≡ out.old)) }
         ensures memory { IfErr result (λ e. e ≡ errors.Memory) }
     {
@@ -35,6 +43,30 @@ impl Conn {
         if !self.has_pulled(map) {
             return self.pull_map(stream, map, out);
         }
+        self.pull_behind(out)
+    }
+
+    /// Pulls the frame that is owed to the open stream, where the host's own map is the one that was pulled last on it.
+    /// It does what `pull` does with that map, without a look at its 65,536 bits.
+    ///
+    /// # Errors
+    ///
+    /// `Memory` where there is none for the bytes: nothing was pulled, and `out` is as before.
+    pub fn pull_behind(&mut self, out: &mut Out) -> Result<Pulled, ConnError>
+        requires ready { IsReady self.old }
+        requires on { IsSome (stream_of self.old) }
+        requires behind { IfSome (stream_of self.old) (λ s. IsSome (last_map s self.old.log.past)) }
+        ensures owed { (s : ℕ) (map : List ℕ) → stream_of self.old ≡ Some s → last_map s self.old.log.past ≡ Some map →
+            IfOk result (Pulls s (owed_frame s self.old.log.past map) self.old self.new out.old out.new) }
+        ensures some { IfOk result (λ came. is_frame came ≡ true → out.new ≢ []) }
+        ensures stream { stream_of self.new ≡ stream_of self.old }
+        ensures map { (s : ℕ) → stream_of self.old ≡ Some s → last_map s self.new.log.past ≡ last_map s self.old.log.past }
+        ensures err { OnErr result ((self.new ≡ self.old) × (out.new ≡ out.old)) }
+        ensures memory { IfErr result (λ e. e ≡ errors.Memory) }
+    {
+        let Some(stream) = self.stream else {
+            unreachable!()
+        };
         match self.next_due() {
             Some(msg) => self.pull_data(stream, msg, out),
             None => self.pull_ack(stream, out),

@@ -10,7 +10,7 @@ ghost use Rattle.rds_msgs.specs.Messages.{bytes_of};
 ghost use Rattle.rds_conn.specs.Connection.{IsReady, freed_bytes_of, stream_of};
 ghost use Rattle.rds_conn.specs.Freeing.{Frees, acknowledged};
 ghost use Rattle.rds_conn.specs.Released.{released_bytes};
-ghost use Rattle.rds_conn.specs.Passing.{Matches, outcome_of as outcome_after, after_pass};
+ghost use Rattle.rds_conn.specs.Passing.{Matches, Passes, outcome_of as outcome_after, after_pass};
 
 use super::order::accept;
 use super::{Conn, Found};
@@ -22,14 +22,17 @@ use rds_wire::Frame;
 use std::sync::ledger::Ledger;
 
 impl Conn {
-    /// The whole frame that was read and isn't passed.
+    /// The whole frame that was taken of the open stream and isn't passed, if there is one.
     pub fn waiting(&self) -> Option<&Frame>
         ensures { option_copied result ≡ self.now.waiting }
     {
         self.splitter.ready()
     }
 
-    /// What has to become of the frame that waits.
+    /// What has to become of the frame that waits, or `None` where none does: a datagram is `Old` where it is marked as
+    /// pulled before and its number isn't above the last one that was passed; else `Deliver` to its port, and at port 0
+    /// `Ping` from another port and `Void` from port 0 (rds(7) sends from no socket at port 0). `AckOnly` is an
+    /// acknowledgement without data, `Map` the peer's congestion map, `OddMap` one of a wrong length.
     pub fn verdict(&self) -> Option<Verdict>
         ensures { result ≡ option_map (λ (f : Frame). verdict_after self.now.log.past f.header) self.now.waiting }
     {
@@ -39,8 +42,21 @@ impl Conn {
         }
     }
 
-    /// Passes the frame that waits, with what the port table says of its port.
+    /// Passes the frame that waits, with what the port table says of its port: it goes to the journal, what it
+    /// acknowledges is freed, and where it is a ping, its pong is accepted behind it. `found` is `Unasked` unless the
+    /// verdict is `Deliver`. The frame leaves the connection for the journal. Each message that is visited is a step.
     pub fn pass<L: Ledger>(&mut self, found: Found, steps: &mut Steps<L>)
+        requires ready { IsReady self.old }
+        requires waiting { IsSome self.old.waiting }
+        requires found { IfSome self.old.waiting (λ f. Matches self.old.slots (verdict_after self.old.log.past f.header) found) }
+        ensures passes { Passes found self.old self.new }
+    {
+        self.known();
+        self.pass_found(found, steps);
+        self.known();
+    }
+
+    fn pass_found<L: Ledger>(&mut self, found: Found, steps: &mut Steps<L>)
         requires ready { IsReady self.old }
         requires waiting { IsSome self.old.waiting }
         requires found { IfSome self.old.waiting (λ f. Matches self.old.slots (verdict_after self.old.log.past f.header) found) }

@@ -11,6 +11,11 @@ use std::alloc::Global;
 
 impl Conn {
     /// Makes the connection ready for one more call: room for two entries and a message, and the payload of a pong.
+    ///
+    /// # Errors
+    ///
+    /// `Spent` exactly where two more entries would pass the limit of the journal, and `Memory` where there is none. The
+    /// connection is as before.
     pub fn reserve(&mut self) -> Result<(), ConnError>
         ensures ok { OnOk result (self.new ≡ with_room self.old) }
         ensures err { OnErr result (self.new ≡ self.old) }

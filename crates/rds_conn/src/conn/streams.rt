@@ -8,7 +8,8 @@ use crate::asking::Asking;
 use rds_model::Entry;
 
 impl Conn {
-    /// A stream was opened. Its number is above those before it.
+    /// A stream to the peer was opened, and none was open. Its number is above those before it. All datagrams that are
+    /// alive are to be pulled on it, behind the map.
     pub fn open(&mut self, stream: u32)
         requires ready { IsReady self.old }
         requires closed { stream_of self.old ≡ None }
@@ -17,6 +18,7 @@ impl Conn {
     {
         self.journal.push(Entry::Open { stream });
         self.spare -= 1;
+        self.newest = stream;
         self.stream = Some(stream);
         self.mapped = false;
         self.asking = Asking::new();

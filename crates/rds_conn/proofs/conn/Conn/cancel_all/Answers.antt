@@ -1,7 +1,7 @@
 use Rattle.std.proofs.Common.{ap, arith}
 use Rattle.rds_model.specs.declared.entry.Target.TheVariants.{All}
 use Rattle.rds_conn.specs.Connection.{Connection}
-use Rattle.rds_conn.proofs.KeepsOrders.{keeps_cancel, frees_cancel, cancel_fits}
+use Rattle.rds_conn.proofs.KeepsOrders.{keeps_cancel, frees_cancel, conserved_cancel, cancel_fits}
 use Rattle.rds_conn.proofs.conn.Conn.cancel_all.Goals as goal
 
 pub add-requires : goal.add-requires
@@ -18,3 +18,8 @@ pub returns-clause-freed : goal.returns-clause-freed
 returns-clause-freed g c =
     rw (← c.self.view_is, c.push.ensures, c.add.ensures, c.cancel_all-bytes.ensures.bytes)
     (λ s within. frees_cancel c.self.inside c.args.slot All s c.self.invariant within)
+
+pub returns-clause-conserved : goal.returns-clause-conserved
+returns-clause-conserved g c =
+    rw (← c.self.view_is, c.push.ensures, c.add.ensures, c.cancel_all-bytes.ensures.bytes)
+    (λ s within. conserved_cancel c.self.inside c.args.slot All s c.self.invariant within)

@@ -4,7 +4,7 @@ use Rattle.rds_model.specs.declared.entry.Entry.TheVariants.{Bad}
 use Rattle.rds_conn.specs.Connection.{Connection, with_entries}
 use Rattle.rds_conn.specs.Feeding.{RefusesHeader}
 use Rattle.rds_conn.specs.Invariant.{connection_view}
-use Rattle.rds_conn.proofs.KeepsReads.{keeps_fed, lawful_refusal, refused_bytes, recorded, is_refused}
+use Rattle.rds_conn.proofs.KeepsReads.{keeps_fed, clear_fed, lawful_refusal, refused_bytes, recorded, is_refused}
 use Rattle.rds_conn.proofs.KeepsStreams.{keeps_bad}
 use Rattle.rds_conn.proofs.conn.Conn.feed.Goals as goal
 
@@ -38,3 +38,9 @@ returns-in-Err-Malformed-clause-malformed c =
     let new : Connection = record (with_entries (Bad c.in-Some.stream refused.header c.in-Err-Malformed.fault ∷ []) (connection_view c.self.inside)) { waiting = None; rest = [] } in
     subst (λ f. RefusesHeader c.args.piece.now f (connection_view c.self.inside) new) fault_is
     (refused_bytes c.self.inside c.in-Some.stream c.args.piece.now c.in-Err-Malformed.fault c.take.new.self c.self.invariant c.in-Some.is refused new refl))
+
+pub returns-in-Ok-clause-clear : goal.returns-in-Ok-clause-clear
+returns-in-Ok-clause-clear c =
+    rw (← c.self.view_is)
+    (clear_fed c.self.inside c.in-Some.stream c.args.piece.now c.in-Ok.took c.take.new.self c.self.invariant c.in-Some.is
+    c.in-Ok.ensures.ok c.take.ensures.held)

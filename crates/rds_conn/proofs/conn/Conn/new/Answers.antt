@@ -14,13 +14,15 @@ invariant_of-result c =
       store = c.in_ok-new-2.field-0;
       splitter = c.in_ok-new-3.field-0;
       freed = c.in_ok-new-4.field-0;
+      charges = c.in_ok-new-5.field-0;
       spare = 0;
       store_spare = 0;
       pong = None;
+      newest = 0;
       stream = None;
       mapped = false;
-      map = c.in_ok-new-5.field-0;
-      asking = c.new-6.result;
+      map = c.in_ok-new-6.field-0;
+      asking = c.new-7.result;
       accepted = 0;
       highest = 0;
       last = 0;
@@ -31,5 +33,6 @@ invariant_of-result c =
       store = c.in_ok-new-2.ensures.empty;
       splitter = c.in_ok-new-3.ensures.fresh;
       freed = c.in_ok-new-4.ensures;
+      charges = c.in_ok-new-5.ensures;
     })
     c.requires.slots c.requires.most

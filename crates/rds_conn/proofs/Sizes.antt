@@ -1,0 +1,82 @@
+-- How long a frame that waits is.
+use Rattle.std.proofs.Common.{◌≡◌, ◌≢◌, ℕ, ◌+◌, ◌≤◌, ◌^◌, ◌&&◌, ◌||◌, ◌==◌, not, nat_lt, nat_le, Bool, true, false, cond, Option, Some, None, IfSome, List, [], ◌∷◌, ◌++◌, length, refl, sym, ◌∙◌, ap, subst, arith}
+use Rattle.std.proofs.lemmas.Bool.{ltb-false, eqb-true}
+use Rattle.rds_wire.specs.declared.frame.Frame.{Frame}
+use Rattle.rds_wire.specs.declared.header.Header.{Header}
+use Rattle.rds_wire.specs.declared.header.TheConstants.{CONG_BITMAP}
+use Rattle.rds_wire.specs.declared.kind.Kind.{Kind}
+use Rattle.rds_wire.specs.declared.kind.Kind.TheVariants as kind
+use Rattle.rds_wire.specs.declared.kind.Malformed.TheVariants as malformed
+use Rattle.rds_wire.specs.declared.kind.TheConstants.{MAX_LENGTH, MAP_LENGTH}
+use Rattle.rds_wire.specs.Bytes.{computed}
+use Rattle.rds_wire.specs.Kinds.{carries, cause, is_data, kind_of}
+use Rattle.rds_model.specs.declared.entry.Entry.{Entry}
+use Rattle.rds_model.specs.declared.entry.Verdict.TheVariants as verdict
+use Rattle.rds_model.specs.Reading.{is_old, verdict_of, verdict_of_kind}
+use Rattle.rds_conn.specs.declared.conn.Conn.TheInside.{Inside}
+use Rattle.rds_conn.specs.Invariant.{ConnectionInvariant}
+use Rattle.rds_conn.proofs.KeepsPassing.{waits}
+
+-- a header without a fault announces no more than a frame may have
+short_of : (wrong_sum long wrong_number wrong_ack : Bool) (h : Header) (highest : ℕ) →
+    cond wrong_sum (Some (malformed.Sum h.csum (computed h)))
+    (cond long (Some (malformed.Length h.len))
+    (cond wrong_number (Some (malformed.Sequence h.sequence))
+    (cond wrong_ack (Some (malformed.Ack h.ack highest)) None))) ≡ None →
+    long ≡ false
+short_of true long wrong_number wrong_ack h highest is = cc
+short_of false true wrong_number wrong_ack h highest is = cc
+short_of false false wrong_number wrong_ack h highest is = refl
+
+len_of_sound : (h : Header) (highest : ℕ) → cause h highest ≡ None → h.len ≤ MAX_LENGTH
+unfolding cause
+len_of_sound h highest sound =
+    ltb-false MAX_LENGTH h.len
+    (short_of (not (h.csum == 0) && not (h.csum == computed h)) (nat_lt MAX_LENGTH h.len)
+    (is_data (kind_of h) && (h.sequence == 0 || nat_le (2 ^ 63) h.sequence)) (nat_lt highest h.ack) h highest sound)
+
+-- the verdict is that of a map for the header of one alone
+never_map : (old void ping : Bool) (dport : ℕ) →
+    cond old verdict.Old (cond void (cond ping verdict.Void verdict.Ping) (verdict.Deliver dport)) ≢ verdict.Map
+never_map true void ping dport is = cc
+never_map false true true dport is = cc
+never_map false true false dport is = cc
+never_map false false ping dport is = cc
+
+map_of_verdict : (s : Kind) (past : List Entry) (h : Header) → verdict_of_kind s past h ≡ verdict.Map → s ≡ kind.Map
+map_of_verdict kind.Map past h is = refl
+map_of_verdict kind.OddMap past h is = cc
+map_of_verdict kind.Ack past h is = cc
+map_of_verdict kind.Data past h is = absurd (never_map (is_old past h) (h.dport == 0) (h.sport == 0) h.dport is)
+
+map_long : (map long ack : Bool) → cond map (cond long kind.Map kind.OddMap) (cond ack kind.Ack kind.Data) ≡ kind.Map → long ≡ true
+map_long true true ack is = refl
+map_long true false ack is = cc
+map_long false long true is = cc
+map_long false long false is = cc
+
+len_of_map : (h : Header) → kind_of h ≡ kind.Map → h.len ≡ MAP_LENGTH
+len_of_map h is =
+    eqb-true h.len MAP_LENGTH
+    (map_long (carries CONG_BITMAP h.flags) (h.len == MAP_LENGTH) (h.sequence == 0 && (h.len == 0 && h.dport == 0)) is)
+
+pub short_waiting : (c : Inside) → ConnectionInvariant c → IfSome c.splitter.waiting (λ (f : Frame). length f.payload ≤ MAX_LENGTH)
+short_waiting c keeps = go c.splitter.waiting refl
+  where
+    go : (o : Option Frame) → c.splitter.waiting ≡ o → IfSome o (λ (f : Frame). length f.payload ≤ MAX_LENGTH)
+    go None is = tt
+    go (Some f) is =
+        let w = waits c f keeps is in
+        let len = len_of_sound f.header _ w.sound in
+        let whole = w.frame.payload in
+        omega (arith, len, whole)
+
+pub map_waiting : (c : Inside) → ConnectionInvariant c →
+    IfSome c.splitter.waiting (λ (f : Frame). verdict_of c.journal.past f.header ≡ verdict.Map → length f.payload ≡ MAP_LENGTH)
+map_waiting c keeps = go c.splitter.waiting refl
+  where
+    go : (o : Option Frame) → c.splitter.waiting ≡ o →
+        IfSome o (λ (f : Frame). verdict_of c.journal.past f.header ≡ verdict.Map → length f.payload ≡ MAP_LENGTH)
+    go None is = tt
+    go (Some f) is = λ map.
+        (waits c f keeps is).frame.payload ∙ len_of_map f.header (map_of_verdict (kind_of f.header) c.journal.past f.header map)
