@@ -1,4 +1,4 @@
-ghost use Rattle.std.specs.Prelude.{◌≡◌, ◌≢◌, ◌<◌, ◌≤◌, ◌+◌, ◌*◌, ℕ, List, [], ◌∷◌, ◌++◌, Some, None, true, length, sum_by, Contains};
+ghost use Rattle.std.specs.Prelude.{◌≡◌, ◌≢◌, ◌<◌, ◌≤◌, ◌+◌, ◌*◌, ℕ, List, [], ◌∷◌, ◌++◌, Some, None, true, length, sum_by, codes, Contains};
 ghost use Rattle.rds_wire.specs.declared.frame.Frame.{Frame};
 ghost use Rattle.rds_wire.specs.declared.header.Header.{Header};
 ghost use Rattle.rds_wire.specs.declared.kind.Malformed.{Malformed};
@@ -15,10 +15,11 @@ ghost use Rattle.rds_model.specs.Owed.{owed_frame};
 ghost use Rattle.rds_model.specs.Legal.{IsLegal, IsWhole, IsMapPull};
 ghost use Rattle.rds_model.specs.Honest.{Begins, IsHonest};
 ghost use Rattle.rds_model.specs.Fifo.{IsFifo, HasNoBad};
-ghost use Rattle.rds_model.specs.Pairs.{IsDeliveredOnce, delivered, is_delivery_to, taken_back};
+ghost use Rattle.rds_model.specs.Pairs.{IsDeliveredOnce, delivered, dropped, is_delivery_to, taken_back, taken_by_port_0};
 ghost use Rattle.rds_model.specs.declared.order.Datagram.{Datagram};
+ghost use Rattle.rds_model.specs.declared.order.Order.TheVariants as order;
 ghost use Rattle.rds_model.specs.Drained.{IsQuiet, IsSettledBetween};
-ghost use Rattle.rds_model.specs.Examples.{AreSound, hello_sender, hello_receiver, cut_sender, cut_receiver};
+ghost use Rattle.rds_model.specs.Examples.{AreSound, frame, hello_sender, hello_receiver, cut_sender, cut_receiver, talk_first, talk_second, wronged};
 
 use crate::Journal;
 
@@ -91,15 +92,46 @@ pub fn owed_is_lawful()
 {}
 
 /// The premises of the laws are met: a plain run keeps all rules, and so does one with a cut in the middle of a payload, a
-/// retransmission, an old copy and a cancellation. Both end quiet. In the second the receiver delivers what was accepted
-/// but for the datagram that was taken back.
+/// retransmission, an old copy and a cancellation, and one with data both ways, a ping and its pong, datagrams that reach
+/// no socket, and acknowledgements that ask and answer. All three end quiet. A journal by itself shows what a peer without
+/// rules may send.
 pub fn examples()
     ensures hello { (map : List ℕ) → length map ≡ MAP_LENGTH → AreSound (hello_sender map) (hello_receiver map) }
     ensures hello_quiet { (map : List ℕ) → IsQuiet 1 (hello_sender map) (hello_receiver map) }
     ensures cut { (map : List ℕ) → length map ≡ MAP_LENGTH → AreSound (cut_sender map) (cut_receiver map) }
     ensures cut_quiet { (map : List ℕ) → IsQuiet 2 (cut_sender map) (cut_receiver map) }
+    ensures talk { (map : List ℕ) → length map ≡ MAP_LENGTH → AreSound (talk_first map) (talk_second map) }
+    ensures talk_quiet { (map : List ℕ) → IsQuiet 1 (talk_first map) (talk_second map) }
+    ensures wronged { IsWhole wronged }
+{}
+
+/// What becomes of the datagrams of the example runs. With the cut the receiver delivers what was accepted but for the
+/// datagram that was taken back. With data both ways the ping and the datagram from port 0 to port 0 are taken by port 0,
+/// the pong is delivered, and one datagram finds no socket.
+pub fn example_fates()
     ensures delivered { (map : List ℕ) → delivered 4000 4001 (cut_receiver map) ≡ 1 ∷ 2 ∷ 4 ∷ [] }
     ensures taken_back { (map : List ℕ) → taken_back 4000 4002 (cut_sender map) ≡ 3 ∷ [] }
+    ensures pinged { (map : List ℕ) → taken_by_port_0 4000 0 (talk_second map) ≡ 2 ∷ [] }
+    ensures answered { (map : List ℕ) → delivered 0 4000 (talk_first map) ≡ 2 ∷ [] }
+    ensures void { (map : List ℕ) → taken_by_port_0 0 0 (talk_second map) ≡ 4 ∷ [] }
+    ensures dropped { (map : List ℕ) → dropped 4000 4009 (talk_second map) ≡ 3 ∷ [] }
+{}
+
+/// What the journals of the example runs add up to. A pong is no order.
+pub fn example_sums()
+    ensures orders { (map : List ℕ) → orders (talk_second map) ≡ order.Send 0 4001 4000 (codes "back") ∷ [] }
+    ensures close { orders wronged ≡ order.CloseSocket 0 ∷ [] }
+    ensures received { (from : ℕ) (map : List ℕ) → delivered_datagrams from 0 (talk_first map) ≡
+        record { from = from; sport = 4001; dport = 4000; payload = codes "back" }
+        ∷ record { from = from; sport = 0; dport = 4000; payload = [] } ∷ [] }
+    ensures count { (map : List ℕ) → deliveries 0 (talk_first map) ≡ 2 }
+    ensures bytes { (map : List ℕ) → put_bytes 0 (cut_receiver map) ≡ 17 }
+    ensures port { (map : List ℕ) → port_bytes 4002 0 (cut_receiver map) ≡ 0 }
+    ensures maps { (map : List ℕ) → maps (cut_sender map) ≡ map ∷ [] }
+    ensures opens { (map : List ℕ) → opens (cut_sender map) ≡ 1 ∷ 2 ∷ [] }
+    ensures endings { (map : List ℕ) → endings (cut_sender map) ≡ 1 }
+    ensures refused { endings wronged ≡ 1 }
+    ensures newest { (map : List ℕ) → newest_pull 1 (cut_sender map) ≡ Some (frame 2 0 4000 4001 0 (codes "second")) }
 {}
 
 /// What a journal took, read and delivered stands in its later journals too, before what came since.
