@@ -9,6 +9,8 @@ use Rattle.rds_wire.specs.declared.kind.TheConstants.{MAP_LENGTH, MAX_LENGTH}
 use Rattle.rds_model.specs.declared.entry.Entry.{Entry}
 use Rattle.rds_model.specs.declared.entry.Entry.TheVariants.{Accept, Pull, Read}
 use Rattle.rds_model.specs.declared.entry.Outcome.{Outcome}
+use Rattle.rds_model.specs.declared.entry.Outcome.TheVariants as outcome
+use Rattle.rds_model.specs.declared.entry.TheConstants.{NO_SLOT}
 use Rattle.rds_model.specs.Past.{Moment, accepted, open_stream, highest_pulled, last_passed}
 use Rattle.rds_model.specs.Streams.{pulled_frames, read_frames, refused_bytes, written_bytes, read_bytes}
 use Rattle.rds_model.specs.Alive.{due_numbers}
@@ -16,7 +18,7 @@ use Rattle.rds_model.specs.Honest.{Begins}
 use Rattle.rds_model.specs.Drained.{OwesNothing}
 use Rattle.rds_model.specs.Owed.{last_map, owed_frame, owed_after_map}
 use Rattle.rds_model.specs.Reading.{verdict_of, Obeys}
-use Rattle.rds_model.specs.Legal.{IsWhole, IsLawful, pong_to}
+use Rattle.rds_model.specs.Legal.{IsWhole, IsLawful, IsLawfulRead, pong_to}
 use Rattle.rds_model.proofs.Moments.{past_of}
 use Rattle.rds_model.specs.LegalityLaws.{legal_at, lawful_pull}
 use Rattle.rds_model.specs.OwingLaws.{owed_is_lawful, settled_continues, owed_behind_last}
@@ -32,19 +34,38 @@ pub pulling : (s : ℕ) (f : Frame) (past : List Entry) (map : List ℕ) → IsW
     owed_frame s past map ≡ Some f → IsWhole (Pull s f ∷ past)
 pulling s f past map whole on long is = more (Pull s f) past whole (owed_is_lawful s past map f whole.legal on long is) refl
 
--- the reading of a frame that the peer pulled
-pub reading : (s : ℕ) (f : Frame) (o : Outcome) (past : List Entry) {sender peer : List Entry} → IsWhole past → open_stream past ≡ Some s →
+-- the reading of a frame that the peer pulled is lawful
+read_lawfully : (s : ℕ) (f : Frame) (o : Outcome) (past : List Entry) {sender peer : List Entry} → open_stream past ≡ Some s →
     IsWhole peer → Moment (Pull s f ∷ sender) peer → last_passed sender ≤ highest_pulled past → Obeys (verdict_of past f.header) o →
-    pong_to (Read s f o ∷ past) ≡ None → IsWhole (Read s f o ∷ past)
-reading s f o past {sender} {peer} whole on peer_whole m known obeys settled =
+    IsLawfulRead s past f o
+read_lawfully s f o past {sender} {peer} on peer_whole m known obeys =
     let lawful = lawful_pull s f peer_whole.legal m in
-    more (Read s f o) past whole (record {
+    record {
       on = on;
       header = lawful.header;
       whole = lawful.whole;
       sound = lawful_frame_is_sound s sender f (highest_pulled past) (legal_at (past_of m) peer_whole.legal) lawful known;
       obeys = obeys;
-    }) settled
+    }
+
+-- the reading of such a frame
+pub reading : (s : ℕ) (f : Frame) (o : Outcome) (past : List Entry) {sender peer : List Entry} → IsWhole past → open_stream past ≡ Some s →
+    IsWhole peer → Moment (Pull s f ∷ sender) peer → last_passed sender ≤ highest_pulled past → Obeys (verdict_of past f.header) o →
+    pong_to (Read s f o ∷ past) ≡ None → IsWhole (Read s f o ∷ past)
+reading s f o past whole on peer_whole m known obeys settled =
+    more (Read s f o) past whole (read_lawfully s f o past on peer_whole m known obeys) settled
+
+-- the reading of a ping, and its pong
+pub answering : (s : ℕ) (f : Frame) (past : List Entry) {sender peer : List Entry} → IsWhole past → open_stream past ≡ Some s →
+    IsWhole peer → Moment (Pull s f ∷ sender) peer → last_passed sender ≤ highest_pulled past → Obeys (verdict_of past f.header) outcome.Ping →
+    suc (accepted past) < 2 ^ 63 → IsWhole (Accept NO_SLOT 0 f.header.sport [] ∷ Read s f outcome.Ping ∷ past)
+answering s f past whole on peer_whole m known obeys few = record {
+  legal = (
+    record { is = refl; number_fits = few },
+    (settled_continues past (Read s f outcome.Ping) whole.settled (read_lawfully s f outcome.Ping past on peer_whole m known obeys), whole.legal),
+  );
+  settled = refl;
+}
 
 pub nothing_yet : IsWhole []
 nothing_yet = record { legal = tt; settled = refl }

@@ -21,3 +21,5 @@ pub mod Headline
 pub mod ExampleSteps
 pub mod HelloRun
 pub mod CutRun
+pub mod TalkRun
+pub mod WrongedEnd

@@ -1,12 +1,16 @@
--- Four journals, newest entry first, to read the definitions against. Source: this project's own.
+-- Three runs of two journals each, and a journal by itself, newest entry first, to read the definitions against. Source:
+-- this project's own.
 use Rattle.std.specs.Prelude.{ℕ, List, [], ◌∷◌, length, replicate, codes}
 use Rattle.rds_wire.specs.declared.frame.Frame.{Frame}
+use Rattle.rds_wire.specs.declared.header.Header.{Header}
+use Rattle.rds_wire.specs.declared.kind.Malformed.TheVariants as malformed
 use Rattle.rds_wire.specs.declared.kind.TheConstants.{MAP_LENGTH}
 use Rattle.rds_wire.specs.Bytes.{sealed}
 use Rattle.rds_model.specs.declared.entry.Entry.{Entry}
-use Rattle.rds_model.specs.declared.entry.Entry.TheVariants.{Accept, Cancel, Open, Pull, Read, Shut}
-use Rattle.rds_model.specs.declared.entry.Target.TheVariants.{Port}
+use Rattle.rds_model.specs.declared.entry.Entry.TheVariants.{Accept, Cancel, Open, Pull, Read, Shut, Bad}
+use Rattle.rds_model.specs.declared.entry.Target.TheVariants.{Port, All}
 use Rattle.rds_model.specs.declared.entry.Outcome.TheVariants as outcome
+use Rattle.rds_model.specs.declared.entry.TheConstants.{NO_SLOT}
 use Rattle.rds_model.specs.Legal.{IsWhole}
 use Rattle.rds_model.specs.Honest.{IsHonest}
 
@@ -103,6 +107,74 @@ cut_receiver map =
     ∷ Read 1 (frame 1 0 4000 4001 0 (codes "first")) (outcome.Slot 0)
     ∷ Read 1 (map_with 0 map) outcome.Map
     ∷ Pull 1 (map_with 0 map)
+    ∷ Open 1
+    ∷ []
+
+-- A run with data both ways. The first end sends a datagram, a ping, a datagram to a port that no socket holds, and one
+-- from port 0 to port 0. The fifth is taken back before it is pulled, so that no frame has asked for an acknowledgement yet,
+-- and an empty one asks. The second end sends a datagram and the pong, and answers what was asked; and so does the first.
+abbrev pub talk_first : List ℕ → List Entry
+talk_first map =
+    Pull 1 (frame 0 2 0 0 0 [])
+    ∷ Read 1 (frame 0 4 0 0 0 []) outcome.AckOnly
+    ∷ Read 1 (frame 2 4 0 4000 2 []) (outcome.Slot 0)
+    ∷ Read 1 (frame 1 1 4001 4000 2 (codes "back")) (outcome.Slot 0)
+    ∷ Read 1 (map_with 0 map) outcome.Map
+    ∷ Pull 1 (frame 0 0 0 0 2 [])
+    ∷ Cancel 0 (Port 4002)
+    ∷ Pull 1 (frame 4 0 0 0 0 [])
+    ∷ Pull 1 (frame 3 0 4000 4009 0 (codes "nobody"))
+    ∷ Pull 1 (frame 2 0 4000 0 0 [])
+    ∷ Pull 1 (frame 1 0 4000 4001 0 (codes "there"))
+    ∷ Pull 1 (map_with 0 map)
+    ∷ Open 1
+    ∷ Accept 0 4000 4002 (codes "late")
+    ∷ Accept 0 0 0 []
+    ∷ Accept 0 4000 4009 (codes "nobody")
+    ∷ Accept 0 4000 0 []
+    ∷ Accept 0 4000 4001 (codes "there")
+    ∷ []
+
+abbrev pub talk_second : List ℕ → List Entry
+talk_second map =
+    Read 1 (frame 0 2 0 0 0 []) outcome.AckOnly
+    ∷ Pull 1 (frame 0 4 0 0 0 [])
+    ∷ Read 1 (frame 0 0 0 0 2 []) outcome.AckOnly
+    ∷ Pull 1 (frame 2 4 0 4000 2 [])
+    ∷ Read 1 (frame 4 0 0 0 0 []) outcome.Void
+    ∷ Read 1 (frame 3 0 4000 4009 0 (codes "nobody")) outcome.NoSocket
+    ∷ Accept NO_SLOT 0 4000 []
+    ∷ Read 1 (frame 2 0 4000 0 0 []) outcome.Ping
+    ∷ Pull 1 (frame 1 1 4001 4000 2 (codes "back"))
+    ∷ Read 1 (frame 1 0 4000 4001 0 (codes "there")) (outcome.Slot 0)
+    ∷ Read 1 (map_with 0 map) outcome.Map
+    ∷ Pull 1 (map_with 0 map)
+    ∷ Open 1
+    ∷ Accept 0 4001 4000 (codes "back")
+    ∷ []
+
+-- a header whose sum isn't verified, since it is 0
+abbrev pub unsummed : (len flags : ℕ) → Header
+unsummed len flags = record {
+  sequence = 0;
+  ack = 0;
+  len = len;
+  sport = 0;
+  dport = 0;
+  flags = flags;
+  credit = 0;
+  padding = replicate 4 0;
+  csum = 0;
+  ext = replicate 16 0;
+}
+
+-- The journal of an end whose peer keeps no rules, so that no run has it: a congestion map of a wrong length says nothing,
+-- and a header that announces one byte too many ends the stream. Then the socket of slot 0 closes.
+abbrev pub wronged : List Entry
+wronged =
+    Cancel 0 All
+    ∷ Bad 1 (unsummed 1048577 0) (malformed.Length 1048577)
+    ∷ Read 1 (record { header = unsummed 1 1; payload = 7 ∷ [] }) outcome.OddMap
     ∷ Open 1
     ∷ []
 

@@ -36,6 +36,9 @@ lawful_bad s h found {p} legal m = lawful_unless_pong (Bad s h found) p (λ port
 pub lawful_open : (s : ℕ) (p : List Entry) → IsLegal (Open s ∷ p) → (open_stream p ≡ None) × (newest_stream p < s)
 lawful_open s p legal = lawful_unless_pong (Open s) p (λ port e. cc) (pong_to p) legal.0
 
+pub lawful_shut : (s : ℕ) (p : List Entry) → IsLegal (Shut s ∷ p) → open_stream p ≡ Some s
+lawful_shut s p legal = lawful_unless_pong (Shut s) p (λ port e. cc) (pong_to p) legal.0
+
 -- what an accepted datagram has, whether a socket sent it or it is a pong
 pub record IsAcceptable (past : List Entry) (from to : ℕ) (payload : List ℕ) : Type 0 where
   pub sport : from < 2 ^ 16

@@ -8,6 +8,8 @@ pub mod Legal
 pub mod Honest
 pub mod Fifo
 pub mod Pairs
+pub mod Deliveries
+pub mod Sums
 pub mod Drained
 pub mod Store
 pub mod Examples
@@ -20,3 +22,6 @@ pub mod LeastDueLaws
 pub mod LegalityLaws
 pub mod NumberLaws
 pub mod OwingLaws
+pub mod StreamLaws
+pub mod SumLaws
+pub mod DeliveryLaws

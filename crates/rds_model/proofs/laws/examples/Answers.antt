@@ -1,5 +1,7 @@
 use Rattle.rds_model.proofs.HelloRun.{hello_is_sound, hello_is_quiet}
 use Rattle.rds_model.proofs.CutRun.{cut_is_sound, cut_is_quiet}
+use Rattle.rds_model.proofs.TalkRun.{talk_is_sound, talk_is_quiet}
+use Rattle.rds_model.proofs.WrongedEnd.{wronged_is_whole}
 use Rattle.rds_model.proofs.laws.examples.Goals as goal
 
 pub returns-clause-hello : goal.returns-clause-hello
@@ -13,3 +15,12 @@ returns-clause-cut c map long = cut_is_sound map long
 
 pub returns-clause-cut_quiet : goal.returns-clause-cut_quiet
 returns-clause-cut_quiet c map = cut_is_quiet map
+
+pub returns-clause-talk : goal.returns-clause-talk
+returns-clause-talk c map long = talk_is_sound map long
+
+pub returns-clause-talk_quiet : goal.returns-clause-talk_quiet
+returns-clause-talk_quiet c map = talk_is_quiet map
+
+pub returns-clause-wronged : goal.returns-clause-wronged
+returns-clause-wronged c = wronged_is_whole
