@@ -30,18 +30,33 @@ pub struct End {
 }
 
 impl End {
-    /// The end of the host `me`, with a stream to `peer` that is open.
+    /// The end of the host `me`, of a connection to `peer`.
     pub fn new(alloc: Global, me: u32, peer: u32) -> Result<End, Failure> {
-        let mut conn = Conn::new(alloc, me, peer, SLOTS, MAX_ENTRIES)?;
-        conn.reserve()?;
-        conn.open(1);
-        Ok(End {
+        let map = PortMap::new(alloc)?;
+        let out = Out::new(alloc)?;
+        let conn = Conn::new(alloc, me, peer, SLOTS, MAX_ENTRIES)?;
+        Ok(End::of(conn, map, out))
+    }
+
+    fn of(conn: Conn, map: PortMap, out: Out) -> End
+        requires { conn.slots ≡ 1 }
+    {
+        End {
             conn,
-            map: PortMap::new(alloc)?,
-            out: Out::new(alloc)?,
+            map,
+            out,
             delivered: 0,
             freed: 0,
-        })
+        }
+    }
+
+    /// Opens the first stream. An end that had one stays as it is.
+    pub fn open(&mut self) -> Result<(), Failure> {
+        self.conn.reserve()?;
+        if self.conn.journal().is_empty() {
+            self.conn.open(1);
+        }
+        Ok(())
     }
 
     /// Accepts a datagram of its socket.

@@ -17,11 +17,25 @@ pub struct Pair {
 }
 
 impl Pair {
-    /// Two hosts, with an open stream.
+    /// Two hosts, with no stream.
     pub fn new(alloc: Global) -> Result<Pair, Failure> {
         let near = End::new(alloc, 1, 2)?;
+        Pair::with_near(alloc, near)
+    }
+
+    fn with_near(alloc: Global, near: End) -> Result<Pair, Failure> {
         let far = End::new(alloc, 2, 1)?;
-        Ok(Pair { alloc, near, far })
+        Ok(Pair::of(alloc, near, far))
+    }
+
+    fn of(alloc: Global, near: End, far: End) -> Pair {
+        Pair { alloc, near, far }
+    }
+
+    /// Opens the first stream.
+    pub fn open(&mut self) -> Result<(), Failure> {
+        self.near.open()?;
+        self.far.open()
     }
 
     /// How many datagrams arrived.
@@ -59,10 +73,8 @@ impl Pair {
     // Carries both ways until nothing moves.
     fn settle<L: Ledger>(&mut self, steps: &mut Steps<L>) -> Result<(), Failure> {
         for _ in 0..u64::MAX {
-            let going = self.near.pull_all()?;
-            self.far.take_from(&mut self.near, steps)?;
-            let coming = self.far.pull_all()?;
-            self.near.take_from(&mut self.far, steps)?;
+            let going = carry(&mut self.near, &mut self.far, steps)?;
+            let coming = carry(&mut self.far, &mut self.near, steps)?;
             self.near.take_freed();
             if !going && !coming {
                 break;
@@ -70,4 +82,11 @@ impl Pair {
         }
         Ok(())
     }
+}
+
+// Carries what one end owes to the other. Answers whether there was any.
+fn carry<L: Ledger>(from: &mut End, to: &mut End, steps: &mut Steps<L>) -> Result<bool, Failure> {
+    let moving = from.pull_all()?;
+    to.take_from(from, steps)?;
+    Ok(moving)
 }
