@@ -1,0 +1,71 @@
+//! A line that carries datagrams from one host to another, in place of a connection and a network.
+use crate::counts::Counts;
+use crate::queues::{Inbox, Orders};
+use rds_model::{Datagram, Order};
+use rds_wire::{Memory, Payload};
+use std::sync::Wait;
+
+/// What a line holds of a host.
+#[derive(Drop)]
+pub struct End {
+    /// The host's IPv4 address.
+    pub address: u32,
+    pub counts: Counts,
+    pub inbox: Inbox,
+    pub orders: Orders,
+}
+
+impl End {
+    /// Gives a datagram to the host's socket.
+    pub fn deliver(&mut self, rt: &impl Wait, datagram: Datagram) -> Result<(), Memory> {
+        let bytes = datagram.payload.len();
+        self.inbox.put(rt, datagram)?;
+        self.counts.count_put(bytes);
+        self.inbox.ring(rt);
+        Ok(())
+    }
+
+    // The payload and the two ports of the oldest order. An order that is no datagram is dropped.
+    fn next(&mut self, rt: &impl Wait) -> Option<(Payload, u16, u16)> {
+        match self.orders.next(rt)? {
+            Order::Send {
+                sport,
+                dport,
+                payload,
+                ..
+            } => Some((payload, sport, dport)),
+            _ => None,
+        }
+    }
+}
+
+/// The way from one host to another.
+#[derive(Drop)]
+pub struct Line {
+    from: End,
+    to: End,
+}
+
+impl Line {
+    pub fn new(from: End, to: End) -> Line {
+        Line { from, to }
+    }
+
+    /// Carries the oldest datagram that the first host's socket has sent, and answers whether there was one. It arrives at once,
+    /// whatever its port, and its bytes no longer count against the sender's buffer.
+    pub fn carry(&mut self, rt: &impl Wait) -> Result<bool, Memory> {
+        let Some((payload, sport, dport)) = self.from.next(rt) else {
+            return Ok(false);
+        };
+        let bytes = payload.len();
+        let datagram = Datagram {
+            from: self.from.address,
+            sport,
+            dport,
+            payload,
+        };
+        self.to.deliver(rt, datagram)?;
+        self.from.counts.count_freed(bytes);
+        Ok(true)
+    }
+}
