@@ -1,8 +1,3 @@
-pub mod Steps
-pub mod Flags
-pub mod Walked
-pub mod Gathered
-pub mod Orders
-pub mod Chunks
-pub mod Selected
-pub mod Tallied
+mod EventInvariants
+mod EndsAgree
+mod InOrder

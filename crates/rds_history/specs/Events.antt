@@ -5,8 +5,8 @@ use Rattle.rds_model.specs.declared.entry.Entry.{Entry}
 use Rattle.rds_model.specs.declared.order.Datagram.{Datagram}
 
 pub data Event : Type 0 where
-  -- host h wrote an entry to the journal that it keeps of its connection with k
-  Entered : (h k : ℕ) → Entry → Event
+  -- host h appended an entry to the journal that it keeps of its connection with k
+  Appended : (h k : ℕ) → Entry → Event
   -- host h bound a socket to a port; the socket has a slot, and so many bytes of send and receive buffer
   Bound : (h port slot sndbuf rcvbuf : ℕ) → Event
   -- host h closed the socket of a slot at a port, which left so many datagrams unread
@@ -16,6 +16,6 @@ pub data Event : Type 0 where
   -- a port of host h became congested or free, with so many bytes queued and such a limit
   Marked : (h port : ℕ) → Bool → (queued limit : ℕ) → Event
   -- so many bytes went from host h to host k
-  Fed : (h k count : ℕ) → Event
-  -- a line was printed that belongs to no other event
-  Said : List ℕ → Event
+  Moved : (h k count : ℕ) → Event
+  -- a text line was printed that belongs to no other event
+  Printed : List ℕ → Event

@@ -1,14 +1,14 @@
 -- The one history of a script, and the text that is printed of it. Source: this project's own.
-use Rattle.std.specs.Prelude.{ℕ, ◌==◌, not, Ok, Err, List, [], ◌∷◌, ◌++◌, filter, map}
+use Rattle.std.specs.Prelude.{ℕ, Ok, Err, List, [], ◌∷◌, ◌++◌, map}
 use Rattle.rds_script.specs.declared.script.Script.{Script}
 use Rattle.rds_script.specs.declared.script.Placed.{Placed}
 use Rattle.rds_script.specs.declared.script.Command.{Command}
 use Rattle.rds_script.specs.declared.script.Command.TheVariants as command
 use Rattle.rds_text.specs.Ports.{below}
 use Rattle.rds_history.specs.Events.{Event}
-use Rattle.rds_history.specs.Hosts.{address_of}
-use Rattle.rds_history.specs.Journals.{journal}
-use Rattle.rds_history.specs.Sockets.{binds, received, queue}
+use Rattle.rds_report.specs.Hosts.{address_of}
+use Rattle.rds_history.specs.Journals.{journal, peers}
+use Rattle.rds_history.specs.Sockets.{next_slot, bound_port, received, queue}
 use Rattle.rds_history.specs.Courses.{Course, and_then}
 use Rattle.rds_history.specs.Bind.{bind, bind_any}
 use Rattle.rds_history.specs.Send.{send}
@@ -17,10 +17,10 @@ use Rattle.rds_history.specs.Cancel.{cancel, close}
 use Rattle.rds_history.specs.Open.{open_pair, cut}
 use Rattle.rds_history.specs.Move.{move}
 use Rattle.rds_history.specs.Drain.{drain}
-use Rattle.rds_history.specs.Lines.{spent_line}
+use Rattle.rds_text.specs.Lines.{spent_line}
 use Rattle.rds_history.specs.Transcript.{lines}
-use Rattle.rds_history.specs.Ends.{Socket, End}
-use Rattle.rds_history.specs.Report.{report}
+use Rattle.rds_report.specs.FinalState.{Socket, FinalHost}
+use Rattle.rds_report.specs.Report.{report}
 
 -- what a command comes to
 abbrev pub after : (limit hosts : ℕ) → Command → List Event → Course
@@ -40,25 +40,30 @@ abbrev pub history : (limit hosts : ℕ) → List Placed → List Event → Cour
 history limit hosts [] past = Ok past
 history limit hosts (placed ∷ commands) past = and_then (after limit hosts placed.command past) (history limit hosts commands)
 
+-- the socket of a slot of host h
+abbrev pub socket : (h : ℕ) → List Event → ℕ → Socket
+socket h past slot =
+    record { slot = slot; port = bound_port h slot past; got = received h slot past; unread = queue h slot past }
+
 -- the sockets of host h by slot
 abbrev pub sockets : ℕ → List Event → List Socket
-sockets h past = map (λ slot. record { got = received h slot past; unread = queue h slot past }) (below (binds h past))
+sockets h past = map (socket h past) (below (next_slot h past))
 
 -- what host h has in the end
-abbrev pub end_of : (hosts h : ℕ) → List Event → End
-end_of hosts h past = record {
+abbrev pub final_host : (hosts h : ℕ) → List Event → FinalHost
+final_host hosts h past = record {
   addr = address_of h;
-  sides = map (λ k. record { peer = address_of k; past = journal h k past }) (filter (λ k. not (k == h)) (below hosts));
+  sides = map (λ k. record { peer = address_of k; past = journal h k past }) (peers hosts h);
   sockets = sockets h past;
 }
 
 -- what the hosts have in the end
-abbrev pub ends : ℕ → List Event → List End
-ends hosts past = map (λ h. end_of hosts h past) (below hosts)
+abbrev pub final_hosts : ℕ → List Event → List FinalHost
+final_hosts hosts past = map (λ h. final_host hosts h past) (below hosts)
 
 -- the text of a course: its transcript and its report, or the line of the journal that was full
 abbrev pub text_of : ℕ → Course → List ℕ
-text_of hosts (Ok past) = lines past ++ report (ends hosts past)
+text_of hosts (Ok past) = lines past ++ report (final_hosts hosts past)
 text_of hosts (Err full) = spent_line full.host full.peer full.entries
 
 -- the text of a script, where no journal may have more than `limit` entries

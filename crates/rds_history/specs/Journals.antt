@@ -1,5 +1,6 @@
 -- What a past says of the connections. Source: this project's own.
-use Rattle.std.specs.Prelude.{ℕ, suc, ◌+◌, ◌==◌, ◌&&◌, if◌then◌else◌, Bool, true, false, Option, Some, None, List, [], ◌∷◌, drop}
+use Rattle.std.specs.Prelude.{ℕ, suc, ◌+◌, ◌==◌, ◌&&◌, not, if◌then◌else◌, Bool, true, false, Option, Some, None, List, [], ◌∷◌, drop, filter}
+use Rattle.std.specs.Option.{option_map_or}
 use Rattle.rds_wire.specs.declared.frame.Frame.{Frame}
 use Rattle.rds_model.specs.declared.entry.Entry.{Entry}
 use Rattle.rds_model.specs.declared.entry.Entry.TheVariants.{Open, Pull, Read}
@@ -8,35 +9,41 @@ use Rattle.rds_model.specs.declared.entry.Outcome.TheVariants as outcome
 use Rattle.rds_model.specs.Past.{open_stream}
 use Rattle.rds_model.specs.Streams.{written_bytes}
 use Rattle.rds_cong.specs.Map.{no_ports, with_port, without_port}
-use Rattle.rds_history.specs.Events.{Event, Entered, Marked, Fed}
+use Rattle.rds_text.specs.Ports.{below}
+use Rattle.rds_history.specs.Events.{Event, Appended, Marked, Moved}
+
+-- the peers of host h, all other hosts, ascending
+abbrev pub peers : (hosts h : ℕ) → List ℕ
+peers hosts h = filter (λ k. not (k == h)) (below hosts)
 
 -- the journal that host h keeps of its connection with k, newest entry first
 abbrev pub journal : (h k : ℕ) → List Event → List Entry
 journal h k [] = []
-journal h k (Entered host peer e ∷ past) = if host == h && (peer == k) then e ∷ journal h k past else journal h k past
+journal h k (Appended host peer e ∷ past) = if host == h && (peer == k) then e ∷ journal h k past else journal h k past
 journal h k (_ ∷ past) = journal h k past
 
 -- how many bytes went from h to k since h opened its newest stream
-abbrev pub fed : (h k : ℕ) → List Event → ℕ
-fed h k [] = 0
-fed h k (Fed from to count ∷ past) = if from == h && (to == k) then fed h k past + count else fed h k past
-fed h k (Entered host peer (Open stream) ∷ past) = if host == h && (peer == k) then 0 else fed h k past
-fed h k (_ ∷ past) = fed h k past
+abbrev pub moved_count : (h k : ℕ) → List Event → ℕ
+moved_count h k [] = 0
+moved_count h k (Moved from to count ∷ past) =
+    if from == h && (to == k) then moved_count h k past + count else moved_count h k past
+moved_count h k (Appended host peer (Open stream) ∷ past) =
+    if host == h && (peer == k) then 0 else moved_count h k past
+moved_count h k (_ ∷ past) = moved_count h k past
 
--- how many bytes went between all hosts
-abbrev pub moved : List Event → ℕ
-moved [] = 0
-moved (Fed from to count ∷ past) = moved past + count
-moved (_ ∷ past) = moved past
+-- how many bytes went between all hosts, from the beginning
+abbrev pub moved_in_all : List Event → ℕ
+moved_in_all [] = 0
+moved_in_all (Moved from to count ∷ past) = moved_in_all past + count
+moved_in_all (_ ∷ past) = moved_in_all past
 
--- the bytes that were written to a stream
-abbrev pub wrote_on : Option ℕ → List Entry → List ℕ
-wrote_on None past = []
-wrote_on (Some stream) past = written_bytes stream past
+-- the bytes that were written to the open stream, or none
+abbrev pub written_to_open : List Entry → List ℕ
+written_to_open past = option_map_or (λ stream. written_bytes stream past) (open_stream past) []
 
 -- the bytes in flight from h to k: those written to the open stream that didn't go yet
 abbrev pub in_flight : (h k : ℕ) → List Event → List ℕ
-in_flight h k past = drop (fed h k past) (wrote_on (open_stream (journal h k past)) (journal h k past))
+in_flight h k past = drop (moved_count h k past) (written_to_open (journal h k past))
 
 -- the frame that was pulled last
 abbrev pub newest_pull : List Entry → Option Frame

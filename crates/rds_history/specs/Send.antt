@@ -5,11 +5,11 @@ use Rattle.rds_wire.specs.declared.kind.TheConstants.{MAX_LENGTH}
 use Rattle.rds_model.specs.declared.entry.Entry.TheVariants.{Accept}
 use Rattle.rds_model.specs.Drained.{last_map_read}
 use Rattle.rds_cong.specs.Map.{has_port}
+use Rattle.rds_text.specs.Refusals.{no_socket, too_long, no_route, congested, full, send_refused_line}
 use Rattle.rds_history.specs.Events.{Event}
 use Rattle.rds_history.specs.Journals.{journal, maps_read}
-use Rattle.rds_history.specs.Sockets.{holder, send_buffer, unacknowledged}
-use Rattle.rds_history.specs.Courses.{Course, enters, says, unless}
-use Rattle.rds_history.specs.Refusals.{no_socket, too_long, no_route, congested, full, send_refused_line}
+use Rattle.rds_history.specs.Sockets.{send_buffer, unacknowledged}
+use Rattle.rds_history.specs.Courses.{Course, appends, or_refuses, with_socket}
 
 -- why the socket of a slot can't send so many bytes to a port of host k, if it can't
 abbrev pub send_refusal : (hosts h slot k dport len : ℕ) → List Event → Option (List ℕ)
@@ -22,13 +22,9 @@ send_refusal hosts h slot k dport len past =
     then Some (congested (maps_read (journal h k past)))
     else (if nat_lt buffer (waiting + len) then Some (full waiting len buffer) else None)))
 
--- a send from the socket that holds the port
-abbrev pub send_from : Option ℕ → (limit hosts h port k dport : ℕ) → List ℕ → List Event → Course
-send_from None limit hosts h port k dport payload past = says (send_refused_line h port k dport no_socket) past
-send_from (Some slot) limit hosts h port k dport payload past =
-    unless (send_refusal hosts h slot k dport (length payload) past) (send_refused_line h port k dport)
-    (enters limit h k (Accept slot port dport payload)) past
-
 -- `send`: the socket at a port of host h sends a datagram to port dport of host k
 abbrev pub send : (limit hosts h port k dport : ℕ) → List ℕ → List Event → Course
-send limit hosts h port k dport payload past = send_from (holder h port past) limit hosts h port k dport payload past
+send limit hosts h port k dport payload past =
+    with_socket h port (send_refused_line h port k dport no_socket)
+    (λ slot before. or_refuses (send_refusal hosts h slot k dport (length payload) before) (send_refused_line h port k dport)
+    (appends limit h k (Accept slot port dport payload)) before) past

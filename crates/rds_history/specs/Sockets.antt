@@ -9,15 +9,15 @@ use Rattle.rds_model.specs.declared.entry.Outcome.TheVariants as outcome
 use Rattle.rds_model.specs.declared.entry.Msg.{Msg}
 use Rattle.rds_model.specs.Store.{alive_messages}
 use Rattle.rds_text.specs.Ports.{below}
-use Rattle.rds_history.specs.Events.{Event, Entered, Bound, Closed, Received}
-use Rattle.rds_history.specs.Hosts.{address_of}
+use Rattle.rds_history.specs.Events.{Event, Appended, Bound, Closed, Received}
+use Rattle.rds_report.specs.Hosts.{address_of}
 use Rattle.rds_history.specs.Journals.{journal}
 
--- how many sockets host h has bound: the slot of its next one
-abbrev pub binds : ℕ → List Event → ℕ
-binds h [] = 0
-binds h (Bound host port slot sndbuf rcvbuf ∷ past) = if host == h then suc (binds h past) else binds h past
-binds h (_ ∷ past) = binds h past
+-- the slot of the next socket of host h: it has bound so many
+abbrev pub next_slot : ℕ → List Event → ℕ
+next_slot h [] = 0
+next_slot h (Bound host port slot sndbuf rcvbuf ∷ past) = if host == h then suc (next_slot h past) else next_slot h past
+next_slot h (_ ∷ past) = next_slot h past
 
 -- the slot of the socket that holds a port of host h, if one does
 abbrev pub holder : (h port : ℕ) → List Event → Option ℕ
@@ -26,17 +26,24 @@ holder h port (Bound host at slot sndbuf rcvbuf ∷ past) = if host == h && (at 
 holder h port (Closed host at slot unread ∷ past) = if host == h && (at == port) then None else holder h port past
 holder h port (_ ∷ past) = holder h port past
 
+-- what is chosen of a slot's bind: of its port, its send buffer and its receive buffer
+abbrev pub of_bind : (choose : (port sndbuf rcvbuf : ℕ) → ℕ) → (h slot : ℕ) → List Event → ℕ
+of_bind choose h slot [] = 0
+of_bind choose h slot (Bound host port at sndbuf rcvbuf ∷ past) =
+    if host == h && (at == slot) then choose port sndbuf rcvbuf else of_bind choose h slot past
+of_bind choose h slot (_ ∷ past) = of_bind choose h slot past
+
+-- the port that a slot was bound to
+abbrev pub bound_port : (h slot : ℕ) → List Event → ℕ
+bound_port h slot past = of_bind (λ port sndbuf rcvbuf. port) h slot past
+
 -- the bytes of a slot's send buffer
 abbrev pub send_buffer : (h slot : ℕ) → List Event → ℕ
-send_buffer h slot [] = 0
-send_buffer h slot (Bound host port at sndbuf rcvbuf ∷ past) = if host == h && (at == slot) then sndbuf else send_buffer h slot past
-send_buffer h slot (_ ∷ past) = send_buffer h slot past
+send_buffer h slot past = of_bind (λ port sndbuf rcvbuf. sndbuf) h slot past
 
 -- the bytes of a slot's receive buffer
 abbrev pub receive_buffer : (h slot : ℕ) → List Event → ℕ
-receive_buffer h slot [] = 0
-receive_buffer h slot (Bound host port at sndbuf rcvbuf ∷ past) = if host == h && (at == slot) then rcvbuf else receive_buffer h slot past
-receive_buffer h slot (_ ∷ past) = receive_buffer h slot past
+receive_buffer h slot past = of_bind (λ port sndbuf rcvbuf. rcvbuf) h slot past
 
 -- a frame as the datagram that a socket receives from host k
 abbrev pub datagram_from : ℕ → Frame → Datagram
@@ -50,7 +57,7 @@ delivery slot k f _ = []
 -- the datagrams that were delivered to a slot of host h, the first one first
 abbrev pub delivered : (h slot : ℕ) → List Event → List Datagram
 delivered h slot [] = []
-delivered h slot (Entered host k (Read stream f outcome) ∷ past) =
+delivered h slot (Appended host k (Read stream f outcome) ∷ past) =
     if host == h then delivered h slot past ++ delivery slot k f outcome else delivered h slot past
 delivered h slot (_ ∷ past) = delivered h slot past
 

@@ -6,16 +6,16 @@ use Rattle.rds_model.specs.declared.entry.Target.{Target}
 use Rattle.rds_model.specs.Past.{accepted, datagram}
 use Rattle.rds_model.specs.Streams.{was_pulled}
 use Rattle.rds_model.specs.Alive.{covers, alive_numbers}
-use Rattle.rds_history.specs.Events.{Event, Entered, Bound, Closed, Received, Marked, Fed, Said}
-use Rattle.rds_history.specs.Hosts.{host_at}
+use Rattle.rds_history.specs.Events.{Event, Appended, Bound, Closed, Received, Marked, Moved, Printed}
+use Rattle.rds_report.specs.Hosts.{host_at}
 use Rattle.rds_history.specs.Journals.{journal}
-use Rattle.rds_history.specs.Lines.{accept_line, cancel_line, open_line, pull_line, read_line, shut_line, bind_line, recv_line, close_line, mark_line}
+use Rattle.rds_text.specs.Lines.{accept_line, cancel_line, open_line, pull_line, read_line, shut_line, bind_line, recv_line, close_line, mark_line}
 
 -- the numbers that are alive and that a cancellation covers
 abbrev pub covered : ℕ → Target → List Entry → List ℕ
 covered slot target past = filter (λ n. covers slot target (datagram past n)) (alive_numbers past)
 
--- the line of an entry of the journal of host h with k, behind this past of the journal. No script makes a malformed
+-- the line of an entry of the journal of host h with k, after this past of the journal. No script makes a malformed
 -- header.
 abbrev pub entry_line : (h k : ℕ) → List Entry → Entry → List ℕ
 entry_line h k past (Accept slot sport dport payload) = accept_line h k (suc (accepted past)) slot sport dport payload
@@ -31,10 +31,10 @@ entry_line h k past (Bad stream header cause) = []
 -- the lines of a past
 abbrev pub lines : List Event → List ℕ
 lines [] = []
-lines (Entered h k e ∷ past) = lines past ++ entry_line h k (journal h k past) e
+lines (Appended h k e ∷ past) = lines past ++ entry_line h k (journal h k past) e
 lines (Bound h port slot sndbuf rcvbuf ∷ past) = lines past ++ bind_line h port slot
 lines (Closed h port slot unread ∷ past) = lines past ++ close_line h port slot unread
 lines (Received h port slot d ∷ past) = lines past ++ recv_line h port (host_at d.from) d.sport d.payload
 lines (Marked h port set queued limit ∷ past) = lines past ++ mark_line h port set queued limit
-lines (Fed h k count ∷ past) = lines past
-lines (Said text ∷ past) = lines past ++ text
+lines (Moved h k count ∷ past) = lines past
+lines (Printed text ∷ past) = lines past ++ text

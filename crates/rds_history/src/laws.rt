@@ -1,7 +1,28 @@
-//! Laws of the definitions.
-ghost use Rattle.std.specs.Prelude.{◌≡◌, []};
-ghost use Rattle.rds_history.specs.History.{history, text_of};
-ghost use Rattle.rds_history.specs.Rows.{hello, text_of_hello, trouble, text_of_trouble};
+//! Laws of the history of a script: what holds of it whatever its commands are. Their bodies are empty; each clause is a
+//! theorem.
+ghost use Rattle.std.specs.Prelude.{◌≡◌, ℕ, Ok, List, []};
+ghost use Rattle.rds_script.specs.declared.script.Command.{Command};
+ghost use Rattle.rds_script.specs.declared.script.Placed.{Placed};
+ghost use Rattle.rds_history.specs.EndsAgree.{EndsAgree};
+ghost use Rattle.rds_history.specs.Events.{Event};
+ghost use Rattle.rds_history.specs.History.{after, history, text_of};
+ghost use Rattle.rds_history.specs.InOrder.{HandsOutInOrder};
+ghost use Rattle.rds_history.specs.WorkedScripts.{hello, text_of_hello, cut_cancel_ping_congestion, text_of_cut_cancel_ping_congestion};
+
+/// Each socket hands out what was delivered to it, in order.
+pub fn in_order()
+    ensures { (limit hosts : ℕ) (commands : List Placed) (past : List Event) (h slot : ℕ) →
+        history limit hosts commands [] ≡ Ok past → HandsOutInOrder h slot past }
+{}
+
+/// Both ends of a connection have a stream, or none has: at first, after each command, and so in the end.
+pub fn ends_agree()
+    ensures first { EndsAgree [] }
+    ensures next { (limit hosts : ℕ) (command : Command) (past later : List Event) → EndsAgree past →
+        after limit hosts command past ≡ Ok later → EndsAgree later }
+    ensures last { (limit hosts : ℕ) (commands : List Placed) (past : List Event) →
+        history limit hosts commands [] ≡ Ok past → EndsAgree past }
+{}
 
 /// The definitions give the whole text of a script with one datagram.
 pub fn text_of_one_datagram()
@@ -9,6 +30,6 @@ pub fn text_of_one_datagram()
 {}
 
 /// The definitions give the whole text of a script with a cut, a cancellation, a ping and a congested port.
-pub fn text_of_much_trouble()
-    ensures { text_of 2 (history 100 2 trouble []) ≡ text_of_trouble }
+pub fn text_of_cut_cancel_ping_congestion()
+    ensures { text_of 2 (history 100 2 cut_cancel_ping_congestion []) ≡ text_of_cut_cancel_ping_congestion }
 {}

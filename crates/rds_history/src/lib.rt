@@ -1,18 +1,4 @@
-//! The history of a script: the events that it makes, the lines that are printed of them, and the report.
+//! The history of a script: the events that its commands make, and the text that is printed of them.
 #![tactic(auto)]
 
-mod ends;
 pub mod laws;
-mod lines;
-mod reporting;
-mod words;
-
-pub use ends::{HostEnd, Kept, address, host_of};
-pub use lines::{
-    accept_line, bind_line, cancel_line, drained_line, open_line, pull_line, read_line, recv_line,
-    recv_none_line, shut_line, spent_line,
-};
-pub use reporting::report;
-
-#[cfg(test)]
-mod tests;

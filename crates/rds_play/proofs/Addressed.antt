@@ -5,12 +5,12 @@ use Rattle.std.proofs.lemmas.List.{map-append}
 use Rattle.std.proofs.lemmas.List.Elements.{All-nil, All-cons, All-append, All-map, All-filter, All-get_or, filter-append}
 use Rattle.std.proofs.lemmas.List.Quantifiers.{all_pairs_push}
 use Rattle.rds_text.specs.Ports.{below}
-use Rattle.rds_history.specs.Ends.{Side, End}
+use Rattle.rds_report.specs.FinalState.{Side, FinalHost}
 use Rattle.rds_history.specs.Events.{Event}
-use Rattle.rds_history.specs.History.{ends, end_of}
-use Rattle.rds_history.specs.Hosts.{address_of, IsAddress}
+use Rattle.rds_history.specs.History.{final_hosts, final_host}
+use Rattle.rds_report.specs.Hosts.{address_of, IsAddress}
 use Rattle.rds_history.specs.Journals.{journal}
-use Rattle.rds_history.specs.Seen.{AreEnds, AreSides}
+use Rattle.rds_report.specs.Views.{AreFinalHosts, AreSides}
 
 below_less : (n m : ℕ) → n ≤ m → All (λ k. k < m) (below n)
 below_less zero m few = All-nil (λ k. k < m)
@@ -55,7 +55,7 @@ all_apart R f apart (suc n) =
 is_address : (h : ℕ) → h < 8 → IsAddress (address_of h)
 is_address h h_in = record { least = omega arith; most = omega arith }
 
-are_sides : (hosts h : ℕ) (past : List Event) → hosts ≤ 8 → AreSides (end_of hosts h past).sides
+are_sides : (hosts h : ℕ) (past : List Event) → hosts ≤ 8 → AreSides (final_host hosts h past).sides
 are_sides hosts h past few = record {
   once = pairs_apart (λ (a b : Side). a.peer ≢ b.peer) (λ k. record { peer = address_of k; past = journal h k past }) (λ k. not (k == h))
       (λ a b less e. omega arith) hosts;
@@ -63,9 +63,9 @@ are_sides hosts h past few = record {
       (λ i d i_in. is_address _ (All-filter (λ k. not (k == h)) (λ k. k < 8) (below hosts) (below_less hosts 8 few) i d i_in));
 }
 
-pub are_ends : (hosts : ℕ) (past : List Event) → hosts ≤ 8 → AreEnds (ends hosts past)
+pub are_ends : (hosts : ℕ) (past : List Event) → hosts ≤ 8 → AreFinalHosts (final_hosts hosts past)
 are_ends hosts past few = record {
-  once = all_apart (λ (a b : End). a.addr ≢ b.addr) (λ h. end_of hosts h past) (λ a b less e. omega arith) hosts;
-  hosts = All-map (λ (e : End). IsAddress e.addr) (λ h. end_of hosts h past) (below hosts) (λ i d i_in. is_address _ (below_less hosts 8 few i d i_in));
-  sides = All-map (λ (e : End). AreSides e.sides) (λ h. end_of hosts h past) (below hosts) (λ i d i_in. are_sides hosts _ past few);
+  once = all_apart (λ (a b : FinalHost). a.addr ≢ b.addr) (λ h. final_host hosts h past) (λ a b less e. omega arith) hosts;
+  addresses = All-map (λ (e : FinalHost). IsAddress e.addr) (λ h. final_host hosts h past) (below hosts) (λ i d i_in. is_address _ (below_less hosts 8 few i d i_in));
+  sides = All-map (λ (e : FinalHost). AreSides e.sides) (λ h. final_host hosts h past) (below hosts) (λ i d i_in. are_sides hosts _ past few);
 }

@@ -1,8 +1,8 @@
 -- What comes of courses, one after another.
 use Rattle.std.proofs.Common.{◌≡◌, ℕ, Result, Ok, Err, List, ◌∷◌, ◌++◌, refl, sym, ap, subst}
 use Rattle.std.specs.Prelude.{OnOk}
-use Rattle.rds_history.specs.Events.{Event, Said}
-use Rattle.rds_history.specs.Courses.{Course, and_then, says}
+use Rattle.rds_history.specs.Events.{Event, Printed}
+use Rattle.rds_history.specs.Courses.{Course, and_then, prints}
 use Rattle.rds_play.specs.declared.stop.Stop.{Stop}
 use Rattle.rds_play.specs.declared.stop.Stop.TheVariants as stop
 use Rattle.rds_play.specs.declared.host.Host.{Host}
@@ -42,9 +42,9 @@ comes_then limit hosts (Ok later) next x result s t comes step = step later refl
 comes_then limit hosts (Err full) next x result s t comes step = absurd comes
 
 -- a line was printed that belongs to no other event
-pub tells_said : (limit hosts : ℕ) (past : List Event) (line : List ℕ) (s : State) → Tells limit hosts past s →
-    Tells limit hosts (Said line ∷ past) (record s { text = s.text ++ line })
-tells_said limit hosts past line s t = record {
+pub tells_printed : (limit hosts : ℕ) (past : List Event) (line : List ℕ) (s : State) → Tells limit hosts past s →
+    Tells limit hosts (Printed line ∷ past) (record s { text = s.text ++ line })
+tells_printed limit hosts past line s t = record {
   limit_is = t.limit_is;
   count_is = t.count_is;
   text_is = ap (λ (x : List ℕ). x ++ line) t.text_is;
@@ -52,23 +52,23 @@ tells_said limit hosts past line s t = record {
       record { host_is = l.host_is; peer_is = l.peer_is; journal_is = l.journal_is; limit_is = l.limit_is };
   outs_are = λ a b a_in b_in x is. let o = t.outs_are a b a_in b_in x is in
       record { bytes_are = o.bytes_are; within = o.within };
-  hosts_are = λ a a_in x is. host_said a past line x (t.hosts_are a a_in x is);
+  hosts_are = λ a a_in x is. host_printed a past line x (t.hosts_are a a_in x is);
 }
   where
-    socket_said : (a slot : ℕ) (past : List Event) (line : List ℕ) (y : Socket) → TellsSocket a slot past y → TellsSocket a slot (Said line ∷ past) y
-    socket_said a slot past line y h = record { sndbuf_is = h.sndbuf_is; rcvbuf_is = h.rcvbuf_is; queue_is = h.queue_is; queued_is = h.queued_is; got_is = h.got_is; within = h.within }
+    socket_printed : (a slot : ℕ) (past : List Event) (line : List ℕ) (y : Socket) → TellsSocket a slot past y → TellsSocket a slot (Printed line ∷ past) y
+    socket_printed a slot past line y h = record { slot_is = h.slot_is; port_is = h.port_is; sndbuf_is = h.sndbuf_is; rcvbuf_is = h.rcvbuf_is; queue_is = h.queue_is; queued_is = h.queued_is; got_is = h.got_is; within = h.within }
 
-    host_said : (a : ℕ) (past : List Event) (line : List ℕ) (x : Host) → TellsHost a past x → TellsHost a (Said line ∷ past) x
-    host_said a past line x h = record {
+    host_printed : (a : ℕ) (past : List Event) (line : List ℕ) (x : Host) → TellsHost a past x → TellsHost a (Printed line ∷ past) x
+    host_printed a past line x h = record {
       binds_are = h.binds_are;
       holders_are = h.holders_are;
       map_is = h.map_is;
       marks_are = h.marks_are;
-      sockets_are = λ slot in_range y is. socket_said a slot past line y (h.sockets_are slot in_range y is);
+      sockets_are = λ slot in_range y is. socket_printed a slot past line y (h.sockets_are slot in_range y is);
       fresh = λ slot above. record { none_came = (h.fresh slot above).none_came; none_left = (h.fresh slot above).none_left };
     }
 
 -- the state with the same fields, but for the text, tells what is said
-pub comes_said : {A : Type 0} (limit hosts : ℕ) (past : List Event) (line : List ℕ) (x : A) (s t : State) → Tells limit hosts past s →
-    t ≡ record s { text = s.text ++ line } → Comes limit hosts (says line past) (Ok x) t
-comes_said limit hosts past line x s t told is = subst (λ (u : State). Tells limit hosts (Said line ∷ past) u) (sym is) (tells_said limit hosts past line s told)
+pub comes_printed : {A : Type 0} (limit hosts : ℕ) (past : List Event) (line : List ℕ) (x : A) (s t : State) → Tells limit hosts past s →
+    t ≡ record s { text = s.text ++ line } → Comes limit hosts (prints line past) (Ok x) t
+comes_printed limit hosts past line x s t told is = subst (λ (u : State). Tells limit hosts (Printed line ∷ past) u) (sym is) (tells_printed limit hosts past line s told)

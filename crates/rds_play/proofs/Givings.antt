@@ -1,24 +1,22 @@
 -- What is made of a course.
 use Rattle.std.proofs.Common.{◌≡◌, ℕ, Ok, Err, List, [], ◌∷◌, ◌++◌, refl, sym, ◌∙◌, ap, subst}
 use Rattle.std.specs.Prelude.{IsOk}
+use Rattle.rds_script.specs.declared.script.Command.{Command}
 use Rattle.rds_script.specs.declared.script.Placed.{Placed}
 use Rattle.rds_history.specs.Courses.{Course, Full as FullAt, and_then}
 use Rattle.rds_history.specs.Events.{Event}
-use Rattle.rds_history.specs.History.{after, history, text_of, ends}
-use Rattle.rds_history.specs.Lines.{spent_line}
-use Rattle.rds_history.specs.Report.{report}
+use Rattle.rds_history.specs.History.{after, history, text_of, final_hosts}
+use Rattle.rds_text.specs.Lines.{spent_line}
+use Rattle.rds_report.specs.Report.{report}
 use Rattle.rds_history.specs.Transcript.{lines}
 use Rattle.rds_play.specs.declared.stop.Full.{Full}
 use Rattle.rds_play.specs.declared.stop.Stop.{Stop}
 use Rattle.rds_play.specs.declared.stop.Stop.TheVariants as stop
 use Rattle.rds_play.specs.Coming.{Comes}
-use Rattle.rds_play.specs.Pairing.{IsPaired}
+use Rattle.rds_history.specs.EndsAgree.{EndsAgree}
 use Rattle.rds_play.specs.Playing.{Gives}
 use Rattle.rds_play.specs.Readiness.{IsFull, IsMemory}
 use Rattle.rds_play.specs.Telling.{State, Tells}
-use Rattle.rds_play.proofs.Always.{Holds}
-use Rattle.rds_play.proofs.InOrder.{InOrder, in_order_after}
-use Rattle.rds_play.proofs.Paired.{paired_after}
 
 -- there may always be no memory
 pub gives_memory : {A : Type 0} (P : List Event → A → Type 0) (c : Course) → Gives P c (Err stop.Memory)
@@ -49,7 +47,7 @@ gives_made P c x past is right = subst (λ d. Gives P d (Ok x)) (sym is) right
 
 -- a text is that of its course
 pub text_made : {A : Type 0} (bytes : A → List ℕ) (hosts : ℕ) (c : Course) (x : A) →
-    Gives (λ past y. bytes y ≡ lines past ++ report (ends hosts past)) c (Ok x) → IsOk c × (bytes x ≡ text_of hosts c)
+    Gives (λ past y. bytes y ≡ lines past ++ report (final_hosts hosts past)) c (Ok x) → IsOk c × (bytes x ≡ text_of hosts c)
 text_made bytes hosts (Ok past) x is = (refl, is)
 text_made bytes hosts (Err full) x is = absurd is
 
@@ -70,26 +68,23 @@ line_made P hosts h k n (Err f) full is at =
 pub record Plays (limit hosts : ℕ) (all rest : List Placed) (s : State) : Type 0 where
   pub past : List Event
   pub same : history limit hosts all [] ≡ history limit hosts rest past
-  pub paired : IsPaired past
-  pub ordered : InOrder past
+  pub agree : EndsAgree past
   pub tells : Tells limit hosts past s
 
 -- one command more
 pub plays_more : (limit hosts : ℕ) (all rest : List Placed) (placed : Placed) (s t : State) →
+    ((c : Command) (past later : List Event) → EndsAgree past → after limit hosts c past ≡ Ok later → EndsAgree later) →
     (p : Plays limit hosts all (placed ∷ rest) s) → Comes limit hosts (after limit hosts placed.command p.past) (Ok (tt {0})) t → Plays limit hosts all rest t
-plays_more limit hosts all rest placed s t p comes =
-    go (after limit hosts placed.command p.past) refl comes (paired_after limit hosts placed.command p.past p.paired)
-    (in_order_after limit hosts placed.command p.past p.ordered)
+plays_more limit hosts all rest placed s t agree p comes = go (after limit hosts placed.command p.past) refl comes
   where
-    go : (c : Course) → after limit hosts placed.command p.past ≡ c → Comes {A = Unit {0}} limit hosts c (Ok (tt {0})) t → Holds IsPaired c → Holds InOrder c → Plays limit hosts all rest t
-    go (Ok later) is told paired ordered = record {
+    go : (c : Course) → after limit hosts placed.command p.past ≡ c → Comes {A = Unit {0}} limit hosts c (Ok (tt {0})) t → Plays limit hosts all rest t
+    go (Ok later) is told = record {
       past = later;
       same = p.same ∙ ap (λ (c : Course). and_then c (history limit hosts rest)) is;
-      paired = paired;
-      ordered = ordered;
+      agree = agree placed.command p.past later p.agree is;
       tells = told;
     }
-    go (Err full) is told paired ordered = absurd told
+    go (Err full) is told = absurd told
 
 -- a command that was stopped
 pub plays_stopped : {A : Type 0} (P : List Event → A → Type 0) (limit hosts : ℕ) (all rest : List Placed) (placed : Placed) (s t : State) (why : Stop) →

@@ -2,7 +2,7 @@
 use Rattle.std.proofs.Common.{◌≡◌, ⊎_elim, ℕ, ◌&&◌, ◌==◌, true, false, List, ◌∷◌, refl, sym}
 use Rattle.std.proofs.lemmas.Bool.{cases_eq, eq-eqb, ne_eqb, and_from, and_left, and_right, cond-true, cond-false}
 use Rattle.rds_model.specs.declared.entry.Entry.{Entry}
-use Rattle.rds_history.specs.Events.{Event, Entered}
+use Rattle.rds_history.specs.Events.{Event, Appended}
 use Rattle.rds_history.specs.Journals.{journal}
 
 pub same_pair : (h k : ℕ) → (h == h && (k == k)) ≡ true
@@ -15,10 +15,10 @@ other_pair h k a b apart =
     (λ (ne : h ≡ a → ⊥). and_left (h == a) (k == b) (ne_eqb h a ne))
     (cases_eq h a)
 
-pub journal_here : (h k : ℕ) (e : Entry) (past : List Event) → journal h k (Entered h k e ∷ past) ≡ e ∷ journal h k past
+pub journal_here : (h k : ℕ) (e : Entry) (past : List Event) → journal h k (Appended h k e ∷ past) ≡ e ∷ journal h k past
 journal_here h k e past = cond-true (h == h && (k == k)) (e ∷ journal h k past) (journal h k past) (same_pair h k)
 
 pub journal_there : (h k a b : ℕ) (e : Entry) (past : List Event) → (a ≡ h → b ≡ k → ⊥) →
-    journal a b (Entered h k e ∷ past) ≡ journal a b past
+    journal a b (Appended h k e ∷ past) ≡ journal a b past
 journal_there h k a b e past apart =
     cond-false (h == a && (k == b)) (e ∷ journal a b past) (journal a b past) (other_pair h k a b apart)

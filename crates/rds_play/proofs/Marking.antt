@@ -5,7 +5,7 @@ use Rattle.rds_cong.specs.Map.{has_port, with_port, without_port}
 use Rattle.rds_cong.specs.Limit.{congested_after}
 use Rattle.rds_history.specs.Events.{Event, Marked}
 use Rattle.rds_history.specs.Journals.{is_marked, own_map}
-use Rattle.rds_history.specs.Mark.{noted, marked}
+use Rattle.rds_history.specs.Mark.{if_changed, update_mark}
 use Rattle.rds_history.specs.Sockets.{queued, receive_buffer}
 use Rattle.rds_history.specs.Transcript.{lines}
 use Rattle.rds_play.specs.declared.host.Host.{Host}
@@ -15,17 +15,17 @@ use Rattle.rds_play.proofs.Journaling.{same_pair}
 use Rattle.rds_play.proofs.Places.{host_replaced}
 
 -- what is true before and after a change is true of what is noted
-pub noted_either : (P : List Event → Type 0) (was is : Bool) (change : Event) (past : List Event) → P past → P (change ∷ past) →
-    P (noted was is change past)
-noted_either P true true change past before after = before
-noted_either P true false change past before after = after
-noted_either P false true change past before after = after
-noted_either P false false change past before after = before
+pub changed_either : (P : List Event → Type 0) (was is : Bool) (change : Event) (past : List Event) → P past → P (change ∷ past) →
+    P (if_changed was is change past)
+changed_either P true true change past before after = before
+changed_either P true false change past before after = after
+changed_either P false true change past before after = after
+changed_either P false false change past before after = before
 
 socket_marked : (a h port queued limit slot : ℕ) (is : Bool) (past : List Event) (y : Socket) → TellsSocket a slot past y →
     TellsSocket a slot (Marked h port is queued limit ∷ past) y
 socket_marked a h port queued limit slot is past y t =
-    record { sndbuf_is = t.sndbuf_is; rcvbuf_is = t.rcvbuf_is; queue_is = t.queue_is; queued_is = t.queued_is; got_is = t.got_is; within = t.within }
+    record { slot_is = t.slot_is; port_is = t.port_is; sndbuf_is = t.sndbuf_is; rcvbuf_is = t.rcvbuf_is; queue_is = t.queue_is; queued_is = t.queued_is; got_is = t.got_is; within = t.within }
 
 map_marked : (h port queued limit : ℕ) (is : Bool) (past : List Event) (old new : List ℕ) → old ≡ own_map h past →
     new ≡ (cond is (with_port old port) (without_port old port)) → new ≡ own_map h (Marked h port is queued limit ∷ past)
@@ -77,8 +77,8 @@ host_marked_elsewhere a h port queued limit is past x apart t = record {
 
 -- the port of a slot was looked at, and nothing else was changed
 pub tells_marked : (limit hosts h port slot : ℕ) (past : List Event) (s : State) (x : Host) (text : List ℕ) →
-    h < length s.hosts → Tells limit hosts past s → TellsHost h (marked h port slot past) x → text ≡ lines (marked h port slot past) →
-    Tells limit hosts (marked h port slot past) (record s { text = text; hosts = set s.hosts h x })
+    h < length s.hosts → Tells limit hosts past s → TellsHost h (update_mark h port slot past) x → text ≡ lines (update_mark h port slot past) →
+    Tells limit hosts (update_mark h port slot past) (record s { text = text; hosts = set s.hosts h x })
 tells_marked limit hosts h port slot past s x text h_in t told text_is =
     let was = is_marked h port past in
     let is = congested_after was (queued h slot past) (receive_buffer h slot past) in
@@ -87,21 +87,21 @@ tells_marked limit hosts h port slot past s x text h_in t told text_is =
       count_is = t.count_is;
       text_is = text_is;
       links_are = λ a b a_in b_in y y_is. let l = t.links_are a b a_in b_in y y_is in
-          noted_either (λ (p : List Event). TellsLink limit a b p y) was is (Marked h port is (queued h slot past) (receive_buffer h slot past)) past l
+          changed_either (λ (p : List Event). TellsLink limit a b p y) was is (Marked h port is (queued h slot past) (receive_buffer h slot past)) past l
           (record { host_is = l.host_is; peer_is = l.peer_is; journal_is = l.journal_is; limit_is = l.limit_is });
       outs_are = λ a b a_in b_in y y_is. let o = t.outs_are a b a_in b_in y y_is in
-          noted_either (λ (p : List Event). TellsOut a b p y) was is (Marked h port is (queued h slot past) (receive_buffer h slot past)) past o
+          changed_either (λ (p : List Event). TellsOut a b p y) was is (Marked h port is (queued h slot past) (receive_buffer h slot past)) past o
           (record { bytes_are = o.bytes_are; within = o.within });
-      hosts_are = host_replaced (λ a y. TellsHost a past y) (λ a y. TellsHost a (marked h port slot past) y) s.hosts h x
+      hosts_are = host_replaced (λ a y. TellsHost a past y) (λ a y. TellsHost a (update_mark h port slot past) y) s.hosts h x
           h_in t.hosts_are told
-          (λ a y apart before. noted_either (λ (p : List Event). TellsHost a p y) was is (Marked h port is (queued h slot past) (receive_buffer h slot past)) past before
+          (λ a y apart before. changed_either (λ (p : List Event). TellsHost a p y) was is (Marked h port is (queued h slot past) (receive_buffer h slot past)) past before
           (host_marked_elsewhere a h port (queued h slot past) (receive_buffer h slot past) is past y apart before));
     }
 
 -- the same, where the host stands at this place
 pub tells_marked_at : (limit hosts h port slot i : ℕ) (past : List Event) (s : State) (x : Host) (text : List ℕ) → i ≡ h →
-    h < length s.hosts → Tells limit hosts past s → TellsHost h (marked h port slot past) x → text ≡ lines (marked h port slot past) →
-    Tells limit hosts (marked h port slot past) (record s { text = text; hosts = set s.hosts i x })
+    h < length s.hosts → Tells limit hosts past s → TellsHost h (update_mark h port slot past) x → text ≡ lines (update_mark h port slot past) →
+    Tells limit hosts (update_mark h port slot past) (record s { text = text; hosts = set s.hosts i x })
 tells_marked_at limit hosts h port slot i past s x text at h_in t told text_is =
-    subst (λ j. Tells limit hosts (marked h port slot past) (record s { text = text; hosts = set s.hosts j x })) (sym at)
+    subst (λ j. Tells limit hosts (update_mark h port slot past) (record s { text = text; hosts = set s.hosts j x })) (sym at)
     (tells_marked limit hosts h port slot past s x text h_in t told text_is)

@@ -1,8 +1,8 @@
 -- What hosts and links tell of a past in the end. Source: this project's own.
 use Rattle.std.specs.Prelude.{◌≡◌, ℕ, ◌==◌, ◌<◌, not, List, length, filter, map, get_or}
 use Rattle.rds_history.specs.Events.{Event}
-use Rattle.rds_history.specs.Hosts.{address_of}
-use Rattle.rds_history.specs.Ends.{Side}
+use Rattle.rds_report.specs.Hosts.{address_of}
+use Rattle.rds_report.specs.FinalState.{Side}
 use Rattle.rds_play.specs.declared.host.Host.{Host}
 use Rattle.rds_play.specs.declared.link.Link.{Link}
 use Rattle.rds_play.specs.Telling.{TellsHost, TellsLink, EachHost, EachPair}

@@ -3,6 +3,7 @@ use Rattle.std.specs.Prelude.{◌≡◌, ℕ, ◌/◌, ◌%◌, ◌<◌, false, 
 use Rattle.std.specs.BTreeMap as tree
 use Rattle.std.specs.Ordering.{nat_cmp}
 use Rattle.rds_cong.specs.Map.{no_ports, has_port}
+use Rattle.rds_text.specs.declared.host.TheConstants.{MAX_HOSTS}
 use Rattle.rds_play.specs.declared.host.Host.{Host}
 use Rattle.rds_play.specs.declared.link.Link.{Link}
 
@@ -22,4 +23,4 @@ pub record IsNewLink (limit h k : ℕ) (l : Link) : Type 0 where
 
 -- each link stands at its place
 abbrev pub AreNewLinks : ℕ → List Link → Type 0
-AreNewLinks limit links = (i : ℕ) → i < length links → (l : Link) → l ≡ get_or links i l → IsNewLink limit (i / 8) (i % 8) l
+AreNewLinks limit links = (i : ℕ) → i < length links → (l : Link) → l ≡ get_or links i l → IsNewLink limit (i / MAX_HOSTS) (i % MAX_HOSTS) l

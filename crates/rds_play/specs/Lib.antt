@@ -4,13 +4,10 @@ pub mod Ending
 pub mod Entering
 pub mod Fresh
 pub mod Growth
-pub mod Pairing
 pub mod Playable
 pub mod Playing
 pub mod Printing
 pub mod Readiness
-pub mod Reasons
 pub mod Receiving
-pub mod Reliable
 pub mod Telling
 pub mod Told

@@ -6,11 +6,11 @@ use Rattle.rds_model.specs.Past.{accepted}
 
 -- an entry behind this past is printed by itself: n is the number of its datagram, where one is accepted; cancellations
 -- need more to be printed
-abbrev pub HasLine : ℕ → List Entry → Entry → Type 0
-HasLine n before (Accept slot sport dport payload) = n ≡ accepted (Accept slot sport dport payload ∷ before)
-HasLine n before (Cancel slot target) = ⊥
-HasLine n before (Open stream) = Unit {0}
-HasLine n before (Pull stream frame) = Unit {0}
-HasLine n before (Read stream frame outcome) = Unit {0}
-HasLine n before (Shut stream) = Unit {0}
-HasLine n before (Bad stream header cause) = Unit {0}
+abbrev pub PrintsAlone : ℕ → List Entry → Entry → Type 0
+PrintsAlone n before (Accept slot sport dport payload) = n ≡ accepted (Accept slot sport dport payload ∷ before)
+PrintsAlone n before (Cancel slot target) = ⊥
+PrintsAlone n before (Open stream) = Unit {0}
+PrintsAlone n before (Pull stream frame) = Unit {0}
+PrintsAlone n before (Read stream frame outcome) = Unit {0}
+PrintsAlone n before (Shut stream) = Unit {0}
+PrintsAlone n before (Bad stream header cause) = Unit {0}

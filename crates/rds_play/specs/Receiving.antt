@@ -1,11 +1,13 @@
 -- How a socket hands out the datagram that has waited longest. Source: this project's own.
 use Rattle.std.specs.Prelude.{◌≡◌, ℕ, ◌-◌, [], ◌∷◌, ◌++◌, List, length}
-use Rattle.rds_history.specs.Lines.{recv_line}
+use Rattle.rds_text.specs.Lines.{recv_line}
 use Rattle.rds_play.specs.declared.host.Arrived.{Arrived}
 use Rattle.rds_play.specs.declared.host.Socket.{Socket}
 
 -- the datagram leaves the queue and is kept with those that were handed out, and its line is printed
 pub record HandsOut (h port : ℕ) (a : Arrived) (waiting : List Arrived) (old new : Socket) (text_old text_new : List ℕ) : Type 0 where
+  pub slot_same : new.slot ≡ old.slot
+  pub port_same : new.port ≡ old.port
   pub sndbuf_same : new.sndbuf ≡ old.sndbuf
   pub rcvbuf_same : new.rcvbuf ≡ old.rcvbuf
   pub queue_is : new.queue.items ≡ waiting
@@ -15,6 +17,8 @@ pub record HandsOut (h port : ℕ) (a : Arrived) (waiting : List Arrived) (old n
 
 -- nothing waits, and nothing is printed
 pub record KeepsAll (old new : Socket) (text_old text_new : List ℕ) : Type 0 where
+  pub slot_same : new.slot ≡ old.slot
+  pub port_same : new.port ≡ old.port
   pub sndbuf_same : new.sndbuf ≡ old.sndbuf
   pub rcvbuf_same : new.rcvbuf ≡ old.rcvbuf
   pub queue_same : new.queue.items ≡ old.queue.items

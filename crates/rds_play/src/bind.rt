@@ -2,21 +2,20 @@ ghost use Rattle.std.specs.Prelude.{◌≡◌, ℕ, ◌<◌, ◌≤◌, ◌-◌,
 ghost use Rattle.std.specs.List.{range_with_len};
 ghost use Rattle.std.specs.Option.{option_map};
 ghost use Rattle.rds_history.specs.Bind.{bind, bind_any, bind_refusal, free_port, is_free};
-ghost use Rattle.rds_history.specs.Courses.{says};
+ghost use Rattle.rds_history.specs.Courses.{prints};
 ghost use Rattle.rds_history.specs.Events.{Event, Bound};
-ghost use Rattle.rds_history.specs.Refusals.{socket_refused_line as line_of_refused};
-ghost use Rattle.rds_history.specs.Sockets.{binds};
+ghost use Rattle.rds_text.specs.Refusals.{socket_refused_line as line_of_refused};
+ghost use Rattle.rds_history.specs.Sockets.{next_slot};
 ghost use Rattle.rds_play.specs.declared.host.Host.{Host};
 ghost use Rattle.rds_play.specs.Coming.{Comes};
 ghost use Rattle.rds_play.specs.Readiness.{LacksMemory};
-ghost use Rattle.rds_play.specs.Reasons.{words_of};
+ghost use Rattle.rds_text.specs.Refusals.{refusal_text};
 ghost use Rattle.rds_play.specs.Telling.{Tells, TellsHost, state};
 
 use crate::host::{Host, SLOTS, Socket};
-use crate::refusal::{Refusal, socket_refused_line};
 use crate::stop::Stop;
 use crate::world::World;
-use rds_history::bind_line;
+use rds_text::{MAX_HOSTS, Refusal, bind_line, socket_refused_line};
 use rds_wire::Memory;
 use std::alloc::Global;
 use std::collections::VecDeque;
@@ -24,7 +23,7 @@ use std::collections::VecDeque;
 impl World {
     /// Binds a socket of a host to a port.
     pub fn bind(&mut self, host: u8, port: u16, sndbuf: u32, rcvbuf: u32) -> Result<(), Stop>
-        requires host { host < 8 }
+        requires host { host < MAX_HOSTS }
         requires roomy { 2 ≤ rcvbuf }
         ensures { (limit hosts : ℕ) (past : List Event) → Tells limit hosts past (state self.old) →
             Comes limit hosts (bind host port sndbuf rcvbuf past) result (state self.new) }
@@ -37,11 +36,11 @@ impl World {
 
     // Binds a socket to a port that is free, and prints that.
     fn add_socket(&mut self, host: u8, port: u16, sndbuf: u32, rcvbuf: u32) -> Result<(), Stop>
-        requires host { host < 8 }
+        requires host { host < MAX_HOSTS }
         requires roomy { 2 ≤ rcvbuf }
         requires room { (x : Host) → x ≡ get_or self.old.hosts.items host x → vec_len x.sockets < 1024 }
         ensures bound { (limit hosts : ℕ) (past : List Event) → Tells limit hosts past (state self.old) → OnOk result
-            (Tells limit hosts (Bound host port (binds host past) sndbuf rcvbuf ∷ past) (state self.new)) }
+            (Tells limit hosts (Bound host port (next_slot host past) sndbuf rcvbuf ∷ past) (state self.new)) }
         ensures stop { LacksMemory result }
     {
         let alloc = self.alloc;
@@ -58,9 +57,9 @@ impl World {
         port: u16,
         why: Refusal,
     ) -> Result<(), Stop>
-        requires { host < 8 }
+        requires { host < MAX_HOSTS }
         ensures { (limit hosts : ℕ) (past : List Event) → Tells limit hosts past (state self.old) →
-            Comes limit hosts (says (line_of_refused verb.now host port (words_of why)) past) result (state self.new) }
+            Comes limit hosts (prints (line_of_refused verb.now host port (refusal_text why)) past) result (state self.new) }
     {
         socket_refused_line(&mut self.text, verb, host, port, why)?;
         Ok(())
@@ -68,7 +67,7 @@ impl World {
 
     /// Binds a socket of a host to the first free port from `start` upward, and round the top to 2.
     pub fn bind_any(&mut self, host: u8, start: u16, sndbuf: u32, rcvbuf: u32) -> Result<(), Stop>
-        requires host { host < 8 }
+        requires host { host < MAX_HOSTS }
         requires roomy { 2 ≤ rcvbuf }
         ensures { (limit hosts : ℕ) (past : List Event) → Tells limit hosts past (state self.old) →
             Comes limit hosts (bind_any host start sndbuf rcvbuf past) result (state self.new) }
@@ -84,11 +83,12 @@ impl Host {
         requires room { vec_len self.old.sockets < 1024 }
         requires roomy { 2 ≤ rcvbuf }
         ensures slot { (h : ℕ) (past : List Event) → TellsHost h past self.old → OnOk result
-            (TellsHost h (Bound h port (binds h past) sndbuf rcvbuf ∷ past) self.new) }
+            (TellsHost h (Bound h port (next_slot h past) sndbuf rcvbuf ∷ past) self.new) }
         ensures at { IfOk result (λ slot. slot ≡ vec_len self.old.sockets) }
     {
         let slot = self.sockets.len() as u16;
         self.sockets.push(Socket {
+            slot,
             port,
             sndbuf,
             rcvbuf,
@@ -105,7 +105,7 @@ impl Host {
     fn bind_refusal(&self, port: u16) -> Option<Refusal>
         ensures room { IfNone result (vec_len self.now.sockets < 1024) }
         ensures why { (h : ℕ) (past : List Event) → TellsHost h past self.now →
-            option_map words_of result ≡ bind_refusal h port past }
+            option_map refusal_text result ≡ bind_refusal h port past }
     {
         if self.sockets.len() >= usize::from(SLOTS) {
             return Some(Refusal::NoSlot);

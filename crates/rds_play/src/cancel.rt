@@ -2,12 +2,11 @@ ghost use Rattle.std.specs.Prelude.{◌<◌};
 ghost use Rattle.rds_model.specs.declared.entry.TheConstants.{MAX_SLOTS};
 ghost use Rattle.rds_conn.specs.Orders.{IsOrderFor};
 
-use crate::refusal::Refusal;
 use crate::stop::Stop;
 use crate::world::{World, place};
-use rds_history::cancel_line;
 use rds_model::{Order, Target};
 use rds_msgs::Steps;
+use rds_text::{MAX_HOSTS, Refusal, cancel_line};
 use rds_wire::Memory;
 use std::alloc::Global;
 use std::sync::ledger::Ledger;
@@ -44,8 +43,8 @@ impl World {
         dport: u16,
         steps: &mut Steps<L>,
     ) -> Result<(), Stop>
-        requires host { host < 8 }
-        requires peer { to < 8 }
+        requires host { host < MAX_HOSTS }
+        requires peer { to < MAX_HOSTS }
     {
         let refusal = match self.hosts[usize::from(host)].holder(port) {
             None => Refusal::NoSocket,
@@ -69,8 +68,8 @@ impl World {
         order: Order,
         steps: &mut Steps<L>,
     ) -> Result<(), Stop>
-        requires host { host < 8 }
-        requires peer { peer < 8 }
+        requires host { host < MAX_HOSTS }
+        requires peer { peer < MAX_HOSTS }
         requires order { IsOrderFor MAX_SLOTS order }
     {
         let link = &mut self.links[place(host, peer)];

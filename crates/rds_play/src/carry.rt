@@ -4,6 +4,7 @@ use crate::link::Queued;
 use crate::stop::Stop;
 use crate::world::{World, place, print};
 use rds_msgs::Steps;
+use rds_text::MAX_HOSTS;
 use std::sync::ledger::Ledger;
 
 impl World {
@@ -15,8 +16,8 @@ impl World {
         most: u64,
         steps: &mut Steps<L>,
     ) -> Result<u64, Stop>
-        requires from { from < 8 }
-        requires to { to < 8 }
+        requires from { from < MAX_HOSTS }
+        requires to { to < MAX_HOSTS }
     {
         let mut left = most;
         for _ in 0..=u64::from(self.limit) {
@@ -37,8 +38,8 @@ impl World {
         most: u64,
         steps: &mut Steps<L>,
     ) -> Result<u64, Stop>
-        requires from { from < 8 }
-        requires to { to < 8 }
+        requires from { from < MAX_HOSTS }
+        requires to { to < MAX_HOSTS }
         ensures { IfOk result (λ moved. moved ≤ most) }
     {
         if most == 0 || !self.load(from, to)? {
@@ -57,8 +58,8 @@ impl World {
 
     // Sees that something is in flight, where a frame is owed. Answers whether something is.
     fn load(&mut self, from: u8, to: u8) -> Result<bool, Stop>
-        requires from { from < 8 }
-        requires to { to < 8 }
+        requires from { from < MAX_HOSTS }
+        requires to { to < MAX_HOSTS }
     {
         let out = &mut self.outs[place(from, to)];
         if !out.rest().is_empty() {
@@ -73,8 +74,8 @@ impl World {
 
     // Passes the frame that waits at the receiver, if one does.
     fn pass<L: Ledger>(&mut self, from: u8, to: u8, steps: &mut Steps<L>) -> Result<(), Stop>
-        requires from { from < 8 }
-        requires to { to < 8 }
+        requires from { from < MAX_HOSTS }
+        requires to { to < MAX_HOSTS }
     {
         let link = &mut self.links[place(to, from)];
         let first = link.conn.journal().len();
@@ -90,8 +91,8 @@ impl World {
 
     /// Gives back to the sockets of a host the room of the datagrams that a peer has acknowledged, or that were taken back.
     pub fn credit(&mut self, host: u8, peer: u8)
-        requires host { host < 8 }
-        requires peer { peer < 8 }
+        requires host { host < MAX_HOSTS }
+        requires peer { peer < MAX_HOSTS }
     {
         for _ in 0..u64::MAX {
             let Some(freed) = self.links[place(host, peer)].conn.take_freed() else {

@@ -1,10 +1,10 @@
 ghost use Rattle.std.specs.Prelude.{◌<◌};
 
-use crate::refusal::{Refusal, close_line, mark_line};
 use crate::stop::Stop;
 use crate::world::World;
 use rds_model::{Order, Target};
 use rds_msgs::Steps;
+use rds_text::{MAX_HOSTS, Refusal, close_line, mark_line};
 use rds_wire::Memory;
 use std::sync::ledger::Ledger;
 
@@ -16,7 +16,7 @@ impl World {
         port: u16,
         steps: &mut Steps<L>,
     ) -> Result<(), Stop>
-        requires { host < 8 }
+        requires { host < MAX_HOSTS }
     {
         let Some(slot) = self.hosts[usize::from(host)].holder(port) else {
             return self.refuse_socket("close", host, port, Refusal::NoSocket);
@@ -40,7 +40,7 @@ impl World {
 
     // Frees the port, and says what is left unread.
     fn unbind(&mut self, host: u8, port: u16, slot: usize) -> Result<(), Memory>
-        requires { host < 8 }
+        requires { host < MAX_HOSTS }
     {
         let at = &mut self.hosts[usize::from(host)];
         at.holders.remove(&port);

@@ -1,9 +1,10 @@
-ghost use Rattle.std.specs.Prelude.{◌<◌, ◌≤◌};
+ghost use Rattle.std.specs.Prelude.{◌≡◌, ◌<◌};
+ghost use Rattle.rds_history.specs.Drain.{rounds};
 
 use crate::stop::Stop;
 use crate::world::{World, place};
-use rds_history::drained_line;
 use rds_msgs::Steps;
+use rds_text::{MAX_HOSTS, drained_line};
 use std::sync::ledger::Ledger;
 
 impl World {
@@ -12,7 +13,7 @@ impl World {
         for low in 0..self.count {
             self.open_above(low)?;
         }
-        for _ in 0..=64 * u64::from(self.limit) {
+        for _ in 0..rounds(self.limit) {
             if !self.round(steps)? {
                 break;
             }
@@ -23,7 +24,7 @@ impl World {
 
     // Opens the closed pairs of a host with those above it.
     fn open_above(&mut self, low: u8) -> Result<(), Stop>
-        requires { low < 8 }
+        requires { low < MAX_HOSTS }
     {
         for high in low + 1..self.count {
             if !self.links[place(low, high)].is_open() {
@@ -44,7 +45,7 @@ impl World {
 
     // The part of a round between a host and those above it.
     fn round_above<L: Ledger>(&mut self, low: u8, steps: &mut Steps<L>) -> Result<bool, Stop>
-        requires { low < 8 }
+        requires { low < MAX_HOSTS }
     {
         let mut moved = false;
         for high in low + 1..self.count {
@@ -53,4 +54,11 @@ impl World {
         }
         Ok(moved)
     }
+}
+
+// How many rounds of a drain there are at most.
+fn rounds(limit: u32) -> u64
+    ensures { result ≡ rounds limit }
+{
+    u64::from(MAX_HOSTS) * u64::from(MAX_HOSTS) * u64::from(limit) + 1
 }

@@ -1,8 +1,8 @@
 ghost use Rattle.std.specs.Prelude.{◌≡◌, ℕ, ◌≤◌, ◌<◌, ◌*◌, IfOk, List, length, map, string_bytes, vec_len};
 ghost use Rattle.rds_model.specs.declared.order.Datagram.{Datagram as Message};
 ghost use Rattle.rds_history.specs.Events.{Event};
-ghost use Rattle.rds_history.specs.History.{ends as ends_after, end_of as end_after, sockets};
-ghost use Rattle.rds_history.specs.Seen.{AreEnds, ends_of, end_of as end_seen, side_of, socket_of};
+ghost use Rattle.rds_history.specs.History.{final_hosts, final_host, sockets};
+ghost use Rattle.rds_report.specs.Views.{AreFinalHosts, host_views, host_view, side_view, socket_view};
 ghost use Rattle.rds_history.specs.Transcript.{lines};
 ghost use Rattle.rds_play.specs.declared.host.Arrived.{Arrived as ArrivedAt};
 ghost use Rattle.rds_play.specs.Ending.{TellHosts, TellLinks, TellRow, sides};
@@ -10,9 +10,10 @@ ghost use Rattle.rds_play.specs.Telling.{Tells, TellsHost, state};
 
 use crate::host::{Arrived, Host, Socket};
 use crate::link::Link;
-use crate::world::{HOSTS, World};
-use rds_history::{HostEnd, Kept, address};
+use crate::world::World;
 use rds_model::{Datagram, Journal};
+use rds_report::{HostEnd, Kept, address};
+use rds_text::MAX_HOSTS;
 use rds_wire::Memory;
 use std::alloc::Global;
 use std::collections::VecDeque;
@@ -21,7 +22,7 @@ impl World {
     /// Ends the script: what each host kept, and the transcript.
     pub fn end(self) -> Result<(Vec<HostEnd>, String), Memory>
         ensures ends { (limit hosts : ℕ) (past : List Event) → Tells limit hosts past (state self) →
-            IfOk result (λ r. ends_of r.0.items ≡ ends_after hosts past) }
+            IfOk result (λ r. host_views r.0.items ≡ final_hosts hosts past) }
         ensures text { (limit hosts : ℕ) (past : List Event) → Tells limit hosts past (state self) →
             IfOk result (λ r. string_bytes r.1 ≡ lines past) }
     {
@@ -46,17 +47,17 @@ fn ends(
     mut hosts: Vec<Host>,
     links: Vec<Link>,
 ) -> Result<Vec<HostEnd>, Memory>
-    requires few { count ≤ 8 }
-    requires housed { vec_len hosts ≡ 8 }
-    requires linked { vec_len links ≡ 64 }
+    requires few { count ≤ MAX_HOSTS }
+    requires housed { vec_len hosts ≡ MAX_HOSTS }
+    requires linked { vec_len links ≡ MAX_HOSTS * MAX_HOSTS }
     ensures { (limit : ℕ) (past : List Event) → TellHosts past hosts.items → TellLinks limit past links.items →
-        IfOk result (λ ends. ends_of ends.items ≡ ends_after count past) }
+        IfOk result (λ ends. host_views ends.items ≡ final_hosts count past) }
 {
     hosts.truncate(usize::from(count));
     let mut ends = Vec::new(alloc);
     let mut links = links;
     for host in hosts {
-        let later = links.split_off(usize::from(HOSTS))?;
+        let later = links.split_off(usize::from(MAX_HOSTS))?;
         let addr = ends.len() as u8;
         ends.push(end_of(alloc, addr, count, host, links)?)?;
         links = later;
@@ -72,11 +73,11 @@ fn end_of(
     at: Host,
     mut links: Vec<Link>,
 ) -> Result<HostEnd, Memory>
-    requires host { host < 8 }
-    requires few { count ≤ 8 }
-    requires linked { vec_len links ≡ 8 }
+    requires host { host < MAX_HOSTS }
+    requires few { count ≤ MAX_HOSTS }
+    requires linked { vec_len links ≡ MAX_HOSTS }
     ensures { (limit : ℕ) (past : List Event) → TellsHost host past at → TellRow limit host past links.items →
-        IfOk result (λ end. end_seen end ≡ end_after count host past) }
+        IfOk result (λ end. host_view end ≡ final_host count host past) }
 {
     links.truncate(usize::from(count));
     Ok(HostEnd {
@@ -89,13 +90,24 @@ fn end_of(
 // What each socket of a host received, and what it didn't.
 fn kept(alloc: Global, host: Host) -> Result<Vec<Kept>, Memory>
     ensures { (h : ℕ) (past : List Event) → TellsHost h past host →
-        IfOk result (λ kept. map socket_of kept.items ≡ sockets h past) }
+        IfOk result (λ kept. map socket_view kept.items ≡ sockets h past) }
 {
     let mut kept = Vec::new(alloc);
     for socket in host.sockets {
-        let Socket { queue, got, .. } = socket;
+        let Socket {
+            slot,
+            port,
+            queue,
+            got,
+            ..
+        } = socket;
         let unread = unread(alloc, queue)?;
-        kept.push(Kept { got, unread })?;
+        kept.push(Kept {
+            slot,
+            port,
+            got,
+            unread,
+        })?;
     }
     Ok(kept)
 }
@@ -114,8 +126,8 @@ fn unread(alloc: Global, queue: VecDeque<Arrived>) -> Result<Vec<Datagram>, Memo
 
 // The journals of a host's links to the other hosts.
 fn journals(alloc: Global, host: u8, links: Vec<Link>) -> Result<Vec<(u32, Journal)>, Memory>
-    requires { host < 8 }
-    ensures { IfOk result (λ journals. map side_of journals.items ≡ sides host links.items) }
+    requires { host < MAX_HOSTS }
+    ensures { IfOk result (λ journals. map side_view journals.items ≡ sides host links.items) }
 {
     let mut journals = Vec::new(alloc);
     for link in links {

@@ -1,7 +1,8 @@
 ghost use Rattle.std.specs.Prelude.{◌≡◌, ℕ, ◌≤◌, ◌<◌, vec_len, IfOk, IfSome, Some};
 ghost use Rattle.std.specs.BTreeMap as tree;
 ghost use Rattle.std.specs.Ordering.{nat_cmp};
-ghost use Rattle.rds_history.specs.Hosts.{address_of};
+ghost use Rattle.rds_text.specs.declared.host.TheConstants.{MAX_HOSTS};
+ghost use Rattle.rds_report.specs.Hosts.{address_of};
 
 use rds_cong::PortMap;
 use rds_model::Datagram;
@@ -17,13 +18,14 @@ pub const SLOTS: u16 = 1024;
 pub struct Arrived {
     pub from: u8,
     pub datagram: Datagram,
-    ghost sender: { from < 8 },
+    ghost sender: { from < MAX_HOSTS },
     ghost addressed: { datagram.from ≡ address_of from },
 }
 
 /// A socket of a host, bound to a port.
 #[derive(Drop)]
 pub struct Socket {
+    pub slot: u16,
     pub port: u16,
     /// The limits of the two buffers in bytes.
     pub sndbuf: u32,

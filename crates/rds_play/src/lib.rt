@@ -14,7 +14,6 @@ mod memory;
 mod pairs;
 mod playing;
 mod recv;
-mod refusal;
 mod send;
 mod stop;
 mod world;

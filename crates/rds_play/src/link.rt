@@ -1,4 +1,5 @@
 ghost use Rattle.std.specs.Prelude.{◌≡◌, ◌≤◌, ◌<◌, ◌+◌, suc, ◌∷◌, [], ℕ, Err, None, is_some, IsSome, IfOk, IfSome, OnOk, OnErr, length};
+ghost use Rattle.rds_text.specs.declared.host.TheConstants.{MAX_HOSTS};
 ghost use Rattle.rds_model.specs.declared.entry.Entry.TheVariants as entries;
 ghost use Rattle.rds_model.specs.Legal.{IsWhole};
 ghost use Rattle.rds_model.specs.Past.{newest_stream};
@@ -16,9 +17,9 @@ use crate::host::{Arrived, Host};
 use crate::stop::{Full, Stop};
 use rds_cong::PortMap;
 use rds_conn::{Conn, ConnError, Found, Out, Pulled, Verdict};
-use rds_history::address;
 use rds_model::{Datagram, Order};
 use rds_msgs::Steps;
+use rds_report::address;
 use rds_wire::{Frame, Memory};
 use std::alloc::Global;
 use std::sync::ledger::Ledger;
@@ -35,8 +36,8 @@ pub struct Link {
     /// The peer's map, and how many maps were read.
     pub map: PortMap,
     pub version: u64,
-    ghost home: { host < 8 },
-    ghost near: { peer < 8 },
+    ghost home: { host < MAX_HOSTS },
+    ghost near: { peer < MAX_HOSTS },
     ghost wide: { conn.slots ≡ MAX_SLOTS },
     ghost counted: { Counts conn.log.past streams accepted },
 }
@@ -53,8 +54,8 @@ impl Link {
 
     /// The end of `host` to `peer`, of which nothing has happened. Its journal may have `limit` entries.
     pub fn new(alloc: Global, host: u8, peer: u8, limit: u32) -> Result<Link, Memory>
-        requires host { host < 8 }
-        requires peer { peer < 8 }
+        requires host { host < MAX_HOSTS }
+        requires peer { peer < MAX_HOSTS }
         requires least { MIN_ENTRIES ≤ limit }
         requires most { limit ≤ MAX_ENTRIES }
         ensures limit { IfOk result (λ link. link.conn.log.limit ≡ limit) }
@@ -169,8 +170,8 @@ impl Link {
 
 // Makes the connection of a host with a peer ready for its next entries.
 fn ready(conn: &mut Conn, host: u8, peer: u8) -> Result<(), Stop>
-    requires host { host < 8 }
-    requires peer { peer < 8 }
+    requires host { host < MAX_HOSTS }
+    requires peer { peer < MAX_HOSTS }
     ensures room { Readies conn.old.log.limit host peer conn.old.log.past result }
     ensures ready { OnOk result (IsReady conn.new) }
     ensures past { conn.new.log.past ≡ conn.old.log.past }
@@ -239,7 +240,7 @@ fn pongs(verdict: Verdict) -> u64
 
 // Where a frame from a peer goes: a datagram is queued at the socket that holds its port.
 fn found(host: &mut Host, from: u8, frame: &Frame, verdict: Verdict) -> Result<Found, Memory>
-    requires { from < 8 }
+    requires { from < MAX_HOSTS }
     ensures { IfOk result (Matches MAX_SLOTS verdict) }
 {
     let Verdict::Deliver { dport } = verdict else {

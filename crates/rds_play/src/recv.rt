@@ -2,9 +2,9 @@ ghost use Rattle.std.specs.Prelude.{◌≡◌, ℕ, ◌<◌, true, false, [], �
 ghost use Rattle.rds_cong.specs.Map.{has_port, with_port, without_port};
 ghost use Rattle.rds_model.specs.declared.order.Datagram.{Datagram};
 ghost use Rattle.rds_history.specs.Events.{Event, Received};
-ghost use Rattle.rds_history.specs.Mark.{marked};
+ghost use Rattle.rds_history.specs.Mark.{update_mark};
 ghost use Rattle.rds_history.specs.Recv.{recv};
-ghost use Rattle.rds_history.specs.Sockets.{binds, queue};
+ghost use Rattle.rds_history.specs.Sockets.{next_slot, queue};
 ghost use Rattle.rds_history.specs.Transcript.{lines};
 ghost use Rattle.rds_play.specs.declared.host.Arrived.{Arrived as ArrivedAt};
 ghost use Rattle.rds_play.specs.declared.host.Host.{Host as HostOf};
@@ -14,17 +14,16 @@ ghost use Rattle.rds_play.specs.Receiving.{HandsOut, KeepsAll};
 ghost use Rattle.rds_play.specs.Telling.{Tells, TellsHost, state};
 
 use crate::host::{Arrived, Host, Socket};
-use crate::refusal::{Refusal, mark_line};
 use crate::stop::Stop;
 use crate::world::World;
 use rds_cong::{PortMap, hysteresis};
-use rds_history::{recv_line, recv_none_line};
+use rds_text::{MAX_HOSTS, Refusal, mark_line, recv_line, recv_none_line};
 use rds_wire::Memory;
 
 impl World {
     /// Receives the datagram at the head of the queue of the socket at a port of a host.
     pub fn recv(&mut self, host: u8, port: u16) -> Result<(), Stop>
-        requires { host < 8 }
+        requires { host < MAX_HOSTS }
         ensures { (limit hosts : ℕ) (past : List Event) → Tells limit hosts past (state self.old) →
             Comes limit hosts (recv host port past) result (state self.new) }
     {
@@ -40,7 +39,7 @@ impl World {
 
     // Hands out the datagram that has waited longest in a slot, and prints it. Answers whether there was one.
     fn hand_out(&mut self, host: u8, port: u16, slot: usize) -> Result<bool, Stop>
-        requires host { host < 8 }
+        requires host { host < MAX_HOSTS }
         requires slot { (x : HostOf) → x ≡ get_or self.old.hosts.items host x → slot < vec_len x.sockets }
         ensures stop { LacksMemory result }
         ensures none { (limit hosts : ℕ) (past : List Event) → Tells limit hosts past (state self.old) →
@@ -55,10 +54,10 @@ impl World {
 
     /// Sets or clears the congestion bit of a slot's port by what is queued there, and prints the change.
     pub fn mark(&mut self, host: u8, port: u16, slot: usize) -> Result<(), Stop>
-        requires { host < 8 }
+        requires { host < MAX_HOSTS }
         ensures stop { LacksMemory result }
-        ensures marked { (limit hosts : ℕ) (past : List Event) → slot < binds host past → Tells limit hosts past (state self.old) →
-            OnOk result (Tells limit hosts (marked host port slot past) (state self.new)) }
+        ensures marked { (limit hosts : ℕ) (past : List Event) → slot < next_slot host past → Tells limit hosts past (state self.old) →
+            OnOk result (Tells limit hosts (update_mark host port slot past) (state self.new)) }
     {
         mark(
             &mut self.text,
@@ -73,7 +72,7 @@ impl World {
 
 // Hands out the datagram that has waited longest at a socket, and prints it. Answers whether there was one.
 fn hand_out(text: &mut String, socket: &mut Socket, host: u8, port: u16) -> Result<bool, Memory>
-    requires { host < 8 }
+    requires { host < MAX_HOSTS }
     ensures none { socket.old.queue.items ≡ [] →
         IfOk result (λ some. (some ≡ false) × KeepsAll socket.old socket.new (string_bytes text.old) (string_bytes text.new)) }
     ensures some { (a : ArrivedAt) (waiting : List ArrivedAt) → socket.old.queue.items ≡ a ∷ waiting → IfOk result (λ some.
@@ -100,9 +99,9 @@ fn hand_out(text: &mut String, socket: &mut Socket, host: u8, port: u16) -> Resu
 
 // Sets or clears the congestion bit of a port by what is queued in a slot, and prints the change.
 fn mark(text: &mut String, at: &mut Host, host: u8, port: u16, slot: usize) -> Result<(), Memory>
-    requires { host < 8 }
-    ensures { (past : List Event) → slot < binds host past → TellsHost host past at.old → string_bytes text.old ≡ lines past → OnOk result
-        (TellsHost host (marked host port slot past) at.new × (string_bytes text.new ≡ lines (marked host port slot past))) }
+    requires { host < MAX_HOSTS }
+    ensures { (past : List Event) → slot < next_slot host past → TellsHost host past at.old → string_bytes text.old ≡ lines past → OnOk result
+        (TellsHost host (update_mark host port slot past) at.new × (string_bytes text.new ≡ lines (update_mark host port slot past))) }
 {
     if slot >= at.sockets.len() {
         return Ok(());

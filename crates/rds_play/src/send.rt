@@ -1,11 +1,11 @@
 ghost use Rattle.std.specs.Prelude.{◌<◌, ◌≤◌, IfOk, OnOk};
 ghost use Rattle.rds_model.specs.declared.entry.TheConstants.{MAX_SLOTS};
 
-use crate::refusal::{Refusal, send_refused_line};
 use crate::stop::Stop;
 use crate::world::{World, place, print};
 use rds_model::Order;
 use rds_msgs::Steps;
+use rds_text::{MAX_HOSTS, Refusal, send_refused_line};
 use rds_wire::{MAX_LENGTH, Payload};
 use std::sync::ledger::Ledger;
 
@@ -20,8 +20,8 @@ impl World {
         payload: &Payload,
         steps: &mut Steps<L>,
     ) -> Result<(), Stop>
-        requires host { host < 8 }
-        requires peer { to < 8 }
+        requires host { host < MAX_HOSTS }
+        requires peer { to < MAX_HOSTS }
     {
         let slot = match self.sender(host, port, to, dport, payload.len()) {
             Ok(slot) => slot,
@@ -48,8 +48,8 @@ impl World {
 
     // The slot that may send so many bytes from a port to a port of a peer, or why it may not.
     fn sender(&self, host: u8, port: u16, to: u8, dport: u16, len: u32) -> Result<usize, Refusal>
-        requires host { host < 8 }
-        requires peer { to < 8 }
+        requires host { host < MAX_HOSTS }
+        requires peer { to < MAX_HOSTS }
         ensures slot { IfOk result (λ slot. slot < MAX_SLOTS) }
         ensures fits { OnOk result (len ≤ MAX_LENGTH) }
     {

@@ -1,4 +1,5 @@
 ghost use Rattle.std.specs.Prelude.{◌<◌};
+ghost use Rattle.rds_text.specs.declared.host.TheConstants.{MAX_HOSTS};
 
 /// A journal that is full: that of `host` with `peer` has this many entries, and two more would pass its limit.
 #[derive(Clone, Copy)]
@@ -6,8 +7,8 @@ pub struct Full {
     pub host: u8,
     pub peer: u8,
     pub entries: u32,
-    ghost at: { host < 8 },
-    ghost with: { peer < 8 },
+    ghost at: { host < MAX_HOSTS },
+    ghost with: { peer < MAX_HOSTS },
 }
 
 /// Why a script isn't played on.

@@ -1,23 +1,21 @@
 ghost use Rattle.std.specs.Prelude.{◌≡◌, ◌≤◌, ◌<◌, ◌+◌, ◌*◌, ◌∷◌, ◌++◌, [], IfOk, OnOk, List, length, string_bytes, vec_len};
 ghost use Rattle.std.specs.List.{All};
+ghost use Rattle.rds_text.specs.declared.host.TheConstants.{MAX_HOSTS};
 ghost use Rattle.rds_model.specs.declared.journal.TheConstants.{MIN_ENTRIES, MAX_ENTRIES};
 ghost use Rattle.rds_model.specs.declared.entry.Entry.{Entry};
 ghost use Rattle.rds_model.specs.Past.{accepted as accepted_in};
 ghost use Rattle.rds_history.specs.Transcript.{entry_line};
 ghost use Rattle.rds_play.specs.Fresh.{AreNewLinks, IsNewHost};
-ghost use Rattle.rds_play.specs.Printing.{HasLine};
+ghost use Rattle.rds_play.specs.Printing.{PrintsAlone};
 
 use crate::host::Host;
 use crate::link::Link;
 use crate::stop::Stop;
 use rds_conn::Out;
-use rds_history::{accept_line, open_line, pull_line, read_line, shut_line};
 use rds_model::Entry;
+use rds_text::{MAX_HOSTS, accept_line, open_line, pull_line, read_line, shut_line};
 use rds_wire::Memory;
 use std::alloc::Global;
-
-/// How many hosts there may be.
-pub const HOSTS: u8 = 8;
 
 /// All that a script has made: hosts, the ends of their connections, what is in flight, and the transcript.
 #[derive(Drop)]
@@ -29,28 +27,28 @@ pub struct World {
     pub links: Vec<Link>,
     pub outs: Vec<Out>,
     pub text: String,
-    ghost counted: { count ≤ 8 },
-    ghost housed: { vec_len hosts ≡ 8 },
-    ghost linked: { vec_len links ≡ 64 },
-    ghost written: { vec_len outs ≡ 64 },
+    ghost counted: { count ≤ MAX_HOSTS },
+    ghost housed: { vec_len hosts ≡ MAX_HOSTS },
+    ghost linked: { vec_len links ≡ MAX_HOSTS * MAX_HOSTS },
+    ghost written: { vec_len outs ≡ MAX_HOSTS * MAX_HOSTS },
 }
 
 /// Where the end of `host` to `peer` stands.
 pub fn place(host: u8, peer: u8) -> usize
-    requires host { host < 8 }
-    requires peer { peer < 8 }
-    ensures is { result ≡ 8 * host + peer }
-    ensures within { result < 64 }
+    requires host { host < MAX_HOSTS }
+    requires peer { peer < MAX_HOSTS }
+    ensures is { result ≡ MAX_HOSTS * host + peer }
+    ensures within { result < MAX_HOSTS * MAX_HOSTS }
 {
-    usize::from(HOSTS) * usize::from(host) + usize::from(peer)
+    usize::from(MAX_HOSTS) * usize::from(host) + usize::from(peer)
 }
 
 fn hosts(alloc: Global) -> Result<Vec<Host>, Memory>
-    ensures count { IfOk result (λ hosts. vec_len hosts ≡ 8) }
+    ensures count { IfOk result (λ hosts. vec_len hosts ≡ MAX_HOSTS) }
     ensures new { IfOk result (λ hosts. All IsNewHost hosts.items) }
 {
     let mut hosts = Vec::new(alloc);
-    for _ in 0..HOSTS {
+    for _ in 0..MAX_HOSTS {
         hosts.push(Host::new(alloc)?)?;
     }
     Ok(hosts)
@@ -59,22 +57,22 @@ fn hosts(alloc: Global) -> Result<Vec<Host>, Memory>
 fn links(alloc: Global, limit: u32) -> Result<Vec<Link>, Memory>
     requires least { MIN_ENTRIES ≤ limit }
     requires most { limit ≤ MAX_ENTRIES }
-    ensures count { IfOk result (λ links. vec_len links ≡ 64) }
+    ensures count { IfOk result (λ links. vec_len links ≡ MAX_HOSTS * MAX_HOSTS) }
     ensures new { IfOk result (λ links. AreNewLinks limit links.items) }
 {
     let mut links = Vec::new(alloc);
-    for i in 0..HOSTS * HOSTS {
-        links.push(Link::new(alloc, i / HOSTS, i % HOSTS, limit)?)?;
+    for i in 0..MAX_HOSTS * MAX_HOSTS {
+        links.push(Link::new(alloc, i / MAX_HOSTS, i % MAX_HOSTS, limit)?)?;
     }
     Ok(links)
 }
 
 fn outs(alloc: Global) -> Result<Vec<Out>, Memory>
-    ensures count { IfOk result (λ outs. vec_len outs ≡ 64) }
+    ensures count { IfOk result (λ outs. vec_len outs ≡ MAX_HOSTS * MAX_HOSTS) }
     ensures new { IfOk result (λ outs. All (λ out. out ≡ []) outs.items) }
 {
     let mut outs = Vec::new(alloc);
-    for _ in 0..HOSTS * HOSTS {
+    for _ in 0..MAX_HOSTS * MAX_HOSTS {
         outs.push(Out::new(alloc)?)?;
     }
     Ok(outs)
@@ -85,7 +83,7 @@ impl World {
 
     /// So many hosts, of which nothing has happened.
     pub fn new(alloc: Global, count: u8, limit: u32) -> Result<World, Memory>
-        requires few { count ≤ 8 }
+        requires few { count ≤ MAX_HOSTS }
         requires least { MIN_ENTRIES ≤ limit }
         requires most { limit ≤ MAX_ENTRIES }
         ensures { IfOk result (λ world. Tells limit count [] (state world)) }
@@ -105,7 +103,7 @@ impl World {
 /// Prints the entry at a place of a link's journal, if there is one.
 pub fn print(text: &mut String, link: &Link, at: u32) -> Result<(), Memory>
     ensures line { OnOk result ((e : Entry) (before after : List Entry) → link.now.conn.log.past ≡ after ++ e ∷ before →
-        at ≡ length before → HasLine link.now.accepted before e →
+        at ≡ length before → PrintsAlone link.now.accepted before e →
         string_bytes text.new ≡ string_bytes text.old ++ entry_line link.now.host link.now.peer before e) }
     ensures none { length link.now.conn.log.past ≤ at → OnOk result (string_bytes text.new ≡ string_bytes text.old) }
 {
@@ -119,7 +117,7 @@ pub fn print(text: &mut String, link: &Link, at: u32) -> Result<(), Memory>
 fn print_entry(text: &mut String, host: u8, peer: u8, n: u64, entry: &Entry) -> Result<(), Memory>
     requires host { host < 26 }
     requires peer { peer < 26 }
-    ensures { OnOk result ((before : List Entry) → HasLine n before entry.now →
+    ensures { OnOk result ((before : List Entry) → PrintsAlone n before entry.now →
         string_bytes text.new ≡ string_bytes text.old ++ entry_line host peer before entry.now) }
 {
     match entry {

@@ -9,7 +9,7 @@ use Rattle.rds_script.specs.Grammar.{Meaning, Spells}
 use Rattle.rds_script.specs.Refusal.{Refused}
 use Rattle.rds_run.specs.declared.status.Status.{Status}
 use Rattle.rds_run.specs.declared.status.Status.TheVariants as ended
-use Rattle.rds_run.specs.Ends.{IsSpelled, IsRefusedAt, IsToldRefused, Refuses, Plays, Ends}
+use Rattle.rds_run.specs.ExitStatus.{SourceSeen, SinkSeen, IsSpelled, IsRefusedAt, IsToldRefused, IsEndOfRefusal, IsEndOfPlay, IsEndOfCall}
 
 -- what is no longer than a script may be was read to its end
 whole : (all text : List ℕ) → text ≡ take (MAX_TEXT + 1) all → length text ≤ MAX_TEXT → text ≡ all
@@ -66,47 +66,41 @@ refused_told None text line why handed refused = absurd refused
 refused_told (Some all) text line why handed refused = refused_front all text line why handed refused (small all line why refused)
 
 -- the line of the refusal that was found is that of any refusal
-pub refuses_same : (l line : ℕ) (c why : Cause) (held new : Option (List ℕ)) (write_then write_now : ℕ) (s : Status) →
-    (l ≡ line) × (c ≡ why) → Refuses l c held new write_then write_now s → Refuses line why held new write_then write_now s
-refuses_same l line c why held new write_then write_now s same came =
-    subst (λ k. Refuses line k held new write_then write_now s) same.1
-    (subst (λ n. Refuses n c held new write_then write_now s) same.0 came)
+pub refuses_same : (l line : ℕ) (c why : Cause) (sink : SinkSeen) (s : Status) → (l ≡ line) × (c ≡ why) →
+    IsEndOfRefusal l c sink s → IsEndOfRefusal line why sink s
+refuses_same l line c why sink s same came =
+    subst (λ k. IsEndOfRefusal line k sink s) same.1 (subst (λ n. IsEndOfRefusal n c sink s) same.0 came)
 
 spelled : (left : Option (List ℕ)) (text : List ℕ) (s : Meaning) → SourceGaveFront left (MAX_TEXT + 1) text → Spells text s → IsSpelled left
 spelled None text s handed spells = tt
 spelled (Some all) text s handed spells = (s, subst (λ t. Spells t s) (whole all text handed spells.small) spells)
 
-ends_of_spelled : (left : Option (List ℕ)) (read_then read_now : ℕ) (held new : Option (List ℕ)) (write_then write_now : ℕ) (s : Status) →
-    IsSpelled left → Plays held new write_then write_now s → Ends left read_then read_now held new write_then write_now s
-ends_of_spelled left read_then read_now held new write_then write_now ended.Written read played = (read, played)
-ends_of_spelled left read_then read_now held new write_then write_now ended.Refused read played = absurd played
-ends_of_spelled left read_then read_now held new write_then write_now ended.Usage read played = absurd played
-ends_of_spelled left read_then read_now held new write_then write_now ended.ReadFault read played = absurd played
-ends_of_spelled left read_then read_now held new write_then write_now ended.WriteFault read played = played
-ends_of_spelled left read_then read_now held new write_then write_now ended.Memory read played = tt
-ends_of_spelled left read_then read_now held new write_then write_now ended.Spent read played = (read, played)
+ends_of_spelled : (source : SourceSeen) (sink : SinkSeen) (s : Status) → IsSpelled source.left → IsEndOfPlay sink s → IsEndOfCall source sink s
+ends_of_spelled source sink ended.Written read played = (read, played)
+ends_of_spelled source sink ended.Refused read played = absurd played
+ends_of_spelled source sink ended.Usage read played = absurd played
+ends_of_spelled source sink ended.ReadFault read played = absurd played
+ends_of_spelled source sink ended.WriteFault read played = played
+ends_of_spelled source sink ended.Memory read played = tt
+ends_of_spelled source sink ended.Spent read played = (read, played)
 
-ends_of_refusal : (left : Option (List ℕ)) (line : ℕ) (why : Cause) (read_then read_now : ℕ) (held new : Option (List ℕ))
-    (write_then write_now : ℕ) (s : Status) → IsRefusedAt left line why → Refuses line why held new write_then write_now s →
-    Ends left read_then read_now held new write_then write_now s
-ends_of_refusal left line why read_then read_now held new write_then write_now ended.Written at refused = absurd refused
-ends_of_refusal left line why read_then read_now held new write_then write_now ended.Refused at refused = (line, why, at, refused)
-ends_of_refusal left line why read_then read_now held new write_then write_now ended.Usage at refused = absurd refused
-ends_of_refusal left line why read_then read_now held new write_then write_now ended.ReadFault at refused = absurd refused
-ends_of_refusal left line why read_then read_now held new write_then write_now ended.WriteFault at refused = refused
-ends_of_refusal left line why read_then read_now held new write_then write_now ended.Memory at refused = tt
-ends_of_refusal left line why read_then read_now held new write_then write_now ended.Spent at refused = absurd refused
+ends_of_refusal : (line : ℕ) (why : Cause) (source : SourceSeen) (sink : SinkSeen) (s : Status) → IsRefusedAt source.left line why →
+    IsEndOfRefusal line why sink s → IsEndOfCall source sink s
+ends_of_refusal line why source sink ended.Written at refused = absurd refused
+ends_of_refusal line why source sink ended.Refused at refused = (line, why, at, refused)
+ends_of_refusal line why source sink ended.Usage at refused = absurd refused
+ends_of_refusal line why source sink ended.ReadFault at refused = absurd refused
+ends_of_refusal line why source sink ended.WriteFault at refused = refused
+ends_of_refusal line why source sink ended.Memory at refused = tt
+ends_of_refusal line why source sink ended.Spent at refused = absurd refused
 
 -- what a played script leaves is how a call may end
-pub ends_of_played : (left : Option (List ℕ)) (text : List ℕ) (m : Meaning) (read_then read_now : ℕ) (held new : Option (List ℕ))
-    (write_then write_now : ℕ) (s : Status) → SourceGaveFront left (MAX_TEXT + 1) text → Spells text m →
-    Plays held new write_then write_now s → Ends left read_then read_now held new write_then write_now s
-ends_of_played left text m read_then read_now held new write_then write_now s handed spells played =
-    ends_of_spelled left read_then read_now held new write_then write_now s (spelled left text m handed spells) played
+pub ends_of_played : (text : List ℕ) (m : Meaning) (source : SourceSeen) (sink : SinkSeen) (s : Status) →
+    SourceGaveFront source.left (MAX_TEXT + 1) text → Spells text m → IsEndOfPlay sink s → IsEndOfCall source sink s
+ends_of_played text m source sink s handed spells played = ends_of_spelled source sink s (spelled source.left text m handed spells) played
 
 -- and so is what a refused text leaves
-pub ends_of_refused : (left : Option (List ℕ)) (text : List ℕ) (line : ℕ) (why : Cause) (read_then read_now : ℕ)
-    (held new : Option (List ℕ)) (write_then write_now : ℕ) (s : Status) → SourceGaveFront left (MAX_TEXT + 1) text → Refused text line why →
-    Refuses line why held new write_then write_now s → Ends left read_then read_now held new write_then write_now s
-ends_of_refused left text line why read_then read_now held new write_then write_now s handed refused came =
-    ends_of_refusal left line why read_then read_now held new write_then write_now s (refused_at left text line why handed refused) came
+pub ends_of_refused : (text : List ℕ) (line : ℕ) (why : Cause) (source : SourceSeen) (sink : SinkSeen) (s : Status) →
+    SourceGaveFront source.left (MAX_TEXT + 1) text → Refused text line why → IsEndOfRefusal line why sink s → IsEndOfCall source sink s
+ends_of_refused text line why source sink s handed refused came =
+    ends_of_refusal line why source sink s (refused_at source.left text line why handed refused) came

@@ -1,7 +1,7 @@
 -- The command line, and the lines that stand in place of a transcript. Source: this project's own.
 use Rattle.std.specs.Prelude.{◌≡◌, ℕ, List, [], ◌∷◌, map, codes, String, string_bytes, slice_get, Some}
 use Rattle.clap.specs.Words.{Kinds, new_app, fault_of}
-use Rattle.rds_history.specs.Lines.{line}
+use Rattle.rds_text.specs.Lines.{line}
 use Rattle.std.specs.Fmt.{decimal}
 use Rattle.std.specs.Global.{Global}
 

@@ -1,11 +1,13 @@
-//! The program: from the words of the command line to the status.
+//! The program: from the words of the command line to the exit status.
 #![tactic(auto)]
 
-mod main_call;
+mod answer;
+mod command_line;
+mod play_command;
 mod status;
-mod words;
+mod top_call;
 
-pub use main_call::rds_main;
+pub use top_call::rds_main;
 
 #[cfg(test)]
 mod tests;

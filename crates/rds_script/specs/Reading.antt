@@ -1,4 +1,4 @@
--- How the crate's own functions share the work of reading. No public clause cites these definitions.
+-- Private: needed by proofs only. How the crate's own functions share the work of reading.
 use Rattle.std.specs.Prelude.{◌≡◌, ℕ, ◌+◌, ◌-◌, ◌%◌, ◌&&◌, ◌==◌, nat_lt, nat_le, Bool, true, false, if◌then◌else◌, List, [], ◌∷◌, ◌++◌, length, map, drop, Option, Some, None, option_and_then, Result, Ok, Err, ⊤, codes}
 use Rattle.std.specs.Bool.{beq}
 use Rattle.std.specs.List.{list_all, range_with_len, slice_index_or}

@@ -1,2 +1,4 @@
 pub mod Words
 pub mod Ports
+pub mod Lines
+pub mod Refusals

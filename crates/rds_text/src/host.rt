@@ -3,6 +3,9 @@ ghost use Rattle.rds_text.specs.Words.{host_name, slot_name};
 
 use std::fmt;
 
+/// The most hosts that a script may have.
+pub const MAX_HOSTS: u8 = 8;
+
 /// A host by its letter: A for host 0, B for host 1 and so on.
 #[derive(Clone, Copy)]
 pub struct HostName {

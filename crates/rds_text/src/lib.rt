@@ -1,12 +1,29 @@
-//! The words of the printed texts: hosts, flags, hexadecimal bytes, lists of numbers and sets of ports.
+//! All lines of a transcript, and the words that they are made of. The lines are this project's own; docs/SCRIPT.md has them.
+//!
+//! Each function whose name ends with `_line` appends one text line, with its line feed, to a text. It fails only where
+//! memory runs out, and the text then has a beginning of that line. Hosts are numbers from 0, printed as letters from A;
+//! lengths, queues and limits are bytes.
 #![tactic(auto)]
 
+mod command_lines;
+mod entry_lines;
+mod entry_words;
 mod hex;
 mod host;
 mod list;
 mod ports;
+mod refusal;
 
+pub use command_lines::{
+    bind_line, close_line, cut_line, drained_line, mark_line, move_line, recv_line, recv_none_line,
+    spent_line,
+};
+pub use entry_lines::{accept_line, cancel_line, open_line, pull_line, read_line, shut_line};
 pub use hex::{Hex, HexByte};
-pub use host::{HostName, SlotName};
+pub use host::{HostName, MAX_HOSTS, SlotName};
 pub use list::Numbers;
 pub use ports::PortSet;
+pub use refusal::{Refusal, pair_refused_line, send_refused_line, socket_refused_line};
+
+#[cfg(test)]
+mod tests;

@@ -1,7 +1,7 @@
 use Rattle.std.proofs.Common.{◌≡◌, length, take, ◌∙◌, ap, arith}
 use Rattle.std.proofs.lemmas.List.{length-take-le}
 use Rattle.rds_play.specs.Ending.{sides}
-use Rattle.rds_play.proofs.Ended.{end_told}
+use Rattle.rds_play.proofs.FinalLists.{end_told}
 use Rattle.rds_play.proofs.ending.end_of.Goals as goal
 
 pub returns : goal.returns

@@ -4,13 +4,13 @@ use Rattle.std.proofs.lemmas.Iterator.Adapters.{YieldsList-from_vec}
 use Rattle.std.proofs.lemmas.Iterator.Consumers.{YieldsList-end, YieldsList-turn}
 use Rattle.std.specs.Vec.Iter.{into_iter_items, into_iter_len}
 use Rattle.rds_text.specs.Ports.{below}
-use Rattle.rds_history.specs.History.{end_of}
-use Rattle.rds_history.specs.Seen.{ends_of, end_of as end_seen}
+use Rattle.rds_history.specs.History.{final_host}
+use Rattle.rds_report.specs.Views.{host_views, host_view}
 use Rattle.rds_play.specs.declared.host.Host.{Host}
 use Rattle.rds_play.specs.declared.link.Link.{Link}
 use Rattle.rds_play.specs.Ending.{TellRow}
 use Rattle.rds_play.specs.Telling.{TellsHost}
-use Rattle.rds_play.proofs.Ended.{ends_more, row_of}
+use Rattle.rds_play.proofs.FinalLists.{ends_more, row_of}
 use Rattle.rds_play.proofs.ending.ends.Goals as goal
 
 pub loop-host-preserved : goal.loop-host-preserved
@@ -42,12 +42,12 @@ loop-host-preserved c =
       λ limit past told_hosts told_links.
           let told = told_hosts n (omega (arith, n_in, c.requires.few)) x at in
           let row = row_of limit n past links (omega (arith, n_in, c.requires.few)) all told_links in
-          let is : end_seen e ≡ end_of count n past =
-          subst (λ h. end_seen e ≡ end_of count h past) addr
+          let is : host_view e ≡ final_host count n past =
+          subst (λ h. host_view e ≡ final_host count h past) addr
           (c.in_ok-end_of.ensures limit past (subst (λ h. TellsHost h past x) (sym addr) told)
           (subst (λ h. TellRow limit h past c.split_off.new.self.items) (sym addr) (subst (λ (l : List Link). TellRow limit n past l) (sym own) row))) in
-          ap ends_of pushed ∙ ends_more count n past c.loop-host.ends.items e (c.loop-host.invariant.3 limit past told_hosts told_links) is
-          ∙ ap (λ m. map (λ h. end_of count h past) (below m)) (sym more),
+          ap host_views pushed ∙ ends_more count n past c.loop-host.ends.items e (c.loop-host.invariant.3 limit past told_hosts told_links) is
+          ∙ ap (λ m. map (λ h. final_host count h past) (below m)) (sym more),
     )
 
 pub returns : goal.returns
@@ -61,4 +61,4 @@ returns c = λ limit past told_hosts told_links.
     let size : length hosts ≡ 8 = grind arith in
     let few : length (take count hosts) ≡ count = length-take-le count hosts (omega (arith, size, c.requires.few)) in
     let n : length c.loop-host.yielded ≡ count = all.1 ∙ ap (λ (l : List Host). length l) kept ∙ few in
-    c.loop-host.invariant.3 limit past told_hosts told_links ∙ ap (λ m. map (λ h. end_of count h past) (below m)) n
+    c.loop-host.invariant.3 limit past told_hosts told_links ∙ ap (λ m. map (λ h. final_host count h past) (below m)) n

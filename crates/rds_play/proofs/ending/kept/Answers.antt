@@ -4,21 +4,21 @@ use Rattle.std.proofs.lemmas.Iterator.Adapters.{YieldsList-from_vec}
 use Rattle.std.proofs.lemmas.Iterator.Consumers.{YieldsList-end}
 use Rattle.rds_model.specs.declared.order.Datagram.{Datagram}
 use Rattle.rds_play.specs.declared.host.Arrived.{Arrived}
-use Rattle.rds_history.specs.declared.ends.Kept.{Kept}
-use Rattle.rds_history.specs.Ends.{Socket}
-use Rattle.rds_history.specs.Seen.{socket_of}
-use Rattle.rds_play.proofs.Ended.{map_push, left_by, sockets_left}
+use Rattle.rds_report.specs.declared.final_state.Kept.{Kept}
+use Rattle.rds_report.specs.FinalState.{Socket}
+use Rattle.rds_report.specs.Views.{socket_view}
+use Rattle.rds_play.proofs.FinalLists.{map_push, left_by, sockets_left}
 use Rattle.rds_play.proofs.ending.kept.Goals as goal
 
 pub loop-socket-preserved : goal.loop-socket-preserved
 loop-socket-preserved c =
     let s = c.in-Some.socket in
-    let k : Kept = record { got = s.got; unread = c.in_ok-unread.unread } in
+    let k : Kept = record { slot = s.slot; port = s.port; got = s.got; unread = c.in_ok-unread.unread } in
     let old = c.loop-socket.kept.items in
     let pushed : c.push.new.self.items ≡ old ++ k ∷ [] = c.in_ok-push.ensures.items in
     let unread : c.in_ok-unread.unread.items ≡ map (λ (a : Arrived). a.datagram) s.queue.items = c.in_ok-unread.ensures in
-    ap (map socket_of) pushed ∙ map_push socket_of old k
-    ∙ ap (λ (ds : List Datagram). map socket_of old ++ record { got = s.got.items; unread = ds } ∷ []) unread
+    ap (map socket_view) pushed ∙ map_push socket_view old k
+    ∙ ap (λ (ds : List Datagram). map socket_view old ++ record { slot = s.slot; port = s.port; got = s.got.items; unread = ds } ∷ []) unread
     ∙ ap (λ (l : List Socket). l ++ left_by s ∷ []) c.loop-socket.invariant ∙ sym (map_push left_by c.loop-socket.yielded s)
 
 pub returns : goal.returns

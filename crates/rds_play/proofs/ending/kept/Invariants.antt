@@ -1,7 +1,7 @@
 use Rattle.std.proofs.Common.{◌≡◌, map}
-use Rattle.rds_history.specs.Seen.{socket_of}
-use Rattle.rds_play.proofs.Ended.{left_by}
+use Rattle.rds_report.specs.Views.{socket_view}
+use Rattle.rds_play.proofs.FinalLists.{left_by}
 use Rattle.rds_play.proofs.ending.kept.Given as goal
 
 abbrev pub invariant-loop-socket : goal.invariant-loop-socket
-invariant-loop-socket l = map socket_of l.kept.items ≡ map left_by l.yielded
+invariant-loop-socket l = map socket_view l.kept.items ≡ map left_by l.yielded

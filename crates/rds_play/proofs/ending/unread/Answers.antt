@@ -4,7 +4,7 @@ use Rattle.std.proofs.lemmas.Iterator.Adapters.{YieldsList-from_vec}
 use Rattle.std.proofs.lemmas.Iterator.Consumers.{YieldsList-end}
 use Rattle.rds_model.specs.declared.order.Datagram.{Datagram}
 use Rattle.rds_play.specs.declared.host.Arrived.{Arrived}
-use Rattle.rds_play.proofs.Ended.{map_push}
+use Rattle.rds_play.proofs.FinalLists.{map_push}
 use Rattle.rds_play.proofs.ending.unread.Goals as goal
 
 pub loop-arrived-preserved : goal.loop-arrived-preserved

@@ -6,13 +6,13 @@ use Rattle.rds_conn.specs.Connection.{stream_of}
 use Rattle.rds_history.specs.Transcript.{entry_line}
 use Rattle.rds_play.specs.declared.link.Link.{Link}
 use Rattle.rds_play.specs.Entering.{Enters, IsSameEnd}
-use Rattle.rds_play.specs.Printing.{HasLine}
+use Rattle.rds_play.specs.Printing.{PrintsAlone}
 use Rattle.rds_play.specs.Readiness.{Readies}
 use Rattle.rds_play.proofs.entering.shut_end.Goals as goal
 
 shut : (o : Option ℕ) (first : ℕ) (old new : Link) (text_old text_new : List ℕ) →
     IfSome o (λ k. new.conn.log.past ≡ entries.Shut k ∷ old.conn.log.past) → first ≡ length old.conn.log.past →
-    ((e : Entry) (before after : List Entry) → new.conn.log.past ≡ after ++ e ∷ before → first ≡ length before → HasLine new.accepted before e →
+    ((e : Entry) (before after : List Entry) → new.conn.log.past ≡ after ++ e ∷ before → first ≡ length before → PrintsAlone new.accepted before e →
     text_new ≡ text_old ++ entry_line new.host new.peer before e) →
     Readies {A = Unit {0}} old.conn.log.limit old.host old.peer old.conn.log.past (Ok tt) → IsSameEnd old new →
     IfSome o (λ k. Enters {A = Unit {0}} (entries.Shut k) (Ok tt) old new text_old text_new)

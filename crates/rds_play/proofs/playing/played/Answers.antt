@@ -10,8 +10,6 @@ use Rattle.rds_play.specs.Playing.{Gives, course}
 use Rattle.rds_play.specs.Telling.{Tells, state}
 use Rattle.rds_play.specs.Told.{IsTold}
 use Rattle.rds_play.proofs.Givings.{Plays, plays_more, plays_stopped, gives_made}
-use Rattle.rds_play.proofs.Paired.{paired_nothing}
-use Rattle.rds_play.proofs.InOrder.{in_order_nothing}
 use Rattle.rds_play.proofs.playing.played.Goals as goal
 
 -- the commands from one on
@@ -23,7 +21,7 @@ told_at : (xs : List Placed) (i : ℕ) (x : Placed) → i < length xs → x ≡ 
 told_at xs i x below is told = subst (λ (p : Placed). IsTold p.command) (sym is) (All-get_or (λ p. IsTold p.command) xs i x below told)
 
 pub loop-placed-init : goal.loop-placed-init
-loop-placed-init g c = λ told. record { past = []; same = refl; paired = paired_nothing; ordered = in_order_nothing; tells = c.in_ok-world.ensures }
+loop-placed-init g c = λ told. record { past = []; same = refl; agree = c.ends_agree.ensures.first; tells = c.in_ok-world.ensures }
 
 pub loop-placed-preserved : goal.loop-placed-preserved
 loop-placed-preserved g c = λ told.
@@ -35,8 +33,8 @@ loop-placed-preserved g c = λ told.
     let below : i < length xs = subst (λ (l : List Placed). i < length l) items c.loop-placed-test.true in
     let at : x ≡ get_or xs i x = c.placed-item.is ∙ ap (λ (l : List Placed). get_or l i x) items in
     let p = subst (λ (rest : List Placed). Plays c.args.limit s.hosts xs rest (state c.loop-placed.world)) (from_one xs i x below at) (c.loop-placed.invariant told) in
-    plays_more c.args.limit s.hosts xs (drop (i + 1) xs) x (state c.loop-placed.world) (state c.obey.new.self) p
-    (c.in_ok-obey.ensures c.args.limit s.hosts p.past (told_at xs i x below at told) p.paired p.tells)
+    plays_more c.args.limit s.hosts xs (drop (i + 1) xs) x (state c.loop-placed.world) (state c.obey.new.self) (c.ends_agree.ensures.next c.args.limit s.hosts) p
+    (c.in_ok-obey.ensures c.args.limit s.hosts p.past (told_at xs i x below at told) p.agree p.tells)
 
 pub returns-in_err-obey : goal.returns-in_err-obey
 returns-in_err-obey g c = λ told.
@@ -51,7 +49,7 @@ returns-in_err-obey g c = λ told.
     let same : c.from_residual-in_err-obey.result ≡ Err c.in_err-obey.field-0.0 = grind (arith, common_steps) in
     subst (λ (r : Result World Stop). Gives (λ past world. Tells c.args.limit s.hosts past (state world)) (course s c.args.limit) r) (sym same)
     (plays_stopped (λ past world. Tells c.args.limit s.hosts past (state world)) c.args.limit s.hosts xs (drop (i + 1) xs) x (state c.loop-placed.world) (state c.obey.new.self)
-    c.in_err-obey.field-0.0 p (c.in_err-obey.ensures c.args.limit s.hosts p.past (told_at xs i x below at told) p.paired p.tells))
+    c.in_err-obey.field-0.0 p (c.in_err-obey.ensures c.args.limit s.hosts p.past (told_at xs i x below at told) p.agree p.tells))
 
 pub returns : goal.returns
 returns g c = λ told.

@@ -1,10 +1,10 @@
 use Rattle.std.proofs.Common.{◌≡◌, ℕ, Global, String, List, ◌++◌, sym, ◌∙◌, ap, subst}
 use Rattle.std.specs.Prelude.{string_bytes}
-use Rattle.rds_history.specs.Ends.{End}
+use Rattle.rds_report.specs.FinalState.{FinalHost}
 use Rattle.rds_history.specs.Events.{Event}
-use Rattle.rds_history.specs.History.{ends}
-use Rattle.rds_history.specs.Report.{report}
-use Rattle.rds_history.specs.Seen.{AreEnds, ends_of}
+use Rattle.rds_history.specs.History.{final_hosts}
+use Rattle.rds_report.specs.Report.{report}
+use Rattle.rds_report.specs.Views.{AreFinalHosts, host_views}
 use Rattle.rds_history.specs.Transcript.{lines}
 use Rattle.rds_play.specs.Playing.{course}
 use Rattle.rds_play.specs.declared.world.World.{World}
@@ -17,10 +17,10 @@ pub returns-clause-exact : goal.returns-clause-exact
 returns-clause-exact c = λ told.
     let s = c.args.script.now in
     let m = made_of (λ (past : List Event) (world : World). Tells c.args.limit s.hosts past (state world)) (course s c.args.limit) c.in_ok-world.world (c.in_ok-world.ensures told) in
-    let ends_are : ends_of c.deref.result.now ≡ ends s.hosts m.past =
-    ap ends_of c.deref.ensures.value ∙ c.in_ok-ends.ensures.ends c.args.limit s.hosts m.past m.right in
-    gives_made (λ (past : List Event) (made : String Global). string_bytes made ≡ lines past ++ report (ends s.hosts past)) (course s c.args.limit)
+    let ends_are : host_views c.deref.result.now ≡ final_hosts s.hosts m.past =
+    ap host_views c.deref.ensures.value ∙ c.in_ok-ends.ensures.ends c.args.limit s.hosts m.past m.right in
+    gives_made (λ (past : List Event) (made : String Global). string_bytes made ≡ lines past ++ report (final_hosts s.hosts past)) (course s c.args.limit)
     c.report.new.text m.past m.past_is
-    (c.in_ok-report.ensures.exact (subst AreEnds (sym ends_are) (are_ends s.hosts m.past c.requires.script.hosts_high))
-    ∙ ap (λ (l : List ℕ). l ++ report (ends_of c.deref.result.now)) (c.in_ok-ends.ensures.text c.args.limit s.hosts m.past m.right)
-    ∙ ap (λ (es : List End). lines m.past ++ report es) ends_are)
+    (c.in_ok-report.ensures.exact (subst AreFinalHosts (sym ends_are) (are_ends s.hosts m.past c.requires.script.hosts_high))
+    ∙ ap (λ (l : List ℕ). l ++ report (host_views c.deref.result.now)) (c.in_ok-ends.ensures.text c.args.limit s.hosts m.past m.right)
+    ∙ ap (λ (es : List FinalHost). lines m.past ++ report es) ends_are)

@@ -1,18 +1,18 @@
 use Rattle.std.proofs.Common.{◌≡◌, ℕ, Option, None, Ok, List, ◌∷◌, get_or, ap, subst, codes}
 use Rattle.rds_history.specs.Bind.{bind, bind_refusal}
-use Rattle.rds_history.specs.Courses.{Course, unless}
+use Rattle.rds_history.specs.Courses.{Course, or_refuses}
 use Rattle.rds_history.specs.Events.{Event, Bound}
-use Rattle.rds_history.specs.Refusals.{socket_refused_line}
-use Rattle.rds_history.specs.Sockets.{binds}
+use Rattle.rds_text.specs.Refusals.{socket_refused_line}
+use Rattle.rds_history.specs.Sockets.{next_slot}
 use Rattle.rds_play.specs.Coming.{Comes}
 use Rattle.rds_play.specs.Telling.{state}
 use Rattle.rds_play.proofs.Comings.{comes_made}
 use Rattle.rds_play.proofs.world.World.bind.Goals as goal
 
 bind_is : (h port sndbuf rcvbuf : ℕ) (past : List Event) → None ≡ bind_refusal h port past →
-    Ok (Bound h port (binds h past) sndbuf rcvbuf ∷ past) ≡ bind h port sndbuf rcvbuf past
+    Ok (Bound h port (next_slot h past) sndbuf rcvbuf ∷ past) ≡ bind h port sndbuf rcvbuf past
 bind_is h port sndbuf rcvbuf past none =
-    ap (λ (r : Option (List ℕ)). unless r (socket_refused_line (codes "bind") h port) (λ (before : List Event). Ok (Bound h port (binds h before) sndbuf rcvbuf ∷ before)) past) none
+    ap (λ (r : Option (List ℕ)). or_refuses r (socket_refused_line (codes "bind") h port) (λ (before : List Event). Ok (Bound h port (next_slot h before) sndbuf rcvbuf ∷ before)) past) none
 
 pub returns-in-None : goal.returns-in-None
 returns-in-None c = λ limit hosts past told.
@@ -22,5 +22,5 @@ returns-in-None c = λ limit hosts past told.
     let none = c.in-None.ensures.why h past (told.hosts_are h c.requires.host x at) in
     subst (λ (course : Course). Comes {A = Unit {0}} limit hosts course c.add_socket.result (state c.add_socket.new.self))
     (bind_is h c.args.port c.args.sndbuf c.args.rcvbuf past none)
-    (comes_made (Unit {0}) limit hosts (Bound h c.args.port (binds h past) c.args.sndbuf c.args.rcvbuf ∷ past) c.add_socket.result
+    (comes_made (Unit {0}) limit hosts (Bound h c.args.port (next_slot h past) c.args.sndbuf c.args.rcvbuf ∷ past) c.add_socket.result
     (state c.add_socket.new.self) (c.add_socket.ensures.bound limit hosts past told) c.add_socket.ensures.stop)

@@ -1,7 +1,7 @@
 use Rattle.std.proofs.Common.{◌≡◌, ◌<◌, get_or, length, refl, ◌∙◌, subst, arith}
 use Rattle.std.specs.Prelude.{string_bytes}
 use Rattle.rds_play.specs.Telling.{state}
-use Rattle.rds_play.proofs.Handing.{front, no_queue, host_handed, host_looked, tells_handed_at, tells_looked_at}
+use Rattle.rds_play.proofs.ReceiveStep.{front, no_queue, host_handed, host_looked, tells_handed_at, tells_looked_at}
 use Rattle.rds_play.proofs.world.World.hand_out.Goals as goal
 
 pub returns-clause-none : goal.returns-clause-none

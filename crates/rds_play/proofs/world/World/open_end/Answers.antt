@@ -5,12 +5,12 @@ use Rattle.rds_model.specs.declared.entry.Entry.TheVariants as entries
 use Rattle.rds_model.specs.Legal.{IsLegal}
 use Rattle.rds_model.specs.Past.{newest_stream, open_stream}
 use Rattle.rds_history.specs.Journals.{journal}
-use Rattle.rds_history.specs.Open.{opens_end}
+use Rattle.rds_history.specs.Open.{open_one}
 use Rattle.rds_play.specs.Coming.{Comes}
 use Rattle.rds_play.specs.Entering.{Enters}
 use Rattle.rds_play.specs.Telling.{state}
-use Rattle.rds_play.proofs.Entered.{comes_entered}
-use Rattle.rds_play.proofs.Flying.{outs_opened}
+use Rattle.rds_play.proofs.AppendStep.{comes_appended}
+use Rattle.rds_play.proofs.InFlight.{outs_opened}
 use Rattle.rds_play.proofs.world.World.open_end.Goals as goal
 
 pub returns : goal.returns
@@ -29,7 +29,7 @@ returns c = λ limit hosts past told closed.
     (c.open_end.ensures.entry (ap open_stream link.journal_is ∙ closed)) in
     let legal = subst IsLegal link.journal_is c.open_end.ensures.whole.legal in
     let outs = outs_opened h k stream past s.outs c.requires.host c.requires.peer legal (omega arith) closed told.outs_are in
-    subst (λ i. Comes {A = Unit {0}} limit hosts (opens_end limit h k past) c.open_end.result (record s { text = text; links = set s.links i new }))
+    subst (λ i. Comes {A = Unit {0}} limit hosts (open_one limit h k past) c.open_end.result (record s { text = text; links = set s.links i new }))
     (sym c.place.ensures.is)
-    (comes_entered (Unit {0}) limit hosts h k past (entries.Open stream) s old new text s.outs c.open_end.result c.requires.host c.requires.peer
+    (comes_appended (Unit {0}) limit hosts h k past (entries.Open stream) s old new text s.outs c.open_end.result c.requires.host c.requires.peer
     (omega (arith, c.args.self.now.linked, c.args.self.now.links.ok.0)) told at entered outs (λ a slot. refl))

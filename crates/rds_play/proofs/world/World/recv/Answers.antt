@@ -1,13 +1,16 @@
 use Rattle.std.proofs.Common.{◌≡◌, ℕ, ◌<◌, Option, Some, Ok, ◌∷◌, get_or, refl, ◌∙◌, subst, arith}
-use Rattle.std.specs.Prelude.{string_bytes}
+use Rattle.std.specs.Prelude.{string_bytes, codes}
+use Rattle.std.specs.Option.{option_map_or}
+use Rattle.rds_text.specs.Refusals.{no_socket, socket_refused_line}
+use Rattle.rds_history.specs.Courses.{prints}
 use Rattle.rds_history.specs.Events.{Received}
-use Rattle.rds_history.specs.Mark.{marked}
-use Rattle.rds_history.specs.Recv.{recv_from}
-use Rattle.rds_history.specs.Sockets.{holder, queue, binds}
+use Rattle.rds_history.specs.Mark.{update_mark}
+use Rattle.rds_history.specs.Recv.{hand_out}
+use Rattle.rds_history.specs.Sockets.{holder, queue, next_slot}
 use Rattle.rds_play.specs.Coming.{Comes}
 use Rattle.rds_play.specs.Telling.{state}
 use Rattle.rds_play.proofs.Comings.{comes_made}
-use Rattle.rds_play.proofs.Handing.{received_some, received_none}
+use Rattle.rds_play.proofs.ReceiveStep.{received_some, received_none}
 use Rattle.rds_play.proofs.world.World.recv.Goals as goal
 
 pub returns-then-branch : goal.returns-then-branch
@@ -21,11 +24,11 @@ returns-then-branch c = λ limit hosts past told.
     let host = told.hosts_are h c.requires x at in
     let held : Some slot ≡ holder h port past = c.in-Some.ensures.is ∙ host.holders_are port in
     let below = c.in-Some.ensures.slot in
-    let in_range : slot < binds h past = subst (λ n. slot < n) host.binds_are (omega (arith, below, x.sockets.ok.0)) in
-    subst (λ (o : Option ℕ). Comes {A = Unit {0}} limit hosts (recv_from o h port past) c.mark.result (state c.mark.new.self)) held
+    let in_range : slot < next_slot h past = subst (λ n. slot < n) host.binds_are (omega (arith, below, x.sockets.ok.0)) in
+    subst (λ (o : Option ℕ). Comes {A = Unit {0}} limit hosts (option_map_or (λ slot. hand_out (queue h slot past) h port slot past) o (prints (socket_refused_line (codes "recv") h port no_socket) past)) c.mark.result (state c.mark.new.self)) held
     (received_some limit hosts h port slot past (queue h slot past) c.in_ok-hand_out.field-0 c.mark.result (state c.hand_out.new.self) (state c.mark.new.self)
     c.if-branch.true refl (c.in_ok-hand_out.ensures.none limit hosts past told) (c.in_ok-hand_out.ensures.some limit hosts past told)
-    (λ d told_later. comes_made (Unit {0}) limit hosts (marked h port slot (Received h port slot d ∷ past)) c.mark.result (state c.mark.new.self)
+    (λ d told_later. comes_made (Unit {0}) limit hosts (update_mark h port slot (Received h port slot d ∷ past)) c.mark.result (state c.mark.new.self)
     (c.mark.ensures.marked limit hosts (Received h port slot d ∷ past) in_range told_later) c.mark.ensures.stop))
 
 pub returns : goal.returns
@@ -38,7 +41,7 @@ returns c = λ limit hosts past told.
     let at : x ≡ get_or s.hosts h x = cc in
     let host = told.hosts_are h c.requires x at in
     let held : Some slot ≡ holder h port past = c.in-Some.ensures.is ∙ host.holders_are port in
-    subst (λ (o : Option ℕ). Comes {A = Unit {0}} limit hosts (recv_from o h port past) (Ok tt) (record (state c.hand_out.new.self) { text = string_bytes c.recv_none_line.new.text })) held
+    subst (λ (o : Option ℕ). Comes {A = Unit {0}} limit hosts (option_map_or (λ slot. hand_out (queue h slot past) h port slot past) o (prints (socket_refused_line (codes "recv") h port no_socket) past)) (Ok tt) (record (state c.hand_out.new.self) { text = string_bytes c.recv_none_line.new.text })) held
     (received_none limit hosts h port slot past (queue h slot past) c.in_ok-hand_out.field-0 (state c.hand_out.new.self) (string_bytes c.recv_none_line.new.text)
     c.if-branch.false refl (c.in_ok-hand_out.ensures.none limit hosts past told) (c.in_ok-hand_out.ensures.some limit hosts past told)
     c.in_ok-recv_none_line.ensures)

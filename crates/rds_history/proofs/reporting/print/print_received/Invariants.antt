@@ -1,9 +1,0 @@
-use Rattle.std.proofs.Common.{◌≡◌, ◌++◌, take, string_bytes}
-use Rattle.std.specs.List.{flat_map}
-use Rattle.rds_history.specs.declared.reporting.item.Item.{Item}
-use Rattle.rds_history.specs.Tally.{data_lines}
-use Rattle.rds_history.proofs.reporting.print.print_received.Given as goal
-
-abbrev pub invariant-loop-item : goal.invariant-loop-item
-invariant-loop-item l =
-    string_bytes l.text ≡ string_bytes l.fn.text ++ flat_map (λ (i : Item). data_lines i.what) (take l.item-index l.items)

@@ -1,8 +1,0 @@
--- What a script's sockets have kept in the end. Source: rds(7) for in order; the words are this project's own.
-use Rattle.std.specs.Prelude.{◌≡◌, ℕ, List, ◌++◌}
-use Rattle.rds_history.specs.Events.{Event}
-use Rattle.rds_history.specs.Sockets.{delivered, received, queue}
-
--- what was handed out at a socket, and then what waits, is what was delivered to it
-abbrev pub HandsOutInOrder : (h slot : ℕ) → List Event → Type 0
-HandsOutInOrder h slot past = received h slot past ++ queue h slot past ≡ delivered h slot past

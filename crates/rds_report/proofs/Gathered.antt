@@ -1,0 +1,75 @@
+-- Items of lists that grow.
+use Rattle.std.proofs.Common.{◌≡◌, ◌∙◌, ◌++◌, ℕ, suc, ◌<◌, ◌+◌, Bool, List, get_or, length, map, take, [], ◌∷◌, sym, ap, refl, append_assoc}
+use Rattle.std.proofs.lemmas.List.{append-nil, map-append, take_more}
+use Rattle.std.specs.List.{flat_map}
+use Rattle.std.proofs.lemmas.Grind.{flat_map-append}
+use Rattle.rds_model.specs.declared.entry.Entry.{Entry}
+use Rattle.rds_model.specs.declared.entry.Entry.TheVariants.{Accept, Cancel, Open, Pull, Read, Shut, Bad}
+use Rattle.rds_model.specs.Past.{accepted}
+use Rattle.rds_report.specs.declared.item.Item.{Item}
+use Rattle.rds_report.specs.Items.{came_items, arrival_items, sent_items, accepted_items}
+
+came_one : (from to : ℕ) (e : Entry) (past : List Entry) →
+    came_items from to past ++ arrival_items from to e ≡ came_items from to (e ∷ past)
+came_one from to (Read stream frame outcome) past = refl
+came_one from to (Accept slot sport dport payload) past = append-nil (came_items from to past)
+came_one from to (Cancel slot target) past = append-nil (came_items from to past)
+came_one from to (Open stream) past = append-nil (came_items from to past)
+came_one from to (Pull stream frame) past = append-nil (came_items from to past)
+came_one from to (Shut stream) past = append-nil (came_items from to past)
+came_one from to (Bad stream header cause) past = append-nil (came_items from to past)
+
+pub came_more : (from to : ℕ) (e : Entry) (past : List Entry) (old now : List Item) → now ≡ old ++ came_items from to past →
+    now ++ arrival_items from to e ≡ old ++ came_items from to (e ∷ past)
+came_more from to e past old now is =
+    ap (λ (l : List Item). l ++ arrival_items from to e) is
+    ∙ append_assoc old (came_items from to past) (arrival_items from to e)
+    ∙ ap (λ (l : List Item). old ++ l) (came_one from to e past)
+
+-- an acceptance
+pub sent_accept : (from to : ℕ) (lost : ℕ → Bool) (slot sport dport : ℕ) (payload : List ℕ) (past : List Entry) (old now : List Item) →
+    now ≡ old ++ sent_items from to lost past →
+    now ++ accepted_items from to sport dport (lost (suc (accepted past))) ≡ old ++ sent_items from to lost (Accept slot sport dport payload ∷ past)
+sent_accept from to lost slot sport dport payload past old now is =
+    ap (λ (l : List Item). l ++ accepted_items from to sport dport (lost (suc (accepted past)))) is
+    ∙ append_assoc old (sent_items from to lost past) (accepted_items from to sport dport (lost (suc (accepted past))))
+
+-- any other entry
+pub accepted_other : (e : Entry) (past : List Entry) → ((slot sport dport : ℕ) (payload : List ℕ) → e ≡ Accept slot sport dport payload → ⊥) →
+    accepted (e ∷ past) ≡ accepted past
+accepted_other (Accept slot sport dport payload) past other = absurd (other slot sport dport payload refl)
+accepted_other (Read stream frame outcome) past other = refl
+accepted_other (Cancel slot target) past other = refl
+accepted_other (Open stream) past other = refl
+accepted_other (Pull stream frame) past other = refl
+accepted_other (Shut stream) past other = refl
+accepted_other (Bad stream header cause) past other = refl
+
+pub sent_other : (from to : ℕ) (lost : ℕ → Bool) (e : Entry) (past : List Entry) →
+    ((slot sport dport : ℕ) (payload : List ℕ) → e ≡ Accept slot sport dport payload → ⊥) →
+    sent_items from to lost (e ∷ past) ≡ sent_items from to lost past
+sent_other from to lost (Accept slot sport dport payload) past other = absurd (other slot sport dport payload refl)
+sent_other from to lost (Read stream frame outcome) past other = refl
+sent_other from to lost (Cancel slot target) past other = refl
+sent_other from to lost (Open stream) past other = refl
+sent_other from to lost (Pull stream frame) past other = refl
+sent_other from to lost (Shut stream) past other = refl
+sent_other from to lost (Bad stream header cause) past other = refl
+
+-- the element of a turn of a loop
+pub take_item : {X : Type 0} (xs : List X) (i : ℕ) (x : X) → i < length xs → x ≡ get_or xs i x → take (i + 1) xs ≡ take i xs ++ x ∷ []
+take_item {X} xs i x below is = take_more xs i x below ∙ ap (λ (y : X). take i xs ++ y ∷ []) (sym is)
+
+-- two parts are added to what there was
+pub two_more : {A X Y : Type 0} (f : Y → List A) (g : X → Y) (xs : List X) (i : ℕ) (x : X) (old now mid new a b : List A) →
+    i < length xs → x ≡ get_or xs i x → now ≡ old ++ flat_map f (map g (take i xs)) → mid ≡ now ++ a → new ≡ mid ++ b →
+    f (g x) ≡ a ++ b → new ≡ old ++ flat_map f (map g (take (i + 1) xs))
+two_more {A} {X} {Y} f g xs i x old now mid new a b below is had first second parts =
+    let block = flat_map f (map g (take i xs)) in
+    let grown : flat_map f (map g (take (i + 1) xs)) ≡ block ++ (a ++ b) =
+    ap (λ (l : List X). flat_map f (map g l)) (take_item xs i x below is)
+    ∙ ap (flat_map f) (map-append g (take i xs) (x ∷ []))
+    ∙ flat_map-append f (map g (take i xs)) (g x ∷ [])
+    ∙ ap (λ (l : List A). block ++ l) (append-nil (f (g x)) ∙ parts) in
+    second ∙ ap (λ (l : List A). l ++ b) first ∙ append_assoc now a b ∙ ap (λ (l : List A). l ++ (a ++ b)) had
+    ∙ append_assoc old block (a ++ b) ∙ ap (λ (l : List A). old ++ l) (sym grown)

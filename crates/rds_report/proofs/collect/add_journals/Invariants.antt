@@ -1,0 +1,10 @@
+use Rattle.std.proofs.Common.{◌≡◌, ◌++◌, map, take}
+use Rattle.std.specs.List.{flat_map}
+use Rattle.rds_report.specs.Views.{side_view, host_views}
+use Rattle.rds_report.specs.Items.{side_items}
+use Rattle.rds_report.proofs.collect.add_journals.Given as goal
+
+abbrev pub invariant-loop-peer : goal.invariant-loop-peer
+invariant-loop-peer l =
+    l.items.items ≡ l.fn.items.items
+    ++ flat_map (side_items (host_views l.hosts) l.host.addr) (map side_view (take l.peer-index l.host.journals.items))

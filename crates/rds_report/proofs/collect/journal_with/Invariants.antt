@@ -1,0 +1,8 @@
+use Rattle.std.proofs.Common.{◌≡◌, map, drop}
+use Rattle.rds_report.specs.FinalState.{past_with}
+use Rattle.rds_report.specs.Views.{side_view}
+use Rattle.rds_report.proofs.collect.journal_with.Given as goal
+
+abbrev pub invariant-loop-with : goal.invariant-loop-with
+invariant-loop-with l =
+    past_with l.peer (map side_view l.journals) ≡ past_with l.peer (map side_view (drop l.with-index l.journals))

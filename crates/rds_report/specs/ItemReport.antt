@@ -1,0 +1,97 @@
+-- Private: needed by the proof of `report` only. The report of items. Source: this project's own.
+use Rattle.std.specs.Prelude.{◌≡◌, ℕ, ⊤, ◌==◌, if◌then◌else◌, ◌&&◌, Bool, true, false, List, [], ◌∷◌, ◌++◌, length, filter, map, codes}
+use Rattle.std.specs.List.{flat_map, list_any}
+use Rattle.rds_text.specs.Words.{hex}
+use Rattle.rds_report.specs.declared.item.What.{What}
+use Rattle.rds_report.specs.declared.item.What.TheVariants.{Accepted, Received, Unread, Dropped, Port0, Cancelled}
+use Rattle.rds_report.specs.declared.item.Item.{Item}
+use Rattle.rds_report.specs.Hosts.{IsAddress}
+use Rattle.rds_text.specs.Lines.{line}
+use Rattle.rds_report.specs.Report.{Group, Counts, is_before, ascending, pair_text, counts_line}
+use Rattle.rds_report.specs.Items.{seen}
+
+-- two pairs are one
+abbrev pub is_same : Group → Group → Bool
+is_same a b = ((a.to == b.to) && (a.dport == b.dport)) && ((a.from == b.from) && (a.sport == b.sport))
+
+-- an item is of a pair
+abbrev pub is_of : Group → Item → Bool
+is_of g i = is_same g (seen i.group)
+
+abbrev pub is_accepted : What → Bool
+is_accepted Accepted = true
+is_accepted _ = false
+
+abbrev pub is_received : What → Bool
+is_received (Received payload) = true
+is_received _ = false
+
+abbrev pub is_unread : What → Bool
+is_unread Unread = true
+is_unread _ = false
+
+abbrev pub is_dropped : What → Bool
+is_dropped Dropped = true
+is_dropped _ = false
+
+abbrev pub is_port0 : What → Bool
+is_port0 Port0 = true
+is_port0 _ = false
+
+abbrev pub is_cancelled : What → Bool
+is_cancelled Cancelled = true
+is_cancelled _ = false
+
+-- how many items are of a kind
+abbrev pub number_of : (What → Bool) → List Item → ℕ
+number_of kind items = length (filter (λ (i : Item). kind i.what) items)
+
+-- the items of each kind
+abbrev pub tally : List Item → Counts
+tally items = record {
+  accepted = number_of is_accepted items;
+  received = number_of is_received items;
+  unread = number_of is_unread items;
+  dropped = number_of is_dropped items;
+  port0 = number_of is_port0 items;
+  cancelled = number_of is_cancelled items;
+}
+
+-- the line of an item, where it was received
+abbrev pub data_lines : What → List ℕ
+data_lines (Received payload) = line (codes " data=" ∷ hex payload ∷ [])
+data_lines _ = []
+
+-- the lines of a pair whose items these are
+abbrev pub pair_lines : Group → List Item → List ℕ
+pair_lines g items = pair_text g ++ (counts_line (tally items) ++ flat_map (λ (i : Item). data_lines i.what) items)
+
+-- the pairs of the items that were accepted
+abbrev pub accepted_pairs : List Item → List Group
+accepted_pairs items = map (λ (i : Item). seen i.group) (filter (λ (i : Item). is_accepted i.what) items)
+
+-- the items of a pair
+abbrev pub of_pair : Group → List Item → List Item
+of_pair g items = filter (is_of g) items
+
+-- the lines of each pair that has an item that was accepted
+abbrev pub groups_text : List Item → List ℕ
+groups_text items = flat_map (λ g. pair_lines g (of_pair g items)) (ascending (accepted_pairs items))
+
+-- the lines of the items of a pair, unless none of them was accepted
+abbrev pub lines_of : Group → List Item → List ℕ
+lines_of g items = if number_of is_accepted items == 0 then [] else pair_lines g items
+
+-- the pairs of the accepted items are of hosts
+abbrev pub AreKnown : List Item → Type 0
+AreKnown items = (g : Group) → list_any (is_same g) (accepted_pairs items) ≡ true → IsAddress g.to × IsAddress g.from
+
+-- no item is of a pair before this one
+abbrev pub AreNotBefore : Group → List Item → Type 0
+AreNotBefore g [] = ⊤
+AreNotBefore g (i ∷ items) = (is_before (seen i.group) g ≡ false) × AreNotBefore g items
+
+-- no item is of a pair before that of an item ahead of it
+abbrev pub IsUp : List Item → Type 0
+IsUp [] = ⊤
+IsUp (i ∷ items) = AreNotBefore (seen i.group) items × IsUp items

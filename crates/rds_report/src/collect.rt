@@ -1,0 +1,213 @@
+ghost use Rattle.std.specs.Prelude.{◌≡◌, ◌++◌, ℕ, Bool, IfOk, OnOk, map, option_copied};
+ghost use Rattle.std.specs.List.{flat_map};
+ghost use Rattle.rds_model.specs.declared.order.Datagram.{Datagram as Message};
+ghost use Rattle.rds_model.specs.Past.{accepted};
+ghost use Rattle.rds_report.specs.declared.item.What.TheVariants as what;
+ghost use Rattle.rds_report.specs.FinalState.{past_of, past_with};
+ghost use Rattle.rds_report.specs.Views.{host_view, host_views, side_view, socket_view};
+ghost use Rattle.rds_report.specs.Items.{flags, item, items as items_of, host_items, side_items, sent_items, accepted_items, came_items, read_items, arrival_items, socket_items, past_in};
+
+use crate::flags::flag;
+use crate::item::{Group, Item, What};
+use crate::lost::lost;
+use crate::{HostEnd, Kept};
+use rds_model::{Datagram, Entry, Journal, Outcome};
+use rds_wire::Memory;
+use std::alloc::Global;
+
+/// All items of the report.
+pub fn items(alloc: Global, hosts: &[HostEnd]) -> Result<Vec<Item>, Memory>
+    ensures { IfOk result (λ found. found.items ≡ items_of (host_views hosts.now)) }
+{
+    let mut items = Vec::new(alloc);
+    for host in hosts {
+        add_journals(alloc, &mut items, hosts, host)?;
+        add_sockets(&mut items, host.addr, &host.kept)?;
+    }
+    Ok(items)
+}
+
+// The items of the journals of a host.
+fn add_journals(
+    alloc: Global,
+    items: &mut Vec<Item>,
+    hosts: &[HostEnd],
+    host: &HostEnd,
+) -> Result<(), Memory>
+    ensures { OnOk result (items.new.items ≡ items.old.items ++ flat_map (side_items (host_views hosts.now) host.now.addr) (map side_view host.now.journals.items)) }
+{
+    for (peer, journal) in &host.journals {
+        let back = journal_of(hosts, *peer, host.addr);
+        let lost = lost(alloc, journal, back)?;
+        add_sent(items, host.addr, *peer, journal, &lost)?;
+        add_came(items, *peer, host.addr, journal)?;
+    }
+    Ok(())
+}
+
+// The journal that a host keeps of its connection with a peer.
+fn journal_of(hosts: &[HostEnd], addr: u32, peer: u32) -> Option<&Journal>
+    ensures { past_in (option_copied result) ≡ past_of addr peer (host_views hosts.now) }
+{
+    for host in hosts {
+        if host.addr == addr {
+            return journal_with(&host.journals, peer);
+        }
+    }
+    None
+}
+
+fn journal_with(journals: &[(u32, Journal)], peer: u32) -> Option<&Journal>
+    ensures { past_in (option_copied result) ≡ past_with peer (map side_view journals.now) }
+{
+    for (with, journal) in journals {
+        if *with == peer {
+            return Some(journal);
+        }
+    }
+    None
+}
+
+// The items of what a host sent, where such numbers are lost, counted from 1.
+fn add_sent(
+    items: &mut Vec<Item>,
+    from: u32,
+    to: u32,
+    journal: &Journal,
+    lost: &[bool],
+) -> Result<(), Memory>
+    ensures { (test : ℕ → Bool) → lost.now ≡ flags test (accepted journal.now.past) →
+        OnOk result (items.new.items ≡ items.old.items ++ sent_items from to test journal.now.past) }
+{
+    let mut n = 0u32;
+    for i in 0..journal.len() {
+        let Some(entry) = journal.at(i) else {
+            unreachable!()
+        };
+        if let Entry::Accept { sport, dport, .. } = entry {
+            let group = Group {
+                to,
+                dport: *dport,
+                from,
+                sport: *sport,
+            };
+            add_accepted(items, group, flag(lost, n))?;
+            n += 1;
+        }
+    }
+    Ok(())
+}
+
+// The items of an acceptance, which is lost or not.
+fn add_accepted(items: &mut Vec<Item>, group: Group, is_lost: bool) -> Result<(), Memory>
+    ensures { OnOk result (items.new.items ≡ items.old.items ++ accepted_items group.from group.to group.sport group.dport is_lost) }
+{
+    items.push(Item {
+        group,
+        what: What::Accepted,
+    })?;
+    if is_lost {
+        items.push(Item {
+            group,
+            what: What::Cancelled,
+        })?;
+    }
+    Ok(())
+}
+
+// The items of what came from a peer to a host and went to no socket.
+fn add_came(items: &mut Vec<Item>, from: u32, to: u32, journal: &Journal) -> Result<(), Memory>
+    ensures { OnOk result (items.new.items ≡ items.old.items ++ came_items from to journal.now.past) }
+{
+    for i in 0..journal.len() {
+        let Some(entry) = journal.at(i) else {
+            unreachable!()
+        };
+        add_read(items, from, to, entry)?;
+    }
+    Ok(())
+}
+
+// The items of an entry, where it is a read of what went to no socket.
+fn add_read(items: &mut Vec<Item>, from: u32, to: u32, entry: &Entry) -> Result<(), Memory>
+    ensures { OnOk result (items.new.items ≡ items.old.items ++ arrival_items from to entry.now) }
+{
+    if let Entry::Read { frame, outcome, .. } = entry {
+        let group = Group {
+            to,
+            dport: frame.header.dport,
+            from,
+            sport: frame.header.sport,
+        };
+        add_outcome(items, group, *outcome)?;
+    }
+    Ok(())
+}
+
+// The items of a datagram that was read.
+fn add_outcome(items: &mut Vec<Item>, group: Group, outcome: Outcome) -> Result<(), Memory>
+    ensures { OnOk result (items.new.items ≡ items.old.items ++ read_items group.to group.dport group.from group.sport outcome) }
+{
+    match outcome {
+        Outcome::NoSocket => items.push(Item {
+            group,
+            what: What::Dropped,
+        })?,
+        Outcome::Ping | Outcome::Void => items.push(Item {
+            group,
+            what: What::Port0,
+        })?,
+        _ => {}
+    }
+    Ok(())
+}
+
+// The items of the sockets of the host at an address.
+fn add_sockets(items: &mut Vec<Item>, addr: u32, sockets: &[Kept]) -> Result<(), Memory>
+    ensures { OnOk result (items.new.items ≡ items.old.items ++ flat_map (socket_items addr) (map socket_view sockets.now)) }
+{
+    for kept in sockets {
+        add_received(items, addr, &kept.got)?;
+        add_unread(items, addr, &kept.unread)?;
+    }
+    Ok(())
+}
+
+// The items of what a socket received.
+fn add_received(items: &mut Vec<Item>, addr: u32, got: &[Datagram]) -> Result<(), Memory>
+    ensures { OnOk result (items.new.items ≡ items.old.items ++ map (λ (d : Message). item addr d.dport d.from d.sport (what.Received d.payload)) got.now) }
+{
+    for datagram in got {
+        let payload = datagram.payload.share()?;
+        let received = Item {
+            group: group_of(addr, datagram),
+            what: What::Received(payload),
+        };
+        items.push(received)?;
+    }
+    Ok(())
+}
+
+// The items of what a socket left unread.
+fn add_unread(items: &mut Vec<Item>, addr: u32, unread: &[Datagram]) -> Result<(), Memory>
+    ensures { OnOk result (items.new.items ≡ items.old.items ++ map (λ (d : Message). item addr d.dport d.from d.sport what.Unread) unread.now) }
+{
+    for datagram in unread {
+        items.push(Item {
+            group: group_of(addr, datagram),
+            what: What::Unread,
+        })?;
+    }
+    Ok(())
+}
+
+fn group_of(addr: u32, datagram: &Datagram) -> Group
+    ensures { result ≡ record { to = addr; dport = datagram.now.dport; from = datagram.now.from; sport = datagram.now.sport } }
+{
+    Group {
+        to: addr,
+        dport: datagram.dport,
+        from: datagram.from,
+        sport: datagram.sport,
+    }
+}

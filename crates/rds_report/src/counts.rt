@@ -1,0 +1,102 @@
+ghost use Rattle.std.specs.Prelude.{◌≡◌, ◌-◌, ◌+◌};
+ghost use Rattle.rds_report.specs.ItemReport.{number_of, is_accepted, is_received, is_unread, is_dropped, is_port0, is_cancelled};
+
+use crate::item::{Item, What};
+
+/// How many of a group's items are of each kind.
+#[derive(Clone, Copy)]
+pub struct Counts {
+    pub accepted: u64,
+    pub received: u64,
+    pub unread: u64,
+    pub dropped: u64,
+    pub port0: u64,
+    pub cancelled: u64,
+}
+
+impl Counts {
+    /// Counts the items of a group.
+    pub fn of(items: &[Item]) -> Counts
+        ensures accepted { result.accepted ≡ number_of is_accepted items.now }
+        ensures received { result.received ≡ number_of is_received items.now }
+        ensures unread { result.unread ≡ number_of is_unread items.now }
+        ensures dropped { result.dropped ≡ number_of is_dropped items.now }
+        ensures port0 { result.port0 ≡ number_of is_port0 items.now }
+        ensures cancelled { result.cancelled ≡ number_of is_cancelled items.now }
+    {
+        Counts {
+            accepted: accepted(items),
+            received: received(items),
+            unread: unread(items),
+            dropped: dropped(items),
+            port0: port0(items),
+            cancelled: cancelled(items),
+        }
+    }
+
+    /// The accepted datagrams that are in none of the other counts.
+    pub fn pending(&self) -> u64
+        ensures { result ≡ self.now.accepted - (self.now.received + self.now.unread + self.now.dropped + self.now.port0 + self.now.cancelled) }
+    {
+        self.accepted
+            .saturating_sub(self.received)
+            .saturating_sub(self.unread)
+            .saturating_sub(self.dropped)
+            .saturating_sub(self.port0)
+            .saturating_sub(self.cancelled)
+    }
+}
+
+fn accepted(items: &[Item]) -> u64
+    ensures { result ≡ number_of is_accepted items.now }
+{
+    items
+        .iter()
+        .filter(|item| matches!(item.what, What::Accepted))
+        .count() as u64
+}
+
+fn received(items: &[Item]) -> u64
+    ensures { result ≡ number_of is_received items.now }
+{
+    items
+        .iter()
+        .filter(|item| matches!(item.what, What::Received(_)))
+        .count() as u64
+}
+
+fn unread(items: &[Item]) -> u64
+    ensures { result ≡ number_of is_unread items.now }
+{
+    items
+        .iter()
+        .filter(|item| matches!(item.what, What::Unread))
+        .count() as u64
+}
+
+fn dropped(items: &[Item]) -> u64
+    ensures { result ≡ number_of is_dropped items.now }
+{
+    items
+        .iter()
+        .filter(|item| matches!(item.what, What::Dropped))
+        .count() as u64
+}
+
+fn port0(items: &[Item]) -> u64
+    ensures { result ≡ number_of is_port0 items.now }
+{
+    items
+        .iter()
+        .filter(|item| matches!(item.what, What::Port0))
+        .count() as u64
+}
+
+fn cancelled(items: &[Item]) -> u64
+    ensures { result ≡ number_of is_cancelled items.now }
+{
+    items
+        .iter()
+        .filter(|item| matches!(item.what, What::Cancelled))
+        .count() as u64
+}

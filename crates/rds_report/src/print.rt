@@ -1,0 +1,126 @@
+ghost use Rattle.std.specs.Prelude.{◌≡◌, ◌++◌, ◌∷◌, [], ◌==◌, false, OnOk, string_bytes};
+ghost use Rattle.std.specs.List.{flat_map, prefix_len};
+ghost use Rattle.rds_report.specs.declared.item.Item.{Item as Piece};
+ghost use Rattle.std.specs.Fmt.{decimal};
+ghost use Rattle.rds_report.specs.Hosts.{IsAddress};
+ghost use Rattle.rds_report.specs.Report.{pair_text, counts_line};
+ghost use Rattle.rds_text.specs.Lines.{phrase};
+ghost use Rattle.rds_report.specs.Items.{seen};
+ghost use Rattle.rds_report.specs.ItemReport.{AreKnown, IsUp, groups_text, lines_of, data_lines, number_of, is_accepted, is_of};
+
+use crate::counts::Counts;
+use crate::host_of;
+use crate::item::{Group, Item, What};
+use rds_text::{Hex, HostName};
+use rds_wire::Memory;
+
+/// Prints the groups of items, which stand in the order of their groups.
+pub fn print_groups(text: &mut String, items: &[Item]) -> Result<(), Memory>
+    requires up { IsUp items.now }
+    ensures { AreKnown items.now → OnOk result (string_bytes text.new ≡ string_bytes text.old ++ groups_text items.now) }
+{
+    let mut rest = items;
+    while !rest.is_empty() {
+        let group = rest[0].group;
+        let (run, others) = rest.split_at(run_length(rest, group));
+        print_group(text, group, run)?;
+        rest = others;
+    }
+    Ok(())
+}
+
+// How many items of a group stand in front.
+fn run_length(items: &[Item], group: Group) -> usize
+    ensures { result ≡ prefix_len (is_of (seen group)) items.now }
+{
+    for i in 0..items.len() {
+        if !is_in(group, &items[i]) {
+            return i;
+        }
+    }
+    items.len()
+}
+
+// Whether an item is of a group.
+fn is_in(group: Group, item: &Item) -> bool
+    ensures { result ≡ is_of (seen group) item.now }
+{
+    group == item.group
+}
+
+// Prints the items of a group, unless none was accepted.
+fn print_group(text: &mut String, group: Group, items: &[Item]) -> Result<(), Memory>
+    ensures { ((number_of is_accepted items.now == 0) ≡ false → IsAddress group.to × IsAddress group.from) →
+        OnOk result (string_bytes text.new ≡ string_bytes text.old ++ lines_of (seen group) items.now) }
+{
+    let counts = Counts::of(items);
+    if counts.accepted == 0 {
+        return Ok(());
+    }
+    print_pair(text, group)?;
+    print_counts(text, counts)?;
+    print_received(text, items)
+}
+
+fn print_pair(text: &mut String, group: Group) -> Result<(), Memory>
+    ensures { IsAddress group.from → IsAddress group.to →
+        OnOk result (string_bytes text.new ≡ string_bytes text.old ++ pair_text (seen group)) }
+{
+    let from = HostName::new(host_of(group.from));
+    let to = HostName::new(host_of(group.to));
+    let sport = group.sport;
+    let dport = group.dport;
+    write!(text, "{from}:{sport}>{to}:{dport}")?;
+    Ok(())
+}
+
+// A line for each item that was received.
+fn print_received(text: &mut String, items: &[Item]) -> Result<(), Memory>
+    ensures { OnOk result (string_bytes text.new ≡ string_bytes text.old ++ flat_map (λ (i : Piece). data_lines i.what) items.now) }
+{
+    for item in items {
+        print_data(text, &item.what)?;
+    }
+    Ok(())
+}
+
+fn print_data(text: &mut String, what: &What) -> Result<(), Memory>
+    ensures { OnOk result (string_bytes text.new ≡ string_bytes text.old ++ data_lines what.now) }
+{
+    if let What::Received(payload) = what {
+        let bytes = Hex(payload.as_slice());
+        writeln!(text, " data={bytes}")?;
+    }
+    Ok(())
+}
+
+fn print_counts(text: &mut String, counts: Counts) -> Result<(), Memory>
+    ensures { OnOk result (string_bytes text.new ≡ string_bytes text.old ++ counts_line record { accepted = counts.accepted; received = counts.received; unread = counts.unread; dropped = counts.dropped; port0 = counts.port0; cancelled = counts.cancelled }) }
+{
+    print_two(
+        text,
+        " accepted ",
+        counts.accepted,
+        " received ",
+        counts.received,
+    )?;
+    print_two(text, " unread ", counts.unread, " dropped ", counts.dropped)?;
+    print_two(
+        text,
+        " port0 ",
+        counts.port0,
+        " cancelled ",
+        counts.cancelled,
+    )?;
+    let pending = counts.pending();
+    writeln!(text, " pending {pending}")?;
+    Ok(())
+}
+
+// Prints two counts, each behind its words.
+fn print_two(text: &mut String, first: &str, m: u64, second: &str, n: u64) -> Result<(), Memory>
+    ensures { OnOk result (string_bytes text.new ≡ string_bytes text.old ++ phrase (first.now ∷ decimal m ∷ second.now ∷ decimal n ∷ [])) }
+{
+    write!(text, "{first}{m}{second}{n}")?;
+    Ok(())
+}

@@ -1,0 +1,26 @@
+use Rattle.std.proofs.Common.{inl}
+use Rattle.rds_run.proofs.Whole.{ends_of_played, ends_of_refused, refused_told, refuses_same}
+use Rattle.rds_run.proofs.play_command.play_text.Goals as goal
+
+pub returns-in-Ok-read-clause-ends : goal.returns-in-Ok-read-clause-ends
+returns-in-Ok-read-clause-ends g c =
+    let spells = rw c.deref.ensures.value at c.in-Ok-read.ensures.found in
+    ends_of_played _ _ _ _ _ c.in-Ok.ensures.bytes spells c.play_script.ensures
+
+pub returns-in-Err-BadLine-clause-ends : goal.returns-in-Err-BadLine-clause-ends
+returns-in-Err-BadLine-clause-ends g c =
+    let at_line = rw c.in-Err-BadLine.field-0-is at c.in-Err-BadLine.ensures.refused in
+    let refused = rw c.deref.ensures.value at at_line in
+    ends_of_refused _ _ _ _ _ _ c.in-Ok.ensures.bytes refused c.refuse.ensures
+
+pub returns-in-Ok-read-clause-refuses : goal.returns-in-Ok-read-clause-refuses
+returns-in-Ok-read-clause-refuses g c line why told =
+    let refuses = rw c.deref.ensures.value at c.in-Ok-read.ensures.refuses in
+    absurd (refuses line why (refused_told _ _ line why c.in-Ok.ensures.bytes told))
+
+pub returns-in-Err-BadLine-clause-refuses : goal.returns-in-Err-BadLine-clause-refuses
+returns-in-Err-BadLine-clause-refuses g c line why told =
+    let at_line = rw c.in-Err-BadLine.field-0-is at c.in-Err-BadLine.ensures.refuses in
+    let refuses = rw c.deref.ensures.value at at_line in
+    let same = refuses line why (refused_told _ _ line why c.in-Ok.ensures.bytes told) in
+    inl (refuses_same _ _ _ _ _ _ same c.refuse.ensures)

@@ -1,0 +1,65 @@
+ghost use Rattle.std.specs.Prelude.{◌≡◌, ◌⊎◌, ◌≤◌, ◌++◌, ℕ, List};
+ghost use Rattle.rds_link.specs.Streaming.{HasRisen, SinkGained};
+ghost use Rattle.rds_script.specs.Cause.{cause_text};
+ghost use Rattle.rds_script.specs.declared.cause.Cause.{Cause as Why};
+ghost use Rattle.rds_text.specs.Lines.{end_line, spent_line};
+ghost use Rattle.rds_run.specs.ExitStatus.{IsRefusal, IsSpelled, IsToldRefused};
+ghost use Rattle.rds_run.specs.Texts.{ArePlay, usage_line, read_fault_line, bad_line};
+
+use crate::answer::say;
+use crate::command_line::is_play;
+use crate::play_command::play_text;
+use crate::status::Status;
+use rds_link::{Sink, Source};
+use rds_wire::Memory;
+use std::alloc::Global;
+
+const USAGE: &str = "usage: rds play | rds run [--wire memory|tcp] | rds gen N SEED\n";
+
+/// Runs the program on the words after its name, and gives its exit status (docs/COMMAND.md has the table). It knows the
+/// command `play`, which reads a script from the source, and writes its transcript and its report to the sink.
+///
+/// | Status | When |
+/// |---|---|
+/// | 0 | the script was played, and its transcript and report were written |
+/// | 1 | the text is no script; the one text line `bad line N: CAUSE` was written |
+/// | 2 | the words are those of no command; the usage line was written |
+/// | 3 | the source failed; the text line `read fault` was written |
+/// | 4 | the sink failed, after it took a beginning of the answer |
+/// | 6 | memory ran out |
+/// | 7 | a journal had no room for its next two entries; the text line `spent H K ENTRIES` was written |
+pub fn rds_main<S: Source, K: Sink>(
+    alloc: Global,
+    words: &[String],
+    source: &mut S,
+    sink: &mut K,
+) -> u8
+    ensures usage { (ArePlay words.now → ⊥) → (result ≡ 2) ⊎ ((result ≡ 4) ⊎ (result ≡ 6)) }
+    ensures usage_only { result ≡ 2 → ArePlay words.now → ⊥ }
+    ensures usage_text { result ≡ 2 → SinkGained (K.held sink.old) (K.held sink.new) usage_line }
+
+    ensures read_fault { result ≡ 3 → HasRisen (S.faults source.old) (S.faults source.new) }
+    ensures read_fault_text { result ≡ 3 → SinkGained (K.held sink.old) (K.held sink.new) read_fault_line }
+    ensures write_fault { result ≡ 4 → HasRisen (K.faults sink.old) (K.faults sink.new) }
+
+    // The text of the source is refused, and the line that was written says where and why.
+    ensures refused { result ≡ 1 → IsRefusal (S.left source.old) (K.held sink.old) (K.held sink.new) }
+    // A text that is refused is answered so, unless the source or the sink fails or memory runs out.
+    ensures refuses { ArePlay words.now → (line : ℕ) → (cause : Why) → IsToldRefused (S.left source.old) line cause →
+        (result ≡ 1 × SinkGained (K.held sink.old) (K.held sink.new) (bad_line line (cause_text cause)))
+        ⊎ ((result ≡ 3) ⊎ ((result ≡ 4) ⊎ (result ≡ 6))) }
+    // The text was read to its end and spells a script, and the whole answer was written.
+    ensures read { result ≡ 0 → IsSpelled (S.left source.old) }
+    ensures written { result ≡ 0 → (text : List ℕ) × SinkGained (K.held sink.old) (K.held sink.new) (text ++ end_line) }
+    ensures read_before_spent { result ≡ 7 → IsSpelled (S.left source.old) }
+    ensures spent { result ≡ 7 → (host : ℕ) × (peer : ℕ) × (entries : ℕ)
+        × SinkGained (K.held sink.old) (K.held sink.new) (spent_line host peer entries) }
+
+    ensures known { (result ≤ 4) ⊎ ((result ≡ 6) ⊎ (result ≡ 7)) }
+{
+    match is_play(alloc, words) {
+        Ok(true) => play_text(alloc, source, sink) as u8,
+        Ok(false) => say(sink, USAGE, Status::Usage) as u8,
+        Err(Memory) => Status::Memory as u8,
+    }
+}
