@@ -172,7 +172,7 @@ Keeps-refused old head came body waiting refused piece filled n d is fill early 
   header = (fits, bytes, refl, is.keeps.early early);
 }
 
--- nothing of the payload was taken for want of memory
+-- nothing of the payload was taken where there is no memory
 pub Keeps-failed : (old : SplitterView) (head : List ℕ) (came : ℕ) (body : List ℕ) (waiting : Option Frame) (refused : Option Header)
     → (piece filled kept : List ℕ) (n : ℕ)
     → IsOpen old head came body waiting refused → Filled head came piece filled n → kept ≡ body

@@ -63,8 +63,15 @@ impl Splitter {
         self.refused = None;
     }
 
-    /// Takes bytes of a piece, until the piece ends or a frame is whole. A header is checked as soon as it is whole,
-    /// against the highest number that the reader has ever pulled.
+    /// Takes the bytes of a piece until the piece ends or a frame is whole, and says how many it took and whether a frame
+    /// waits. While one waits it takes nothing: call `done` first. A header is checked as soon as its 48th byte comes,
+    /// `highest` being the highest number that the reader has ever pulled, or 0.
+    ///
+    /// # Errors
+    ///
+    /// `Malformed` where a header became whole and was refused, with the cause: the splitter is closed from then on, until
+    /// `wipe`. `Closed` where it was closed before. `Memory` where there is no memory for the payload: no byte was taken,
+    /// and the same call may be tried again.
     pub fn take(&mut self, piece: &[u8], highest: u64) -> Result<Took, FrameError>
         ensures ok { IfOk result (λ took. TakesPiece highest self.old piece.now took self.new) }
         ensures waiting { IsSome self.old.waiting → OnOk result (self.new ≡ self.old) }

@@ -20,7 +20,7 @@ pub enum FrameError {
     Malformed(Malformed),
     /// A header was refused before.
     Closed,
-    /// Want of memory.
+    /// There is no memory for the payload.
     Memory,
 }
 

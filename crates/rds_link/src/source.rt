@@ -27,14 +27,22 @@ pub trait Source {
 /// Why a source wasn't read to its end.
 #[derive(Clone, Copy, Debug, PartialEq, Eq)]
 pub enum ReadError {
+    /// A read of the source failed.
     Failed,
+    /// There is no memory for what it has.
     Memory,
 }
 
 /// How many bytes one read asks for at most.
 const PIECE: usize = 65_536;
 
-/// Reads a source to its end, but stops after `most` bytes. Fewer than that are all that the source had.
+/// Reads a source to its end, or its first `most` bytes where it has more. An answer of fewer than `most` bytes is all that
+/// the source had, and one of exactly `most` may not be: the source then keeps what follows.
+///
+/// # Errors
+///
+/// `Failed` where a read of the source failed, whose count of faults then rose; `Memory` where there is no memory for the
+/// bytes. What was read before is lost in both cases.
 pub fn read_all<S: Source>(alloc: Global, source: &mut S, most: usize) -> Result<Vec<u8>, ReadError>
     ensures bytes { IfOk result (λ v. SourceGaveFront (S.left source.old) most v.items) }
     ensures left { IfOk result (λ v. SourceGave (S.left source.old) (S.left source.new) v.items) }

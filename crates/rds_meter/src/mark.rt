@@ -1,8 +1,9 @@
 ghost use Rattle.std.specs.Prelude.{◌≡◌, IsTrue, ◌↔◌, ◌+◌, ◌/◌, ◌<◌, ◌&&◌, nat_lt};
 
-/// A change of a port's bit, and the numbers that are its ground.
+/// A change of a port's congestion bit, and the three numbers that a check found and that are its ground. All are in bytes.
 #[derive(Clone, Copy, Debug, PartialEq, Eq)]
 pub struct Mark {
+    /// The port whose bit it is.
     pub port: u16,
     /// Whether the bit is to be raised.
     pub set: bool,

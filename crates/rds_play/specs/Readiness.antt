@@ -11,17 +11,17 @@ pub record IsFull (h k entries : ℕ) (full : Full) : Type 0 where
   pub peer_is : full.peer ≡ k
   pub entries_are : full.entries ≡ entries
 
--- a stop for want of memory, or for this full journal
+-- a stop since there is no memory, or for this full journal
 abbrev pub IsStopAt : (h k entries : ℕ) → Stop → Type 0
 IsStopAt h k entries (stop.Spent full) = IsFull h k entries full
 IsStopAt h k entries stop.Memory = Unit {0}
 
--- a stop for want of memory
+-- a stop since there is no memory
 abbrev pub IsMemory : Stop → Type 0
 IsMemory (stop.Spent full) = ⊥
 IsMemory stop.Memory = Unit {0}
 
--- a call that writes no entry was stopped for want of memory, if at all
+-- a call that writes no entry was stopped since there is no memory, if at all
 abbrev pub LacksMemory : {A : Type 0} → Result A Stop → Type 0
 LacksMemory (Ok _) = Unit {0}
 LacksMemory (Err why) = IsMemory why

@@ -58,6 +58,6 @@ impl fmt::Display for Cause {
 pub enum ScriptError {
     /// The text is refused at this line, counted from 1, or as a whole at line 0.
     BadLine { line: u32, cause: Cause },
-    /// Want of memory.
+    /// There is no memory.
     Memory,
 }

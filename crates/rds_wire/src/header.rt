@@ -23,10 +23,12 @@ pub struct Header {
     pub dport: u16,
     /// CONG_BITMAP 0x01, ACK_REQUIRED 0x02, RETRANSMITTED 0x04.
     pub flags: u8,
+    /// Credit for a transport with windows (rds.h). It is kept as it came, and always written as 0.
     pub credit: u8,
+    /// Unused bytes. They are kept as they came, and always written as 0.
     pub padding: [u8; 4],
     /// The Internet checksum of the header, or 0 where the writer made none.
     pub csum: u16,
-    /// Extensions, one after another.
+    /// Extensions, one after another, each a byte for its kind and then its data; 0 ends them.
     pub ext: [u8; 16],
 }
