@@ -1,8 +1,10 @@
 -- What contracts see of a pair of connections. Source: this project's own.
-use Rattle.std.specs.Prelude.{◌≡◌, ◌⊎◌, ◌+◌, ◌<◌, length, ℕ, Option, List, [], ◌++◌, None}
+use Rattle.std.specs.Prelude.{◌≡◌, ◌⊎◌, ◌+◌, ◌<◌, ◌≤◌, IfSome, length, ℕ, Option, List, [], ◌++◌, None}
 use Rattle.rds_wire.specs.declared.frame.Frame.{Frame}
 use Rattle.rds_frame.specs.Holding.{waiting_bytes}
+use Rattle.rds_frame.specs.Splitting.{IsPartial}
 use Rattle.rds_model.specs.declared.entry.Entry.{Entry}
+use Rattle.rds_model.specs.Past.{open_stream}
 use Rattle.rds_pair.specs.declared.step.PairEnd.{PairEnd}
 use Rattle.rds_pair.specs.declared.step.PairEnd.TheVariants.{First, Second}
 
@@ -48,3 +50,14 @@ pub record IsFull (entries : ℕ) (s : Side) : Type 0 where
 -- the journal of one of the two
 abbrev pub HasFull : ℕ → Sides → Type 0
 HasFull entries p = IsFull entries p.first ⊎ IsFull entries p.second
+
+-- the journal may have two entries more
+abbrev pub HasRoom : Side → Type 0
+HasRoom s = length s.past + 2 ≤ s.limit
+
+-- Where no stream is open, nothing waits and nothing is kept; after a whole frame that waits nothing is kept; and where none
+-- waits, what is kept is less than a whole frame.
+pub record TakesFrameByFrame (s : Side) : Type 0 where
+  pub idle : open_stream s.past ≡ None → (s.waiting ≡ None) × (s.rest ≡ [])
+  pub alone : IfSome s.waiting (λ f. s.rest ≡ [])
+  pub partial : s.waiting ≡ None → IsPartial s.rest

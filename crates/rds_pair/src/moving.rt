@@ -14,7 +14,7 @@ use rds_model::laws;
 pub(crate) fn move_bytes(
     writer: &mut Half,
     reader: &mut Half,
-    bytes: u32,
+    bytes: usize,
 ) -> Result<usize, PairError>
     requires forth { Flows (side_of writer.old) (side_of reader.old) }
     requires back { Flows (side_of reader.old) (side_of writer.old) }
@@ -25,7 +25,7 @@ pub(crate) fn move_bytes(
 {
     reader.ready()?;
     let flying = writer.out.rest();
-    let count = flying.len().min(bytes as usize);
+    let count = flying.len().min(bytes);
     match reader.conn.feed(&flying[..count]) {
         Ok(fed) => {
             writer.out.took(fed.used);

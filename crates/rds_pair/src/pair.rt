@@ -5,6 +5,8 @@ ghost use Rattle.rds_pair.specs.Changes.{shut_one as shut_side, without_flight};
 ghost use Rattle.rds_pair.specs.Half.{side_of};
 ghost use Rattle.rds_pair.specs.Sides.{IsFull};
 
+mod ends;
+
 use crate::error::PairError;
 use crate::half::Half;
 use crate::moving::move_bytes;
@@ -147,7 +149,7 @@ impl Pair {
     }
 
     /// Gives bytes that are in flight to an end to it, at most `bytes`. Answers how many. No header is ever refused.
-    pub fn move_bytes(&mut self, to: PairEnd, bytes: u32) -> Result<usize, PairError>
+    pub fn move_bytes(&mut self, to: PairEnd, bytes: usize) -> Result<usize, PairError>
         ensures ok { IfOk result (λ used. MovesTo to bytes used self.old self.new) }
         ensures err { OnErr result (self.new ≡ self.old) }
         ensures spent { (entries : ℕ) → result ≡ Err (errors.Spent entries) → IsFull entries (of_end to self.old) }

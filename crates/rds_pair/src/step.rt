@@ -22,7 +22,7 @@ pub enum Step {
     /// An end, whose host's own congestion map is `map`, pulls the frame that it owes.
     Pull { end: PairEnd, map: PortMap },
     /// At most so many bytes that are in flight to an end are given to it.
-    Move { to: PairEnd, bytes: u32 },
+    Move { to: PairEnd, bytes: usize },
     /// An end passes the frame that waits: a datagram goes to the socket of `slot`, or no socket holds its port.
     Pass { end: PairEnd, slot: Option<u16> },
 }

@@ -1,0 +1,91 @@
+use super::Pair;
+use crate::{PairEnd, PairError};
+use rds_model::Verdict;
+use rds_wire::Frame;
+
+impl Pair {
+    ghost use Rattle.std.specs.Prelude.{◌≡◌, ℕ, Err, OnOk, OnErr};
+    ghost use Rattle.std.specs.Option.{option_copied, option_map};
+    ghost use Rattle.rds_wire.specs.declared.frame.Frame.{Frame};
+    ghost use Rattle.rds_model.specs.Past.{accepted, newest_stream, open_stream};
+    ghost use Rattle.rds_model.specs.Reading.{verdict_of};
+    ghost use Rattle.rds_pair.specs.Sides.{HasRoom, IsFull, of_end, TakesFrameByFrame};
+    ghost use Rattle.rds_pair.specs.declared.error.PairError.TheVariants as errors;
+
+    /// Makes room for the next step of an end: the journal has room for two entries more. Nothing happens in it.
+    ///
+    /// # Errors
+    ///
+    /// `Spent` exactly where two entries more would pass the journal's limit, whatever memory there is; else `Memory` where
+    /// there is none for them. The pair is as before in both cases.
+    pub fn reserve(&mut self, end: PairEnd) -> Result<(), PairError>
+        ensures same { self.new ≡ self.old }
+        ensures room { OnOk result (HasRoom (of_end end self.old)) }
+        ensures spent { (entries : ℕ) → result ≡ Err (errors.Spent entries) → IsFull entries (of_end end self.old) }
+    {
+        match end {
+            PairEnd::First => self.first.ready(),
+            PairEnd::Second => self.second.ready(),
+        }
+    }
+
+    /// The bytes that an end wrote and that are in flight to the other.
+    pub fn in_flight(&self, end: PairEnd) -> &[u8]
+        ensures { result.now ≡ (of_end end self.now).flying }
+    {
+        match end {
+            PairEnd::First => self.first.out.rest(),
+            PairEnd::Second => self.second.out.rest(),
+        }
+    }
+
+    /// The stream that is open at an end.
+    pub fn stream(&self, end: PairEnd) -> Option<u32>
+        ensures { result ≡ open_stream (of_end end self.now).past }
+    {
+        match end {
+            PairEnd::First => self.first.conn.stream(),
+            PairEnd::Second => self.second.conn.stream(),
+        }
+    }
+
+    /// The whole frame that an end has taken of its open stream and not passed.
+    pub fn waiting(&self, end: PairEnd) -> Option<&Frame>
+        ensures { option_copied result ≡ (of_end end self.now).waiting }
+    {
+        match end {
+            PairEnd::First => self.first.conn.waiting(),
+            PairEnd::Second => self.second.conn.waiting(),
+        }
+    }
+
+    /// What has to become of the frame that waits at an end, or `None` where none does.
+    pub fn verdict(&self, end: PairEnd) -> Option<Verdict>
+        ensures { result ≡ option_map (λ (f : Frame). verdict_of (of_end end self.now).past f.header) (of_end end self.now).waiting }
+    {
+        match end {
+            PairEnd::First => self.first.conn.verdict(),
+            PairEnd::Second => self.second.conn.verdict(),
+        }
+    }
+
+    /// How many datagrams an end has accepted, pongs among them.
+    pub fn accepted(&self, end: PairEnd) -> u64
+        ensures { result ≡ accepted (of_end end self.now).past }
+    {
+        match end {
+            PairEnd::First => self.first.conn.accepted(),
+            PairEnd::Second => self.second.conn.accepted(),
+        }
+    }
+
+    /// What every pair keeps of its reading. It does nothing: a caller gets these facts from it.
+    pub fn reading(&self)
+        ensures first { TakesFrameByFrame self.now.first }
+        ensures second { TakesFrameByFrame self.now.second }
+        ensures newest { newest_stream self.now.first.past ≡ newest_stream self.now.second.past }
+    {
+        self.first.reading();
+        self.second.reading();
+    }
+}
