@@ -73,6 +73,7 @@ module _ (slots : ℕ) (words : List ℕ) (views : List View) (id : ℕ) (v : Vi
         let r : slot_of v ≡ s = slot_is v s k.0 in
         subst (λ (x : Step). Contains (v.steps ++ Claimed port (slot_of v) 0 ∷ []) x) (λ i. Claimed (q i) (r i) 0) (Contains-push v.steps (Claimed port (slot_of v) 0));
     claims = λ p s k. (id, holder, at_here views id v holder here, claimed_still p s v (Claimed port (slot_of v) 0) k);
+    owns = λ p s e k. claimed_still p s v (Claimed port (slot_of v) 0) k;
     told = λ t m. f.told id v here t m;
     looked = λ p found told m. f.looked id v here p found told (claimed_looked v port (slot_of v) 0 p found told m);
   }
@@ -112,6 +113,7 @@ module _ (slots : ℕ) (words : List ℕ) (views : List View) (id : ℕ) (v : Vi
         slot = λ s e. inl (e, inr (refl, λ p q. sym free ∙ q));
         claimed = λ p s k. absurd (let q = k.1 in cc);
         claims = λ p s k. (id, w, at_here views id v w here, claimed_still p s v (Claimed port (slot_of v) n) k);
+        owns = λ p s e k. claimed_still p s v (Claimed port (slot_of v) n) k;
         told = λ t m. f.told id v here t m;
         looked = λ p found told m. f.looked id v here p found told (claimed_looked v port (slot_of v) n p found told m);
       }
@@ -145,6 +147,7 @@ module _ (slots : ℕ) (words : List ℕ) (views : List View) (id : ℕ) (v : Vi
         slot = λ s e. inl (e, inl (omega arith));
         claimed = λ p s k. absurd (let q = k.1 in cc);
         claims = λ p s k. (id, w, at_here views id v w here, claimed_still p s v (Released (port_of v)) k);
+        owns = λ p s e k. claimed_still p s v (Released (port_of v)) k;
         told = λ t m. f.told id v here t m;
         looked = λ p found told m. f.looked id v here p found told (released_looked v (port_of v) p found told m);
       })

@@ -35,6 +35,7 @@ drawn_change slots words views id v h here unslotted unported same =
       slot = λ s e. let g = given n v.slots s (nat_lt n v.slots) refl e in inr ((let q = g.0 in omega arith), (let q = g.0 in omega arith), (let q = g.0 in let r = g.1 in omega arith));
       claimed = λ port slot k. absurd (let p = k.1 in cc);
       claims = λ port slot k. (id, w, at_here views id v w here, claimed_still port slot v (Drew n) k);
+      owns = λ port slot e k. claimed_still port slot v (Drew n) k;
       told = λ t m. f.told id v here t m;
       looked = λ port found told m. f.looked id v here port found told (drew_looked v n port found told m);
     }
