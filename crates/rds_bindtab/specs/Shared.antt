@@ -32,6 +32,10 @@ pub record LooksFit (draws : ℕ) (views : List View) (port : ℕ) (found : Opti
   pub owned : (slot : ℕ) → found ≡ Some slot → OfHolder draws views slot (HasClaimed port slot)
   pub past : (t : Telling) → Contains told t → t.port ≡ port → found ≢ Some t.slot → TellingIsOver draws views t
 
+-- the seat counts for all 4,095, so that no other can draw
+abbrev pub IsAlone : View → Type 0
+IsAlone v = v.weight + v.splits ≡ 4095
+
 -- the words and the views of all seats and notes of a table with so many slots
 pub record Shared (slots : ℕ) (words : List ℕ) (views : List View) : Type 0 where
   -- one word for each port, and one that numbers slots
