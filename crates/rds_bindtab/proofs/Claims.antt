@@ -1,5 +1,5 @@
 -- A claim and a release keep the rule.
-use Rattle.std.proofs.Common.{◌≡◌, ◌≢◌, ℕ, ◌+◌, ◌<◌, ◌≤◌, List, [], ◌∷◌, ◌++◌, length, set, Some, None, Option, eqb, ne_eqb, cond, Bool, false, refl, sym, ap, ◌∙◌, subst, inl, inr, ⊎_elim, arith}
+use Rattle.std.proofs.Common.{◌≡◌, ◌≢◌, ℕ, ◌+◌, ◌<◌, List, [], ◌∷◌, ◌++◌, length, set, Some, None, Option, eqb, ne_eqb, cond, Bool, false, refl, sym, ap, ◌∙◌, subst, inl, inr, ⊎_elim, arith}
 use Rattle.std.proofs.lemmas.List.{get_or-set_same, get_or-set_other, length-set, set-get_or}
 use Rattle.std.proofs.lemmas.List.Elements.{Contains-push, Contains-push_cases}
 use Rattle.std.specs.Prelude.{◌↔◌, slice_index, Contains, unwrap_or}
@@ -73,6 +73,7 @@ module _ (slots : ℕ) (words : List ℕ) (views : List View) (id : ℕ) (v : Vi
         let r : slot_of v ≡ s = slot_is v s k.0 in
         subst (λ (x : Step). Contains (v.steps ++ Claimed port (slot_of v) 0 ∷ []) x) (λ i. Claimed (q i) (r i) 0) (Contains-push v.steps (Claimed port (slot_of v) 0));
     claims = λ p s k. (id, holder, at_here views id v holder here, claimed_still p s v (Claimed port (slot_of v) 0) k);
+    owns = λ p s e k. claimed_still p s v (Claimed port (slot_of v) 0) k;
     told = λ t m. f.told id v here t m;
     looked = λ p found told m. f.looked id v here p found told (claimed_looked v port (slot_of v) 0 p found told m);
   }
@@ -89,8 +90,8 @@ module _ (slots : ℕ) (words : List ℕ) (views : List View) (id : ℕ) (v : Vi
             (at_set views id k.0 holder k.1 k.2)),
       ))
 
-  claims : (slot : ℕ) → v.slot ≡ Some slot → v.port ≡ None → 1 ≤ v.weight → slice_index words port ≡ 0 → Shared slots (set words port (1 + slot)) (set views id holder)
-  claims slot seated free living zero =
+  claims : (slot : ℕ) → v.slot ≡ Some slot → v.port ≡ None → slice_index words port ≡ 0 → Shared slots (set words port (1 + slot)) (set views id holder)
+  claims slot seated free zero =
       let after = set words port (1 + slot) in
       let stay = draws_stay (1 + slot) in
       stepped_one slots words after views id v holder h here (length-set words port (1 + slot) ∙ h.size) (holder_ports slot seated free zero)
@@ -112,6 +113,7 @@ module _ (slots : ℕ) (words : List ℕ) (views : List View) (id : ℕ) (v : Vi
         slot = λ s e. inl (e, inr (refl, λ p q. sym free ∙ q));
         claimed = λ p s k. absurd (let q = k.1 in cc);
         claims = λ p s k. (id, w, at_here views id v w here, claimed_still p s v (Claimed port (slot_of v) n) k);
+        owns = λ p s e k. claimed_still p s v (Claimed port (slot_of v) n) k;
         told = λ t m. f.told id v here t m;
         looked = λ p found told m. f.looked id v here p found told (claimed_looked v port (slot_of v) n p found told m);
       }
@@ -145,17 +147,18 @@ module _ (slots : ℕ) (words : List ℕ) (views : List View) (id : ℕ) (v : Vi
         slot = λ s e. inl (e, inl (omega arith));
         claimed = λ p s k. absurd (let q = k.1 in cc);
         claims = λ p s k. (id, w, at_here views id v w here, claimed_still p s v (Released (port_of v)) k);
+        owns = λ p s e k. claimed_still p s v (Released (port_of v)) k;
         told = λ t m. f.told id v here t m;
         looked = λ p found told m. f.looked id v here p found told (released_looked v (port_of v) p found told m);
       })
 
 -- by what the exchange found
-pub exchanges : (slots homes id port slot : ℕ) (me : Me (Unit {0}) View) → port < 65536 → me.0.slot ≡ Some slot → me.0.port ≡ None → 1 ≤ me.0.weight
+pub exchanges : (slots homes id port slot : ℕ) (me : Me (Unit {0}) View) → port < 65536 → me.0.slot ≡ Some slot → me.0.port ≡ None
     → Allows (Ruled slots) homes id me port (λ n. either (eqb n 0) (1 + slot) n) (λ found now. now ≡ (after_exchange me.0 port found, me.1))
-exchanges slots homes id port slot me small seated free living s h size here fits =
+exchanges slots homes id port slot me small seated free s h size here fits =
     let n = slice_index s.words port in
     let P : ℕ → Type 0 = λ k. Shared slots (set s.words port (either (eqb k 0) (1 + slot) k)) (set s.views id (after_exchange me.0 port k)) in
-    let hit : n ≡ 0 → P n = λ e. subst P (sym e) (claims slots s.words s.views id me.0 h here port small slot seated free living e) in
+    let hit : n ≡ 0 → P n = λ e. subst P (sym e) (claims slots s.words s.views id me.0 h here port small slot seated free e) in
     let miss : n ≢ 0 → P n = λ ne.
     let b : eqb n 0 ≡ false = ne_eqb n 0 ne in
     let back : set s.words port n ≡ s.words = set-get_or s.words port 0 in

@@ -30,6 +30,7 @@ pub record Change (slots draws now : ℕ) (before after : List View) (v w : View
   pub slot : (slot : ℕ) → w.slot ≡ Some slot → ((v.slot ≡ Some slot) × Onward v w) ⊎ ((draws ≤ slot) × (slot < now) × (slot < slots))
   pub claimed : (port slot : ℕ) → HoldsPort port slot w → HasClaimed port slot w
   pub claims : (port slot : ℕ) → HasClaimed port slot v → Has after (HasClaimed port slot)
+  pub owns : (port slot : ℕ) → w.slot ≡ Some slot → HasClaimed port slot v → HasClaimed port slot w
   pub told : (t : Telling) → Contains w.told t → TellingStands draws before t
   pub looked : (port : ℕ) (found : Option ℕ) (told : List Telling) → Contains w.steps (Looked port found told) → LooksFit draws before port found told
 
@@ -38,12 +39,12 @@ module _ (slots draws now : ℕ) (views : List View) (id : ℕ) (v w : View) (f 
   after = set views id w
 
   -- what is said of a holder among the views before is said of it after
-  of_holder : (P Q : View → Type 0) (slot : ℕ) → ((h : View) → P h → Q h) → (P v → Onward v w → Q w) → OfHolder draws views slot P → OfHolder now after slot Q
+  of_holder : (P Q : View → Type 0) (slot : ℕ) → ((h : View) → P h → Q h) → (w.slot ≡ Some slot → P v → Onward v w → Q w) → OfHolder draws views slot P → OfHolder now after slot Q
   of_holder P Q slot onward mine h = (
     (let r = c.rises in let b = h.0 in omega arith),
     (λ j u at is. ⊎_elim
         (λ (t : (j ≡ id) × (w ≡ u)). subst Q t.1 (⊎_elim
-        (λ (k : (v.slot ≡ Some slot) × Onward v w). mine (h.1 id v here k.0) k.1)
+        (λ (k : (v.slot ≡ Some slot) × Onward v w). mine (ap (λ (x : View). x.slot) t.1 ∙ is) (h.1 id v here k.0) k.1)
         (λ (k : (draws ≤ slot) × (slot < now) × (slot < slots)). absurd (let b = h.0 in omega arith))
         (c.slot slot (ap (λ (x : View). x.slot) t.1 ∙ is))))
         (λ (t : (j ≢ id) × At views j u). onward u (h.1 j u t.1 is))
@@ -56,21 +57,24 @@ module _ (slots draws now : ℕ) (views : List View) (id : ℕ) (v w : View) (f 
       (λ h. (t.releases ≤ h.releases) × (h.releases ≡ t.releases → h.port ≡ Some t.port))
       t.slot
       (λ h p. p)
-      (λ p o. ⊎_elim
+      (λ _ p o. ⊎_elim
       (λ (more : v.releases < w.releases). ((let q = p.0 in omega arith), (λ same. absurd (let q = p.0 in omega arith))))
       (λ (k : (v.releases ≡ w.releases) × ((port : ℕ) → v.port ≡ Some port → w.port ≡ Some port)). ((let q = p.0 in let e = k.0 in omega arith), (λ same. k.1 t.port (p.1 (k.0 ∙ same)))))
       o)
 
   over_on : (t : Telling) → TellingIsOver draws views t → TellingIsOver now after t
-  over_on t = of_holder (λ h. t.releases < h.releases) (λ h. t.releases < h.releases) t.slot (λ h p. p) (λ p o. ⊎_elim (λ (more : v.releases < w.releases). omega arith) (λ (k : (v.releases ≡ w.releases) × ((port : ℕ) → v.port ≡ Some port → w.port ≡ Some port)). let e = k.0 in omega arith) o)
+  over_on t = of_holder (λ h. t.releases < h.releases) (λ h. t.releases < h.releases) t.slot (λ h p. p) (λ _ p o. ⊎_elim (λ (more : v.releases < w.releases). omega arith) (λ (k : (v.releases ≡ w.releases) × ((port : ℕ) → v.port ≡ Some port → w.port ≡ Some port)). let e = k.0 in omega arith) o)
 
   has_on : (port slot : ℕ) → Has views (HasClaimed port slot) → Has after (HasClaimed port slot)
   has_on port slot h = dite (ℕ_discrete h.0 id)
       (λ same. c.claims port slot (subst (HasClaimed port slot) (some-injective _ _ (sym h.2 ∙ (ap (get_elem? views) same ∙ here))) h.3))
       (λ apart. (h.0, h.1, at_there views id h.0 h.1 w apart h.2, h.3))
 
+  owned_on : (port slot : ℕ) → OfHolder draws views slot (HasClaimed port slot) → OfHolder now after slot (HasClaimed port slot)
+  owned_on port slot = of_holder (HasClaimed port slot) (HasClaimed port slot) slot (λ h p. p) (λ is p o. c.owns port slot is p)
+
   fits_on : (port : ℕ) (found : Option ℕ) (told : List Telling) → LooksFit draws views port found told → LooksFit now after port found told
-  fits_on port found told k = record { claimed = λ slot e. has_on port slot (k.claimed slot e); past = λ t m e n. over_on t (k.past t m e n) }
+  fits_on port found told k = record { claimed = λ slot e. has_on port slot (k.claimed slot e); owned = λ slot e. owned_on port slot (k.owned slot e); past = λ t m e n. over_on t (k.past t m e n) }
 
   alone : (j : ℕ) (u : View) (slot : ℕ) → j ≢ id → At views j u → w.slot ≡ Some slot → u.slot ≡ Some slot → ⊥
   alone j u slot apart at mine theirs = ⊎_elim
@@ -121,7 +125,7 @@ module _ (slots draws : ℕ) (views : List View) (u : View) (f : Facts slots dra
   of_holder_more P slot h = (h.0, λ j x at is. ⊎_elim (λ was. h.1 j x was is) (λ (same : u ≡ x). absurd (unseated slot (ap (λ (z : View). z.slot) same ∙ is))) (at_snoc views u x j at))
 
   fits_more : (port : ℕ) (found : Option ℕ) (told : List Telling) → LooksFit draws views port found told → LooksFit draws more port found told
-  fits_more port found told k = record { claimed = λ slot e. has_snoc (HasClaimed port slot) views u (k.claimed slot e); past = λ t m e n. of_holder_more (λ h. t.releases < h.releases) t.slot (k.past t m e n) }
+  fits_more port found told k = record { claimed = λ slot e. has_snoc (HasClaimed port slot) views u (k.claimed slot e); owned = λ slot e. of_holder_more (HasClaimed port slot) slot (k.owned slot e); past = λ t m e n. of_holder_more (λ h. t.releases < h.releases) t.slot (k.past t m e n) }
 
   stands_more : (t : Telling) → TellingStands draws views t → TellingStands draws more t
   stands_more t = of_holder_more (λ h. (t.releases ≤ h.releases) × (h.releases ≡ t.releases → h.port ≡ Some t.port)) t.slot

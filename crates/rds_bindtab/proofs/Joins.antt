@@ -41,6 +41,7 @@ module _ (slots : ℕ) (words : List ℕ) (views : List View) (id other : ℕ) (
     slot = λ s e. inl (e, inr (refl, λ p q. q));
     claimed = λ p s k. Contains-append_left v.steps w.steps (Claimed p s 0) (h.claimed id v here p s k);
     claims = λ p s k. (id, both, at_here views id v both here, Contains-append_left v.steps w.steps (Claimed p s 0) k);
+    owns = λ p s e k. Contains-append_left v.steps w.steps (Claimed p s 0) k;
     told = λ t m. ⊎_elim (λ was. h.told id v here t was) (λ was. h.told other w there t was) (Contains-append_cases v.told w.told t m);
     looked = λ p found told m. ⊎_elim (λ was. h.looked id v here p found told was) (λ was. h.looked other w there p found told was) (Contains-append_cases v.steps w.steps (Looked p found told) m);
   }
@@ -51,6 +52,7 @@ module _ (slots : ℕ) (words : List ℕ) (views : List View) (id other : ℕ) (
     slot = λ s e. absurd (cc);
     claimed = λ p s k. absurd (let q = k.0 in cc);
     claims = λ p s k. (id, both, both_there, Contains-append_right v.steps w.steps (Claimed p s 0) k);
+    owns = λ p s e k. absurd (cc);
     told = λ t m. absurd (nothing_in t m);
     looked = λ p found told m. absurd (nothing_in (Looked p found told) m);
   }

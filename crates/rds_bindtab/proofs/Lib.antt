@@ -8,3 +8,4 @@ pub mod Notes
 pub mod Joins
 pub mod Opening
 pub mod Tellings
+pub mod Handing

@@ -4,7 +4,9 @@ use Rattle.std.proofs.lemmas.List.{set-get_or}
 use Rattle.std.proofs.lemmas.List.Elements.{Contains-append_left, Contains-push_cases}
 use Rattle.std.specs.Prelude.{slice_index, Contains}
 use mathlib.Core.Logic.{dite}
+use mathlib.Core.Option.{some-injective}
 use native.Mathlib.Decide.{ℕ_discrete}
+use lib.ListN.{get_elem?}
 use Rattle.atomic_table.specs.Table.{Me, Allows, keeps}
 use Rattle.atomic_table.proofs.Lists.{set_again}
 use Rattle.rds_views.specs.Views.{At, Has}
@@ -13,7 +15,7 @@ use Rattle.rds_bindtab.specs.declared.view.View.{View}
 use Rattle.rds_bindtab.specs.declared.view.Telling.{Telling}
 use Rattle.rds_bindtab.specs.declared.view.Step.TheVariants.{Looked}
 use Rattle.rds_bindtab.specs.Seats.{after_look, slot_in}
-use Rattle.rds_bindtab.specs.Shared.{Shared, Ruled, Taught, HoldsPort, TellingIsOver, LooksFit}
+use Rattle.rds_bindtab.specs.Shared.{Shared, Ruled, Taught, HoldsPort, HasClaimed, OfHolder, TellingIsOver, LooksFit}
 use Rattle.rds_bindtab.proofs.Words.{draws_in, stepped_one, ports_same}
 
 -- the slot that a word names
@@ -49,9 +51,21 @@ module _ (slots : ℕ) (words : List ℕ) (views : List View) (id : ℕ) (v : Vi
             (λ ne. let q = k.0 in omega arith),
       )
 
+  -- the seat that holds the port has its slot alone, and has claimed the port
+  owned : (slot : ℕ) → slot_in n ≡ Some slot → OfHolder (draws_in words) views slot (HasClaimed port slot)
+  owned slot e =
+      let k = found_held slot e in (
+        (h.below k.0 k.1 k.2 slot k.3.0).0,
+        λ j u at is.
+            let place = h.apart j k.0 u k.1 slot at k.2 is k.3.0 in
+            let same : k.1 ≡ u = some-injective _ _ (sym k.2 ∙ (ap (get_elem? views) (sym place) ∙ at)) in
+            subst (HasClaimed port slot) same (h.claimed k.0 k.1 k.2 port slot k.3),
+      )
+
   fits : LooksFit (draws_in words) views port (slot_in n) v.told
   fits = record {
     claimed = λ slot e. let k = found_held slot e in (k.0, k.1, k.2, h.claimed k.0 k.1 k.2 port slot k.3);
+    owned = owned;
     past = over;
   }
 
@@ -65,6 +79,7 @@ module _ (slots : ℕ) (words : List ℕ) (views : List View) (id : ℕ) (v : Vi
         slot = λ s e. inl (e, inr (refl, λ p q. q));
         claimed = λ p s k. Contains-append_left v.steps _ _ (h.claimed id v here p s k);
         claims = λ p s k. (id, w, at_here views id v w here, Contains-append_left v.steps _ _ k);
+        owns = λ p s e k. Contains-append_left v.steps _ _ k;
         told = λ t m. h.told id v here t m;
         looked = λ p found told m. ⊎_elim
             (λ was. h.looked id v here p found told was)

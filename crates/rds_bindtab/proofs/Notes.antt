@@ -96,6 +96,7 @@ splits_off slots id v room s h here =
       slot = λ k e. inl (e, inr (refl, λ p q. q));
       claimed = f.claimed id v here;
       claims = λ p k c. (id, w, at_here views id v w here, c);
+      owns = λ p k e c. c;
       told = f.told id v here;
       looked = f.looked id v here;
     } in

@@ -2,3 +2,4 @@ pub mod Seats
 pub mod Shared
 pub mod Plays
 pub mod Answers
+pub mod LookLaws

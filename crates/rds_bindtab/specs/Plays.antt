@@ -3,13 +3,14 @@ use Rattle.std.specs.Prelude.{◌≡◌, ◌<◌, ℕ, Some}
 use Rattle.atomic_table.specs.Table.{Me, Step}
 use Rattle.rds_bindtab.specs.declared.view.View.{View}
 use Rattle.rds_bindtab.specs.Seats.{after_draw, after_exchange, after_release, after_look, slot_in}
-use Rattle.rds_bindtab.specs.Shared.{Taught}
+use Rattle.rds_bindtab.specs.Shared.{Taught, IsAlone}
 
 abbrev pub Seated : Type 0
 Seated = Me (Unit {0}) View
 
+-- where no other seat can draw, the number drawn is how often the seat has drawn before
 abbrev pub drew : Step (Unit {0}) → Seated → ℕ → Seated → Type 0
-drew s me found now = now ≡ (after_draw me.0 found, me.1)
+drew s me found now = (now ≡ (after_draw me.0 found, me.1)) × (IsAlone me.0 → found ≡ me.0.draws)
 
 abbrev pub exchanged : Step (Unit {0}) → Seated → ℕ → Seated → Type 0
 exchanged s me found now = now ≡ (after_exchange me.0 s.word found, me.1)

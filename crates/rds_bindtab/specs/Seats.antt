@@ -34,6 +34,14 @@ newcomer v = fresh v.slots 0
 abbrev pub after_split : View → View
 after_split v = record v { splits = v.splits - 1 }
 
+-- a seat after its slot went to another
+abbrev pub without_slot : View → View
+without_slot v = record v { slot = None }
+
+-- the seat that takes the slot over: it knows what the first one knew, and neither draws nor splits
+abbrev pub with_slot_of : View → View
+with_slot_of v = record v { weight = 0; splits = 0; draws = 0 }
+
 -- the slot of a seat that has one
 abbrev pub slot_of : View → ℕ
 slot_of v = unwrap_or v.slot 0

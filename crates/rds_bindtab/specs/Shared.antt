@@ -26,10 +26,15 @@ TellingStands draws views t = OfHolder draws views t.slot (λ h. (t.releases ≤
 abbrev pub TellingIsOver : ℕ → List View → Telling → Type 0
 TellingIsOver draws views t = OfHolder draws views t.slot (λ h. t.releases < h.releases)
 
--- a look found a slot only where some seat claimed the port for it, and where it didn't find the slot that it had been told of, that telling is over
+-- a look found a slot only where some seat claimed the port for it, and the holder of that slot has; and where it didn't find the slot that it had been told of, that telling is over
 pub record LooksFit (draws : ℕ) (views : List View) (port : ℕ) (found : Option ℕ) (told : List Telling) : Type 0 where
   pub claimed : (slot : ℕ) → found ≡ Some slot → Has views (HasClaimed port slot)
+  pub owned : (slot : ℕ) → found ≡ Some slot → OfHolder draws views slot (HasClaimed port slot)
   pub past : (t : Telling) → Contains told t → t.port ≡ port → found ≢ Some t.slot → TellingIsOver draws views t
+
+-- the seat counts for all 4,095, so that no other can draw
+abbrev pub IsAlone : View → Type 0
+IsAlone v = v.weight + v.splits ≡ 4095
 
 -- the words and the views of all seats and notes of a table with so many slots
 pub record Shared (slots : ℕ) (words : List ℕ) (views : List View) : Type 0 where

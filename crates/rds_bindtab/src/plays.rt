@@ -1,6 +1,6 @@
 // What each kind of step leaves its seat with.
 ghost use Rattle.rds_bindtab.specs.Plays.{drew, exchanged, released, looked, learned};
-ghost use Rattle.rds_bindtab.specs.Seats.{after_split, newcomer, note_of, note_of_steps, joined, spent};
+ghost use Rattle.rds_bindtab.specs.Seats.{after_split, newcomer, without_slot, with_slot_of, note_of, note_of_steps, joined, spent};
 
 use crate::view::View;
 use atomic_table::{Join, Play, Split};
@@ -41,6 +41,14 @@ impl Split<View> for Seating {
     ghost left = { after_split };
 
     ghost right = { newcomer };
+}
+
+pub(crate) struct Handing;
+
+impl Split<View> for Handing {
+    ghost left = { without_slot };
+
+    ghost right = { with_slot_of };
 }
 
 pub(crate) struct Noting;

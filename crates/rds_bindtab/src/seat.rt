@@ -20,7 +20,7 @@ impl Model for BindSeat {
 
     ghost view = { λ s. port_seat s.seat.table_id s.seat.me.0 };
 
-    ghost invariant = { λ s. (s.slot ≡ s.seat.me.0.slot) × (s.port ≡ s.seat.me.0.port) × (1 ≤ s.seat.me.0.weight) × (s.seat.me.1 ≡ []) × (s.slot ≡ None → s.port ≡ None) };
+    ghost invariant = { λ s. (s.slot ≡ s.seat.me.0.slot) × (s.port ≡ s.seat.me.0.port) × (s.slot ≡ None → 1 ≤ s.seat.me.0.weight) × (s.seat.me.1 ≡ []) × (s.slot ≡ None → s.port ≡ None) };
 }
 
 /// What a seat tells another. It has no slot and no port of its own.

@@ -1,6 +1,7 @@
 //! The steps on the words.
 ghost use Rattle.std.specs.Prelude.{◌≡◌, ◌<◌, ◌≤◌, ◌^◌, IfOk, IfErr, IfSome, IsSome, Some, None};
 ghost use Rattle.rds_bindtab.specs.Seats.{knowing, after_draw, after_exchange, after_release, after_look};
+ghost use Rattle.rds_bindtab.specs.Shared.{IsAlone};
 ghost use Rattle.rds_bindtab.specs.Answers.{ClaimFits, after_claim};
 
 use crate::error::{BindError, NoSlot};
@@ -9,7 +10,8 @@ use crate::seat::BindSeat;
 use crate::table::{BindTable, DRAW_WORD};
 
 impl BindTable {
-    /// Draws a number by one fetch and add. It is the seat's slot if the table has it.
+    /// Draws a number by one fetch and add. It is the seat's slot if the table has it. A seat that counts for all, as the
+    /// first one does until it splits off a seat that may draw, draws 0, 1, 2 and so on.
     pub fn draw(&self, seat: &mut BindSeat) -> Result<u16, NoSlot>
         requires table { seat.old.table ≡ self.now }
         requires slot { seat.old.view.slot ≡ None }
@@ -17,6 +19,8 @@ impl BindTable {
         ensures slot { IfOk result (λ slot. seat.new.view.slot ≡ Some slot) }
         ensures ok { IfOk result (λ slot. (slot < self.now.slots) × (seat.new ≡ knowing seat.old (after_draw seat.old.view slot))) }
         ensures none { IfErr result (λ e. (self.now.slots ≤ e.found) × (seat.new ≡ knowing seat.old (after_draw seat.old.view e.found))) }
+        ensures next { IsAlone seat.old.view → IfOk result (λ slot. slot ≡ seat.old.view.draws) }
+        ensures over { IsAlone seat.old.view → IfErr result (λ e. e.found ≡ seat.old.view.draws) }
     {
         let found = self
             .table

@@ -1,9 +1,9 @@
 //! Seats that are cut off and joined, and what one seat tells another.
 ghost use Rattle.std.specs.Prelude.{◌≡◌, ◌≤◌, IsSome, None};
-ghost use Rattle.rds_bindtab.specs.Seats.{knowing, after_split, newcomer, note_of, note_of_steps, joined};
+ghost use Rattle.rds_bindtab.specs.Seats.{knowing, after_split, newcomer, without_slot, with_slot_of, note_of, note_of_steps, joined};
 ghost use Rattle.rds_bindtab.specs.Shared.{Taught};
 
-use crate::plays::{Joining, Learn, Noting, NotingSteps, Seating};
+use crate::plays::{Handing, Joining, Learn, Noting, NotingSteps, Seating};
 use crate::seat::{BindNote, BindSeat};
 use crate::table::BindTable;
 
@@ -19,6 +19,26 @@ impl BindTable {
         BindSeat {
             seat: new,
             slot: None,
+            port: None,
+        }
+    }
+
+    /// A new seat that takes the slot over from the seat which drew it, so that this one may draw again. The new one neither
+    /// draws nor splits.
+    pub fn split_slot(&self, seat: &mut BindSeat) -> BindSeat
+        requires table { seat.old.table ≡ self.now }
+        requires drawn { 1 ≤ seat.old.view.weight }
+        requires slot { IsSome seat.old.view.slot }
+        requires port { seat.old.view.port ≡ None }
+        ensures seat { seat.new ≡ knowing seat.old (without_slot seat.old.view) }
+        ensures new { result ≡ knowing seat.old (with_slot_of seat.old.view) }
+    {
+        let new = self.table.shared.split_seat::<Handing>(&mut seat.seat);
+        let slot = seat.slot;
+        seat.slot = None;
+        BindSeat {
+            seat: new,
+            slot,
             port: None,
         }
     }

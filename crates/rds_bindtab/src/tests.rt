@@ -1,4 +1,5 @@
-ghost use Rattle.std.specs.Prelude.{◌≡◌, Some, None, IsSome};
+ghost use Rattle.std.specs.Prelude.{◌≡◌, ◌≤◌, Some, None, IsSome, IsOk, IfOk};
+ghost use Rattle.rds_bindtab.specs.Seats.{first_view};
 
 use crate::{BindError, BindSeat, BindTable, NoSlot};
 use std::test::Fail;
@@ -60,6 +61,34 @@ fn a_port_is_found_held_until_its_release(rt: HostRuntime) -> Result<(), Fail> {
     assert_eq!(rt; table.look(&mut second, 4000), None);
     table.join(&mut second, first);
     table.close(second);
+    Ok(())
+}
+
+// Two seats, of slot 0 and of slot 1, that the first seat of a table makes.
+fn two_seats(table: &BindTable, first: &mut BindSeat) -> Result<(BindSeat, BindSeat), NoSlot>
+    requires table { first.old.table ≡ table.now }
+    requires new { first.old.view ≡ first_view table.now.slots }
+    ensures slots { IfOk result (λ r. (r.0.view.slot ≡ Some 0) × (r.1.view.slot ≡ Some 1)) }
+    ensures ok { 2 ≤ table.now.slots → IsOk result }
+    ensures table { first.new.table ≡ table.now }
+    ensures none { IfOk result (λ r. (first.new.view.slot ≡ None) × (first.new.view.draws ≡ 2)) }
+{
+    table.draw(first)?;
+    let zero = table.split_slot(first);
+    table.draw(first)?;
+    let one = table.split_slot(first);
+    Ok((zero, one))
+}
+
+#[test]
+fn slots_are_drawn_upward(rt: HostRuntime) -> Result<(), Fail> {
+    let (table, mut first) = BindTable::new(rt.alloc(), 2)?;
+    let (zero, one) = two_seats(&table, &mut first)?;
+    assert_eq!(rt;
+        (zero.slot(), one.slot(), first.slot()),
+        (Some(0), Some(1), None)
+    );
+    assert_eq!(rt; table.draw(&mut first), Err(NoSlot { found: 2 }));
     Ok(())
 }
 

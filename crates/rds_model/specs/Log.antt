@@ -1,4 +1,4 @@
--- What contracts see of a journal.
+-- What contracts see of a journal. This project's own.
 use Rattle.std.specs.Prelude.{ℕ, List}
 use Rattle.rds_model.specs.declared.entry.Entry.{Entry}
 

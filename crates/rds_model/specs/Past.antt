@@ -1,5 +1,6 @@
--- A journal is seen as its past: the entries, the newest first, so that "before" an entry is the rest of the list.
--- Sources: rds.h for the numbers of datagrams (`h_sequence`); the rest is this project's own.
+-- The first file to read; Lib.antt says which come next. A journal is seen as its past: the entries, the newest first, so
+-- that "before" an entry is the rest of the list. Sources: rds.h for the numbers of datagrams (`h_sequence`); the rest is
+-- this project's own.
 use Rattle.std.specs.Prelude.{ℕ, suc, ◌==◌, ◌&&◌, max, if◌then◌else◌, Bool, true, false, Option, Some, None, List, [], ◌∷◌, length}
 use Rattle.rds_wire.specs.declared.frame.Frame.{Frame}
 use Rattle.rds_wire.specs.Kinds.{is_data, kind_of}

@@ -15,39 +15,55 @@ pub const MAX_SLOTS: u16 = 1024;
 pub enum Entry {
     /// A datagram was accepted from a socket. The n-th of a journal has number n.
     Accept {
+        /// The slot of the sending socket, or `NO_SLOT` for a pong.
         slot: u16,
+        /// The port of the sending socket, or 0 for a pong.
         sport: u16,
+        /// The peer's port that the datagram goes to.
         dport: u16,
+        /// Its bytes, at most 1,048,576.
         payload: Payload,
     },
     /// The datagrams of a socket that aren't acknowledged yet were taken back: those to one port, or all.
     Cancel {
+        /// The slot of the socket.
         slot: u16,
+        /// Which of its datagrams.
         target: Target,
     },
     /// A stream to the peer was opened.
     Open {
+        /// Its number, above those of all earlier streams.
         stream: u32,
     },
     /// A frame was handed to the stream.
     Pull {
+        /// The number of the stream.
         stream: u32,
+        /// The frame.
         frame: Frame,
     },
     /// A whole frame came from the stream, and this became of it.
     Read {
+        /// The number of the stream.
         stream: u32,
+        /// The frame.
         frame: Frame,
+        /// What became of it.
         outcome: Outcome,
     },
     /// The stream was shut.
     Shut {
+        /// The number of the stream.
         stream: u32,
     },
     /// A malformed header came, which ended the stream.
     Bad {
+        /// The number of the stream.
         stream: u32,
+        /// The header.
         header: Header,
+        /// The first thing that is wrong with it.
         cause: Malformed,
     },
 }
@@ -111,7 +127,10 @@ impl Outcome {
 #[derive(Clone, Copy, Debug, PartialEq, Eq)]
 pub enum Verdict {
     /// A datagram that belongs to whichever socket holds the port: the only verdict that asks for a look-up.
-    Deliver { dport: u16 },
+    Deliver {
+        /// The port.
+        dport: u16,
+    },
     /// A copy of a datagram that was passed on already: it is read, and goes to no socket.
     Old,
     /// A datagram to port 0 from another port: an empty one goes back.

@@ -17,8 +17,11 @@ pub const MAX_ENTRIES: u32 = 4_294_967_294;
 pub enum JournalError {
     /// There is no memory for them.
     Memory,
-    /// The journal has this many entries, and more would pass its limit.
-    Spent { entries: u32 },
+    /// More entries would pass the journal's limit.
+    Spent {
+        /// How many entries it has.
+        entries: u32,
+    },
 }
 
 /// The list of what happened on a connection, as one end saw it. Contracts see the past, newest entry first, the number

@@ -10,4 +10,4 @@ fetch_add-found-requires c =
     let i = c.seat.invariant in
     let slot = ap (λ (h : PortSeat). h.view.slot) c.seat.view_is ∙ c.requires.slot in
     let few = ap (λ (h : PortSeat). h.view.draws) c.seat.view_is in
-    (of.0, (let w = c.self.invariant.1 in omega arith), draws _ _ _ c.seat.inside.seat.me slot (sym i.1 ∙ i.4 (i.0 ∙ slot)) (of.1 ∙ sym c.self.invariant.0) (let e = c.requires.draws in omega arith) i.2)
+    (of.0, (let w = c.self.invariant.1 in omega arith), draws _ _ _ c.seat.inside.seat.me slot (sym i.1 ∙ i.4 (i.0 ∙ slot)) (of.1 ∙ sym c.self.invariant.0) (let e = c.requires.draws in omega arith) (i.2 (i.0 ∙ slot)))

@@ -15,5 +15,5 @@ compare_exchange-found-requires c =
     let from = c.from.ensures in (
       of.0,
       (let w = c.self.invariant.1 in omega arith),
-      exchanges _ _ _ c.from.result c.from-slot.result c.seat.inside.seat.me (omega arith) (has.1 ∙ ap Some (sym slot)) (ap (λ (h : PortSeat). h.view.port) c.seat.view_is ∙ c.requires.port) i.2,
+      exchanges _ _ _ c.from.result c.from-slot.result c.seat.inside.seat.me (omega arith) (has.1 ∙ ap Some (sym slot)) (ap (λ (h : PortSeat). h.view.port) c.seat.view_is ∙ c.requires.port),
     )
