@@ -1,17 +1,11 @@
 -- What a connection keeps where freed bytes are handed out, and what it tells of the bytes that are left.
-use Rattle.std.proofs.Common.{◌≡◌, ℕ, ◌+◌, ◌-◌, ◌<◌, ◌≤◌, min, List, length, sum, get_or, sym, ◌∙◌, ap, subst, arith}
+use Rattle.std.proofs.Common.{◌≡◌, ℕ, ◌-◌, ◌<◌, ◌≤◌, List, length, sum, get_or, sym, ◌∙◌, ap, subst, arith}
 use Rattle.std.specs.Prelude.{slice_set}
 use Rattle.std.proofs.lemmas.List.{length-set}
 use Rattle.std.proofs.lemmas.List.Sums.{sum_by-set}
-use Rattle.rds_wire.specs.declared.kind.TheConstants.{MAX_LENGTH}
-use Rattle.rds_model.specs.declared.entry.Entry.{Entry}
-use Rattle.rds_model.specs.declared.entry.Msg.{Msg}
-use Rattle.rds_model.specs.Alive.{alive_numbers}
-use Rattle.rds_model.specs.Past.{accepted}
-use Rattle.rds_model.specs.Store.{alive_messages}
 use Rattle.rds_conn.specs.declared.conn.Conn.TheInside.{Inside}
 use Rattle.rds_conn.specs.declared.freed.Freed.{Freed}
-use Rattle.rds_conn.specs.Freeing.{HandsOutFreed, bytes_of_slot}
+use Rattle.rds_conn.specs.Freeing.{HandsOutFreed}
 use Rattle.rds_conn.specs.Invariant.{ConnectionInvariant, IsCharged}
 use Rattle.rds_conn.specs.Unacked.{alive_bytes}
 use Rattle.rds_conn.proofs.Bounds.{accepted_within}
@@ -49,41 +43,19 @@ keeps_taken c freed f keeps out =
           (handed_within c.freed freed f out) keeps.charged);
     }
 
--- what is handed out was charged
-pub record IsChargedFor (c : Inside) (f : Freed) : Type 0 where
-  pub own : f.slot < length c.charges
-  pub enough : f.bytes ≤ get_or c.charges f.slot 0
-
-pub charged_for : (c : Inside) (freed : List ℕ) (f : Freed) → ConnectionInvariant c → HandsOutFreed c.freed freed f → IsChargedFor c f
-charged_for c freed f keeps out =
-    let wide = keeps.freed.slots_are in
-    let long = keeps.charged.wide in
-    let own : f.slot < c.slots = (let is = out.slot_is in omega (arith, wide, is)) in
-    let each = keeps.charged.each f.slot own in
-    let within = handed_within c.freed freed f out in
-    record { own = omega (arith, long, own); enough = omega (arith, each, within) }
-
 -- what is charged to a slot and not freed is alive
 pub record TellsAlive (c : Inside) (slot : ℕ) : Type 0 where
-  pub own : slot < length c.charges
-  pub own_freed : slot < length c.freed
-  pub within : get_or c.freed slot 0 ≤ get_or c.charges slot 0
   pub alive : get_or c.charges slot 0 - get_or c.freed slot 0 ≡ alive_bytes slot c.journal.past
   pub most : get_or c.charges slot 0 - get_or c.freed slot 0 ≤ 4503599627370496
 
 pub tells_alive : (c : Inside) (slot : ℕ) → ConnectionInvariant c → slot < c.slots → TellsAlive c slot
 tells_alive c slot keeps own =
-    let wide = keeps.freed.slots_are in
-    let long = keeps.charged.wide in
     let each = keeps.charged.each slot own in
     let left = left_alive slot c.journal.past c.store.messages keeps.stored.holds.alive in
     let short = left_within slot c.store.messages in
     let few = accepted_within c.journal.past in
     let room = keeps.room in
     record {
-      own = omega (arith, long, own);
-      own_freed = omega (arith, wide, own);
-      within = omega (arith, each);
       alive = omega (arith, each, left);
       most = omega (arith, each, short, keeps.freed.bounded, few, room.within, room.most);
     }

@@ -1,18 +1,17 @@
 -- Which map was pulled last, after a pull.
-use Rattle.std.proofs.Common.{◌≡◌, ℕ, ◌+◌, ◌<◌, ◌||◌, Bool, true, false, cond, Option, Some, None, List, [], ◌∷◌, refl, sym, ◌∙◌, ap, subst, is_some}
+use Rattle.std.proofs.Common.{◌≡◌, ℕ, ◌||◌, Bool, true, false, cond, Option, Some, None, List, [], refl, sym, ◌∙◌, ap, subst, is_some}
 use Rattle.std.specs.Prelude.{Result, Ok, Err, IfOk, OnOk, OnErr}
 use Rattle.std.specs.Cmp.Lexicographic.{same_text}
 use Rattle.std.proofs.lemmas.Bool.{cond-true, cond-false}
 use Rattle.rds_wire.specs.declared.frame.Frame.{Frame}
 use Rattle.rds_model.specs.declared.entry.Entry.{Entry}
-use Rattle.rds_model.specs.declared.entry.Entry.TheVariants.{Pull}
 use Rattle.rds_model.specs.Past.{Accepted, datagram}
 use Rattle.rds_model.specs.Owed.{is_map, is_map_kind, last_map, is_last_map, is_asked, must_ask, map_frame, ack_frame, data_frame, owed_after_map}
 use Rattle.rds_model.specs.FrameLaws.{kind_of_map_frame, kind_of_ack_frame, kind_of_data_frame}
 use Rattle.rds_model.specs.NumberLaws.{number_of_known}
 use Rattle.rds_conn.specs.declared.conn.ConnError.{ConnError}
 use Rattle.rds_conn.specs.declared.conn.Pulled.{Pulled}
-use Rattle.rds_conn.specs.Connection.{Connection, with_entries, stream_of}
+use Rattle.rds_conn.specs.Connection.{Connection, stream_of}
 use Rattle.rds_conn.specs.Pulling.{Pulls, PullsFrame}
 use Rattle.rds_conn.proofs.Unasked.{map_pull}
 

@@ -1,5 +1,5 @@
 -- What the passing of a frame does, in one record.
-use Rattle.std.proofs.Common.{◌≡◌, ℕ, ◌+◌, ◌<◌, Bool, true, false, cond, ◌==◌, Option, Some, None, IfSome, List, [], ◌∷◌, refl, sym, ◌∙◌, ap, subst, arith}
+use Rattle.std.proofs.Common.{◌≡◌, ℕ, ◌+◌, ◌<◌, Bool, true, false, cond, ◌==◌, Option, Some, None, IfSome, List, [], ◌∷◌, refl, sym, ap, subst, arith}
 use Rattle.std.specs.Prelude.{IsSome}
 use Rattle.rds_wire.specs.declared.frame.Frame.{Frame}
 use Rattle.rds_frame.specs.Splitting.{IsSound}
@@ -15,7 +15,7 @@ use Rattle.rds_conn.specs.Connection.{Connection, freed_bytes_of, with_entries, 
 use Rattle.rds_conn.specs.Released.{released_bytes}
 use Rattle.rds_conn.specs.Unacked.{alive_bytes}
 use Rattle.rds_conn.specs.Passing.{Passes, with_pong, outcome_of, after_pass}
-use Rattle.rds_conn.proofs.ReleasedBytes.{gone_after_read, gone_after_accept, alive_bytes_after_accept, conserved_by, left_alive}
+use Rattle.rds_conn.proofs.ReleasedBytes.{gone_after_read, gone_after_accept, alive_bytes_after_accept, conserved_by}
 use Rattle.rds_conn.proofs.KeepsPassing.{of_some}
 
 -- the item of an option that has one

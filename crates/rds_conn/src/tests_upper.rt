@@ -74,8 +74,14 @@ fn pulling(rt: &impl Abort, conn: &mut Conn, alloc: Global) -> Result<(), Fail> 
     let mut out = Out::new(alloc)?;
     send(conn, alloc)?;
     assert_eq!(rt; conn.newest_stream(), 7);
-    assert_eq!(rt; pull_two(conn, &map, &mut out)?, Some((Pulled::Map, Pulled::Data)));
-    assert_eq!(rt; pull_two(conn, &map, &mut out)?, Some((Pulled::Nothing, Pulled::Nothing)));
+    assert_eq!(rt;
+        pull_two(conn, &map, &mut out)?,
+        Some((Pulled::Map, Pulled::Data))
+    );
+    assert_eq!(rt;
+        pull_two(conn, &map, &mut out)?,
+        Some((Pulled::Nothing, Pulled::Nothing))
+    );
     Ok(())
 }
 

@@ -1,6 +1,6 @@
 -- No call of a connection but the opening of a stream makes a newer stream.
 use Rattle.std.proofs.Common.{◌≡◌, ℕ, Option, Some, None, List, refl, sym, subst, arith}
-use Rattle.std.specs.Prelude.{IfSome, IsSome, is_some, true, false}
+use Rattle.std.specs.Prelude.{IfSome, is_some, true, false}
 use Rattle.rds_wire.specs.declared.frame.Frame.{Frame}
 use Rattle.rds_wire.specs.declared.kind.Malformed.{Malformed}
 use Rattle.rds_model.specs.declared.entry.Verdict.{Verdict}
@@ -28,11 +28,6 @@ some_from (Some x) on = (x, refl)
 pub none_from : (o : Option ℕ) → is_some o ≡ false → o ≡ None
 none_from None off = refl
 none_from (Some x) off = cc
-
--- what an option that isn't empty has
-pub some_of : {A : Type 0} (o : Option A) → IsSome o → (x : A) × (o ≡ Some x)
-some_of None h = cc
-some_of (Some x) h = (x, refl)
 
 pub grows_not : (old new : Connection) → new ≡ old → Grows old new
 grows_not old new same =

@@ -1,4 +1,4 @@
-use Rattle.std.proofs.Common.{ap, arith, ◌∙◌, ◌-◌, ◌≤◌, ℕ, subst, sym}
+use Rattle.std.proofs.Common.{ap, arith}
 use Rattle.rds_conn.specs.Connection.{Connection}
 use Rattle.rds_conn.proofs.Handing.{tells_alive}
 use Rattle.rds_conn.proofs.conn.Conn.unacked_bytes.Goals as goal
