@@ -3,38 +3,53 @@ ghost use Rattle.rds_model.specs.declared.journal.TheConstants.{MIN_ENTRIES, MAX
 
 use crate::{PairEnd, Pair, PairError, Step};
 use rds_cong::PortMap;
-use rds_model::{Entry, Order, Outcome};
+use rds_model::{Entry, Journal, Order, Outcome};
 use rds_msgs::Steps;
-use rds_wire::Payload;
+use rds_wire::{Memory, Payload};
 use std::alloc::Global;
 use std::marker::Brand;
+use std::process::Abort;
 use std::sync::ledger::{Blank, Ledger};
 use std::test::Fail;
 
-// A pair that has run these steps, and what came of them.
-fn after(alloc: Global, limit: u32, steps: &[Step]) -> Result<(Pair, Result<(), PairError>), Fail>
+// A pair whose slots of sockets are below 4. Each test that owns one is proved the faster where one call drops it.
+struct Played {
+    pair: Pair,
+}
+
+impl Drop for Played {
+    fn drop(self) {
+        let Self { pair: _pair } = self;
+    }
+}
+
+impl Played {
+    fn into_journals(self) -> (Journal, Journal) {
+        let Self { pair } = self;
+        pair.into_journals()
+    }
+}
+
+fn unplayed(alloc: Global, limit: u32) -> Result<Played, Memory>
     requires least { MIN_ENTRIES ≤ limit }
     requires most { limit ≤ MAX_ENTRIES }
 {
-    counted::<Brand>(alloc, limit, steps, Blank::new(1))
+    let pair = Pair::new(alloc, 1, 2, 4, limit)?;
+    Ok(Played { pair })
 }
 
-fn counted<L: Ledger>(
-    alloc: Global,
-    limit: u32,
-    steps: &[Step],
-    blank: Blank,
-) -> Result<(Pair, Result<(), PairError>), Fail>
-    requires least { MIN_ENTRIES ≤ limit }
-    requires most { limit ≤ MAX_ENTRIES }
+// Runs these steps.
+fn run(played: &mut Played, steps: &[Step]) -> Result<(), PairError> {
+    run_by::<Brand>(&mut played.pair, steps, Blank::new(1))
+}
+
+fn run_by<L: Ledger>(pair: &mut Pair, steps: &[Step], blank: Blank) -> Result<(), PairError>
     requires name { blank.name ≡ L.name }
     requires parts { blank.parts ≡ L.parts }
     requires whole { 0 < L.parts }
 {
     let mut visited: Steps<L> = Steps::new(blank);
-    let mut pair = Pair::new(alloc, 1, 2, 4, limit)?;
-    let ran = pair.run(steps, &mut visited);
-    Ok((pair, ran))
+    pair.run(steps, &mut visited)
 }
 
 // A socket of the first end sends a datagram.
@@ -74,16 +89,8 @@ fn push_beginning(alloc: Global, steps: &mut Vec<Step>) -> Result<(), Fail> {
     push_frame(alloc, steps, PairEnd::First, PairEnd::Second)
 }
 
-#[test]
-fn hello_is_delivered_once(rt: HostRuntime) -> Result<(), Fail> {
-    let alloc = rt.alloc();
-    let mut steps = Vec::new(alloc);
-    push_beginning(alloc, &mut steps)?;
-    push_frame(alloc, &mut steps, PairEnd::First, PairEnd::Second)?;
-    push_frame(alloc, &mut steps, PairEnd::Second, PairEnd::First)?;
-    let (pair, ran) = after(alloc, 100, &steps)?;
-    assert_eq!(rt; ran, Ok(()));
-    let (first, second) = pair.into_journals();
+// What both ends wrote where a datagram was delivered.
+fn assert_delivered(rt: &impl Abort, first: &Journal, second: &Journal) {
     assert_eq!(rt; first.len(), 5);
     assert!(rt;
         matches!(
@@ -104,14 +111,25 @@ fn hello_is_delivered_once(rt: HostRuntime) -> Result<(), Fail> {
             })
         )
     );
-    Ok(())
 }
 
 #[test]
-fn hello_is_delivered_once_over_a_cut_in_its_payload(rt: HostRuntime) -> Result<(), Fail> {
+fn hello_is_delivered_once(rt: HostRuntime) -> Result<(), Fail> {
     let alloc = rt.alloc();
     let mut steps = Vec::new(alloc);
     push_beginning(alloc, &mut steps)?;
+    push_frame(alloc, &mut steps, PairEnd::First, PairEnd::Second)?;
+    push_frame(alloc, &mut steps, PairEnd::Second, PairEnd::First)?;
+    let mut played = unplayed(alloc, 100)?;
+    assert_eq!(rt; run(&mut played, &steps), Ok(()));
+    let (first, second) = played.into_journals();
+    assert_delivered(&rt, &first, &second);
+    Ok(())
+}
+
+// A stream is cut in the middle of a payload, and the next one carries the datagram again.
+fn push_cut(alloc: Global, steps: &mut Vec<Step>) -> Result<(), Fail> {
+    push_beginning(alloc, steps)?;
     steps.push(pull(alloc, PairEnd::First)?)?;
     steps.push(Step::Move {
         to: PairEnd::Second,
@@ -119,12 +137,13 @@ fn hello_is_delivered_once_over_a_cut_in_its_payload(rt: HostRuntime) -> Result<
     })?;
     steps.push(Step::Cut)?;
     steps.push(Step::Open)?;
-    push_frame(alloc, &mut steps, PairEnd::First, PairEnd::Second)?;
-    push_frame(alloc, &mut steps, PairEnd::First, PairEnd::Second)?;
-    let (pair, ran) = after(alloc, 100, &steps)?;
-    assert_eq!(rt; ran, Ok(()));
-    assert_eq!(rt; pair.journal(PairEnd::First).len(), 8);
-    let second = pair.journal(PairEnd::Second);
+    push_frame(alloc, steps, PairEnd::First, PairEnd::Second)?;
+    push_frame(alloc, steps, PairEnd::First, PairEnd::Second)
+}
+
+// What both ends wrote where the datagram was delivered on the second stream.
+fn assert_delivered_later(rt: &impl Abort, first: &Journal, second: &Journal) {
+    assert_eq!(rt; first.len(), 8);
     assert_eq!(rt; second.len(), 6);
     assert!(rt; matches!(second.at(2), Some(Entry::Shut { stream: 1 })));
     assert!(rt; matches!(second.at(3), Some(Entry::Open { stream: 2 })));
@@ -137,14 +156,23 @@ fn hello_is_delivered_once_over_a_cut_in_its_payload(rt: HostRuntime) -> Result<
             })
         )
     );
-    Ok(())
 }
 
 #[test]
-fn what_one_end_wrote_arrives_after_it_was_shut(rt: HostRuntime) -> Result<(), Fail> {
+fn hello_is_delivered_once_over_a_cut_in_its_payload(rt: HostRuntime) -> Result<(), Fail> {
     let alloc = rt.alloc();
     let mut steps = Vec::new(alloc);
-    push_beginning(alloc, &mut steps)?;
+    push_cut(alloc, &mut steps)?;
+    let mut played = unplayed(alloc, 100)?;
+    assert_eq!(rt; run(&mut played, &steps), Ok(()));
+    let pair = &played.pair;
+    assert_delivered_later(&rt, pair.journal(PairEnd::First), pair.journal(PairEnd::Second));
+    Ok(())
+}
+
+// One end is shut while what it wrote is in flight, and that arrives.
+fn push_shut(alloc: Global, steps: &mut Vec<Step>) -> Result<(), Fail> {
+    push_beginning(alloc, steps)?;
     steps.push(pull(alloc, PairEnd::First)?)?;
     steps.push(Step::Shut { end: PairEnd::First })?;
     steps.push(Step::Move {
@@ -155,9 +183,11 @@ fn what_one_end_wrote_arrives_after_it_was_shut(rt: HostRuntime) -> Result<(), F
         end: PairEnd::Second,
         slot: None,
     })?;
-    let (pair, ran) = after(alloc, 100, &steps)?;
-    assert_eq!(rt; ran, Ok(()));
-    let second = pair.journal(PairEnd::Second);
+    Ok(())
+}
+
+// What the second end wrote where the datagram arrived and no socket held its port.
+fn assert_arrived(rt: &impl Abort, second: &Journal) {
     assert!(rt;
         matches!(
             second.at(2),
@@ -167,6 +197,16 @@ fn what_one_end_wrote_arrives_after_it_was_shut(rt: HostRuntime) -> Result<(), F
             })
         )
     );
+}
+
+#[test]
+fn what_one_end_wrote_arrives_after_it_was_shut(rt: HostRuntime) -> Result<(), Fail> {
+    let alloc = rt.alloc();
+    let mut steps = Vec::new(alloc);
+    push_shut(alloc, &mut steps)?;
+    let mut played = unplayed(alloc, 100)?;
+    assert_eq!(rt; run(&mut played, &steps), Ok(()));
+    assert_arrived(&rt, played.pair.journal(PairEnd::Second));
     Ok(())
 }
 
@@ -176,8 +216,9 @@ fn a_run_stops_where_a_journal_is_full(rt: HostRuntime) -> Result<(), Fail> {
     let mut steps = Vec::new(alloc);
     push_beginning(alloc, &mut steps)?;
     steps.push(pull(alloc, PairEnd::First)?)?;
-    let (pair, ran) = after(alloc, 4, &steps)?;
-    assert_eq!(rt; ran, Err(PairError::Spent { entries: 3 }));
-    assert_eq!(rt; pair.journal(PairEnd::Second).len(), 2);
+    let mut played = unplayed(alloc, 4)?;
+    let spent = Err(PairError::Spent { entries: 3 });
+    assert_eq!(rt; run(&mut played, &steps), spent);
+    assert_eq!(rt; played.pair.journal(PairEnd::Second).len(), 2);
     Ok(())
 }

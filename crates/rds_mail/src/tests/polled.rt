@@ -51,13 +51,13 @@ fn puts_one(rt: &impl Wait, mail: &Mail<u32>, mut put: PutPass<u32>)
 
 #[test]
 fn a_mailbox_is_polled(rt: HostRuntime) -> Result<(), Fail> {
+    let task = MockTask::new(&rt)?;
     let (mail, put, get) = Mail::<u32>::new(rt.alloc())?;
     let mut next = Next {
         rt: &rt,
         mail: &mail,
         get,
     };
-    let task = MockTask::new(&rt)?;
     assert_eq!(rt; task.poll(&mut next), Poll::Pending);
     assert!(rt; !task.is_woken());
     puts_one(&rt, &mail, put);

@@ -7,7 +7,7 @@ use Rattle.rds_conn.specs.Feeding.{Feeds, RefusesHeader}
 use Rattle.rds_conn.specs.declared.conn.Fed.{Fed}
 use Rattle.rds_conn.specs.declared.conn.ConnError.{ConnError}
 use Rattle.rds_conn.specs.declared.conn.ConnError.TheVariants as errors
-use Rattle.rds_conn.proofs.tests.feed.Goals as goal
+use Rattle.rds_conn.proofs.tests.steps.feed.Goals as goal
 
 abbrev newest : Connection → ℕ
 newest c = newest_stream c.log.past

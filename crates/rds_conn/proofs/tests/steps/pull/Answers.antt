@@ -5,7 +5,7 @@ use Rattle.rds_model.specs.Past.{newest_stream}
 use Rattle.rds_conn.specs.Connection.{Connection, stream_of}
 use Rattle.rds_conn.specs.Pulling.{Pulls}
 use Rattle.rds_conn.specs.declared.conn.Pulled.{Pulled}
-use Rattle.rds_conn.proofs.tests.pull.Goals as goal
+use Rattle.rds_conn.proofs.tests.steps.pull.Goals as goal
 
 abbrev newest : Connection → ℕ
 newest c = newest_stream c.log.past
