@@ -6,7 +6,7 @@ use clap::error::ErrorKind;
 use rds_wire::Memory;
 use std::alloc::Global;
 
-/// Whether the words are those of `play`: its name, and behind it nothing but what `clap` lets stand behind a command
+/// Whether the words are those of `play`: its name, and after it nothing but what `clap` lets stand after a command
 /// without arguments. A request for help is refused.
 pub fn is_play(alloc: Global, words: &[String]) -> Result<bool, Memory>
     ensures { IfOk result (λ plays. IsTrue plays ↔ ArePlay words.now) }
@@ -17,7 +17,7 @@ pub fn is_play(alloc: Global, words: &[String]) -> Result<bool, Memory>
     }
 }
 
-// Whether the words behind the command's name are none that `clap` refuses.
+// Whether the words after the command's name are none that `clap` refuses.
 fn stands_alone(alloc: Global, words: &[String]) -> Result<bool, Memory>
     ensures { IfOk result (λ plays. IsTrue plays ↔ (play_faults (map string_bytes words.now) ≡ [])) }
 {

@@ -61,7 +61,7 @@ fn words_of_no_command_that_runs(rt: HostRuntime) -> Result<(), Fail> {
 }
 
 #[test]
-fn a_lone_pair_of_dashes_behind_play(rt: HostRuntime) -> Result<(), Fail> {
+fn a_lone_pair_of_dashes_after_play(rt: HostRuntime) -> Result<(), Fail> {
     let (status, sink) = answer(rt.alloc(), &["play", "--"], "hosts 2\n")?;
     assert_eq!(rt; status, 0);
     assert_eq!(rt; sink.held(), b"end ok\n".as_slice());

@@ -1,4 +1,5 @@
 use Rattle.std.proofs.Common.{inl}
+use Rattle.rds_run.specs.ExitStatus.{SourceSeen, SinkSeen}
 use Rattle.rds_run.proofs.Whole.{ends_of_played, ends_of_refused, refused_told, refuses_same}
 use Rattle.rds_run.proofs.play_command.play_text.Goals as goal
 
@@ -11,7 +12,18 @@ pub returns-in-Err-BadLine-clause-ends : goal.returns-in-Err-BadLine-clause-ends
 returns-in-Err-BadLine-clause-ends g c =
     let at_line = rw c.in-Err-BadLine.field-0-is at c.in-Err-BadLine.ensures.refused in
     let refused = rw c.deref.ensures.value at at_line in
-    ends_of_refused _ _ _ _ _ _ c.in-Ok.ensures.bytes refused c.refuse.ensures
+    let source : SourceSeen = record {
+      left = g.S.Source.left c.args.source.now;
+      faults_before = g.S.Source.faults c.args.source.now;
+      faults_after = g.S.Source.faults c.read_all.new.source;
+    } in
+    let sink : SinkSeen = record {
+      held_before = g.K.Sink.held c.args.sink.now;
+      held_after = g.K.Sink.held c.refuse.new.sink;
+      faults_before = g.K.Sink.faults c.args.sink.now;
+      faults_after = g.K.Sink.faults c.refuse.new.sink;
+    } in
+    ends_of_refused _ _ _ source sink c.refuse.result c.in-Ok.ensures.bytes refused c.refuse.ensures
 
 pub returns-in-Ok-read-clause-refuses : goal.returns-in-Ok-read-clause-refuses
 returns-in-Ok-read-clause-refuses g c line why told =
@@ -23,4 +35,10 @@ returns-in-Err-BadLine-clause-refuses g c line why told =
     let at_line = rw c.in-Err-BadLine.field-0-is at c.in-Err-BadLine.ensures.refuses in
     let refuses = rw c.deref.ensures.value at at_line in
     let same = refuses line why (refused_told _ _ line why c.in-Ok.ensures.bytes told) in
-    inl (refuses_same _ _ _ _ _ _ same c.refuse.ensures)
+    let sink : SinkSeen = record {
+      held_before = g.K.Sink.held c.args.sink.now;
+      held_after = g.K.Sink.held c.refuse.new.sink;
+      faults_before = g.K.Sink.faults c.args.sink.now;
+      faults_after = g.K.Sink.faults c.refuse.new.sink;
+    } in
+    inl (refuses_same _ _ _ _ sink c.refuse.result same c.refuse.ensures)
