@@ -1,11 +1,9 @@
-//! The two hosts of the example.
-ghost use Rattle.std.specs.Prelude.{◌≡◌, [], IfOk};
+//! The two hosts of the example, and how their sockets are bound.
+ghost use Rattle.std.specs.Prelude.{◌≡◌, [], None, IfOk};
 
-use rds_fmap::{Reader, Writer};
-use rds_handmade::{Host, Line};
-use rds_socket::Vacant;
+use rds_handmade::{Bound, Host};
 use rds_wire::Memory;
-use std::alloc::Global;
+use std::alloc::{AllocError, Global};
 
 /// Host A, by its IPv4 address: 10.0.0.1.
 pub const A: u32 = 0x0a00_0001;
@@ -13,40 +11,26 @@ pub const A: u32 = 0x0a00_0001;
 /// Host B: 10.0.0.2.
 pub const B: u32 = 0x0a00_0002;
 
-/// What the example holds of its hosts: the slot of each, the line from A to B, and A's copy of B's congestion map.
-#[derive(Drop)]
-pub struct Joined {
-    pub a: Vacant<Reader>,
-    pub b: Vacant<Reader>,
-    pub line: Line,
-    pub map_of_b: Writer,
+/// Host A with a socket at port 4000, and host B with one at port 4001.
+pub fn two_hosts(alloc: Global) -> anyhow::Result<(Bound, Bound)>
+    ensures told { IfOk result (λ r. r.0.socket.told ≡ None) }
+    ensures map { IfOk result (λ r. r.0.map.published ≡ []) }
+{
+    let a = bind(alloc, A, B, 4000)?;
+    let b = bind(alloc, B, A, 4001)?;
+    Ok((a, b))
 }
 
-pub fn join_hosts(alloc: Global) -> Result<Joined, Memory>
-    ensures { IfOk result (λ j. j.map_of_b.published ≡ []) }
+// A host of this address whose socket has a send buffer of 8 bytes and a receive buffer of 64.
+fn bind(alloc: Global, address: u32, peer: u32, port: u16) -> anyhow::Result<Bound>
+    ensures told { IfOk result (λ b. b.socket.told ≡ None) }
+    ensures map { IfOk result (λ b. b.map.published ≡ []) }
 {
-    let near = Host::new(alloc, A, B)?;
-    let far = Host::new(alloc, B, A)?;
-    Ok(by_a_line(near, far))
+    let host = Host::new(alloc, address, peer).map_err(out_of_memory)?;
+    Ok(host.bind(port, 8, 64)?)
 }
 
-fn by_a_line(near: Host, far: Host) -> Joined
-    ensures { result.map_of_b ≡ near.map }
-{
-    let Host {
-        vacant: a,
-        end: from,
-        map: map_of_b,
-    } = near;
-    let Host {
-        vacant: b,
-        end: to,
-        ..
-    } = far;
-    Joined {
-        a,
-        b,
-        line: Line::new(from, to),
-        map_of_b,
-    }
+/// The error that a program answers where memory ran out.
+pub fn out_of_memory(_memory: Memory) -> AllocError {
+    AllocError
 }

@@ -6,19 +6,9 @@ mod steps;
 mod story;
 mod waiting;
 
-use hosts::{Joined, join_hosts};
-use steps::{bind, close, out_of_memory};
+use hosts::two_hosts;
 
 fn main(rt: HostRuntime) -> anyhow::Result<()> {
-    let Joined {
-        a,
-        b,
-        mut line,
-        mut map_of_b,
-    } = join_hosts(rt.alloc()).map_err(out_of_memory)?;
-    let mut a = bind(&rt, "A", a, 4000)?;
-    let mut b = bind(&rt, "B", b, 4001)?;
-    story::tell(&rt, &mut a, &mut b, &mut line, &mut map_of_b)?;
-    close(&rt, "A", a)?;
-    close(&rt, "B", b)
+    let (a, b) = two_hosts(rt.alloc())?;
+    story::tell(&rt, a, b)
 }

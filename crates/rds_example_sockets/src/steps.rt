@@ -1,35 +1,19 @@
 //! What the hosts do, each step with the text that it prints.
-ghost use Rattle.std.specs.Prelude.{◌≡◌, ◌≤◌, length, None, IfOk};
+ghost use Rattle.std.specs.Prelude.{◌≡◌, ◌≤◌, length, None};
 
-use crate::hosts::B;
+use crate::hosts::{B, out_of_memory};
 use crate::waiting::NextDatagram;
 use futures::executor::block_on;
 use rds_fmap::Reader;
-use rds_handmade::Line;
+use rds_handmade::End;
 use rds_model::Datagram;
-use rds_socket::{Socket, Vacant};
-use rds_wire::{Memory, Payload};
+use rds_socket::Socket;
+use rds_wire::Payload;
 use std::alloc::{AllocError, AllocGlobal};
 use std::io::Print;
 use std::net::Ipv4Addr;
 use std::random::RandomSource;
 use std::sync::Wait;
-
-/// Binds a port, with a send buffer of 8 bytes and a receive buffer of 64.
-pub fn bind(
-    rt: &impl Print,
-    host: &str,
-    vacant: Vacant<Reader>,
-    port: u16,
-) -> anyhow::Result<Socket<Reader>>
-    ensures { IfOk result (λ socket. socket.told ≡ None) }
-{
-    println!(rt; "{host} binds port {port}.")?;
-    match vacant.bind(port, 8, 64) {
-        Ok(socket) => Ok(socket),
-        Err((_, error)) => Err(error.into()),
-    }
-}
 
 /// A sends a text to port 4001 of B, or says why it can't.
 pub fn send<R: Print + Wait + AllocGlobal>(
@@ -49,10 +33,10 @@ pub fn send<R: Print + Wait + AllocGlobal>(
     Ok(())
 }
 
-/// The line carries one datagram to B.
-pub fn carry(rt: &(impl Print + Wait), line: &mut Line) -> anyhow::Result<()> {
-    if line.carry(rt).map_err(out_of_memory)? {
-        println!(rt; "The line carries a datagram to B.")?;
+/// One datagram is carried from A to B.
+pub fn carry(rt: &(impl Print + Wait), a: &mut End, b: &mut End) -> anyhow::Result<()> {
+    if a.carry(rt, b).map_err(out_of_memory)? {
+        println!(rt; "A datagram is carried to B.")?;
     }
     Ok(())
 }
@@ -68,14 +52,20 @@ pub fn receive<R: Print + Wait + AllocGlobal + RandomSource>(
 
 /// Closes a socket, and shows what it hasn't received.
 pub fn close(rt: &(impl Print + Wait), host: &str, socket: Socket<Reader>) -> anyhow::Result<()> {
-    println!(rt; "{host} closes its socket.")?;
-    let Ok(mut closed) = socket.close(rt) else {
-        return Err(AllocError.into());
-    };
-    if let Some(datagram) = closed.unread(rt) {
+    let unread = closed(rt, socket)?;
+    println!(rt; "{host} has closed its socket.")?;
+    if let Some(datagram) = unread {
         show(rt, "It leaves unread", &datagram)?;
     }
     Ok(())
+}
+
+// Closes a socket, and takes the first datagram that it hasn't received.
+fn closed(rt: &impl Wait, socket: Socket<Reader>) -> Result<Option<Datagram>, AllocError> {
+    match socket.close(rt) {
+        Ok(mut closed) => Ok(closed.unread(rt)),
+        Err(_) => Err(AllocError),
+    }
 }
 
 // A datagram, as a text, and where it came from.
@@ -84,9 +74,4 @@ fn show(rt: &impl Print, what: &str, datagram: &Datagram) -> anyhow::Result<()> 
     let from = Ipv4Addr::from(datagram.from);
     println!(rt; "{what} \"{text}\" from {from}, port {}.", datagram.sport)?;
     Ok(())
-}
-
-/// The error that a program answers where memory ran out.
-pub fn out_of_memory(_memory: Memory) -> AllocError {
-    AllocError
 }

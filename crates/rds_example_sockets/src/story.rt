@@ -1,12 +1,13 @@
-//! What the two hosts do between their binds and their closes.
+//! What the two hosts do.
 ghost use Rattle.std.specs.Prelude.{◌≡◌, [], None};
 
-use crate::steps::{carry, out_of_memory, receive, send};
+use crate::hosts::out_of_memory;
+use crate::steps::{carry, close, receive, send};
 use crate::waiting::NextDatagram;
 use futures::test::MockTask;
 use rds_cong::PortMap;
 use rds_fmap::{MapWriter, Reader, Writer};
-use rds_handmade::Line;
+use rds_handmade::Bound;
 use rds_socket::Socket;
 use std::alloc::AllocGlobal;
 use std::io::Print;
@@ -15,58 +16,84 @@ use std::sync::Wait;
 
 pub fn tell<R: Print + Wait + AllocGlobal + RandomSource>(
     rt: &R,
-    a: &mut Socket<Reader>,
-    b: &mut Socket<Reader>,
-    line: &mut Line,
-    map_of_b: &mut Writer,
+    mut a: Bound,
+    mut b: Bound,
 ) -> anyhow::Result<()>
-    requires told { a.old.told ≡ None }
-    requires map { map_of_b.old.published ≡ [] }
+    requires told { a.socket.told ≡ None }
+    requires map { a.map.published ≡ [] }
 {
-    wait_and_receive(rt, a, b, line)?;
-    fill_the_buffer(rt, a, b, line)?;
-    meet_congestion(rt, a, map_of_b)
+    let used = use_sockets(rt, &mut a, &mut b);
+    close_sockets(rt, a.socket, b.socket)?;
+    used
 }
 
-// B waits for a datagram. A sends one, the line carries it, and B's task is woken.
+fn use_sockets<R: Print + Wait + AllocGlobal + RandomSource>(
+    rt: &R,
+    a: &mut Bound,
+    b: &mut Bound,
+) -> anyhow::Result<()>
+    requires told { a.old.socket.told ≡ None }
+    requires map { a.old.map.published ≡ [] }
+{
+    wait_and_receive(rt, a, b)?;
+    fill_the_buffer(rt, a, b)?;
+    meet_congestion(rt, &mut a.socket, &mut a.map)
+}
+
+fn close_sockets(
+    rt: &(impl Print + Wait),
+    a: Socket<Reader>,
+    b: Socket<Reader>,
+) -> anyhow::Result<()> {
+    close(rt, "A", a)?;
+    close(rt, "B", b)
+}
+
+// B waits for a datagram. A sends one, it is carried to B, and B's task is woken.
 fn wait_and_receive<R: Print + Wait + AllocGlobal + RandomSource>(
     rt: &R,
-    a: &mut Socket<Reader>,
-    b: &mut Socket<Reader>,
-    line: &mut Line,
+    a: &mut Bound,
+    b: &mut Bound,
 ) -> anyhow::Result<()>
-    requires { a.old.told ≡ None }
-    ensures { a.new.told ≡ None }
+    requires { a.old.socket.told ≡ None }
+    ensures told { a.new.socket.told ≡ None }
+    ensures map { a.new.map ≡ a.old.map }
 {
     let task = MockTask::new(rt)?;
+    wait(rt, &task, &mut b.socket)?;
+    send(rt, &mut a.socket, "hello")?;
+    carry(rt, &mut a.end, &mut b.end)?;
+    if task.is_woken() {
+        println!(rt; "B's task is woken.")?;
+    }
+    receive(rt, &mut b.socket)
+}
+
+// The task looks for a datagram, and will be woken when one comes.
+fn wait<R: Print + Wait>(rt: &R, task: &MockTask, b: &mut Socket<Reader>) -> anyhow::Result<()> {
     let mut next = NextDatagram { rt, socket: b };
     if task.poll(&mut next).is_pending() {
         println!(rt; "B waits for a datagram.")?;
     }
-    send(rt, a, "hello")?;
-    carry(rt, line)?;
-    if task.is_woken() {
-        println!(rt; "B's task is woken.")?;
-    }
-    receive(rt, b)
+    Ok(())
 }
 
 // What A sends has to fit into its send buffer with what B hasn't acknowledged yet.
 fn fill_the_buffer<R: Print + Wait + AllocGlobal + RandomSource>(
     rt: &R,
-    a: &mut Socket<Reader>,
-    b: &mut Socket<Reader>,
-    line: &mut Line,
+    a: &mut Bound,
+    b: &mut Bound,
 ) -> anyhow::Result<()>
-    requires { a.old.told ≡ None }
-    ensures { a.new.told ≡ None }
+    requires { a.old.socket.told ≡ None }
+    ensures told { a.new.socket.told ≡ None }
+    ensures map { a.new.map ≡ a.old.map }
 {
-    send(rt, a, "again")?;
-    send(rt, a, "more")?;
-    carry(rt, line)?;
-    send(rt, a, "more")?;
-    carry(rt, line)?;
-    receive(rt, b)
+    send(rt, &mut a.socket, "again")?;
+    send(rt, &mut a.socket, "more")?;
+    carry(rt, &mut a.end, &mut b.end)?;
+    send(rt, &mut a.socket, "more")?;
+    carry(rt, &mut a.end, &mut b.end)?;
+    receive(rt, &mut b.socket)
 }
 
 // While A's map of B has the port set, nothing can be sent to it.

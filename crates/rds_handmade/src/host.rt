@@ -1,5 +1,5 @@
 //! How a host is made by hand, with one slot and one peer.
-ghost use Rattle.std.specs.Prelude.{◌≡◌, ◌∷◌, ℕ, [], IfOk};
+ghost use Rattle.std.specs.Prelude.{◌≡◌, ◌≤◌, ◌∷◌, ℕ, [], None, IfOk};
 ghost use Rattle.std.specs.Arc.{arc_value};
 ghost use Rattle.rds_parts.specs.Lanes.{peers_of, ArePutOf};
 
@@ -9,7 +9,7 @@ use crate::seats::Seats;
 use rds_fmap::{Reader, Writer, pair};
 use rds_mail::{GetPass, Mail};
 use rds_model::Datagram;
-use rds_socket::{Route, Vacant};
+use rds_socket::{BindError, Route, Socket, Vacant};
 use rds_wire::Memory;
 use std::alloc::Global;
 use std::sync::Arc;
@@ -42,6 +42,30 @@ impl Host {
         let vacant = vacant(seats, mail, get, routes);
         Ok(Host { vacant, end, map })
     }
+
+    /// Binds its socket to a port. Where the port is refused, the host is given up.
+    pub fn bind(self, port: u16, sndbuf: u32, rcvbuf: u32) -> Result<Bound, BindError>
+        requires sndbuf { (1 ≤ sndbuf) × (sndbuf ≤ 16777216) }
+        requires rcvbuf { (2 ≤ rcvbuf) × (rcvbuf ≤ 16777216) }
+        ensures told { IfOk result (λ b. b.socket.told ≡ None) }
+        ensures map { IfOk result (λ b. b.map ≡ self.map) }
+    {
+        let Host { vacant, end, map } = self;
+        match vacant.bind(port, sndbuf, rcvbuf) {
+            Ok(socket) => Ok(Bound { socket, end, map }),
+            Err((_, error)) => Err(error),
+        }
+    }
+}
+
+/// A host with a socket.
+#[derive(Drop)]
+pub struct Bound {
+    pub socket: Socket<Reader>,
+    /// Its end of the line to the peer.
+    pub end: End,
+    /// Where the peer's congestion map is published.
+    pub map: Writer,
 }
 
 // The slot with these seats, this mailbox and these routes.

@@ -8,6 +8,6 @@ mod queues;
 mod seats;
 
 pub use counts::Counts;
-pub use host::Host;
-pub use line::{End, Line};
+pub use host::{Bound, Host};
+pub use line::End;
 pub use queues::{Inbox, Orders};

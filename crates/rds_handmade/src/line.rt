@@ -1,11 +1,11 @@
-//! A line that carries datagrams from one host to another, in place of a connection and a network.
+//! What carries datagrams from one host to another, in place of a connection and a network.
 use crate::counts::Counts;
 use crate::queues::{Inbox, Orders};
 use rds_model::{Datagram, Order};
 use rds_wire::{Memory, Payload};
 use std::sync::Wait;
 
-/// What a line holds of a host.
+/// What a line to the peer holds of a host.
 #[derive(Drop)]
 pub struct End {
     /// The host's IPv4 address.
@@ -37,35 +37,22 @@ impl End {
             _ => None,
         }
     }
-}
 
-/// The way from one host to another.
-#[derive(Drop)]
-pub struct Line {
-    from: End,
-    to: End,
-}
-
-impl Line {
-    pub fn new(from: End, to: End) -> Line {
-        Line { from, to }
-    }
-
-    /// Carries the oldest datagram that the first host's socket has sent, and answers whether there was one. It arrives at once,
-    /// whatever its port, and its bytes no longer count against the sender's buffer.
-    pub fn carry(&mut self, rt: &impl Wait) -> Result<bool, Memory> {
-        let Some((payload, sport, dport)) = self.from.next(rt) else {
+    /// Carries the oldest datagram that this host's socket has sent to the other host, and answers whether there was one. It
+    /// arrives at once, whatever its port, and its bytes no longer count against the sender's buffer.
+    pub fn carry(&mut self, rt: &impl Wait, to: &mut End) -> Result<bool, Memory> {
+        let Some((payload, sport, dport)) = self.next(rt) else {
             return Ok(false);
         };
         let bytes = payload.len();
         let datagram = Datagram {
-            from: self.from.address,
+            from: self.address,
             sport,
             dport,
             payload,
         };
-        self.to.deliver(rt, datagram)?;
-        self.from.counts.count_freed(bytes);
+        to.deliver(rt, datagram)?;
+        self.counts.count_freed(bytes);
         Ok(true)
     }
 }

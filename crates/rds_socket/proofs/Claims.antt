@@ -1,8 +1,7 @@
 -- Which ports a slot's claims have found free.
-use Rattle.std.proofs.Common.{◌≡◌, ◌≢◌, ℕ, ◌+◌, List, [], ◌∷◌, ◌++◌, All, Option, Some, None, Contains, eqb, ne_eqb, cond, Bool, true, false, refl, sym, ap, subst, ◌∙◌, ⊎_elim, arith}
+use Rattle.std.proofs.Common.{◌≡◌, ℕ, ◌+◌, List, [], ◌∷◌, All, Option, Some, None, ne_eqb, cond, Bool, refl, sym, ap, subst, ⊎_elim, arith}
 use Rattle.std.proofs.lemmas.List.Elements.{Contains-push_cases, at_from_Contains, All-head, All-tail}
 use Rattle.rds_bindtab.specs.declared.view.View.{View}
-use Rattle.rds_bindtab.specs.declared.view.Step.{Step}
 use Rattle.rds_bindtab.specs.declared.view.Step.TheVariants.{Drew, Claimed, Released}
 use Rattle.rds_bindtab.specs.Seats.{PortSeat, knowing, first_view, after_draw, after_exchange, after_release, slot_of, port_of}
 use Rattle.rds_parts.specs.Ports.{HasClaimedOnly, port_after, after_claims, IsTaken}

@@ -1,12 +1,11 @@
 -- How a socket begins and ends.
-use Rattle.std.proofs.Common.{◌≡◌, ◌≤◌, ◌<◌, ℕ, ◌+◌, ◌-◌, ◌%◌, List, [], ◌∷◌, length, Err, Option, Some, None, All, refl, sym, ap, subst, ◌∙◌, arith}
+use Rattle.std.proofs.Common.{◌≡◌, ◌≤◌, ◌<◌, ℕ, List, [], ◌∷◌, length, Err, Option, Some, None, All, refl, sym, ap, subst, ◌∙◌, arith}
 use Rattle.rds_bindtab.specs.Seats as seats
 use Rattle.rds_bindtab.specs.declared.view.View as port_view
 use Rattle.rds_meter.specs.declared.view.View.{View}
 use Rattle.rds_meter.specs.Seats.{after_store}
 use Rattle.rds_parts.specs.Ports.{HasClaimedOnly, port_after, after_claims, IsTaken}
 use Rattle.rds_parts.specs.Words.{Purse, purse_with, IsQuietSeat, after_clearing}
-use Rattle.rds_parts.specs.Boxes.{Box}
 use Rattle.rds_parts.specs.Lanes.{Lane, ArePut, ArePutOf}
 use Rattle.rds_model.specs.declared.order.Order.TheVariants as order
 use Rattle.rds_bindtab.specs.Answers.{ClaimFits, after_claim}
@@ -14,10 +13,10 @@ use Rattle.rds_bindtab.specs.declared.error.BindError.{BindError}
 use Rattle.rds_bindtab.specs.declared.error.BindError.TheVariants.{Reserved, InUse, NoneFree}
 use Rattle.std.proofs.lemmas.List.Elements.{All-nil, All-cons}
 use Rattle.rds_socket.specs.Holding.{Holding, Open, IsHolding, IsVacant, IsOpen, IsEnded, told_of}
-use Rattle.rds_socket.specs.Calls.{with_own, with_routes, IsClosing}
-use Rattle.rds_socket.proofs.Claims.{claims_first, claims_none, claims_many, claims_slot, claims_port, claims_released}
+use Rattle.rds_socket.specs.Calls.{with_routes, IsClosing}
+use Rattle.rds_socket.proofs.Claims.{claims_first, claims_many, claims_slot, claims_port, claims_released}
 use Rattle.rds_socket.proofs.Quiet.{quiet_store, quiet_clear}
-use Rattle.rds_socket.proofs.Kept.{moved, held_on}
+use Rattle.rds_socket.proofs.Kept.{held_on}
 
 module _ {R : Type 0} where
   -- what is held after steps on both seats

@@ -1,5 +1,5 @@
 -- What the steps of a call keep of a socket.
-use Rattle.std.proofs.Common.{◌≡◌, ◌≤◌, ℕ, List, length, Option, Some, None, refl, sym, ap, subst, ◌∙◌, arith}
+use Rattle.std.proofs.Common.{◌≡◌, ◌≤◌, ℕ, List, length, Option, Some, None, refl, sym, ap, subst, arith}
 use Rattle.rds_meter.specs.declared.view.View.{View}
 use Rattle.rds_bindtab.specs.Seats as seats
 use Rattle.rds_parts.specs.Ports.{HasClaimedOnly}

@@ -6,4 +6,3 @@ pub mod Staying
 pub mod Ends
 pub mod Receipts
 pub mod Sends
-pub mod Joins

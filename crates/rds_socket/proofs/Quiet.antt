@@ -1,11 +1,10 @@
 -- A seat that has added to its slot's taken word alone stays so.
-use Rattle.std.proofs.Common.{◌≡◌, ◌≢◌, ℕ, ◌+◌, ◌-◌, ◌/◌, ◌%◌, ◌==◌, ◌&&◌, nat_le, nat_lt, cond, Bool, true, false, [], ◌∷◌, ◌++◌, refl, sym, ap, subst, ◌∙◌, arith}
+use Rattle.std.proofs.Common.{◌≡◌, ℕ, ◌+◌, ◌-◌, ◌/◌, ◌%◌, ◌==◌, ◌&&◌, nat_le, nat_lt, cond, Bool, true, false, [], ◌++◌, refl, sym, ap, ◌∙◌, arith}
 use Rattle.std.proofs.lemmas.Bool.{le-ltb}
 use Rattle.std.specs.Int.{bit_at}
 use Rattle.rds_meter.specs.declared.view.View.{View}
-use Rattle.rds_meter.specs.declared.view.Check.{Check}
 use Rattle.rds_meter.specs.declared.view.Stage.{Stage}
-use Rattle.rds_meter.specs.declared.view.Stage.TheVariants.{Idle, Put}
+use Rattle.rds_meter.specs.declared.view.Stage.TheVariants.{Put}
 use Rattle.rds_meter.specs.declared.view.Step.TheVariants.{Added}
 use Rattle.rds_meter.specs.Places.{part, put_word, taken_word, map_word}
 use Rattle.rds_meter.specs.Seats.{after_add, after_store, after_load, after_lower, after_bump, is_put_word, stage_after, completed, opening, closing}

@@ -2,11 +2,11 @@
 use Rattle.std.proofs.Common.{◌≡◌, ℕ, length, refl, ap, subst}
 use Rattle.rds_model.specs.declared.order.Datagram.{Datagram}
 use Rattle.rds_mail.specs.Numbers.{Number}
-use Rattle.rds_parts.specs.Words.{Purse, IsReceipt, after_receipt}
+use Rattle.rds_parts.specs.Words.{Purse, IsReceipt}
 use Rattle.rds_parts.specs.Boxes.{Box}
 use Rattle.rds_parts.specs.ChangeLaws.{stay_same}
 use Rattle.rds_fmap.specs.declared.seen.Seen.{Seen}
-use Rattle.rds_socket.specs.Holding.{Holding, Open, IsOpen}
+use Rattle.rds_socket.specs.Holding.{Open, IsOpen}
 use Rattle.rds_socket.specs.Calls.{with_own, after_taking_out, IsReceived}
 use Rattle.rds_socket.specs.Stays.{Stays}
 use Rattle.rds_socket.proofs.Quiet.{quiet_receipt}

@@ -1,21 +1,19 @@
 -- What a send has found, step by step.
-use Rattle.std.proofs.Common.{◌≡◌, ◌+◌, ◌-◌, ◌<◌, ◌≤◌, ℕ, List, [], ◌∷◌, length, Option, Some, Bool, true, false, Result, Ok, Err, OnOk, OnErr, IfErr, refl, sym, ap, subst, ◌∙◌, arith}
+use Rattle.std.proofs.Common.{◌≡◌, ◌+◌, ◌-◌, ◌<◌, ◌≤◌, ℕ, List, length, Option, Some, Bool, true, false, Result, Ok, Err, OnOk, OnErr, IfErr, refl, sym, ap, subst, ◌∙◌}
 use Rattle.rds_meter.specs.Places.{freed_word}
-use Rattle.rds_meter.specs.Seats as meter
 use Rattle.rds_model.specs.declared.order.Order.{Order}
 use Rattle.rds_fmap.specs.declared.seen.Seen.{Seen}
 use Rattle.rds_parts.specs.Words.{Purse}
-use Rattle.rds_parts.specs.Lanes.{Lane, At, LeadsTo, NoneTo, IsLookAt, IsLookTo, IsPutAt, IsPutTo, ArePutOf, RoutesStay, with_reader}
+use Rattle.rds_parts.specs.Lanes.{Lane, At, LeadsTo, NoneTo, IsLookAt, IsLookTo, IsPutAt, ArePutOf, with_reader}
 use Rattle.rds_parts.specs.PlaceLaws.{here}
 use Rattle.std.proofs.lemmas.Option.{slice_get_within, same_Some}
 use Rattle.rds_socket.specs.declared.error.SendError.{SendError}
 use Rattle.rds_socket.specs.declared.error.SendError.TheVariants as refusal
 use Rattle.rds_socket.specs.Holding.{Open, IsOpen}
 use Rattle.rds_socket.specs.Calls.{with_own, with_routes, with_total, after_freed}
-use Rattle.rds_socket.specs.Sends.{limit_of, order_of, IsClear, RefusalFits, IsSent, SendFits, after_look, after_load, after_send}
-use Rattle.rds_socket.proofs.Orders.{of_look, routes_length}
+use Rattle.rds_socket.specs.Sends.{limit_of, order_of, IsClear, RefusalFits, SendFits, after_load}
 use Rattle.rds_socket.proofs.Quiet.{quiet_load}
-use Rattle.rds_socket.proofs.Kept.{moved, open_on, open_routes}
+use Rattle.rds_socket.proofs.Kept.{moved, open_on}
 
 -- what was seen, with its bit
 seen_with : (s : Seen) (b : Bool) → s.set ≡ b → s ≡ record { version = s.version; set = b }

@@ -1,5 +1,5 @@
 -- What contracts see of a slot without a port, of a socket and of one that has ended. This project's own.
-use Rattle.std.specs.Prelude.{◌≡◌, ◌≤◌, ℕ, List, length, Option, Some, None, MatchOption, unwrap_or, is_some}
+use Rattle.std.specs.Prelude.{◌≡◌, ◌≤◌, ℕ, List, length, Option, Some, None, unwrap_or}
 use Rattle.rds_bindtab.specs.Seats as seats
 use Rattle.rds_parts.specs.Ports.{HasClaimedOnly}
 use Rattle.rds_parts.specs.Words.{Purse, IsQuietSeat}

@@ -3,4 +3,3 @@ pub mod Stays
 pub mod Binds
 pub mod Sends
 pub mod Calls
-pub mod Joins

@@ -5,7 +5,6 @@ mod binding;
 mod closed;
 mod closing;
 mod error;
-mod joining;
 mod polling;
 mod sending;
 mod socket;
@@ -13,7 +12,6 @@ mod vacant;
 
 pub use closed::{Closed, SocketParts};
 pub use error::SendError;
-pub use joining::{join_orders, join_receipts};
 pub use rds_bindtab::BindError;
 pub use rds_parts::{CancelError, NoRoute, Route};
 pub use socket::Socket;

@@ -1,10 +1,9 @@
-use Rattle.std.proofs.Common.{◌≡◌, ◌∙◌, refl, sym, ap, subst}
+use Rattle.std.proofs.Common.{sym, ap, subst}
 use Rattle.rds_model.specs.declared.order.Order.{Order}
-use Rattle.rds_model.specs.declared.order.Order.TheVariants as order
-use Rattle.rds_socket.specs.Holding.{Open, Holding}
+use Rattle.rds_socket.specs.Holding.{Holding}
 use Rattle.rds_parts.specs.Lanes.{IsOf}
 use Rattle.rds_parts.specs.Refusals.{AskRefused}
-use Rattle.rds_socket.proofs.Orders.{of_ask, routes_length, put_seen, refused_seen}
+use Rattle.rds_socket.proofs.Orders.{of_ask, put_seen, refused_seen}
 use Rattle.rds_socket.proofs.Kept.{ended_routes}
 use Rattle.rds_socket.proofs.Staying.{holds_routes}
 use Rattle.rds_socket.proofs.closed.Closed.cut.Goals as goal

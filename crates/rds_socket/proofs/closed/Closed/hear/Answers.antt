@@ -1,4 +1,4 @@
-use Rattle.std.proofs.Common.{◌≡◌, ◌∙◌, sym, ap}
+use Rattle.std.proofs.Common.{◌∙◌, sym, ap}
 use Rattle.rds_socket.specs.Holding.{Holding}
 use Rattle.rds_parts.specs.Boxes.{Box}
 use Rattle.rds_socket.proofs.Kept.{ended_inbox}

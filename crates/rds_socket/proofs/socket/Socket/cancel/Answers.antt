@@ -1,7 +1,7 @@
-use Rattle.std.proofs.Common.{◌≡◌, ◌∙◌, refl, sym, ap, subst}
+use Rattle.std.proofs.Common.{◌∙◌, sym, ap, subst}
 use Rattle.rds_model.specs.declared.order.Order.{Order}
 use Rattle.rds_model.specs.declared.order.Order.TheVariants as order
-use Rattle.rds_socket.specs.Holding.{Open, Holding}
+use Rattle.rds_socket.specs.Holding.{Open}
 use Rattle.rds_parts.specs.Lanes.{IsOf}
 use Rattle.rds_parts.specs.Refusals.{AskRefused}
 use Rattle.rds_socket.proofs.Orders.{of_ask, routes_length, put_seen, refused_seen}

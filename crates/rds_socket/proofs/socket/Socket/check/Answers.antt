@@ -1,5 +1,4 @@
-use Rattle.std.proofs.Common.{◌≡◌, ◌+◌, ◌-◌, ◌<◌, ◌≤◌, length, refl, arith}
-use Rattle.rds_socket.specs.Sends.{limit_of}
+use Rattle.std.proofs.Common.{refl, arith}
 use Rattle.rds_socket.proofs.Orders.{of_look, routes_length}
 use Rattle.rds_socket.proofs.Sends.{congested, clear_at, leads_still, loaded_open, send_full}
 use Rattle.rds_socket.proofs.socket.Socket.check.Goals as goal

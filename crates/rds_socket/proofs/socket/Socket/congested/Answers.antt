@@ -1,4 +1,4 @@
-use Rattle.std.proofs.Common.{◌≡◌, ap}
+use Rattle.std.proofs.Common.{ap}
 use Rattle.rds_socket.specs.Holding.{Open}
 use Rattle.rds_socket.proofs.Orders.{of_look_up, routes_length, look_seen, none_seen}
 use Rattle.rds_socket.proofs.Kept.{open_routes}

@@ -1,4 +1,4 @@
-use Rattle.std.proofs.Common.{◌≡◌, ap}
+use Rattle.std.proofs.Common.{ap}
 use Rattle.rds_socket.specs.Holding.{Open}
 use Rattle.rds_socket.proofs.Kept.{open_same_routes}
 use Rattle.rds_socket.proofs.Orders.{note_seen}

@@ -1,4 +1,4 @@
-use Rattle.std.proofs.Common.{◌≡◌, rules}
+use Rattle.std.proofs.Common.{rules}
 use Rattle.rds_socket.proofs.Kept.{open_same_ports}
 use Rattle.rds_socket.proofs.socket.Socket.port_note.Goals as goal
 

@@ -1,4 +1,4 @@
-use Rattle.std.proofs.Common.{◌≡◌, ◌∙◌, ap}
+use Rattle.std.proofs.Common.{◌∙◌, ap}
 use Rattle.rds_model.specs.declared.order.Order.TheVariants as order
 use Rattle.rds_socket.specs.Holding.{Open}
 use Rattle.rds_socket.specs.Sends.{order_of}

@@ -1,4 +1,3 @@
-use Rattle.std.proofs.Common.{◌≡◌}
 use Rattle.rds_socket.proofs.Sends.{send_answer}
 use Rattle.rds_socket.proofs.Staying.{stays_then}
 use Rattle.rds_socket.proofs.socket.Socket.send.Goals as goal

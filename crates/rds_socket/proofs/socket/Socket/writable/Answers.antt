@@ -1,4 +1,3 @@
-use Rattle.std.proofs.Common.{◌≡◌}
 use Rattle.rds_meter.specs.Places.{freed_word}
 use Rattle.rds_meter.specs.Seats.{after_load}
 use Rattle.rds_socket.proofs.Quiet.{quiet_load}

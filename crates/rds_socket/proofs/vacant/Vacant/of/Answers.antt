@@ -1,4 +1,4 @@
-use Rattle.std.proofs.Common.{◌≡◌, ◌∙◌, Option, Some, None, unwrap_or, sym, ap, subst}
+use Rattle.std.proofs.Common.{◌≡◌, ◌∙◌, Some, None, unwrap_or, sym, ap, subst}
 use Rattle.rds_bindtab.specs.Seats as seats
 use Rattle.rds_meter.specs.Seats as meter
 use Rattle.rds_parts.specs.Ports.{HasClaimedOnly}

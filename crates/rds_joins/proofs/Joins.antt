@@ -3,17 +3,16 @@ use Rattle.std.proofs.Common.{◌≡◌, ◌⊎◌, ℕ, zero, suc, ◌+◌, ◌
 use Rattle.std.proofs.lemmas.List.{length-append, append-nil}
 use Rattle.std.proofs.lemmas.List.Elements.{All-head, All-tail}
 use mathlib.Core.Option.{some-injective, some-ne-none}
-use Rattle.rds_views.specs.Views.{At, Each, Has}
+use Rattle.rds_views.specs.Views.{At, Each}
 use Rattle.rds_model.specs.declared.order.Order.{Order}
 use Rattle.rds_model.specs.declared.order.Order.TheVariants as order
 use Rattle.rds_model.specs.declared.order.Datagram.{Datagram}
 use Rattle.rds_mail.specs.declared.view.Account.{Account}
 use Rattle.rds_mail.specs.Numbers.{Number, Numbered, same_number, items_of, items}
-use Rattle.rds_model.specs.Honest.{Begins}
 use Rattle.rds_mail.specs.Shared.{IsPart}
 use Rattle.rds_mail.specs.Merging.{is_key, by_key, IsKeyed, KeysBegin}
 use Rattle.rds_parts.specs.Lanes.{IsOf}
-use Rattle.rds_socket.specs.Joins.{slot_of_order, sender_in, IsFrom, AreMarked, AreTold, KeysAre}
+use Rattle.rds_joins.specs.Joins.{slot_of_order, sender_in, IsFrom, AreMarked, AreTold, KeysAre}
 
 each_of_all : {X : Type 0} (P : X → Type 0) (xs : List X) (i : ℕ) (x : X) → At xs i x → All P xs → P x
 each_of_all P [] i x at all = absurd (some-ne-none x (sym at))

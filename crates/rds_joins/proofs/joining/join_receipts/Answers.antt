@@ -1,7 +1,6 @@
-use Rattle.rds_parts.specs.Lanes.{IsOf}
-use Rattle.rds_socket.specs.Joins.{sender_in, IsFrom}
-use Rattle.rds_socket.proofs.Joins.{keyed_of, are_of, key_of_sender}
-use Rattle.rds_socket.proofs.joining.join_receipts.Goals as goal
+use Rattle.rds_joins.specs.Joins.{sender_in, IsFrom}
+use Rattle.rds_joins.proofs.Joins.{keyed_of, are_of, key_of_sender}
+use Rattle.rds_joins.proofs.joining.join_receipts.Goals as goal
 
 pub returns-clause-begin : goal.returns-clause-begin
 returns-clause-begin g c mark marked = c.gather_keyed.ensures.keyed sender_in mark (keyed_of sender_in IsFrom mark c.gather_keyed.new.get.joined key_of_sender marked)

@@ -7,7 +7,6 @@ use Rattle.rds_model.specs.declared.order.Datagram.{Datagram}
 use Rattle.rds_mail.specs.declared.view.Account.{Account}
 use Rattle.rds_mail.specs.Numbers.{Number, Numbered, items}
 use Rattle.rds_mail.specs.Merging.{by_key}
-use Rattle.rds_parts.specs.Lanes.{IsOf}
 
 -- the slot of an order, which a cut has not
 abbrev pub slot_of_order : Order → Option ℕ

@@ -1,7 +1,7 @@
 use Rattle.rds_parts.specs.Lanes.{IsOf}
-use Rattle.rds_socket.specs.Joins.{slot_of_order, IsFrom}
-use Rattle.rds_socket.proofs.Joins.{keyed_of, are_of, key_of_slot}
-use Rattle.rds_socket.proofs.joining.join_orders.Goals as goal
+use Rattle.rds_joins.specs.Joins.{slot_of_order}
+use Rattle.rds_joins.proofs.Joins.{keyed_of, are_of, key_of_slot}
+use Rattle.rds_joins.proofs.joining.join_orders.Goals as goal
 
 pub returns-clause-begin : goal.returns-clause-begin
 returns-clause-begin g c mark marked = c.gather_keyed.ensures.keyed slot_of_order mark (keyed_of slot_of_order IsOf mark c.gather_keyed.new.get.joined key_of_slot marked)

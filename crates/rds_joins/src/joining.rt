@@ -1,4 +1,4 @@
-//! What is known once the passes of a queue are joined: a line's order queue, and a slot's mailbox.
+//! The joins of a line's order queue and of a slot's mailbox.
 ghost use Rattle.std.specs.Prelude.{◌≡◌, ◌++◌, ℕ, All, map};
 ghost use Rattle.rds_views.specs.Views.{Each};
 ghost use Rattle.rds_mail.specs.Numbers.{Number};
@@ -6,7 +6,7 @@ ghost use Rattle.rds_mail.specs.Shared.{IsPart};
 ghost use Rattle.rds_mail.specs.Passes.{with_joined, account_of};
 ghost use Rattle.rds_mail.specs.Merging.{AreAll, KeysBegin};
 ghost use Rattle.rds_parts.specs.Lanes.{IsOf};
-ghost use Rattle.rds_socket.specs.Joins.{slot_of_order, sender_in, IsFrom, AreMarked, AreTold, KeysAre};
+ghost use Rattle.rds_joins.specs.Joins.{slot_of_order, sender_in, IsFrom, AreMarked, AreTold, KeysAre};
 
 use rds_mail::{Asked, GetPass, Mail, PutPass};
 use rds_model::Datagram;
