@@ -11,15 +11,16 @@ use crate::name::Name;
 use crate::payload::payload_at;
 use crate::place::{host_at, number_at, peer_at, port_at};
 use crate::{Cause, Command};
-use std::alloc::Global;
+use rds_wire::Payloads;
 
 /// The most bytes that a socket's buffer may have.
 const MAX_BUFFER: u32 = 16_777_216;
 
-/// The command of this name, from the other words of its line, which are as many as the name wants.
+/// The command of this name, from the other words of its line, which are as many as the name wants. A payload gets its bytes
+/// from the room that all payloads of the script share.
 #[tactic(auto, unfolding(crate::specs::Reading::command_at))]
 pub(crate) fn command_of(
-    alloc: Global,
+    room: &mut Payloads,
     hosts: u8,
     name: Name,
     rest: &[u8],
@@ -47,7 +48,7 @@ pub(crate) fn command_of(
                 rcvbuf,
             })
         }
-        Name::Send => send(alloc, hosts, rest),
+        Name::Send => send(room, hosts, rest),
         Name::Recv => {
             let (host, port) = socket(hosts, rest)?;
             Ok(Command::Recv { host, port })
@@ -132,14 +133,14 @@ fn movement(hosts: u8, rest: &[u8]) -> Result<Command, Cause>
 
 /// A host and a port, another host and port, and a payload.
 #[tactic(auto, unfolding(crate::specs::Reading::command_at))]
-fn send(alloc: Global, hosts: u8, rest: &[u8]) -> Result<Command, Fault>
+fn send(room: &mut Payloads, hosts: u8, rest: &[u8]) -> Result<Command, Fault>
     ensures { GivesOrMemory (λ c. c) result (command_at hosts names.Send (words rest.now)) }
 {
     let (host, rest) = host_at(hosts, rest)?;
     let (port, rest) = port_at(rest)?;
     let (to, rest) = host_at(hosts, rest)?;
     let (dport, rest) = port_at(rest)?;
-    let payload = payload_at(alloc, rest)?;
+    let payload = payload_at(room, rest)?;
     Ok(Command::Send {
         host,
         port,

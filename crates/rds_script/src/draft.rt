@@ -8,12 +8,15 @@ use crate::name::Name;
 use crate::place::number_at;
 use crate::script::{MAX_CUTS, MAX_TOTAL};
 use crate::{Cause, Command, Placed, Script};
+use rds_wire::Payloads;
 use std::alloc::Global;
 
 /// The script of the lines that were read so far; it has 0 hosts before its first command.
 #[derive(Drop)]
 pub(crate) struct Draft {
     pub(crate) script: Script,
+    /// Where the bytes of all payloads stand.
+    room: Payloads,
     /// The payload bytes of all sends.
     total: u32,
     /// How many cuts there are.
@@ -40,6 +43,7 @@ impl Draft {
                 hosts_line: 0,
                 commands: Vec::new(alloc),
             },
+            room: Payloads::new(alloc),
             total: 0,
             cuts: 0,
         }
@@ -47,7 +51,7 @@ impl Draft {
 
     /// Reads the next line, which has this number. After a fault the draft is of no use.
     #[tactic(auto, unfolding(crate::specs::Reading::line_at))]
-    pub(crate) fn read_line(&mut self, alloc: Global, number: u32, line: &[u8]) -> Result<(), Fault>
+    pub(crate) fn read_line(&mut self, number: u32, line: &[u8]) -> Result<(), Fault>
         ensures { Becomes result (reading.line_at (meaning self.old.script) number line.now)
             (meaning self.new.script) }
     {
@@ -61,14 +65,13 @@ impl Draft {
         let Some(name) = Name::of(word) else {
             return Err(Fault::Refused(Cause::Command));
         };
-        self.read_command(alloc, number, name, rest)
+        self.read_command(number, name, rest)
     }
 
     /// Reads a line that begins with this name and has these other words.
     #[tactic(auto, unfolding(crate::specs::Reading::counted))]
     fn read_command(
         &mut self,
-        alloc: Global,
         number: u32,
         name: Name,
         rest: &[u8],
@@ -82,14 +85,13 @@ impl Draft {
         if !has_words(rest, name.places()) {
             return Err(Fault::Refused(Cause::Words));
         }
-        self.read_words(alloc, number, name, rest)
+        self.read_words(number, name, rest)
     }
 
     /// Reads a line with as many words as its name wants.
     #[tactic(auto, unfolding(crate::specs::Reading::named))]
     fn read_words(
         &mut self,
-        alloc: Global,
         number: u32,
         name: Name,
         rest: &[u8],
@@ -100,7 +102,7 @@ impl Draft {
         if name.is_hosts() {
             return self.read_hosts(number, rest);
         }
-        let command = command_of(alloc, self.script.hosts, name, rest)?;
+        let command = command_of(&mut self.room, self.script.hosts, name, rest)?;
         self.add(number, command)
     }
 

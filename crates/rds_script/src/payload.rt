@@ -14,58 +14,58 @@ use crate::line::first_word;
 use crate::place::number_of;
 use crate::script::MAX_PAYLOAD;
 use hex::FromHexError;
-use rds_wire::Payload;
+use rds_wire::{Payload, Payloads};
 use std::alloc::Global;
 
 /// The payload that the first word of a line's rest stands for.
 #[tactic(auto, unfolding(crate::specs::Reading::payload_at))]
-pub(crate) fn payload_at(alloc: Global, line: &[u8]) -> Result<Payload, Fault>
+pub(crate) fn payload_at(room: &mut Payloads, line: &[u8]) -> Result<Payload, Fault>
     ensures { GivesOrMemory (λ p. (the_bytes p, drop 1 (words line.now))) result
         (reading.payload_at (words line.now)) }
 {
     let (word, _) = first_word(line);
-    payload_of(alloc, word)
+    payload_of(room, word)
 }
 
 #[tactic(auto, unfolding(crate::specs::Reading::payload_of))]
-fn payload_of(alloc: Global, word: &[u8]) -> Result<Payload, Fault>
+fn payload_of(room: &mut Payloads, word: &[u8]) -> Result<Payload, Fault>
     ensures { GivesOrMemory (λ p. p) result (ok_or (reading.payload_of word.now) cause.Payload) }
 {
     match word {
-        [form, b':', rest @ ..] => formed(alloc, *form, rest),
+        [form, b':', rest @ ..] => formed(room, *form, rest),
         _ => Err(Fault::Refused(Cause::Payload)),
     }
 }
 
 #[tactic(auto, unfolding(crate::specs::Reading::formed))]
-fn formed(alloc: Global, form: u8, rest: &[u8]) -> Result<Payload, Fault>
+fn formed(room: &mut Payloads, form: u8, rest: &[u8]) -> Result<Payload, Fault>
     ensures { GivesOrMemory (λ p. p) result (ok_or (reading.formed form rest.now) cause.Payload) }
 {
     match form {
-        b't' => plain(alloc, rest),
-        b'x' => hexed(alloc, rest),
-        b'f' => filled(alloc, rest),
+        b't' => plain(room, rest),
+        b'x' => hexed(room, rest),
+        b'f' => filled(room, rest),
         _ => Err(Fault::Refused(Cause::Payload)),
     }
 }
 
 /// The bytes themselves.
-fn plain(alloc: Global, text: &[u8]) -> Result<Payload, Fault>
+fn plain(room: &mut Payloads, text: &[u8]) -> Result<Payload, Fault>
     ensures { GivesOrMemory (λ p. p) result (ok_or (reading.limited text.now) cause.Payload) }
 {
     if text.len() > MAX_PAYLOAD as usize {
         return Err(Fault::Refused(Cause::Payload));
     }
-    Ok(Payload::copy_of(alloc, text)?)
+    Ok(room.copy_of(text)?)
 }
 
 /// A byte for each two hexadecimal digits.
 #[tactic(auto, unfolding(crate::specs::Reading::hexed))]
-fn hexed(alloc: Global, digits: &[u8]) -> Result<Payload, Fault>
+fn hexed(room: &mut Payloads, digits: &[u8]) -> Result<Payload, Fault>
     ensures { GivesOrMemory (λ p. p) result (ok_or (reading.hexed digits.now) cause.Payload) }
 {
-    match hex::decode(alloc, digits) {
-        Ok(bytes) => kept(bytes),
+    match hex::decode(room.allocator(), digits) {
+        Ok(bytes) => kept(room, bytes),
         Err(FromHexError::OutOfMemory) => Err(Fault::Memory),
         Err(_) => Err(Fault::Refused(Cause::Payload)),
     }
@@ -73,11 +73,14 @@ fn hexed(alloc: Global, digits: &[u8]) -> Result<Payload, Fault>
 
 /// As many bytes as the number says: 0, 1, and so on to 255, and again from 0.
 #[tactic(auto, unfolding(crate::specs::Reading::filled))]
-fn filled(alloc: Global, digits: &[u8]) -> Result<Payload, Fault>
+fn filled(room: &mut Payloads, digits: &[u8]) -> Result<Payload, Fault>
     ensures { GivesOrMemory (λ p. p) result (ok_or (reading.filled digits.now) cause.Payload) }
 {
     match number_of(digits) {
-        Some(count) if count <= u64::from(MAX_PAYLOAD) => kept(counting(alloc, count as u32)?),
+        Some(count) if count <= u64::from(MAX_PAYLOAD) => {
+            let bytes = counting(room.allocator(), count as u32)?;
+            kept(room, bytes)
+        },
         _ => Err(Fault::Refused(Cause::Payload)),
     }
 }
@@ -92,15 +95,12 @@ fn counting(alloc: Global, count: u32) -> Result<Vec<u8>, Fault>
     Ok(bytes)
 }
 
-/// These bytes without a copy, if they aren't too many.
-fn kept(bytes: Vec<u8>) -> Result<Payload, Fault>
+/// These bytes, if they aren't too many.
+fn kept(room: &mut Payloads, bytes: Vec<u8>) -> Result<Payload, Fault>
     ensures { GivesOrMemory (λ p. p) result (ok_or (reading.limited bytes.items) cause.Payload) }
 {
     if bytes.len() > MAX_PAYLOAD as usize {
         return Err(Fault::Refused(Cause::Payload));
     }
-    match Payload::from_vec(bytes) {
-        Ok(payload) => Ok(payload),
-        Err(_) => Err(Fault::Memory),
-    }
+    Ok(room.of_vec(bytes)?)
 }

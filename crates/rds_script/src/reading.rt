@@ -59,7 +59,7 @@ fn read_lines(alloc: Global, text: &[u8]) -> Result<Script, ScriptError>
             return Err(refused(number + 1, Cause::Lines));
         }
         number += 1;
-        if let Err(fault) = draft.read_line(alloc, number, line) {
+        if let Err(fault) = draft.read_line(number, line) {
             return Err(fault.at(number));
         }
         rest = after;

@@ -9,6 +9,7 @@ mod kind;
 mod laws;
 mod memory;
 mod payload;
+mod payloads;
 mod sum;
 
 pub use codec::{decode, encode};
@@ -19,6 +20,7 @@ pub use kind::{Kind, MAP_LENGTH, MAX_LENGTH, Malformed, check, kind_of};
 pub use laws::{one_ext, one_header};
 pub use memory::Memory;
 pub use payload::Payload;
+pub use payloads::Payloads;
 pub use sum::{sealed, sum_ok};
 
 #[cfg(test)]
