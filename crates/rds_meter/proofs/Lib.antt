@@ -6,4 +6,3 @@ pub mod Loading
 pub mod Bits
 pub mod Joins
 pub mod Opening
-pub mod Checks

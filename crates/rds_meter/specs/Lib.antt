@@ -3,3 +3,4 @@ pub mod Seats
 pub mod Shared
 pub mod Plays
 pub mod PartLaws
+pub mod CheckLaws

@@ -23,7 +23,7 @@ acknowledgements (e ∷ past) = acknowledgements past ++ highest_ack past ∷ []
 -- a number is above the acknowledged one, where there is one
 abbrev pub is_above : Option ℕ → ℕ → Bool
 is_above None n = false
-is_above (Some highest_ack) n = nat_lt highest_ack n
+is_above (Some ack) n = nat_lt ack n
 
 -- pairs of a slot and a port, by the slot and then the port
 abbrev pub pair_cmp : ℕ × ℕ → ℕ × ℕ → Ordering

@@ -2,7 +2,7 @@ use Rattle.std.proofs.Common.{true, refl, sym, ap, ◌∙◌, subst, arith}
 use Rattle.rds_meter.specs.declared.view.View.{View}
 use Rattle.rds_meter.specs.declared.mark.Mark.{Mark}
 use Rattle.rds_meter.specs.Seats.{MeterSeat, OpensWith, after_load}
-use Rattle.rds_meter.proofs.Checks.{opens_with}
+use Rattle.rds_meter.specs.CheckLaws.{opens_with}
 use Rattle.rds_meter.proofs.tests.deliver.Goals as goal
 
 pub raise-requires-clause-check : goal.raise-requires-clause-check

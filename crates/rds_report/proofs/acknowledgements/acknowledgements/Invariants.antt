@@ -6,5 +6,5 @@ use Rattle.rds_report.proofs.acknowledgements.acknowledgements.Given as goal
 abbrev pub invariant-loop-i : goal.invariant-loop-i
 invariant-loop-i l = record {
   acks : l.acks.items ≡ acknowledgements (before l.i l.journal.past);
-  highest_ack : l.acked ≡ highest_ack (before l.i l.journal.past);
+  acked : l.acked ≡ highest_ack (before l.i l.journal.past);
 }

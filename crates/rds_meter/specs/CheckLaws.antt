@@ -1,10 +1,11 @@
+-- Laws, each proved: proofs in other crates use them. Nothing here has to be believed.
 -- What a seat's check is after its three steps: an addition to the put word of a slot, a load of the limit and a load of the taken word.
 use Rattle.std.proofs.Common.{◌≡◌, append-nil, ℕ, ◌+◌, ◌-◌, ◌<◌, [], ◌∷◌, ◌++◌, Some, None, eq-eqb, cond, Bool, true, false, refl, sym, ap, ◌∙◌, arith}
 use Rattle.std.proofs.lemmas.Bool.Decides.{nat_tests}
 use Rattle.rds_meter.specs.declared.view.View.{View}
 use Rattle.rds_meter.specs.declared.view.Check.{Check}
 use Rattle.rds_meter.specs.declared.view.Stage.{Stage}
-use Rattle.rds_meter.specs.declared.view.Stage.TheVariants.{Put, Limited}
+use Rattle.rds_meter.specs.declared.view.Stage.TheVariants.{Idle, Put, Limited}
 use Rattle.rds_meter.specs.declared.mark.Mark.{Mark}
 use Rattle.rds_meter.specs.Places.{limit_word, put_word, taken_word}
 use Rattle.rds_meter.specs.Seats.{after_add, after_load, stage_after, completed, opening, closing, must_raise, is_put_word, OpensWith}
@@ -36,6 +37,10 @@ module _ (v : View) (slot amount put limit taken : ℕ) (small : slot < 1024) wh
   none_yet : completed first slot limit ≡ None
   none_yet = ap (λ s. completed s slot limit) first_is
 
+  -- no check is under way after them
+  pub idle : checked.stage ≡ Idle
+  idle = ap (λ s. stage_after s (taken_word slot) taken) second_is ∙ ap (λ (b : Bool). cond b Idle (Limited slot put limit)) (eq-eqb (taken_word slot) (taken_word slot) refl)
+
   -- a check that has to raise a bit is the latest open one
   pub opens : must_raise check ≡ true → checked.pending ≡ check ∷ v.pending
   opens must =
@@ -53,4 +58,13 @@ module _ (v : View) (slot amount put limit taken : ℕ) (small : slot < 1024) wh
         ∙ (ap (λ (b : Bool). (v.checks ++ closing (completed first slot limit)) ++ cond b [] (check ∷ [])) must ∙ (ap (λ o. (v.checks ++ closing o) ++ check ∷ []) none_yet ∙ ap (λ l. l ++ check ∷ []) (append-nil v.checks))),
     ap (λ o. opening o ++ (opening (completed first slot limit) ++ v.pending)) last_is
         ∙ (ap (λ (b : Bool). cond b (check ∷ []) [] ++ (opening (completed first slot limit) ++ v.pending)) must ∙ ap (λ o. opening o ++ v.pending) none_yet),
+  )
+
+-- a load that no check waits for leaves the checks and the stage as they were
+pub load_at_idle : (v : View) (word found : ℕ) → v.stage ≡ Idle →
+    ((after_load v word found).stage ≡ Idle) × ((after_load v word found).checks ≡ v.checks) × ((after_load v word found).pending ≡ v.pending)
+load_at_idle v word found idle = (
+    ap (λ s. stage_after s word found) idle,
+    ap (λ s. v.checks ++ closing (completed s word found)) idle ∙ append-nil v.checks,
+    ap (λ s. opening (completed s word found) ++ v.pending) idle,
   )
