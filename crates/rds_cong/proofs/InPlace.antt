@@ -4,7 +4,7 @@ use Rattle.std.proofs.lemmas.List.{get_or_default}
 use Rattle.std.proofs.lemmas.Nat.{or_lt}
 use Rattle.std.specs.Int.{bit_not}
 use Rattle.rds_cong.specs.Map.{has_port, with_port, without_port, IsMap, IsWords}
-use Rattle.rds_cong.proofs.Changes.{has_port-with, has_port-without, bytes-put, bytes-taken}
+use Rattle.rds_cong.specs.ChangeLaws.{has_port-with, has_port-without, bytes-put, bytes-taken}
 use Rattle.rds_cong.specs.PortLaws.{has_port-test}
 use Rattle.rds_cong.specs.WordLaws.{bytes_of, IsWords-set}
 

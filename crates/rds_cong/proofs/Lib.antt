@@ -1,4 +1,2 @@
-pub mod Bits
-pub mod Changes
 pub mod InPlace
 pub mod Differing

@@ -11,6 +11,7 @@ const LEAST_ROOM: usize = 8192;
 
 // Payloads up to this length are gathered in blocks of the other.
 const SHORT: usize = 2048;
+
 const BLOCK: usize = 32_768;
 
 // The part of a payload that came so far. Many short payloads stand in one block, one after another, and each is handed out

@@ -1,3 +1,4 @@
 mod EventInvariants
 mod EndsAgree
 mod InOrder
+mod OneMap

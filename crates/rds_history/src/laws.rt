@@ -1,12 +1,14 @@
 //! Laws of the history of a script: what holds of it whatever its commands are. Their bodies are empty; each clause is a
 //! theorem.
-ghost use Rattle.std.specs.Prelude.{◌≡◌, ℕ, Ok, List, []};
+ghost use Rattle.std.specs.Prelude.{◌≡◌, ◌<◌, ℕ, Ok, List, []};
+ghost use Rattle.rds_cong.specs.Map.{has_port};
 ghost use Rattle.rds_script.specs.declared.script.Command.{Command};
 ghost use Rattle.rds_script.specs.declared.script.Placed.{Placed};
 ghost use Rattle.rds_history.specs.EndsAgree.{EndsAgree};
 ghost use Rattle.rds_history.specs.Events.{Event};
 ghost use Rattle.rds_history.specs.History.{after, history, text_of};
 ghost use Rattle.rds_history.specs.InOrder.{HandsOutInOrder};
+ghost use Rattle.rds_history.specs.Journals.{is_marked, own_map};
 ghost use Rattle.rds_history.specs.WorkedScripts.{hello, text_of_hello, cut_cancel_ping_congestion, text_of_cut_cancel_ping_congestion};
 
 /// Each socket hands out what was delivered to it, in order.
@@ -22,6 +24,11 @@ pub fn ends_agree()
         after limit hosts command past ≡ Ok later → EndsAgree later }
     ensures last { (limit hosts : ℕ) (commands : List Placed) (past : List Event) →
         history limit hosts commands [] ≡ Ok past → EndsAgree past }
+{}
+
+/// The congestion map that a host sends has exactly the ports whose last mark set them, as the transcript shows the marks.
+pub fn one_map()
+    ensures { (h port : ℕ) (past : List Event) → port < 65536 → has_port (own_map h past) port ≡ is_marked h port past }
 {}
 
 /// The definitions give the whole text of a script with one datagram.

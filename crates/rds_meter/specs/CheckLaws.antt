@@ -64,7 +64,7 @@ module _ (v : View) (slot amount put limit taken : ℕ) (small : slot < 1024) wh
 pub load_at_idle : (v : View) (word found : ℕ) → v.stage ≡ Idle →
     ((after_load v word found).stage ≡ Idle) × ((after_load v word found).checks ≡ v.checks) × ((after_load v word found).pending ≡ v.pending)
 load_at_idle v word found idle = (
-    ap (λ s. stage_after s word found) idle,
-    ap (λ s. v.checks ++ closing (completed s word found)) idle ∙ append-nil v.checks,
-    ap (λ s. opening (completed s word found) ++ v.pending) idle,
-  )
+  ap (λ s. stage_after s word found) idle,
+  ap (λ s. v.checks ++ closing (completed s word found)) idle ∙ append-nil v.checks,
+  ap (λ s. opening (completed s word found) ++ v.pending) idle,
+)

@@ -1,7 +1,7 @@
 ghost use Rattle.std.specs.Prelude.{◌≡◌, ◌<◌, ◌≤◌};
 ghost use Rattle.rds_model.specs.declared.journal.TheConstants.{MIN_ENTRIES, MAX_ENTRIES};
 
-use crate::{PairEnd, Pair, PairError, Step};
+use crate::{Pair, PairEnd, PairError, Step};
 use rds_cong::PortMap;
 use rds_model::{Entry, Journal, Order, Outcome};
 use rds_msgs::Steps;
@@ -72,7 +72,12 @@ fn pull(alloc: Global, end: PairEnd) -> Result<Step, Fail> {
 }
 
 // A frame goes from one end to the other, which passes it.
-fn push_frame(alloc: Global, steps: &mut Vec<Step>, from: PairEnd, to: PairEnd) -> Result<(), Fail> {
+fn push_frame(
+    alloc: Global,
+    steps: &mut Vec<Step>,
+    from: PairEnd,
+    to: PairEnd,
+) -> Result<(), Fail> {
     steps.push(pull(alloc, from)?)?;
     steps.push(Step::Move { to, bytes: 10_000 })?;
     steps.push(Step::Pass {
@@ -166,7 +171,11 @@ fn hello_is_delivered_once_over_a_cut_in_its_payload(rt: HostRuntime) -> Result<
     let mut played = unplayed(alloc, 100)?;
     assert_eq!(rt; run(&mut played, &steps), Ok(()));
     let pair = &played.pair;
-    assert_delivered_later(&rt, pair.journal(PairEnd::First), pair.journal(PairEnd::Second));
+    assert_delivered_later(
+        &rt,
+        pair.journal(PairEnd::First),
+        pair.journal(PairEnd::Second),
+    );
     Ok(())
 }
 
@@ -174,7 +183,9 @@ fn hello_is_delivered_once_over_a_cut_in_its_payload(rt: HostRuntime) -> Result<
 fn push_shut(alloc: Global, steps: &mut Vec<Step>) -> Result<(), Fail> {
     push_beginning(alloc, steps)?;
     steps.push(pull(alloc, PairEnd::First)?)?;
-    steps.push(Step::Shut { end: PairEnd::First })?;
+    steps.push(Step::Shut {
+        end: PairEnd::First,
+    })?;
     steps.push(Step::Move {
         to: PairEnd::Second,
         bytes: 60,

@@ -70,12 +70,7 @@ impl Draft {
 
     /// Reads a line that begins with this name and has these other words.
     #[tactic(auto, unfolding(crate::specs::Reading::counted))]
-    fn read_command(
-        &mut self,
-        number: u32,
-        name: Name,
-        rest: &[u8],
-    ) -> Result<(), Fault>
+    fn read_command(&mut self, number: u32, name: Name, rest: &[u8]) -> Result<(), Fault>
         ensures { Becomes result (reading.counted (meaning self.old.script) number name (words rest.now))
             (meaning self.new.script) }
     {
@@ -90,12 +85,7 @@ impl Draft {
 
     /// Reads a line with as many words as its name wants.
     #[tactic(auto, unfolding(crate::specs::Reading::named))]
-    fn read_words(
-        &mut self,
-        number: u32,
-        name: Name,
-        rest: &[u8],
-    ) -> Result<(), Fault>
+    fn read_words(&mut self, number: u32, name: Name, rest: &[u8]) -> Result<(), Fault>
         ensures { Becomes result (reading.named (meaning self.old.script) number name (words rest.now))
             (meaning self.new.script) }
     {

@@ -6,6 +6,7 @@ use std::alloc::Global;
 
 // Payloads up to this length are shares of blocks of the other.
 const SHORT: usize = 2048;
+
 const BLOCK: usize = 32_768;
 
 /// Room that the payloads of many datagrams share: a short payload is a share of a block of 32,768 bytes, and takes memory

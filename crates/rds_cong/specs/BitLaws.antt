@@ -1,3 +1,4 @@
+-- Laws, each proved: proofs in other crates use them. Nothing here has to be believed.
 -- One bit of a number put in or taken out, and the place of a bit by its quotient and its remainder.
 use Rattle.std.proofs.Common.{◌≡◌, ◌≢◌, ℕ, zero, suc, ◌-◌, ◌*◌, ◌/◌, ◌%◌, ◌^◌, ◌<◌, ◌==◌, ◌&&◌, ◌||◌, not, min, max, bit_and, bit_or, refl, ap, ◌∙◌, arith, ⊎_elim, w64}
 use Rattle.std.proofs.lemmas.Bool.{cases_eq, eq-eqb, ne_eqb}

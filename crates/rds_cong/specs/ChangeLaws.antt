@@ -1,3 +1,4 @@
+-- Laws, each proved: proofs in other crates use them. Nothing here has to be believed.
 -- A port put into a map or taken out of it, in its bytes and in its words.
 use Rattle.std.proofs.Common.{◌≡◌, ◌≢◌, ℕ, ◌-◌, ◌*◌, ◌/◌, ◌%◌, ◌^◌, ◌<◌, ◌≤◌, ◌==◌, ◌&&◌, ◌||◌, not, List, length, slice_index, slice_set, bit_and, bit_or, refl, sym, ap, ◌∙◌, arith, ⊎_elim, w8, w64}
 use Rattle.std.proofs.lemmas.Bool.{cases_eq, ne_eqb}
@@ -7,7 +8,7 @@ use Rattle.std.proofs.lemmas.Nat.{or_lt, and_le_l, pow_below}
 use Rattle.std.specs.Int.{bit_at, bit_not}
 use Rattle.rds_wire.specs.Bytes.{IsBytes}
 use Rattle.rds_cong.specs.Map.{has_port, with_port, without_port}
-use Rattle.rds_cong.proofs.Bits.{low_8, low_64, bit-put, bit-taken, bit-put_shifted, bit-taken_shifted}
+use Rattle.rds_cong.specs.BitLaws.{low_8, low_64, bit-put, bit-taken, bit-put_shifted, bit-taken_shifted}
 use Rattle.rds_cong.specs.PortLaws.{has_port-bytes, in_word, same_ports}
 use Rattle.rds_cong.specs.WordLaws.{bytes_of, length-bytes, IsBytes-bytes}
 
