@@ -57,7 +57,7 @@ length_if false changed map a b = b
 
 length-own_map : (h : ℕ) (past : List Event) → length (own_map h past) ≡ 8192
 unfolding no_ports
-length-own_map h [] = length-replicate 8192 0
+length-own_map h [] = length-replicate {A = ℕ} 8192 0
 length-own_map h (Marked host port true queued limit ∷ past) =
     let m = length-own_map h past in length_if (host == h) _ _ (length-set (own_map h past) (port / 8) _ ∙ m) m
 length-own_map h (Marked host port false queued limit ∷ past) =
