@@ -17,7 +17,6 @@ use std::sync::ledger::Ledger;
 const SLOTS: u16 = 1;
 
 /// One end of a connection, the bytes that it has in flight, and what it has seen of datagrams.
-#[derive(Drop)]
 pub struct End {
     conn: Conn,
     map: PortMap,
@@ -29,25 +28,32 @@ pub struct End {
     ghost sockets: { conn.slots ≡ 1 },
 }
 
+// By hand, so that one call drops it wherever it is let go, and no function that owns one drops each field.
+impl Drop for End {
+    fn drop(self) {
+        let Self {
+            conn: _conn,
+            map: _map,
+            out: _out,
+            delivered: _,
+            freed: _,
+        } = self;
+    }
+}
+
 impl End {
     /// The end of the host `me`, of a connection to `peer`.
     pub fn new(alloc: Global, me: u32, peer: u32) -> Result<End, Failure> {
         let map = PortMap::new(alloc)?;
         let out = Out::new(alloc)?;
         let conn = Conn::new(alloc, me, peer, SLOTS, MAX_ENTRIES)?;
-        Ok(End::of(conn, map, out))
-    }
-
-    fn of(conn: Conn, map: PortMap, out: Out) -> End
-        requires { conn.slots ≡ 1 }
-    {
-        End {
+        Ok(End {
             conn,
             map,
             out,
             delivered: 0,
             freed: 0,
-        }
+        })
     }
 
     /// Opens the first stream. An end that had one stays as it is.

@@ -12,6 +12,7 @@ mod pair;
 use failure::Failure;
 use pair::Pair;
 use rds_msgs::Steps;
+use std::alloc::Global;
 use std::env;
 use std::io::Print;
 use std::marker::Brand;
@@ -24,23 +25,6 @@ const FEW: u64 = 4096;
 
 /// How many datagrams are accepted before bytes move.
 const BATCH: u64 = 64;
-
-/// What the program had taken before the first datagram.
-#[derive(Clone, Copy)]
-struct Start {
-    /// The most bytes of memory at once.
-    peak: u64,
-    /// Its processor time.
-    time: Duration,
-}
-
-impl Start {
-    fn now(rt: &(impl CpuClock + Files + AllocGlobal)) -> Result<Start, Failure> {
-        let peak = memory::peak(rt)?;
-        let time = rt.thread_cpu_time()?;
-        Ok(Start { peak, time })
-    }
-}
 
 fn main(rt: HostRuntime) -> Result<(), Failure> {
     let mut words = env::args(&rt)?;
@@ -58,49 +42,34 @@ fn main(rt: HostRuntime) -> Result<(), Failure> {
 
 // What became of a few datagrams.
 fn show(rt: &(impl Print + AllocGlobal)) -> Result<(), Failure> {
-    let mut pair = Pair::new(rt.alloc())?;
-    show_few(rt, &mut pair)
-}
-
-fn show_few(rt: &impl Print, pair: &mut Pair) -> Result<(), Failure> {
-    send(pair, FEW, BATCH)?;
+    let pair = sent(rt.alloc(), FEW, BATCH)?;
     let delivered = pair.delivered();
     let freed = pair.freed();
     rt.println(format_args!("{delivered} datagrams went through, {freed} bytes freed"))?;
     Ok(())
 }
 
-// What each of many datagrams costs.
+// What each of many datagrams costs. The connections are kept until all is measured.
 fn measure(
     rt: &(impl CpuClock + Files + Print + AllocGlobal),
     count: u64,
     batch: u64,
 ) -> Result<(), Failure> {
-    let start = Start::now(rt)?;
-    let mut pair = Pair::new(rt.alloc())?;
-    measure_since(rt, &start, &mut pair, count, batch)
-}
-
-// The connections are kept until all is measured.
-fn measure_since(
-    rt: &(impl CpuClock + Files + Print + AllocGlobal),
-    start: &Start,
-    pair: &mut Pair,
-    count: u64,
-    batch: u64,
-) -> Result<(), Failure> {
-    send(pair, count, batch)?;
-    report(rt, start, batch, pair.delivered())
+    let before = memory::peak(rt)?;
+    let start = rt.thread_cpu_time()?;
+    let pair = sent(rt.alloc(), count, batch)?;
+    let spent = rt.thread_cpu_time()?.saturating_sub(start);
+    let grown = memory::peak(rt)?.saturating_sub(before);
+    report(rt, batch, pair.delivered(), spent, grown)
 }
 
 fn report(
-    rt: &(impl CpuClock + Files + Print + AllocGlobal),
-    start: &Start,
+    rt: &impl Print,
     batch: u64,
     delivered: u64,
+    spent: Duration,
+    grown: u64,
 ) -> Result<(), Failure> {
-    let spent = rt.thread_cpu_time()?.saturating_sub(start.time);
-    let grown = memory::peak(rt)?.saturating_sub(start.peak);
     let nanos = spent.as_nanos() / u128::from(delivered.max(1));
     let bytes = grown / delivered.max(1);
     rt.println(format_args!(
@@ -109,17 +78,19 @@ fn report(
     Ok(())
 }
 
-// Sends so many datagrams on the first stream.
-fn send(pair: &mut Pair, count: u64, batch: u64) -> Result<(), Failure> {
-    pair.open()?;
-    send_by::<Brand>(pair, count, batch, Blank::new(1))
+// Two connections that so many datagrams went through.
+fn sent(alloc: Global, count: u64, batch: u64) -> Result<Pair, Failure> {
+    sent_by::<Brand>(alloc, count, batch, Blank::new(1))
 }
 
-fn send_by<L: Ledger>(pair: &mut Pair, count: u64, batch: u64, blank: Blank) -> Result<(), Failure>
+fn sent_by<L: Ledger>(alloc: Global, count: u64, batch: u64, blank: Blank) -> Result<Pair, Failure>
     requires name { blank.name ≡ L.name }
     requires parts { blank.parts ≡ L.parts }
     requires whole { 0 < L.parts }
 {
     let mut steps: Steps<L> = Steps::new(blank);
-    pair.send(count, batch, &mut steps)
+    let mut pair = Pair::new(alloc)?;
+    pair.open()?;
+    pair.send(count, batch, &mut steps)?;
+    Ok(pair)
 }

@@ -9,27 +9,29 @@ use std::sync::ledger::Ledger;
 const LENGTH: usize = 60;
 
 /// The two ends of a connection.
-#[derive(Drop)]
 pub struct Pair {
     alloc: Global,
     near: End,
     far: End,
 }
 
+// By hand, so that one call drops it wherever it is let go, and no function that owns one drops each field.
+impl Drop for Pair {
+    fn drop(self) {
+        let Self {
+            alloc: _alloc,
+            near: _near,
+            far: _far,
+        } = self;
+    }
+}
+
 impl Pair {
     /// Two hosts, with no stream.
     pub fn new(alloc: Global) -> Result<Pair, Failure> {
         let near = End::new(alloc, 1, 2)?;
-        Pair::with_near(alloc, near)
-    }
-
-    fn with_near(alloc: Global, near: End) -> Result<Pair, Failure> {
         let far = End::new(alloc, 2, 1)?;
-        Ok(Pair::of(alloc, near, far))
-    }
-
-    fn of(alloc: Global, near: End, far: End) -> Pair {
-        Pair { alloc, near, far }
+        Ok(Pair { alloc, near, far })
     }
 
     /// Opens the first stream.

@@ -1,4 +1,4 @@
-use Rattle.rds_bench_conn.proofs.send.Given as goal
+use Rattle.rds_bench_conn.proofs.sent.Given as goal
 
-abbrev pub ghosts-send_by : goal.ghosts-send_by
-ghosts-send_by a = record { name = a.blank.name; parts = a.blank.parts }
+abbrev pub ghosts-sent_by : goal.ghosts-sent_by
+ghosts-sent_by a = record { name = a.blank.name; parts = a.blank.parts }

@@ -1,9 +1,9 @@
 //! Headers that end their stream, that are passed over, or that are cut short.
 ghost use Rattle.std.specs.Prelude.{◌≡◌, []};
 
-use super::steps::{GREATEST, feed, header, open, unused};
+use super::steps::{GREATEST, feed, has_bad, header, is_refused, open, unused};
 use crate::{Conn, ConnError, Fed, Verdict};
-use rds_model::Entry;
+use rds_model::{Entry, Journal};
 use rds_wire::{CONG_BITMAP, Header, Malformed, RETRANSMITTED, encode};
 use std::alloc::Global;
 use std::process::Abort;
@@ -37,9 +37,8 @@ fn refuses(
     requires { conn.old.log.past ≡ [] }
 {
     open(conn)?;
-    let refused = Err(ConnError::Malformed(fault));
-    assert_eq!(rt; feed(conn, &encode(header)), refused);
-    assert!(rt; matches!(conn.journal().at(1), Some(Entry::Bad { cause, .. }) if *cause == fault));
+    is_refused(rt, feed(conn, &encode(header)), fault);
+    has_bad(rt, conn.journal(), 1, fault);
     assert_eq!(rt; feed(conn, b"more"), Err(ConnError::Closed));
     Ok(())
 }
@@ -125,21 +124,27 @@ fn takes_most(rt: &impl Abort, conn: &mut Conn) -> Result<(), ConnError>
     Ok(())
 }
 
-fn shuts(rt: &impl Abort, conn: &mut Conn) -> Result<(), ConnError> {
+fn shut(rt: &impl Abort, conn: &mut Conn) -> Result<(), ConnError> {
     conn.reserve()?;
     assert!(rt; conn.stream().is_some());
     conn.shut();
-    assert_eq!(rt; conn.journal().len(), 2);
-    assert!(rt; matches!(conn.journal().at(0), Some(Entry::Open { stream: 1 })));
-    assert!(rt; matches!(conn.journal().at(1), Some(Entry::Shut { stream: 1 })));
     Ok(())
+}
+
+// The stream was opened and shut, and nothing else happened.
+fn has_nothing(rt: &impl Abort, journal: &Journal) {
+    assert_eq!(rt; journal.len(), 2);
+    assert!(rt; matches!(journal.at(0), Some(Entry::Open { stream: 1 })));
+    assert!(rt; matches!(journal.at(1), Some(Entry::Shut { stream: 1 })));
 }
 
 fn forgets(rt: &impl Abort, conn: &mut Conn) -> Result<(), ConnError>
     requires { conn.old.log.past ≡ [] }
 {
     takes_most(rt, conn)?;
-    shuts(rt, conn)
+    shut(rt, conn)?;
+    has_nothing(rt, conn.journal());
+    Ok(())
 }
 
 #[test]

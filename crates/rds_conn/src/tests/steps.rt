@@ -5,10 +5,11 @@ ghost use Rattle.rds_conn.specs.Passing.{Matches};
 
 use crate::{Conn, ConnError, Fed, Found, Out, Verdict};
 use rds_cong::PortMap;
-use rds_model::Order;
+use rds_model::{Entry, Journal, Order};
 use rds_msgs::Steps;
-use rds_wire::{Header, Memory, Payload, decode};
+use rds_wire::{Header, Malformed, Memory, Payload, decode};
 use std::alloc::Global;
+use std::process::Abort;
 use std::sync::ledger::Ledger;
 
 pub const GREATEST: u64 = (1 << 63) - 1;
@@ -143,4 +144,15 @@ fn found(verdict: Verdict) -> Found
         Verdict::Deliver { .. } => Found::NoSocket,
         _ => Found::Unasked,
     }
+}
+
+/// A piece was refused for this fault.
+pub fn is_refused(rt: &impl Abort, fed: Result<Fed, ConnError>, fault: Malformed) {
+    let refused = Err(ConnError::Malformed(fault));
+    assert_eq!(rt; fed, refused);
+}
+
+/// That entry of a journal is a header that was refused for this fault.
+pub fn has_bad(rt: &impl Abort, journal: &Journal, entry: u32, fault: Malformed) {
+    assert!(rt; matches!(journal.at(entry), Some(Entry::Bad { cause, .. }) if *cause == fault));
 }

@@ -2,9 +2,9 @@
 ghost use Rattle.std.specs.Prelude.{◌≡◌, ◌<◌, [], OnOk};
 ghost use Rattle.rds_model.specs.Past.{newest_stream};
 
-use super::steps::{GREATEST, feed, header, open, pass, pulls, send, unused};
+use super::steps::{GREATEST, feed, has_bad, header, is_refused, open, pass, pulls, send, unused};
 use crate::{Conn, ConnError, Freed, Verdict};
-use rds_model::{Entry, Order, Target};
+use rds_model::{Order, Target};
 use rds_msgs::Steps;
 use rds_wire::{ACK_REQUIRED, CONG_BITMAP, Malformed, RETRANSMITTED, encode};
 use std::alloc::Global;
@@ -44,17 +44,28 @@ fn all_coming() -> [Coming; 5] {
     ]
 }
 
+// Takes and passes a datagram. Answers the verdict on it, and the number of the last passed one then.
+fn passed<L: Ledger>(
+    conn: &mut Conn,
+    steps: &mut Steps<L>,
+    coming: &Coming,
+) -> Result<(Option<Verdict>, u64), ConnError> {
+    let header = header(coming.sequence, 0, 0, 4001, coming.flags);
+    feed(conn, &encode(&header))?;
+    let verdict = conn.verdict();
+    pass(conn, steps)?;
+    Ok((verdict, conn.last_passed()))
+}
+
 fn passes<L: Ledger>(
     rt: &impl Abort,
     conn: &mut Conn,
     steps: &mut Steps<L>,
     coming: &Coming,
 ) -> Result<(), ConnError> {
-    let header = header(coming.sequence, 0, 0, 4001, coming.flags);
-    feed(conn, &encode(&header))?;
-    assert_eq!(rt; conn.verdict(), Some(coming.verdict));
-    pass(conn, steps)?;
-    assert_eq!(rt; conn.last_passed(), coming.last);
+    let (verdict, last) = passed(conn, steps, coming)?;
+    assert_eq!(rt; verdict, Some(coming.verdict));
+    assert_eq!(rt; last, coming.last);
     Ok(())
 }
 
@@ -88,42 +99,66 @@ fn a_number_is_old_where_it_is_marked(rt: HostRuntime) -> Result<(), Fail> {
     Ok(())
 }
 
-// Takes an acknowledgement of what was never pulled, which ends the stream, and opens the next one.
-fn refuses(rt: &impl Abort, conn: &mut Conn) -> Result<(), ConnError>
-    requires { newest_stream conn.old.log.past ≡ 1 }
+// Takes an acknowledgement of what was never pulled, which ends the stream.
+fn refuses(rt: &impl Abort, conn: &mut Conn)
+    ensures { newest_stream conn.new.log.past ≡ newest_stream conn.old.log.past }
 {
     let fault = Malformed::Ack { ack: 9, highest: 2 };
-    let refused = Err(ConnError::Malformed(fault));
-    assert_eq!(rt; feed(conn, &encode(&header(0, 9, 0, 0, 0))), refused);
-    assert!(rt; matches!(conn.journal().at(6), Some(Entry::Bad { cause, .. }) if *cause == fault));
+    is_refused(rt, feed(conn, &encode(&header(0, 9, 0, 0, 0))), fault);
+    has_bad(rt, conn.journal(), 6, fault);
     assert_eq!(rt; conn.unacked(), 2);
+}
+
+fn opens_the_next(rt: &impl Abort, conn: &mut Conn) -> Result<(), ConnError>
+    requires { newest_stream conn.old.log.past ≡ 1 }
+{
     conn.reserve()?;
     assert!(rt; conn.stream().is_none());
     conn.open(2);
     Ok(())
 }
 
-// Pulls what a stream owes at first, and what the next one owes.
-fn repeats(rt: &impl Abort, alloc: Global, conn: &mut Conn) -> Result<(), ConnError>
-    requires { newest_stream conn.old.log.past ≡ 1 }
-{
-    let first = [
+// What the first stream owes.
+fn first_frames() -> [Option<(u64, u8)>; 4] {
+    [
         Some((0, CONG_BITMAP)),
         Some((1, 0)),
         Some((2, ACK_REQUIRED)),
         None,
-    ];
-    assert_eq!(rt; pulls(conn, alloc)?, first);
-    refuses(rt, conn)?;
+    ]
+}
+
+// What the next stream owes.
+fn next_frames() -> [Option<(u64, u8)>; 4] {
     let again = RETRANSMITTED + ACK_REQUIRED;
-    let second = [
+    [
         Some((0, CONG_BITMAP)),
         Some((1, again)),
         Some((2, again)),
         None,
-    ];
-    assert_eq!(rt; pulls(conn, alloc)?, second);
+    ]
+}
+
+fn owes(
+    rt: &impl Abort,
+    alloc: Global,
+    conn: &mut Conn,
+    frames: [Option<(u64, u8)>; 4],
+) -> Result<(), ConnError>
+    ensures { OnOk result (newest_stream conn.new.log.past ≡ newest_stream conn.old.log.past) }
+{
+    let pulled = pulls(conn, alloc)?;
+    assert_eq!(rt; pulled, frames);
     Ok(())
+}
+
+fn repeats(rt: &impl Abort, alloc: Global, conn: &mut Conn) -> Result<(), ConnError>
+    requires { newest_stream conn.old.log.past ≡ 1 }
+{
+    owes(rt, alloc, conn, first_frames())?;
+    refuses(rt, conn);
+    opens_the_next(rt, conn)?;
+    owes(rt, alloc, conn, next_frames())
 }
 
 // Opens a stream, and sends two datagrams.
@@ -193,8 +228,10 @@ fn covers(rt: &impl Abort, alloc: Global, conn: &Conn) -> Result<(), ConnError> 
 // Nothing is left, and the bytes of both are handed out once.
 fn frees(rt: &impl Abort, conn: &mut Conn) {
     assert_eq!(rt; conn.unacked(), 0);
-    assert_eq!(rt; conn.take_freed(), Some(Freed { slot: 0, bytes: 10 }));
-    assert_eq!(rt; conn.take_freed(), None);
+    let freed = conn.take_freed();
+    assert_eq!(rt; freed, Some(Freed { slot: 0, bytes: 10 }));
+    let more = conn.take_freed();
+    assert_eq!(rt; more, None);
 }
 
 fn cancels<L: Ledger>(
