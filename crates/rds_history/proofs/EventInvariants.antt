@@ -30,7 +30,7 @@ use Rattle.rds_history.specs.Recv.{recv, hand_out}
 use Rattle.rds_history.specs.Cancel.{cancel, cancel_refusal, close, unbind, unmark}
 use Rattle.rds_history.specs.Open.{open_both, open_pair, shut_if_open, cut, cut_both}
 use Rattle.rds_history.specs.PullAndRead.{pull, pull_on, read, read_on, answer, outcome_at}
-use Rattle.rds_history.specs.Move.{read_if_complete, move_piece, pull_if_idle, arrive, turn, move_up_to, move_and_tell, move, portion}
+use Rattle.rds_history.specs.Move.{move_piece, pull_if_idle, arrive, turn, move_up_to, move_and_tell, move, portion}
 use Rattle.rds_history.specs.Drain.{Pair, pairs, open_if_closed, both_ways, round, rounds, drain}
 use Rattle.rds_history.specs.History.{after, history}
 

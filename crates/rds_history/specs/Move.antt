@@ -1,5 +1,5 @@
 -- The command `move`. Source: this project's own.
-use Rattle.std.specs.Prelude.{ℕ, zero, ◌+◌, ◌-◌, ◌==◌, min, if◌then◌else◌, Option, Some, None, Ok, List, ◌∷◌, length, codes}
+use Rattle.std.specs.Prelude.{ℕ, zero, ◌+◌, ◌-◌, ◌==◌, min, if◌then◌else◌, Option, Some, Ok, List, ◌∷◌, length, codes}
 use Rattle.std.specs.Option.{option_map, option_map_or}
 use Rattle.rds_text.specs.Lines.{move_line}
 use Rattle.rds_text.specs.Refusals.{is_down, pair_refused_line}

@@ -13,7 +13,7 @@ use Rattle.rds_report.specs.Views.{host_views, host_view}
 use Rattle.rds_history.specs.History.{socket, sockets, final_host}
 use Rattle.rds_report.specs.Hosts.{address_of}
 use Rattle.rds_history.specs.Journals.{journal}
-use Rattle.rds_history.specs.Sockets.{bound_port, received, queue}
+use Rattle.rds_history.specs.Sockets.{bound_port, received}
 use Rattle.rds_play.specs.declared.host.Arrived.{Arrived}
 use Rattle.rds_play.specs.declared.host.Host.{Host}
 use Rattle.rds_play.specs.declared.host.Socket.{Socket}

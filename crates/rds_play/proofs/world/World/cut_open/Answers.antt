@@ -1,4 +1,4 @@
-use Rattle.std.proofs.Common.{◌≡◌, Err, Some, sym, subst, arith, length}
+use Rattle.std.proofs.Common.{◌≡◌, Err, sym, subst, arith, length}
 use Rattle.std.specs.Prelude.{Result}
 use Rattle.std.proofs.lemmas.Grind.{common_steps}
 use Rattle.rds_history.specs.Courses.{and_then, prints}
