@@ -21,7 +21,7 @@ use Rattle.rds_text.specs.Lines.{cut_line, drained_line, move_line, recv_none_li
 use Rattle.rds_text.specs.Refusals.{is_down, is_open, no_socket, socket_refused_line, pair_refused_line, send_refused_line}
 use Rattle.rds_history.specs.Events.{Event, Appended, Bound, Closed, Received, Marked, Moved, Printed}
 use Rattle.rds_history.specs.Courses.{Course, and_then, if_room, appends, prints, or_refuses, with_socket, on_stream, each, again}
-use Rattle.rds_history.specs.Journals.{journal, moved_in_all, in_flight, is_marked, own_map, newest_pull, peers}
+use Rattle.rds_history.specs.Journals.{journal, moved_in_all, in_flight, is_marked, own_map, last_pulled_frame, peers}
 use Rattle.rds_history.specs.Sockets.{next_slot, holder, queue, queued, receive_buffer}
 use Rattle.rds_history.specs.Mark.{update_mark, if_changed}
 use Rattle.rds_history.specs.Bind.{bind, bind_refusal, free_port}
@@ -203,7 +203,7 @@ module _ (P : List Event → Type 0) (kept : IsKept P) where
       keeps_answer k h f became (Appended k h (Read stream f became) ∷ past) (kept.appended k h (Read stream f became) past (λ j. refl) p)
 
   keeps_read : (k h : ℕ) (past : List Event) → P past → P (read k h past)
-  keeps_read k h past p = go (open_stream (journal k h past)) (newest_pull (journal h k past))
+  keeps_read k h past p = go (open_stream (journal k h past)) (last_pulled_frame (journal h k past))
     where
       go : (o : Option ℕ) (w : Option Frame) → P (option_map_or (λ stream. option_map_or (λ f. read_on k h stream f past) w past) o past)
       go None w = p

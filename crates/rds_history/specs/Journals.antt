@@ -46,10 +46,10 @@ abbrev pub in_flight : (h k : ℕ) → List Event → List ℕ
 in_flight h k past = drop (moved_count h k past) (written_to_open (journal h k past))
 
 -- the frame that was pulled last
-abbrev pub newest_pull : List Entry → Option Frame
-newest_pull [] = None
-newest_pull (Pull stream frame ∷ past) = Some frame
-newest_pull (_ ∷ past) = newest_pull past
+abbrev pub last_pulled_frame : List Entry → Option Frame
+last_pulled_frame [] = None
+last_pulled_frame (Pull stream frame ∷ past) = Some frame
+last_pulled_frame (_ ∷ past) = last_pulled_frame past
 
 -- a port of host h is congested
 abbrev pub is_marked : (h port : ℕ) → List Event → Bool

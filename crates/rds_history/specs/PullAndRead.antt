@@ -12,7 +12,7 @@ use Rattle.rds_model.specs.Past.{open_stream}
 use Rattle.rds_model.specs.Owed.{owed_frame}
 use Rattle.rds_model.specs.Reading.{verdict_of}
 use Rattle.rds_history.specs.Events.{Event, Appended}
-use Rattle.rds_history.specs.Journals.{journal, own_map, newest_pull}
+use Rattle.rds_history.specs.Journals.{journal, own_map, last_pulled_frame}
 use Rattle.rds_history.specs.Sockets.{holder}
 use Rattle.rds_history.specs.Mark.{update_mark}
 
@@ -50,5 +50,5 @@ read_on k h stream f past =
 -- host k reads the frame that h pulled last, on the stream that is open
 abbrev pub read : (k h : ℕ) → List Event → List Event
 read k h past =
-    option_map_or (λ stream. option_map_or (λ f. read_on k h stream f past) (newest_pull (journal h k past)) past)
+    option_map_or (λ stream. option_map_or (λ f. read_on k h stream f past) (last_pulled_frame (journal h k past)) past)
     (open_stream (journal k h past)) past

@@ -7,6 +7,7 @@ use Rattle.rds_model.specs.declared.entry.Entry.TheVariants.{Read}
 use Rattle.rds_model.specs.declared.entry.Outcome.{Outcome}
 use Rattle.rds_model.specs.declared.entry.Outcome.TheVariants as outcome
 use Rattle.rds_model.specs.declared.entry.Msg.{Msg}
+use Rattle.rds_model.specs.Deliveries.{datagram_from}
 use Rattle.rds_model.specs.Store.{alive_messages}
 use Rattle.rds_text.specs.Ports.{below}
 use Rattle.rds_history.specs.Events.{Event, Appended, Bound, Closed, Received}
@@ -45,13 +46,9 @@ send_buffer h slot past = of_bind (λ port sndbuf rcvbuf. sndbuf) h slot past
 abbrev pub receive_buffer : (h slot : ℕ) → List Event → ℕ
 receive_buffer h slot past = of_bind (λ port sndbuf rcvbuf. rcvbuf) h slot past
 
--- a frame as the datagram that a socket receives from host k
-abbrev pub datagram_from : ℕ → Frame → Datagram
-datagram_from k f = record { from = address_of k; sport = f.header.sport; dport = f.header.dport; payload = f.payload }
-
 -- the datagram, where the outcome is this slot
 abbrev pub delivery : (slot k : ℕ) → Frame → Outcome → List Datagram
-delivery slot k f (outcome.Slot to) = if to == slot then datagram_from k f ∷ [] else []
+delivery slot k f (outcome.Slot to) = if to == slot then datagram_from (address_of k) f ∷ [] else []
 delivery slot k f _ = []
 
 -- the datagrams that were delivered to a slot of host h, the first one first

@@ -36,8 +36,8 @@ lawful_open : (s : ℕ) (past : List Entry) → IsLegal (Open s ∷ past) → ne
 lawful_open s past legal = (lawful_unless_pong (Open s) past (λ port e. cc) (pong_to past) legal.0).1
 
 -- what goes over a stream goes over the newest one
-newest_pull : (s : ℕ) (f : Frame) (past : List Entry) → IsLegal (Pull s f ∷ past) → newest_stream past ≡ s
-newest_pull s f past legal =
+pull_is_on_newest : (s : ℕ) (f : Frame) (past : List Entry) → IsLegal (Pull s f ∷ past) → newest_stream past ≡ s
+pull_is_on_newest s f past legal =
     open_is_newest past s (lawful_unless_pong (Pull s f) past (λ port e. cc) (pong_to past) legal.0).on
 
 newest_read : (s : ℕ) (f : Frame) (o : Outcome) (past : List Entry) → IsLegal (Read s f o ∷ past) → newest_stream past ≡ s
@@ -53,7 +53,7 @@ pub no_pulls : (s : ℕ) (past : List Entry) → IsLegal past → newest_stream 
 no_pulls s [] legal newer = refl
 no_pulls s (Open stream ∷ past) legal newer = no_pulls s past legal.1 (omega (arith, lawful_open stream past legal))
 no_pulls s (Pull stream frame ∷ past) legal newer =
-    let is = newest_pull stream frame past legal in
+    let is = pull_is_on_newest stream frame past legal in
     cond-false (stream == s) (pulled_frames s past ++ frame ∷ []) (pulled_frames s past) (ne_eqb stream s (λ same. omega (arith, is, same)))
     ∙ no_pulls s past legal.1 newer
 no_pulls s (_ ∷ past) legal newer = no_pulls s past legal.1 newer
