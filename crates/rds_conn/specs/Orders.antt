@@ -24,8 +24,8 @@ after_order (order.CloseSocket slot) c = with_entries (entry.Cancel slot target.
 after_order order.Cut c = c
 
 -- how many bytes more the datagrams of a slot have after an order
-abbrev pub put_bytes : ℕ → Order → ℕ
-put_bytes s (order.Send slot sport dport payload) = if slot == s then length payload else 0
-put_bytes s (order.Cancel slot dport) = 0
-put_bytes s (order.CloseSocket slot) = 0
-put_bytes s order.Cut = 0
+abbrev pub accepted_bytes : ℕ → Order → ℕ
+accepted_bytes s (order.Send slot sport dport payload) = if slot == s then length payload else 0
+accepted_bytes s (order.Cancel slot dport) = 0
+accepted_bytes s (order.CloseSocket slot) = 0
+accepted_bytes s order.Cut = 0

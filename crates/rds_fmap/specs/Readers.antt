@@ -24,8 +24,8 @@ abbrev pub reader_view : TableId → View → ReaderView
 reader_view id v = record { pair = id; found = v.looks }
 
 -- the word that has a port
-abbrev pub word_of : ℕ → ℕ
-word_of port = port / 32
+abbrev pub half_of_port : ℕ → ℕ
+half_of_port port = port / 32
 
 -- what a number found in the port's word says of the port
 abbrev pub seen_in : ℕ → ℕ → Seen
@@ -33,8 +33,8 @@ seen_in number port = record { version = version_in number; set = bit_at number 
 
 -- some look has found this of the port
 abbrev pub HasSeen : ReaderView → ℕ → Seen → Type 0
-HasSeen r port seen = (number : ℕ) × Contains r.found (record { word = word_of port; number = number }) × (seen ≡ seen_in number port)
+HasSeen r port seen = (number : ℕ) × Contains r.found (record { word = half_of_port port; number = number }) × (seen ≡ seen_in number port)
 
 -- one load of the port's word, and what it says of the port
 abbrev pub IsLook : ReaderView → ReaderView → ℕ → Seen → Type 0
-IsLook old new port seen = (number : ℕ) × (new ≡ record old { found = old.found ++ record { word = word_of port; number = number } ∷ [] }) × (seen ≡ seen_in number port)
+IsLook old new port seen = (number : ℕ) × (new ≡ record old { found = old.found ++ record { word = half_of_port port; number = number } ∷ [] }) × (seen ≡ seen_in number port)

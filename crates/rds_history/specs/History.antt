@@ -8,7 +8,7 @@ use Rattle.rds_text.specs.Ports.{below}
 use Rattle.rds_history.specs.Events.{Event}
 use Rattle.rds_report.specs.Hosts.{address_of}
 use Rattle.rds_history.specs.Journals.{journal, peers}
-use Rattle.rds_history.specs.Sockets.{next_slot, bound_port, received, queue}
+use Rattle.rds_history.specs.Sockets.{next_slot, bound_port, handed_out, queue}
 use Rattle.rds_history.specs.Courses.{Course, and_then}
 use Rattle.rds_history.specs.Bind.{bind, bind_any}
 use Rattle.rds_history.specs.Send.{send}
@@ -43,7 +43,7 @@ history limit hosts (placed ∷ commands) past = and_then (after limit hosts pla
 -- the socket of a slot of host h
 abbrev pub socket : (h : ℕ) → List Event → ℕ → Socket
 socket h past slot =
-    record { slot = slot; port = bound_port h slot past; got = received h slot past; unread = queue h slot past }
+    record { slot = slot; port = bound_port h slot past; got = handed_out h slot past; unread = queue h slot past }
 
 -- the sockets of host h by slot
 abbrev pub sockets : ℕ → List Event → List Socket

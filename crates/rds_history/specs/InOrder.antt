@@ -2,8 +2,8 @@
 -- own.
 use Rattle.std.specs.Prelude.{◌≡◌, ℕ, List, ◌++◌}
 use Rattle.rds_history.specs.Events.{Event}
-use Rattle.rds_history.specs.Sockets.{delivered, received, queue}
+use Rattle.rds_history.specs.Sockets.{arrived_datagrams, handed_out, queue}
 
 -- what was handed out at a socket, and then what waits, is what was delivered to it
 abbrev pub HandsOutInOrder : (h slot : ℕ) → List Event → Type 0
-HandsOutInOrder h slot past = received h slot past ++ queue h slot past ≡ delivered h slot past
+HandsOutInOrder h slot past = handed_out h slot past ++ queue h slot past ≡ arrived_datagrams h slot past

@@ -52,31 +52,31 @@ delivery slot k f (outcome.Slot to) = if to == slot then datagram_from (address_
 delivery slot k f _ = []
 
 -- the datagrams that were delivered to a slot of host h, the first one first
-abbrev pub delivered : (h slot : ℕ) → List Event → List Datagram
-delivered h slot [] = []
-delivered h slot (Appended host k (Read stream f outcome) ∷ past) =
-    if host == h then delivered h slot past ++ delivery slot k f outcome else delivered h slot past
-delivered h slot (_ ∷ past) = delivered h slot past
+abbrev pub arrived_datagrams : (h slot : ℕ) → List Event → List Datagram
+arrived_datagrams h slot [] = []
+arrived_datagrams h slot (Appended host k (Read stream f outcome) ∷ past) =
+    if host == h then arrived_datagrams h slot past ++ delivery slot k f outcome else arrived_datagrams h slot past
+arrived_datagrams h slot (_ ∷ past) = arrived_datagrams h slot past
 
 -- the datagrams that the socket of a slot handed out, the first one first
-abbrev pub received : (h slot : ℕ) → List Event → List Datagram
-received h slot [] = []
-received h slot (Received host port at d ∷ past) =
-    if host == h && (at == slot) then received h slot past ++ d ∷ [] else received h slot past
-received h slot (_ ∷ past) = received h slot past
+abbrev pub handed_out : (h slot : ℕ) → List Event → List Datagram
+handed_out h slot [] = []
+handed_out h slot (Received host port at d ∷ past) =
+    if host == h && (at == slot) then handed_out h slot past ++ d ∷ [] else handed_out h slot past
+handed_out h slot (_ ∷ past) = handed_out h slot past
 
 -- the datagrams that wait at a slot: those delivered and not handed out
 abbrev pub queue : (h slot : ℕ) → List Event → List Datagram
-queue h slot past = drop (length (received h slot past)) (delivered h slot past)
+queue h slot past = drop (length (handed_out h slot past)) (arrived_datagrams h slot past)
 
 -- how many bytes wait at a slot
 abbrev pub queued : (h slot : ℕ) → List Event → ℕ
 queued h slot past = sum_by (λ (d : Datagram). length d.payload) (queue h slot past)
 
 -- the bytes of a slot's datagrams that are alive in a journal
-abbrev pub alive_bytes : ℕ → List Entry → ℕ
-alive_bytes slot past = sum_by (λ (m : Msg). m.len) (filter (λ (m : Msg). m.slot == slot) (alive_messages past))
+abbrev pub message_bytes : ℕ → List Entry → ℕ
+message_bytes slot past = sum_by (λ (m : Msg). m.len) (filter (λ (m : Msg). m.slot == slot) (alive_messages past))
 
 -- the same over all peers
 abbrev pub unacknowledged : (hosts h slot : ℕ) → List Event → ℕ
-unacknowledged hosts h slot past = sum_by (λ k. alive_bytes slot (journal h k past)) (below hosts)
+unacknowledged hosts h slot past = sum_by (λ k. message_bytes slot (journal h k past)) (below hosts)

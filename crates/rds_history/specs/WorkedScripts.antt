@@ -7,8 +7,8 @@ use Rattle.rds_script.specs.declared.script.Command.TheVariants.{Bind, Send, Rec
 use Rattle.rds_text.specs.Lines.{line}
 
 -- a command of line 0, since lines don't matter for what it does
-abbrev pub placed : Command → Placed
-placed command = record { line = 0; command = command }
+abbrev pub at_line_0 : Command → Placed
+at_line_0 command = record { line = 0; command = command }
 
 -- a text by its lines
 abbrev pub text_of_lines : List (List ℕ) → List ℕ
@@ -17,8 +17,8 @@ text_of_lines lines = flat_map (λ l. line (l ∷ [])) lines
 -- one datagram goes from host A to host B
 abbrev pub hello : List Placed
 hello =
-    placed (Bind 0 4000 65536 65536) ∷ placed (Bind 1 4001 65536 65536) ∷ placed (Send 0 4000 1 4001 (codes "hello"))
-    ∷ placed Drain ∷ placed (Recv 1 4001) ∷ []
+    at_line_0 (Bind 0 4000 65536 65536) ∷ at_line_0 (Bind 1 4001 65536 65536) ∷ at_line_0 (Send 0 4000 1 4001 (codes "hello"))
+    ∷ at_line_0 Drain ∷ at_line_0 (Recv 1 4001) ∷ []
 
 abbrev pub text_of_hello : List ℕ
 text_of_hello = text_of_lines (
@@ -43,20 +43,20 @@ text_of_hello = text_of_lines (
 -- a stream is cut in the middle of a datagram, a datagram is cancelled, one goes to port 0, and a port becomes congested
 abbrev pub cut_cancel_ping_congestion : List Placed
 cut_cancel_ping_congestion =
-    placed (Bind 0 4000 16 64)
-    ∷ placed (Bind 1 4001 64 4)
-    ∷ placed (Send 0 4000 1 4001 (codes "abc"))
-    ∷ placed (Send 0 4000 1 9 (codes "de"))
-    ∷ placed (Send 0 4000 1 0 ([]))
-    ∷ placed (Open 0 1)
-    ∷ placed (Move 0 1 8290)
-    ∷ placed (Cut 0 1)
-    ∷ placed (Cancel 0 4000 1 9)
-    ∷ placed Drain
-    ∷ placed (Send 0 4000 1 4001 (codes "fgh"))
-    ∷ placed Drain
-    ∷ placed (Send 0 4000 1 4001 (codes "i"))
-    ∷ placed (Recv 1 4001)
+    at_line_0 (Bind 0 4000 16 64)
+    ∷ at_line_0 (Bind 1 4001 64 4)
+    ∷ at_line_0 (Send 0 4000 1 4001 (codes "abc"))
+    ∷ at_line_0 (Send 0 4000 1 9 (codes "de"))
+    ∷ at_line_0 (Send 0 4000 1 0 ([]))
+    ∷ at_line_0 (Open 0 1)
+    ∷ at_line_0 (Move 0 1 8290)
+    ∷ at_line_0 (Cut 0 1)
+    ∷ at_line_0 (Cancel 0 4000 1 9)
+    ∷ at_line_0 Drain
+    ∷ at_line_0 (Send 0 4000 1 4001 (codes "fgh"))
+    ∷ at_line_0 Drain
+    ∷ at_line_0 (Send 0 4000 1 4001 (codes "i"))
+    ∷ at_line_0 (Recv 1 4001)
     ∷ []
 
 abbrev pub text_of_cut_cancel_ping_congestion : List ℕ

@@ -8,11 +8,11 @@ use Rattle.rds_model.specs.declared.order.Order.{Order}
 use Rattle.rds_model.specs.declared.order.Order.TheVariants as order
 use Rattle.rds_model.specs.declared.order.Datagram.{Datagram}
 use Rattle.rds_mail.specs.declared.view.Account.{Account}
-use Rattle.rds_mail.specs.Numbers.{Number, Numbered, same_number, items_of, items}
+use Rattle.rds_mail.specs.Numbers.{Number, Numbered, same_number, items_of, bare_items}
 use Rattle.rds_mail.specs.Shared.{IsPart}
 use Rattle.rds_mail.specs.Merging.{is_key, by_key, IsKeyed, KeysBegin}
 use Rattle.rds_parts.specs.Lanes.{IsOf}
-use Rattle.rds_joins.specs.Joins.{slot_of_order, sender_in, IsFrom, AreMarked, AreTold, KeysAre}
+use Rattle.rds_joins.specs.Joins.{slot_of_order, sender_in, IsFrom, AreMarked, PutsAreTold, KeysAre}
 
 each_of_all : {X : Type 0} (P : X → Type 0) (xs : List X) (i : ℕ) (x : X) → At xs i x → All P xs → P x
 each_of_all P [] i x at all = absurd (some-ne-none x (sym at))
@@ -48,9 +48,9 @@ module _ {T : Type 0} (key : T → Option ℕ) where
   fewer_at true m x own all l = both_longer (is_key (key x) m) x (by_key key m own) (by_key key m all) l
   fewer_at false m x own all l = let k = longer (is_key (key x) m) x (by_key key m all) in omega arith
 
-  fewer : (m : ℕ) (p : Number) (got : List (Numbered T)) → length (by_key key m (items_of p got)) ≤ length (by_key key m (items got))
+  fewer : (m : ℕ) (p : Number) (got : List (Numbered T)) → length (by_key key m (items_of p got)) ≤ length (by_key key m (bare_items got))
   fewer m p [] = omega arith
-  fewer m p (e ∷ got) = fewer_at (same_number p e.0) m e.1 (items_of p got) (items got) (fewer m p got)
+  fewer m p (e ∷ got) = fewer_at (same_number p e.0) m e.1 (items_of p got) (bare_items got) (fewer m p got)
 
   chosen : (b : Bool) (x : T) (l m : List T) → cond b (x ∷ (l ++ m)) (l ++ m) ≡ cond b (x ∷ l) l ++ m
   chosen true x l m = refl
@@ -65,7 +65,7 @@ module _ {T : Type 0} (key : T → Option ℕ) where
   none_left front (x ∷ rest) whole is l = absurd (let a = ap length is in let b = length-append front (x ∷ rest) in omega arith)
 
   -- where all was told and found, what begins is the whole
-  pub are_of : (mark : Number → ℕ) (got : List (Numbered T)) (told puts : List (Account T)) → KeysBegin key mark got puts → Each told (IsPart got) → AreTold told puts → KeysAre key mark got puts
+  pub are_of : (mark : Number → ℕ) (got : List (Numbered T)) (told puts : List (Account T)) → KeysBegin key mark got puts → Each told (IsPart got) → PutsAreTold told puts → KeysAre key mark got puts
   are_of mark got told puts begin parts known i a at =
       let m : ℕ = mark a.number in
       let h = known i a at in
@@ -76,4 +76,4 @@ module _ {T : Type 0} (key : T → Option ℕ) where
       ap (λ l. length (by_key key m l)) whole ∙ (ap length (by_key-append m a.put part.0) ∙ length-append (by_key key m a.put) (by_key key m part.0)) in
       let some = fewer m a.number got in
       let b = begin i a at in
-      none_left (by_key key m (items got)) b.0 (by_key key m a.put) b.1 (omega arith)
+      none_left (by_key key m (bare_items got)) b.0 (by_key key m a.put) b.1 (omega arith)

@@ -5,7 +5,7 @@ use Rattle.rds_model.specs.declared.order.Order.{Order}
 use Rattle.rds_model.specs.declared.order.Order.TheVariants as order
 use Rattle.rds_model.specs.declared.order.Datagram.{Datagram}
 use Rattle.rds_mail.specs.declared.view.Account.{Account}
-use Rattle.rds_mail.specs.Numbers.{Number, Numbered, items}
+use Rattle.rds_mail.specs.Numbers.{Number, Numbered, bare_items}
 use Rattle.rds_mail.specs.Merging.{by_key}
 
 -- the slot of an order, which a cut has not
@@ -30,9 +30,9 @@ module _ {T : Type 0} where
     pub apart : Each puts (λ a. Each puts (λ b. mark a.number ≡ mark b.number → a.number ≡ b.number))
 
   -- the getter was told of all that each putter has put
-  abbrev pub AreTold : List (Account T) → List (Account T) → Type 0
-  AreTold told puts = Each puts (λ a. Has told (λ t. (t.number ≡ a.number) × (t.put ≡ a.put)))
+  abbrev pub PutsAreTold : List (Account T) → List (Account T) → Type 0
+  PutsAreTold told puts = Each puts (λ a. Has told (λ t. (t.number ≡ a.number) × (t.put ≡ a.put)))
 
   -- what was got with each putter's mark is what it put with that mark
   abbrev pub KeysAre : (T → Option ℕ) → (Number → ℕ) → List (Numbered T) → List (Account T) → Type 0
-  KeysAre key mark got puts = Each puts (λ a. by_key key (mark a.number) (items got) ≡ by_key key (mark a.number) a.put)
+  KeysAre key mark got puts = Each puts (λ a. by_key key (mark a.number) (bare_items got) ≡ by_key key (mark a.number) a.put)

@@ -7,7 +7,7 @@ use Rattle.rds_views.specs.Views.{At, Each}
 use Rattle.rds_mail.specs.declared.view.View.{View}
 use Rattle.rds_mail.specs.declared.view.Account.{Account}
 use Rattle.rds_mail.specs.Numbers.{Number, Numbered, items_of}
-use Rattle.rds_mail.specs.Shared.{Places, IsWhole, IsPart, PutterStands, PassFits}
+use Rattle.rds_mail.specs.Shared.{Places, IsAllPut, IsPart, PutterStands, PassFits}
 use Rattle.rds_mail.proofs.Numbers.{items_of-append, of_other}
 use Rattle.rds_mail.proofs.Places.{some_same}
 
@@ -46,7 +46,7 @@ module _ {T : Type 0} where
   abbrev pub AllFit : Places → List (Numbered T) → List (Numbered T) → ℕ → List (View T) → Type 0
   AllFit places log got reader views = (place : ℕ) (v : View T) → At views place v → PassFits places log got reader place v
 
-  pub part_whole : (log : List (Numbered T)) (a : Account T) → IsWhole log a → IsPart log a
+  pub part_whole : (log : List (Numbered T)) (a : Account T) → IsAllPut log a → IsPart log a
   part_whole log a whole = ([], sym whole ∙ sym (append-nil a.put))
 
   pub part_more : (log more : List (Numbered T)) (a : Account T) → IsPart log a → IsPart (log ++ more) a

@@ -4,7 +4,7 @@ use Rattle.std.proofs.lemmas.Bool.{cases_Bool, cond-true, cond-false, eqb-true}
 use mathlib.Core.Option.{some-injective, some-ne-none}
 use Rattle.rds_views.specs.Views.{At, Each}
 use Rattle.rds_mail.specs.declared.view.Account.{Account}
-use Rattle.rds_mail.specs.Numbers.{Number, Numbered, same_number, items_of, items}
+use Rattle.rds_mail.specs.Numbers.{Number, Numbered, same_number, items_of, bare_items}
 use Rattle.rds_mail.specs.Merging.{IsMerged, is_key, by_key, IsKeyed, KeysBegin}
 use Rattle.rds_mail.proofs.Numbers.{same_here}
 use Rattle.rds_mail.proofs.Places.{some_same, some_not}
@@ -24,20 +24,20 @@ module _ {T : Type 0} where
 
   -- an item that isn't the putter's doesn't have the key
   only_own : (key : T → Option ℕ) (m : ℕ) (p : Number) (got : List (Numbered T)) → Each got (λ e. key e.1 ≡ Some m → e.0 ≡ p)
-      → by_key key m (items got) ≡ by_key key m (items_of p got)
+      → by_key key m (bare_items got) ≡ by_key key m (items_of p got)
   only_own key m p [] own = refl
   only_own key m p (e ∷ got) own =
-      let rest : by_key key m (items got) ≡ by_key key m (items_of p got) = only_own key m p got (λ i x at. own (suc i) x at) in
+      let rest : by_key key m (bare_items got) ≡ by_key key m (items_of p got) = only_own key m p got (λ i x at. own (suc i) x at) in
       ⊎_elim
       (λ (yes : is_key (key e.1) m ≡ true).
       let is : e.0 ≡ p = own zero e refl (key_is (key e.1) m yes) in
       let same : same_number p e.0 ≡ true = ap (same_number p) is ∙ same_here p in
-      cond-true (is_key (key e.1) m) (e.1 ∷ by_key key m (items got)) (by_key key m (items got)) yes
+      cond-true (is_key (key e.1) m) (e.1 ∷ by_key key m (bare_items got)) (by_key key m (bare_items got)) yes
       ∙ (ap (λ l. e.1 ∷ l) rest
       ∙ (sym (cond-true (is_key (key e.1) m) (e.1 ∷ by_key key m (items_of p got)) (by_key key m (items_of p got)) yes)
       ∙ ap (by_key key m) (sym (cond-true (same_number p e.0) (e.1 ∷ items_of p got) (items_of p got) same)))))
       (λ (off : is_key (key e.1) m ≡ false).
-      cond-false (is_key (key e.1) m) (e.1 ∷ by_key key m (items got)) (by_key key m (items got)) off
+      cond-false (is_key (key e.1) m) (e.1 ∷ by_key key m (bare_items got)) (by_key key m (bare_items got)) off
       ∙ (rest
       ∙ ⊎_elim
       (λ (same : same_number p e.0 ≡ true).

@@ -5,7 +5,7 @@ use Rattle.std.proofs.lemmas.List.{append-nil}
 use mathlib.Core.List.{cons≢nil}
 use mathlib.Core.Option.{some-injective, some-ne-none}
 use Rattle.rds_views.specs.Views.{At}
-use Rattle.rds_mail.specs.Numbers.{Number, Numbered, same_number, items_of, items}
+use Rattle.rds_mail.specs.Numbers.{Number, Numbered, same_number, items_of, bare_items}
 
 module _ {A : Type 0} where
   abbrev head_or : A → List A → A
@@ -44,7 +44,7 @@ pub same_not : (p q : Number) → p ≢ q → same_number p q ≡ false
 same_not p q apart = ⊎_elim (λ (t : (same_number p q ≡ true) × (p ≡ q)). absurd (apart t.1)) (λ (t : (same_number p q ≡ false) × (p ≢ q)). t.0) (number_cases p q)
 
 module _ {T : Type 0} where
-  pub items-append : (xs ys : List (Numbered T)) → items (xs ++ ys) ≡ items xs ++ items ys
+  pub items-append : (xs ys : List (Numbered T)) → bare_items (xs ++ ys) ≡ bare_items xs ++ bare_items ys
   items-append [] ys = refl
   items-append (e ∷ xs) ys = ap (λ l. e.1 ∷ l) (items-append xs ys)
 
@@ -78,11 +78,11 @@ module _ {T : Type 0} where
       (cases_Bool (same_number e.0 x.0))
 
   -- what is queued has the first item first
-  pub first_queued : (queued : List (Numbered T)) (x : T) (queue : List T) → items queued ≡ x ∷ queue
-      → (number : Number) × (rest : List (Numbered T)) × (queued ≡ (number, x) ∷ rest) × (items rest ≡ queue)
+  pub first_queued : (queued : List (Numbered T)) (x : T) (queue : List T) → bare_items queued ≡ x ∷ queue
+      → (number : Number) × (rest : List (Numbered T)) × (queued ≡ (number, x) ∷ rest) × (bare_items rest ≡ queue)
   first_queued [] x queue is = absurd (cons≢nil (sym is))
-  first_queued (e ∷ rest) x queue is = (e.0, rest, ap (λ y. (e.0, y) ∷ rest) (cons_head e.1 x (items rest) queue is), cons_tail e.1 x (items rest) queue is)
+  first_queued (e ∷ rest) x queue is = (e.0, rest, ap (λ y. (e.0, y) ∷ rest) (cons_head e.1 x (bare_items rest) queue is), cons_tail e.1 x (bare_items rest) queue is)
 
-  pub none_queued : (queued : List (Numbered T)) → items queued ≡ [] → queued ≡ []
+  pub none_queued : (queued : List (Numbered T)) → bare_items queued ≡ [] → queued ≡ []
   none_queued [] is = refl
   none_queued (e ∷ rest) is = absurd (cons≢nil is)

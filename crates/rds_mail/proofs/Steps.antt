@@ -6,7 +6,7 @@ use Rattle.crossbeam_queue.specs.Fifo.{Pushes, Pops, Learns}
 use Rattle.rds_mail.specs.declared.view.View.{View}
 use Rattle.rds_mail.specs.Numbers.{Number, Numbered, items_of}
 use Rattle.rds_mail.specs.Views.{first_view, after_put, after_get}
-use Rattle.rds_mail.specs.Shared.{Places, IsWhole, IsPart, PutterStands, PassFits, IsMailed}
+use Rattle.rds_mail.specs.Shared.{Places, IsAllPut, IsPart, PutterStands, PassFits, IsMailed}
 use Rattle.rds_mail.specs.Plays.{Puts, Gets, Emptied}
 use Rattle.rds_mail.proofs.Numbers.{items-append, of_put, of_other, first_queued, none_queued}
 use Rattle.rds_mail.proofs.Places.{placed, not_none}
@@ -42,7 +42,7 @@ module _ {T : Type 0} where
       let mine = h.fits id v at in
       let st = mine.puts may in
       let same : h.got ++ (h.queued ++ (number, x) ∷ []) ≡ log ++ (number, x) ∷ [] = sym (append_assoc h.got h.queued ((number, x) ∷ [])) in
-      let whole : IsWhole (log ++ (number, x) ∷ []) w.account = ap (λ l. l ++ x ∷ []) st.whole ∙ sym (of_put number log x) in
+      let whole : IsAllPut (log ++ (number, x) ∷ []) w.account = ap (λ l. l ++ x ∷ []) st.whole ∙ sym (of_put number log x) in
       let now : PassFits h.places (log ++ (number, x) ∷ []) h.got h.reader id w = record {
         puts = λ _. record { here = st.here; whole = whole; splits = st.splits };
         gets = mine.gets;
@@ -109,5 +109,5 @@ module _ {T : Type 0} where
       let mine = h.fits id v at in
       let log : h.got ++ h.queued ≡ v.got = ap (λ l. h.got ++ l) (none_queued h.queued (h.are ∙ none)) ∙ (append-nil h.got ∙ sym (mine.gets may).1) in (
         (λ i a e. subst (λ l. IsPart l a) log (mine.told i a e)),
-        (λ i a e. subst (λ l. IsWhole l a) log (mine.joined i a e).whole),
+        (λ i a e. subst (λ l. IsAllPut l a) log (mine.joined i a e).whole),
       )

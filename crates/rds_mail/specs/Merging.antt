@@ -2,7 +2,7 @@
 use Rattle.std.specs.Prelude.{◌≡◌, ◌⊎◌, ℕ, ◌<◌, ◌==◌, Bool, false, if◌then◌else◌, List, [], ◌∷◌, Option, Some, None}
 use Rattle.rds_views.specs.Views.{Has, Each}
 use Rattle.rds_mail.specs.declared.view.Account.{Account}
-use Rattle.rds_mail.specs.Numbers.{Number, Numbered, items_of, items}
+use Rattle.rds_mail.specs.Numbers.{Number, Numbered, items_of, bare_items}
 use Rattle.rds_model.specs.Honest.{Begins}
 
 -- whether the key is this one
@@ -41,4 +41,4 @@ module _ {T : Type 0} where
 
   -- what was got with each putter's mark begins what it put with that mark
   abbrev pub KeysBegin : (T → Option ℕ) → (Number → ℕ) → List (Numbered T) → List (Account T) → Type 0
-  KeysBegin key mark got puts = Each puts (λ a. Begins (by_key key (mark a.number) (items got)) (by_key key (mark a.number) a.put))
+  KeysBegin key mark got puts = Each puts (λ a. Begins (by_key key (mark a.number) (bare_items got)) (by_key key (mark a.number) a.put))

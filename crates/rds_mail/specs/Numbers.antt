@@ -22,6 +22,6 @@ items_of p [] = []
 items_of p (e ∷ list) = if same_number p e.0 then e.1 ∷ items_of p list else items_of p list
 
 -- the items without their numbers
-abbrev pub items : {T : Type 0} → List (Numbered T) → List T
-items [] = []
-items (e ∷ list) = e.1 ∷ items list
+abbrev pub bare_items : {T : Type 0} → List (Numbered T) → List T
+bare_items [] = []
+bare_items (e ∷ list) = e.1 ∷ bare_items list

@@ -4,7 +4,7 @@ use Rattle.rds_views.specs.Views.{Each}
 use Rattle.rds_mail.specs.declared.view.View.{View}
 use Rattle.rds_mail.specs.Numbers.{Number}
 use Rattle.rds_mail.specs.Views.{after_put, after_get}
-use Rattle.rds_mail.specs.Shared.{IsPart, IsWhole, IsKnown}
+use Rattle.rds_mail.specs.Shared.{IsPart, IsAllPut, IsKnown}
 use Rattle.rds_mail.specs.Merging.{AllBegin, AreAll, IsMerged}
 
 module _ {T : Type 0} where
@@ -18,7 +18,7 @@ module _ {T : Type 0} where
 
   -- an empty queue shows that all that notes told of and all of joined putters was got
   abbrev pub Emptied : View T → List T → Type 0
-  Emptied v queue = queue ≡ [] → Each v.told (IsPart v.got) × Each v.joined (IsWhole v.got)
+  Emptied v queue = queue ≡ [] → Each v.told (IsPart v.got) × Each v.joined (IsAllPut v.got)
 
   -- the view stands among views that keep the rule, which shows what was got of each putter that has ended
   abbrev pub Compared : View T → List T → Type 0

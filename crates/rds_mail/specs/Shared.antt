@@ -3,7 +3,7 @@ use Rattle.std.specs.Prelude.{◌≡◌, ℕ, suc, ◌≤◌, true, List, [], �
 use Rattle.rds_views.specs.Views.{At, Has, Each}
 use Rattle.rds_mail.specs.declared.view.View.{View}
 use Rattle.rds_mail.specs.declared.view.Account.{Account}
-use Rattle.rds_mail.specs.Numbers.{Number, Numbered, items_of, items}
+use Rattle.rds_mail.specs.Numbers.{Number, Numbered, items_of, bare_items}
 use Rattle.rds_model.specs.Honest.{Begins}
 
 -- where each putter is: none yet, joined into the getter (0), or the pass at a place (1 more than it)
@@ -12,8 +12,8 @@ Places = Number → Option ℕ
 
 module _ {T : Type 0} where
   -- what the account says is all that its putter has put so far
-  abbrev pub IsWhole : List (Numbered T) → Account T → Type 0
-  IsWhole log a = a.put ≡ items_of a.number log
+  abbrev pub IsAllPut : List (Numbered T) → Account T → Type 0
+  IsAllPut log a = a.put ≡ items_of a.number log
 
   -- what the account says is a beginning of what its putter has put
   abbrev pub IsPart : List (Numbered T) → Account T → Type 0
@@ -22,7 +22,7 @@ module _ {T : Type 0} where
   -- the putter is at this place, and has split off no more than its account says
   pub record PutterStands (places : Places) (log : List (Numbered T)) (place : ℕ) (a : Account T) : Type 0 where
     pub here : places a.number ≡ Some place
-    pub whole : IsWhole log a
+    pub whole : IsAllPut log a
     pub splits : (k : ℕ) → a.splits ≤ k → places (k ∷ a.number) ≡ None
 
   -- what the pass at this place knows is so, where the log is all that was ever put and `got` begins it
@@ -39,7 +39,7 @@ module _ {T : Type 0} where
     pub reader : ℕ
     pub got : List (Numbered T)
     pub queued : List (Numbered T)
-    pub are : items queued ≡ queue
+    pub are : bare_items queued ≡ queue
     -- a putter that isn't there has split off none, and has put nothing
     pub after : (number : Number) (k : ℕ) → places number ≡ None → places (k ∷ number) ≡ None
     pub nothing : (number : Number) → places number ≡ None → items_of number (got ++ queued) ≡ []

@@ -116,8 +116,8 @@ shut_at First p = record { first = shut_one p.first; second = without_flight p.s
 shut_at Second p = record { first = without_flight p.first; second = shut_one p.second }
 
 -- both ends were shut, and what was in flight is lost
-abbrev pub cut_both : Sides → Sides
-cut_both p = record { first = without_flight (shut_one p.first); second = without_flight (shut_one p.second) }
+abbrev pub cut_pair : Sides → Sides
+cut_pair p = record { first = without_flight (shut_one p.first); second = without_flight (shut_one p.second) }
 
 -- The first bytes of what is in flight to a reader, at most `bytes`, went from the writer's queue to the reader, which took
 -- as much as makes a frame whole, and nothing where one waits or no stream is open.

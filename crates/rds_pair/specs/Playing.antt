@@ -3,14 +3,14 @@ use Rattle.std.specs.Prelude.{◌≡◌, ℕ, ◌<◌, List, [], ◌∷◌, leng
 use Rattle.rds_pair.specs.declared.step.Step.{Step}
 use Rattle.rds_pair.specs.declared.step.Step.TheVariants as step
 use Rattle.rds_pair.specs.Sides.{Sides, with_end}
-use Rattle.rds_pair.specs.Changes.{ordered, opened_at_both, shut_at, cut_both, pulled, passed, MovesTo}
+use Rattle.rds_pair.specs.Changes.{ordered, opened_at_both, shut_at, cut_pair, pulled, passed, MovesTo}
 
 -- one step was done, or passed over where it can't be done
 abbrev pub Does : Step → Sides → Sides → Type 0
 Does (step.Order end order) old new = new ≡ with_end end (ordered order) old
 Does step.Open old new = new ≡ opened_at_both old
 Does (step.Shut end) old new = new ≡ shut_at end old
-Does step.Cut old new = new ≡ cut_both old
+Does step.Cut old new = new ≡ cut_pair old
 Does (step.Pull end map) old new = new ≡ with_end end (pulled map) old
 Does (step.Move to bytes) old new = (used : ℕ) × MovesTo to bytes used old new
 Does (step.Pass end slot) old new = new ≡ with_end end (passed slot) old

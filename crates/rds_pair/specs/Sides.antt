@@ -52,8 +52,8 @@ abbrev pub HasFull : ℕ → Sides → Type 0
 HasFull entries p = IsFull entries p.first ⊎ IsFull entries p.second
 
 -- the journal may have two entries more
-abbrev pub HasRoom : Side → Type 0
-HasRoom s = length s.past + 2 ≤ s.limit
+abbrev pub HasRoomForTwo : Side → Type 0
+HasRoomForTwo s = length s.past + 2 ≤ s.limit
 
 -- Where no stream is open, nothing waits and nothing is kept; after a whole frame that waits nothing is kept; and where none
 -- waits, what is kept is less than a whole frame.

@@ -5,7 +5,7 @@ ghost use Rattle.rds_model.specs.Legal.{IsWhole};
 ghost use Rattle.rds_model.specs.declared.journal.TheConstants.{MIN_ENTRIES, MAX_ENTRIES};
 ghost use Rattle.rds_conn.specs.Connection.{IsReady};
 ghost use Rattle.rds_pair.specs.declared.error.PairError.TheVariants as errors;
-ghost use Rattle.rds_pair.specs.Sides.{HasRoom, IsFull, TakesFrameByFrame, blank};
+ghost use Rattle.rds_pair.specs.Sides.{HasRoomForTwo, IsFull, TakesFrameByFrame, blank};
 ghost use Rattle.rds_pair.specs.Half.{side_of};
 ghost use Rattle.rds_pair.specs.Changes.{ordered, pulled, passed, opened, shut_one, without_flight};
 
@@ -44,7 +44,7 @@ impl Half {
     /// Makes the connection ready for its next entries.
     pub fn ready(&mut self) -> Result<(), PairError>
         ensures ready { OnOk result (IsReady self.new.conn) }
-        ensures room { OnOk result (HasRoom (side_of self.old)) }
+        ensures room { OnOk result (HasRoomForTwo (side_of self.old)) }
         ensures same { side_of self.new ≡ side_of self.old }
         ensures spent { (entries : ℕ) → result ≡ Err (errors.Spent entries) → IsFull entries (side_of self.old) }
         ensures whole { IsWhole self.new.conn.log.past }

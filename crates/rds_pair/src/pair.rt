@@ -50,7 +50,7 @@ impl Pair {
     ghost use Rattle.rds_model.specs.declared.journal.TheConstants.{MIN_ENTRIES, MAX_ENTRIES};
     ghost use Rattle.rds_pair.specs.Sides.{HasFull, with_end, blank, of_end};
     ghost use Rattle.rds_pair.specs.Joined.{Flows};
-    ghost use Rattle.rds_pair.specs.Changes.{ordered, pulled, passed, opened_at_both, shut_at, cut_both, MovesTo};
+    ghost use Rattle.rds_pair.specs.Changes.{ordered, pulled, passed, opened_at_both, shut_at, cut_pair, MovesTo};
 
     /// Two ends of a connection between two hosts, given by their IPv4 addresses, of which nothing has happened. The slots
     /// of sockets are below `slots`, and each journal may have `limit` entries.
@@ -123,7 +123,7 @@ impl Pair {
 
     /// Shuts both ends. What is in flight is lost.
     pub fn cut(&mut self) -> Result<(), PairError>
-        ensures ok { OnOk result (self.new ≡ cut_both self.old) }
+        ensures ok { OnOk result (self.new ≡ cut_pair self.old) }
         ensures err { OnErr result (self.new ≡ self.old) }
         ensures spent { (entries : ℕ) → result ≡ Err (errors.Spent entries) → HasFull entries self.old }
     {

@@ -7,7 +7,7 @@ use Rattle.std.proofs.lemmas.List.{length-set}
 use Rattle.rds_model.specs.declared.order.Order.{Order}
 use Rattle.rds_mail.specs.Passes.{Putter}
 use Rattle.rds_fmap.specs.declared.seen.Seen.{Seen}
-use Rattle.rds_parts.specs.Lanes.{Lane, Fixed, At, HasSeen, RoutesStay, fixed, with_order, IsPutAt, ArePut}
+use Rattle.rds_parts.specs.Lanes.{Lane, Fixed, IsLaneAt, HasSeen, RoutesStay, fixed, with_order, IsPutAt, ArePut}
 use Rattle.rds_parts.specs.PlaceLaws.{here, there, stands, map_same, again}
 
 -- two numbers are one or are apart
@@ -45,10 +45,10 @@ elsewhere upto place ne =
     ] in go (nat_lt place upto) refl
 
 module _ {R : Type 0} where
-  pub at_place : (xs z : List (Lane R)) (i : ℕ) (was : Lane R) → xs ≡ z → i < length z → was ≡ get_or xs i was → At z i was
+  pub at_place : (xs z : List (Lane R)) (i : ℕ) (was : Lane R) → xs ≡ z → i < length z → was ≡ get_or xs i was → IsLaneAt z i was
   at_place xs z i was is l e = stands z i was l (e ∙ ap (λ ys. get_or ys i was) is)
 
-  pub at_read : (xs z : List (Lane R)) (i : ℕ) (was read : Lane R) → xs ≡ z → i < length z → was ≡ read → read ≡ get_or xs i read → At z i was
+  pub at_read : (xs z : List (Lane R)) (i : ℕ) (was read : Lane R) → xs ≡ z → i < length z → was ≡ read → read ≡ get_or xs i read → IsLaneAt z i was
   at_read xs z i was read is l same e = at_place xs z i read is l e ∙ ap Some (sym same)
 
   module _ {P : Type 0} (pair : R → P) (looked : R → ℕ → Seen → Type 0) where
@@ -59,25 +59,25 @@ module _ {R : Type 0} where
     stay_on a b c x y = record { fixed_parts = y.fixed_parts ∙ x.fixed_parts; seen = λ place port s k. y.seen place port s (x.seen place port s k) }
 
     -- a route that keeps its fixed parts and what its reader has found
-    pub stay_at : (routes : List (Lane R)) (i : ℕ) (was now : Lane R) → At routes i was → i < length routes → fixed pair now ≡ fixed pair was
+    pub stay_at : (routes : List (Lane R)) (i : ℕ) (was now : Lane R) → IsLaneAt routes i was → i < length routes → fixed pair now ≡ fixed pair was
         → ((port : ℕ) (s : Seen) → looked was.reader port s → looked now.reader port s) → RoutesStay pair looked routes (set routes i now)
     stay_at routes i was now at l same kept = record {
       fixed_parts = map_same (fixed pair) routes i was now at same;
       seen = λ place port s k. either_way place i
           (λ e. (
             now,
-            subst (λ j. At (set routes i now) j now) (sym e) (here routes i now l),
-            kept port s (subst (λ (lane : Lane R). looked lane.reader port s) (same_Some k.0 was (sym k.1 ∙ subst (λ j. At routes j was) (sym e) at)) k.2),
+            subst (λ j. IsLaneAt (set routes i now) j now) (sym e) (here routes i now l),
+            kept port s (subst (λ (lane : Lane R). looked lane.reader port s) (same_Some k.0 was (sym k.1 ∙ subst (λ j. IsLaneAt routes j was) (sym e) at)) k.2),
           ))
           (λ ne. (k.0, there routes i place now ne ∙ k.1, k.2));
     }
 
-    pub stay_in : (xs z : List (Lane R)) (i : ℕ) (was now : Lane R) → xs ≡ z → At z i was → i < length z → fixed pair now ≡ fixed pair was
+    pub stay_in : (xs z : List (Lane R)) (i : ℕ) (was now : Lane R) → xs ≡ z → IsLaneAt z i was → i < length z → fixed pair now ≡ fixed pair was
         → ((port : ℕ) (s : Seen) → looked was.reader port s → looked now.reader port s) → RoutesStay pair looked z (set xs i now)
     stay_in xs z i was now is at l same kept = subst (λ ys. RoutesStay pair looked z (set ys i now)) (sym is) (stay_at z i was now at l same kept)
 
     -- a route that put an order, or none
-    pub stay_put : (xs z : List (Lane R)) (i : ℕ) (was : Lane R) (pass : Putter Order) (put : List Order) → xs ≡ z → At z i was → i < length z
+    pub stay_put : (xs z : List (Lane R)) (i : ℕ) (was : Lane R) (pass : Putter Order) (put : List Order) → xs ≡ z → IsLaneAt z i was → i < length z
         → pass ≡ record { mail = was.pass.mail; number = was.pass.number; splits = was.pass.splits; put = put } → RoutesStay pair looked z (set xs i (record { peer = was.peer; pass = pass; reader = was.reader }))
     stay_put xs z i was pass put is at l same = stay_in xs z i was (record { peer = was.peer; pass = pass; reader = was.reader }) is at l
         (ap (λ (q : Putter Order). record { peer = was.peer; mail = q.mail; number = q.number; splits = q.splits; pair = pair was.reader }) same) (λ port s k. k)
@@ -92,13 +92,13 @@ module _ {R : Type 0} where
       let size : upto < length mid = let e = before.0 in omega arith in (
         ap length one.2 ∙ (length-set mid upto (with_order one.0 item) ∙ before.0),
         λ place lane at. either_way place upto
-            (λ e. let was : At mid place lane = before.1 place lane at ∙ ap (λ (b : Bool). Some (cond b (with_order lane item) lane)) (beyond from upto place e) in
-            let same : lane ≡ one.0 = same_Some lane one.0 (sym was ∙ subst (λ j. At mid j one.0) (sym e) one.1) in
-            subst (λ l. At l place (cond (nat_le from place && nat_lt place (upto + 1)) (with_order lane item) lane)) (sym one.2)
-            (subst (λ j. At (set mid upto (with_order one.0 item)) j (with_order one.0 item)) (sym e) (here mid upto (with_order one.0 item) size)
+            (λ e. let was : IsLaneAt mid place lane = before.1 place lane at ∙ ap (λ (b : Bool). Some (cond b (with_order lane item) lane)) (beyond from upto place e) in
+            let same : lane ≡ one.0 = same_Some lane one.0 (sym was ∙ subst (λ j. IsLaneAt mid j one.0) (sym e) one.1) in
+            subst (λ l. IsLaneAt l place (cond (nat_le from place && nat_lt place (upto + 1)) (with_order lane item) lane)) (sym one.2)
+            (subst (λ j. IsLaneAt (set mid upto (with_order one.0 item)) j (with_order one.0 item)) (sym e) (here mid upto (with_order one.0 item) size)
             ∙ ap (λ (x : Lane R). Some (with_order x item)) (sym same)
             ∙ ap (λ (b : Bool). Some (cond b (with_order lane item) lane)) (sym (within from upto place e low))))
-            (λ ne. subst (λ l. At l place (cond (nat_le from place && nat_lt place (upto + 1)) (with_order lane item) lane)) (sym one.2)
+            (λ ne. subst (λ l. IsLaneAt l place (cond (nat_le from place && nat_lt place (upto + 1)) (with_order lane item) lane)) (sym one.2)
             (there mid upto place (with_order one.0 item) ne ∙ (before.1 place lane at
             ∙ ap (λ (b : Bool). Some (cond (nat_le from place && b) (with_order lane item) lane)) (elsewhere upto place ne)))),
       )

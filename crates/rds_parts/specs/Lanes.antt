@@ -37,12 +37,12 @@ module _ {R : Type 0} where
   peers_of routes = map (λ lane. lane.peer) routes
 
   -- this route stands at this place
-  abbrev pub At : List (Lane R) → ℕ → Lane R → Type 0
-  At routes place lane = slice_get routes place ≡ Some lane
+  abbrev pub IsLaneAt : List (Lane R) → ℕ → Lane R → Type 0
+  IsLaneAt routes place lane = slice_get routes place ≡ Some lane
 
   -- the route at this place leads to the peer
   abbrev pub LeadsTo : List (Lane R) → ℕ → ℕ → Type 0
-  LeadsTo routes peer place = (lane : Lane R) × At routes place lane × (lane.peer ≡ peer)
+  LeadsTo routes peer place = (lane : Lane R) × IsLaneAt routes place lane × (lane.peer ≡ peer)
 
   -- no route leads to the peer
   abbrev pub NoneTo : List (Lane R) → ℕ → Type 0
@@ -56,7 +56,7 @@ module _ {R : Type 0} where
 
   -- the order was put on the queue of the route at this place
   abbrev pub IsPutAt : ℕ → Order → List (Lane R) → List (Lane R) → Type 0
-  IsPutAt place item old new = (lane : Lane R) × At old place lane × (new ≡ slice_set old place (with_order lane item))
+  IsPutAt place item old new = (lane : Lane R) × IsLaneAt old place lane × (new ≡ slice_set old place (with_order lane item))
 
   -- the order was put on the peer's queue
   abbrev pub IsPutTo : ℕ → Order → List (Lane R) → List (Lane R) → Type 0
@@ -64,7 +64,7 @@ module _ {R : Type 0} where
 
   -- the order was put on each queue from one place up to another
   abbrev pub ArePut : ℕ → ℕ → Order → List (Lane R) → List (Lane R) → Type 0
-  ArePut from upto item old new = (length new ≡ length old) × ((place : ℕ) (lane : Lane R) → At old place lane → At new place (if nat_le from place && nat_lt place upto then with_order lane item else lane))
+  ArePut from upto item old new = (length new ≡ length old) × ((place : ℕ) (lane : Lane R) → IsLaneAt old place lane → IsLaneAt new place (if nat_le from place && nat_lt place upto then with_order lane item else lane))
 
   -- on each queue it has put only orders of this slot, and cuts
   abbrev pub ArePutOf : ℕ → List (Lane R) → Type 0
@@ -73,7 +73,7 @@ module _ {R : Type 0} where
   module _ (looks : R → R → ℕ → Seen → Type 0) where
     -- one look at the peer's map, by the route at this place, found this of the port
     abbrev pub IsLookAt : ℕ → ℕ → Seen → List (Lane R) → List (Lane R) → Type 0
-    IsLookAt place port seen old new = (lane : Lane R) × (reader : R) × At old place lane × looks lane.reader reader port seen × (new ≡ slice_set old place (with_reader lane reader))
+    IsLookAt place port seen old new = (lane : Lane R) × (reader : R) × IsLaneAt old place lane × looks lane.reader reader port seen × (new ≡ slice_set old place (with_reader lane reader))
 
     -- one look at the peer's map found this of the port
     abbrev pub IsLookTo : ℕ → ℕ → Seen → List (Lane R) → List (Lane R) → Type 0
@@ -81,7 +81,7 @@ module _ {R : Type 0} where
 
   -- a look by the reader at this place has found this of the port
   abbrev pub HasSeen : (R → ℕ → Seen → Type 0) → List (Lane R) → ℕ → ℕ → Seen → Type 0
-  HasSeen looked routes place port seen = (lane : Lane R) × At routes place lane × looked lane.reader port seen
+  HasSeen looked routes place port seen = (lane : Lane R) × IsLaneAt routes place lane × looked lane.reader port seen
 
   module _ {P : Type 0} (pair : R → P) where
     abbrev pub fixed : Lane R → Fixed P

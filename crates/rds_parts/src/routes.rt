@@ -3,7 +3,7 @@ ghost use Rattle.std.specs.Prelude.{◌≡◌, ◌<◌, ◌≤◌, ◌==◌, ℕ
 ghost use Rattle.rds_model.specs.declared.entry.TheConstants.{MAX_SLOTS};
 ghost use Rattle.rds_model.specs.declared.order.Order.TheVariants as order;
 ghost use Rattle.rds_parts.specs.Refusals.{AskRefused};
-ghost use Rattle.rds_parts.specs.Lanes.{LeadsTo, NoneTo, IsPutAt, IsPutTo, ArePut, IsLookAt, IsLookTo, HasSeen, RoutesStay, At, Lane};
+ghost use Rattle.rds_parts.specs.Lanes.{LeadsTo, NoneTo, IsPutAt, IsPutTo, ArePut, IsLookAt, IsLookTo, HasSeen, RoutesStay, IsLaneAt, Lane};
 
 use crate::error::{CancelError, NoRoute};
 use crate::route::Route;
@@ -138,7 +138,7 @@ impl<R: MapReader> Routes<R> {
     pub fn note(&mut self, place: usize) -> Note<Asked>
         requires { place < length self.old }
         ensures same { self.new ≡ self.old }
-        ensures note { (lane : Lane R) × At self.old place lane × (result ≡ lane.pass) }
+        ensures note { (lane : Lane R) × IsLaneAt self.old place lane × (result ≡ lane.pass) }
     {
         let route = &mut self.routes[place];
         route.orders.note(&mut route.pass)

@@ -5,7 +5,7 @@ use Rattle.std.proofs.lemmas.List.{map-append}
 use Rattle.std.proofs.lemmas.List.Elements.{All-nil, All-cons, All-append, All-map, All-filter, All-get_or, filter-append}
 use Rattle.std.proofs.lemmas.List.Quantifiers.{all_pairs_push}
 use Rattle.rds_text.specs.Ports.{below}
-use Rattle.rds_report.specs.FinalState.{Side, FinalHost}
+use Rattle.rds_report.specs.FinalState.{FinalJournal, FinalHost}
 use Rattle.rds_history.specs.Events.{Event}
 use Rattle.rds_history.specs.History.{final_hosts, final_host}
 use Rattle.rds_report.specs.Hosts.{address_of, IsAddress}
@@ -57,9 +57,9 @@ is_address h h_in = record { least = omega arith; most = omega arith }
 
 are_sides : (hosts h : ℕ) (past : List Event) → hosts ≤ 8 → AreSides (final_host hosts h past).sides
 are_sides hosts h past few = record {
-  once = pairs_apart (λ (a b : Side). a.peer ≢ b.peer) (λ k. record { peer = address_of k; past = journal h k past }) (λ k. not (k == h))
+  once = pairs_apart (λ (a b : FinalJournal). a.peer ≢ b.peer) (λ k. record { peer = address_of k; past = journal h k past }) (λ k. not (k == h))
       (λ a b less e. omega arith) hosts;
-  peers = All-map (λ (s : Side). IsAddress s.peer) (λ k. record { peer = address_of k; past = journal h k past }) (filter (λ k. not (k == h)) (below hosts))
+  peers = All-map (λ (s : FinalJournal). IsAddress s.peer) (λ k. record { peer = address_of k; past = journal h k past }) (filter (λ k. not (k == h)) (below hosts))
       (λ i d i_in. is_address _ (All-filter (λ k. not (k == h)) (λ k. k < 8) (below hosts) (below_less hosts 8 few) i d i_in));
 }
 

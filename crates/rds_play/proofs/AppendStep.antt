@@ -7,7 +7,7 @@ use Rattle.rds_model.specs.declared.order.Datagram.{Datagram}
 use Rattle.rds_history.specs.Events.{Event, Appended}
 use Rattle.rds_history.specs.Courses.{Course, appends, and_then}
 use Rattle.rds_history.specs.Journals.{journal}
-use Rattle.rds_history.specs.Sockets.{delivered, received}
+use Rattle.rds_history.specs.Sockets.{arrived_datagrams, handed_out}
 use Rattle.rds_history.specs.Transcript.{lines, entry_line}
 use Rattle.rds_play.specs.declared.stop.Stop.{Stop}
 use Rattle.rds_play.specs.declared.stop.Stop.TheVariants as stop
@@ -23,7 +23,7 @@ use Rattle.rds_play.proofs.Places.{pair_replaced, host_kept}
 
 -- no datagram is delivered with the entry
 abbrev pub DeliversNone : (h k : ℕ) → Entry → List Event → Type 0
-DeliversNone h k e past = (a slot : ℕ) → delivered a slot (Appended h k e ∷ past) ≡ delivered a slot past
+DeliversNone h k e past = (a slot : ℕ) → arrived_datagrams a slot (Appended h k e ∷ past) ≡ arrived_datagrams a slot past
 
 socket_appended : (a slot h k : ℕ) (e : Entry) (past : List Event) (y : Socket) → DeliversNone h k e past →
     TellsSocket a slot past y → TellsSocket a slot (Appended h k e ∷ past) y
@@ -32,10 +32,10 @@ socket_appended a slot h k e past y none t = record {
   port_is = t.port_is;
   sndbuf_is = t.sndbuf_is;
   rcvbuf_is = t.rcvbuf_is;
-  queue_is = t.queue_is ∙ ap (λ (ds : List Datagram). drop (length (received a slot past)) ds) (sym (none a slot));
-  queued_is = t.queued_is ∙ ap (λ (ds : List Datagram). sum_by (λ (d : Datagram). length d.payload) (drop (length (received a slot past)) ds)) (sym (none a slot));
+  queue_is = t.queue_is ∙ ap (λ (ds : List Datagram). drop (length (handed_out a slot past)) ds) (sym (none a slot));
+  queued_is = t.queued_is ∙ ap (λ (ds : List Datagram). sum_by (λ (d : Datagram). length d.payload) (drop (length (handed_out a slot past)) ds)) (sym (none a slot));
   got_is = t.got_is;
-  within = subst (λ (ds : List Datagram). length (received a slot past) ≤ length ds) (sym (none a slot)) t.within;
+  within = subst (λ (ds : List Datagram). length (handed_out a slot past) ≤ length ds) (sym (none a slot)) t.within;
 }
 
 pub host_appended : (a h k : ℕ) (e : Entry) (past : List Event) (x : Host) → DeliversNone h k e past →

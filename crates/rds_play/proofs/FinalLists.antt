@@ -8,12 +8,12 @@ use Rattle.rds_model.specs.declared.order.Datagram.{Datagram}
 use Rattle.rds_model.specs.declared.entry.Entry.{Entry}
 use Rattle.rds_history.specs.Events.{Event}
 use Rattle.rds_report.specs.declared.final_state.HostEnd.{HostEnd}
-use Rattle.rds_report.specs.FinalState.{FinalHost, Side, Socket as Kept}
+use Rattle.rds_report.specs.FinalState.{FinalHost, FinalJournal, Socket as Kept}
 use Rattle.rds_report.specs.Views.{host_views, host_view}
 use Rattle.rds_history.specs.History.{socket, sockets, final_host}
 use Rattle.rds_report.specs.Hosts.{address_of}
 use Rattle.rds_history.specs.Journals.{journal}
-use Rattle.rds_history.specs.Sockets.{bound_port, received}
+use Rattle.rds_history.specs.Sockets.{bound_port, handed_out}
 use Rattle.rds_play.specs.declared.host.Arrived.{Arrived}
 use Rattle.rds_play.specs.declared.host.Host.{Host}
 use Rattle.rds_play.specs.declared.host.Socket.{Socket}
@@ -81,7 +81,7 @@ sockets_left h past x t =
         ap (λ i. record { slot = i; port = s.port; got = s.got.items; unread = map (λ (a : Arrived). a.datagram) s.queue.items }) told.slot_is
         ∙ ap (λ i. record { slot = k; port = i; got = s.got.items; unread = map (λ (a : Arrived). a.datagram) s.queue.items }) told.port_is
         ∙ ap (λ (ds : List Datagram). record { slot = k; port = bound_port h k past; got = ds; unread = map (λ (a : Arrived). a.datagram) s.queue.items }) told.got_is
-        ∙ ap (λ (ds : List Datagram). record { slot = k; port = bound_port h k past; got = received h k past; unread = ds }) told.queue_is
+        ∙ ap (λ (ds : List Datagram). record { slot = k; port = bound_port h k past; got = handed_out h k past; unread = ds }) told.queue_is
         ∙ (let e : k ≡ 0 + k = omega arith in ap (socket h past) e)
 
 pub sides_left : (limit h : ℕ) (past : List Event) (links : List Link) → TellRow limit h past links →
@@ -90,10 +90,10 @@ sides_left limit h past links row =
     numbered seen side (λ (l : Link). not (l.peer == h)) (λ k. not (k == h)) 0 links (λ k k_in l is. left k l (row k k_in l is))
     ∙ ap (λ (ks : List ℕ). map side (filter (λ k. not (k == h)) ks)) (sym (below_range (length links)))
   where
-    side : ℕ → Side
+    side : ℕ → FinalJournal
     side k = record { peer = address_of k; past = journal h k past }
 
-    seen : Link → Side
+    seen : Link → FinalJournal
     seen l = record { peer = address_of l.peer; past = l.conn.log.past }
 
     left : (k : ℕ) (l : Link) → TellsLink limit h k past l → (seen l ≡ side (0 + k)) × (not (l.peer == h) ≡ not (0 + k == h))
@@ -109,7 +109,7 @@ sides_push : (h : ℕ) (links : List Link) (l : Link) → sides h (links ++ l �
 sides_push h links l =
     ap (map seen) (filter-append apart links (l ∷ [])) ∙ map-append seen (filter apart links) (filter apart (l ∷ []))
   where
-    seen : Link → Side
+    seen : Link → FinalJournal
     seen l = record { peer = address_of l.peer; past = l.conn.log.past }
 
     apart : Link → Bool
@@ -140,7 +140,7 @@ row_taken limit h n past links few row = λ k k_in l is.
     row k (omega (arith, below, few)) l (is ∙ get_or-take n links k l below)
 
 -- a host of the world as one of the end
-pub end_told : (limit h n : ℕ) (past : List Event) (links : List Link) (x : Host) (addr : ℕ) (js : List Side) (ks : List Kept) →
+pub end_told : (limit h n : ℕ) (past : List Event) (links : List Link) (x : Host) (addr : ℕ) (js : List FinalJournal) (ks : List Kept) →
     n ≤ length links → TellsHost h past x → TellRow limit h past links → addr ≡ address_of h → js ≡ sides h (take n links) → ks ≡ sockets h past →
     record { addr = addr; sides = js; sockets = ks } ≡ final_host n h past
 end_told limit h n past links x addr js ks few told row addr_is js_are ks_are =
@@ -149,7 +149,7 @@ end_told limit h n past links x addr js ks few told row addr_is js_are ks_are =
     js_are ∙ sides_left limit h past (take n links) (row_taken limit h n past links few row)
     ∙ ap (λ m. map (λ k. record { peer = address_of k; past = journal h k past }) (filter (λ k. not (k == h)) (below m))) size in
     ap (λ a. record { addr = a; sides = js; sockets = ks }) addr_is
-    ∙ ap (λ (l : List Side). record { addr = address_of h; sides = l; sockets = ks }) sides_are
+    ∙ ap (λ (l : List FinalJournal). record { addr = address_of h; sides = l; sockets = ks }) sides_are
     ∙ ap (λ (l : List Kept). record { addr = address_of h; sides = map (λ k. record { peer = address_of k; past = journal h k past }) (filter (λ k. not (k == h)) (below n)); sockets = l }) ks_are
 
 -- the links of a host, among all

@@ -13,7 +13,7 @@ use Rattle.rds_play.specs.Coming.{Comes}
 use Rattle.rds_play.proofs.Comings.{comes_printed}
 use Rattle.rds_report.specs.Hosts.{host_at}
 use Rattle.rds_text.specs.Lines.{recv_line, recv_none_line}
-use Rattle.rds_history.specs.Sockets.{next_slot, delivered, received, queue, queued}
+use Rattle.rds_history.specs.Sockets.{next_slot, arrived_datagrams, handed_out, queue, queued}
 use Rattle.rds_history.specs.Transcript.{lines}
 use Rattle.rds_play.specs.declared.host.Arrived.{Arrived}
 use Rattle.rds_play.specs.declared.host.Host.{Host}
@@ -35,11 +35,11 @@ drop_short zero (x ∷ xs) y ys is = omega arith
 drop_short (suc n) [] y ys is = cc
 drop_short (suc n) (x ∷ xs) y ys is = let below = drop_short n xs y ys is in omega arith
 
-received_here : (h port slot : ℕ) (d : Datagram) (past : List Event) → received h slot (Received h port slot d ∷ past) ≡ received h slot past ++ d ∷ []
-received_here h port slot d past = cond-true (h == h && (slot == slot)) (received h slot past ++ d ∷ []) (received h slot past) (same_pair h slot)
+received_here : (h port slot : ℕ) (d : Datagram) (past : List Event) → handed_out h slot (Received h port slot d ∷ past) ≡ handed_out h slot past ++ d ∷ []
+received_here h port slot d past = cond-true (h == h && (slot == slot)) (handed_out h slot past ++ d ∷ []) (handed_out h slot past) (same_pair h slot)
 
-received_there : (a h port slot s : ℕ) (d : Datagram) (past : List Event) → (a ≡ h → s ≡ slot → ⊥) → received a s (Received h port slot d ∷ past) ≡ received a s past
-received_there a h port slot s d past apart = cond-false (h == a && (slot == s)) (received a s past ++ d ∷ []) (received a s past) (other_pair h slot a s apart)
+received_there : (a h port slot s : ℕ) (d : Datagram) (past : List Event) → (a ≡ h → s ≡ slot → ⊥) → handed_out a s (Received h port slot d ∷ past) ≡ handed_out a s past
+received_there a h port slot s d past apart = cond-false (h == a && (slot == s)) (handed_out a s past ++ d ∷ []) (handed_out a s past) (other_pair h slot a s apart)
 
 socket_handed : (h port slot : ℕ) (past : List Event) (a : Arrived) (waiting : List Arrived) (old new : Socket) (text_old text_new : List ℕ) →
     TellsSocket h slot past old → old.queue.items ≡ a ∷ waiting → HandsOut h port a waiting old new text_old text_new →
@@ -48,11 +48,11 @@ socket_handed h port slot past a waiting old new text_old text_new t items out =
     let here = received_here h port slot a.datagram past in
     let front : queue h slot past ≡ a.datagram ∷ map (λ (x : Arrived). x.datagram) waiting =
     sym t.queue_is ∙ ap (λ (q : List Arrived). map (λ (x : Arrived). x.datagram) q) items in
-    let one_more : length (received h slot (Received h port slot a.datagram ∷ past)) ≡ suc (length (received h slot past)) =
-    ap (λ (ds : List Datagram). length ds) here ∙ length_push (received h slot past) a.datagram ∙ add-one (length (received h slot past)) in
+    let one_more : length (handed_out h slot (Received h port slot a.datagram ∷ past)) ≡ suc (length (handed_out h slot past)) =
+    ap (λ (ds : List Datagram). length ds) here ∙ length_push (handed_out h slot past) a.datagram ∙ add-one (length (handed_out h slot past)) in
     let rest : queue h slot (Received h port slot a.datagram ∷ past) ≡ map (λ (x : Arrived). x.datagram) waiting =
-    ap (λ n. drop n (delivered h slot past)) one_more
-    ∙ drop_next (length (received h slot past)) (delivered h slot past) a.datagram (map (λ (x : Arrived). x.datagram) waiting) front in
+    ap (λ n. drop n (arrived_datagrams h slot past)) one_more
+    ∙ drop_next (length (handed_out h slot past)) (arrived_datagrams h slot past) a.datagram (map (λ (x : Arrived). x.datagram) waiting) front in
     let bytes : queued h slot past ≡ length a.datagram.payload + sum_by (λ (d : Datagram). length d.payload) (map (λ (x : Arrived). x.datagram) waiting) =
     ap (λ (ds : List Datagram). sum_by (λ (d : Datagram). length d.payload) ds) front
     ∙ sum_by-cons (λ (d : Datagram). length d.payload) a.datagram (map (λ (x : Arrived). x.datagram) waiting) in
@@ -66,8 +66,8 @@ socket_handed h port slot past a waiting old new text_old text_new t items out =
       queue_is = ap (λ (q : List Arrived). map (λ (x : Arrived). x.datagram) q) out.queue_is ∙ sym rest;
       queued_is = omega (arith, out.queued_is, t.queued_is, bytes, left);
       got_is = out.got_is ∙ ap (λ (ds : List Datagram). ds ++ a.datagram ∷ []) t.got_is ∙ sym here;
-      within = subst (λ n. n ≤ length (delivered h slot past)) (sym one_more)
-          (drop_short (length (received h slot past)) (delivered h slot past) a.datagram (map (λ (x : Arrived). x.datagram) waiting) front);
+      within = subst (λ n. n ≤ length (arrived_datagrams h slot past)) (sym one_more)
+          (drop_short (length (handed_out h slot past)) (arrived_datagrams h slot past) a.datagram (map (λ (x : Arrived). x.datagram) waiting) front);
     }
 
 socket_there : (a h port slot s : ℕ) (d : Datagram) (past : List Event) (y : Socket) → (a ≡ h → s ≡ slot → ⊥) → TellsSocket a s past y →
@@ -79,10 +79,10 @@ socket_there a h port slot s d past y apart t =
       port_is = t.port_is;
       sndbuf_is = t.sndbuf_is;
       rcvbuf_is = t.rcvbuf_is;
-      queue_is = t.queue_is ∙ sym (ap (λ (ds : List Datagram). drop (length ds) (delivered a s past)) same);
-      queued_is = t.queued_is ∙ sym (ap (λ (ds : List Datagram). sum_by (λ (x : Datagram). length x.payload) (drop (length ds) (delivered a s past))) same);
+      queue_is = t.queue_is ∙ sym (ap (λ (ds : List Datagram). drop (length ds) (arrived_datagrams a s past)) same);
+      queued_is = t.queued_is ∙ sym (ap (λ (ds : List Datagram). sum_by (λ (x : Datagram). length x.payload) (drop (length ds) (arrived_datagrams a s past))) same);
       got_is = t.got_is ∙ sym same;
-      within = subst (λ (ds : List Datagram). length ds ≤ length (delivered a s past)) (sym same) t.within;
+      within = subst (λ (ds : List Datagram). length ds ≤ length (arrived_datagrams a s past)) (sym same) t.within;
     }
 
 fresh_there : (a h port slot s : ℕ) (d : Datagram) (past : List Event) → (a ≡ h → s ≡ slot → ⊥) → IsFresh a s past → IsFresh a s (Received h port slot d ∷ past)

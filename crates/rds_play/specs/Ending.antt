@@ -2,7 +2,7 @@
 use Rattle.std.specs.Prelude.{◌≡◌, ℕ, ◌==◌, ◌<◌, not, List, length, filter, map, get_or}
 use Rattle.rds_history.specs.Events.{Event}
 use Rattle.rds_report.specs.Hosts.{address_of}
-use Rattle.rds_report.specs.FinalState.{Side}
+use Rattle.rds_report.specs.FinalState.{FinalJournal}
 use Rattle.rds_play.specs.declared.host.Host.{Host}
 use Rattle.rds_play.specs.declared.link.Link.{Link}
 use Rattle.rds_play.specs.Telling.{TellsHost, TellsLink, EachHost, EachPair}
@@ -20,6 +20,6 @@ abbrev pub TellRow : (limit h : ℕ) → List Event → List Link → Type 0
 TellRow limit h past links = (k : ℕ) → k < length links → (l : Link) → l ≡ get_or links k l → TellsLink limit h k past l
 
 -- the journals of links to other hosts than h
-abbrev pub sides : ℕ → List Link → List Side
+abbrev pub sides : ℕ → List Link → List FinalJournal
 sides h links =
     map (λ (l : Link). record { peer = address_of l.peer; past = l.conn.log.past }) (filter (λ (l : Link). not (l.peer == h)) links)

@@ -8,7 +8,7 @@ use Rattle.rds_model.specs.Streams.{written_bytes}
 use Rattle.rds_text.specs.declared.host.TheConstants.{MAX_HOSTS}
 use Rattle.rds_history.specs.Events.{Event}
 use Rattle.rds_history.specs.Journals.{journal, moved_count, in_flight, is_marked, own_map}
-use Rattle.rds_history.specs.Sockets.{next_slot, holder, bound_port, send_buffer, receive_buffer, delivered, received, queue, queued}
+use Rattle.rds_history.specs.Sockets.{next_slot, holder, bound_port, send_buffer, receive_buffer, arrived_datagrams, handed_out, queue, queued}
 use Rattle.rds_history.specs.Transcript.{lines}
 use Rattle.rds_play.specs.declared.host.Arrived.{Arrived}
 use Rattle.rds_play.specs.declared.host.Socket.{Socket}
@@ -36,13 +36,13 @@ pub record TellsSocket (h slot : ℕ) (past : List Event) (s : Socket) : Type 0 
   pub rcvbuf_is : s.rcvbuf ≡ receive_buffer h slot past
   pub queue_is : map (λ (a : Arrived). a.datagram) s.queue.items ≡ queue h slot past
   pub queued_is : s.queued ≡ queued h slot past
-  pub got_is : s.got.items ≡ received h slot past
-  pub within : length (received h slot past) ≤ length (delivered h slot past)
+  pub got_is : s.got.items ≡ handed_out h slot past
+  pub within : length (handed_out h slot past) ≤ length (arrived_datagrams h slot past)
 
 -- nothing came to the socket of a slot, or left it
 pub record IsFresh (h slot : ℕ) (past : List Event) : Type 0 where
-  pub none_came : delivered h slot past ≡ []
-  pub none_left : received h slot past ≡ []
+  pub none_came : arrived_datagrams h slot past ≡ []
+  pub none_left : handed_out h slot past ≡ []
 
 -- a host has its sockets, those that hold its ports, and its congestion map
 pub record TellsHost (h : ℕ) (past : List Event) (x : Host) : Type 0 where

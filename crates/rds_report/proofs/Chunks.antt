@@ -10,7 +10,7 @@ use Rattle.rds_report.specs.declared.item.Item.{Item}
 use Rattle.rds_report.specs.Hosts.{IsAddress}
 use Rattle.rds_report.specs.Report.{Group, Counts, is_before, ascending}
 use Rattle.rds_report.specs.Items.{seen}
-use Rattle.rds_report.specs.ItemReport.{is_same, is_of, is_accepted, number_of, of_pair, accepted_pairs, pair_lines, lines_of, groups_text, AreKnown, AreNotBefore, IsUp}
+use Rattle.rds_report.specs.ItemReport.{is_same, is_of, is_accepted, count_of, of_pair, accepted_pairs, pair_lines, lines_of, groups_text, AreKnown, AreNotBefore, IsUp}
 use Rattle.rds_report.proofs.Orders.{same_is, same_itself, before_itself, same_sym, before_either, before_differs, not_before_trans, before_then_not, Above, has, rising_one, rising_ascending, has_ascending}
 
 pub filter_tests : {X : Type 0} (p q : X → Bool) → ((x : X) → p x ≡ q x) → (xs : List X) → filter p xs ≡ filter q xs
@@ -124,7 +124,7 @@ pairs_after g (i ∷ items) h = go (accepting i) (pairs_after g items h.1)
 
 -- those of a run are its pair, where one was accepted
 pairs_of : (g : Group) (items : List Item) → AreOf g items → (k : Group) →
-    has k (accepted_pairs items) ≡ (not (number_of is_accepted items == 0) && is_same k g)
+    has k (accepted_pairs items) ≡ (not (count_of is_accepted items == 0) && is_same k g)
 pairs_of g [] h k = refl
 pairs_of g (i ∷ items) h k = go (accepting i) (pairs_of g items h.1 k)
   where
@@ -136,14 +136,14 @@ pairs_of g (i ∷ items) h k = go (accepting i) (pairs_of g items h.1 k)
     absorb false true = refl
     absorb false false = refl
 
-    go : (b : Bool) → has k (accepted_pairs items) ≡ (not (number_of is_accepted items == 0) && is_same k g) →
+    go : (b : Bool) → has k (accepted_pairs items) ≡ (not (count_of is_accepted items == 0) && is_same k g) →
         has k (map (λ (j : Item). seen j.group) (cond b (i ∷ filter accepting items) (filter accepting items)))
         ≡ (not (length (cond b (i ∷ filter accepting items) (filter accepting items)) == 0) && is_same k g)
     go true ih =
         ap (λ (x : Bool). is_same k (seen i.group) || x) ih
-        ∙ ap (λ (x : Bool). x || (not (number_of is_accepted items == 0) && is_same k g)) this
-        ∙ absorb (is_same k g) (not (number_of is_accepted items == 0))
-        ∙ ap (λ (x : Bool). not x && is_same k g) (sym (ne_eqb (suc (number_of is_accepted items)) 0 (λ e. omega arith)))
+        ∙ ap (λ (x : Bool). x || (not (count_of is_accepted items == 0) && is_same k g)) this
+        ∙ absorb (is_same k g) (not (count_of is_accepted items == 0))
+        ∙ ap (λ (x : Bool). not x && is_same k g) (sym (ne_eqb (suc (count_of is_accepted items)) 0 (λ e. omega arith)))
     go false ih = ih
 
 above_has : (g a : Group) (l : List Group) → Above g l → has a l ≡ true → is_before g a ≡ true
@@ -183,16 +183,16 @@ module _ (g : Group) (run rest : List Item) (of' : AreOf g run) (after : AreAfte
   all_above = above_members g (accepted_pairs rest) (ascending (accepted_pairs rest)) (pairs_after g rest after) (λ k in'. sym (has_ascending k (accepted_pairs rest)) ∙ in')
 
   -- what has the pairs of both
-  members : (k : Group) → has k (ascending (accepted_pairs (run ++ rest))) ≡ ((not (number_of is_accepted run == 0) && is_same k g) || has k (accepted_pairs rest))
+  members : (k : Group) → has k (ascending (accepted_pairs (run ++ rest))) ≡ ((not (count_of is_accepted run == 0) && is_same k g) || has k (accepted_pairs rest))
   members k =
       has_ascending k (accepted_pairs (run ++ rest)) ∙ ap (has k) (pairs_append run rest)
       ∙ list_any-append (is_same k) (accepted_pairs run) (accepted_pairs rest)
       ∙ ap (λ (b : Bool). b || has k (accepted_pairs rest)) (pairs_of g run of' k)
 
   pub split_lines : groups_text (run ++ rest) ≡ lines_of g run ++ groups_text rest
-  split_lines = go (number_of is_accepted run == 0) refl
+  split_lines = go (count_of is_accepted run == 0) refl
     where
-      go : (b : Bool) → (number_of is_accepted run == 0) ≡ b → groups_text (run ++ rest) ≡ lines_of g run ++ groups_text rest
+      go : (b : Bool) → (count_of is_accepted run == 0) ≡ b → groups_text (run ++ rest) ≡ lines_of g run ++ groups_text rest
       go true none =
           let same : ascending (accepted_pairs (run ++ rest)) ≡ ascending (accepted_pairs rest) =
           rising_one (ascending (accepted_pairs (run ++ rest))) (ascending (accepted_pairs rest)) (rising_ascending (accepted_pairs (run ++ rest))) (rising_ascending (accepted_pairs rest))
@@ -215,7 +215,7 @@ module _ (g : Group) (run rest : List Item) (of' : AreOf g run) (after : AreAfte
       ap (has k) (pairs_append run rest) ∙ list_any-append (is_same k) (accepted_pairs run) (accepted_pairs rest)
       ∙ ap (λ (b : Bool). has k (accepted_pairs run) || b) in' ∙ or_true (has k (accepted_pairs run)))
 
-  pub known_run : AreKnown (run ++ rest) → (number_of is_accepted run == 0) ≡ false → IsAddress g.to × IsAddress g.from
+  pub known_run : AreKnown (run ++ rest) → (count_of is_accepted run == 0) ≡ false → IsAddress g.to × IsAddress g.from
   known_run known some = known g (
       ap (has g) (pairs_append run rest) ∙ list_any-append (is_same g) (accepted_pairs run) (accepted_pairs rest)
       ∙ ap (λ (b : Bool). b || has g (accepted_pairs rest)) (pairs_of g run of' g)
@@ -280,7 +280,7 @@ module _ (g : Group) (items run rest : List Item) (n : ℕ) (n_is : n ≡ prefix
       (known_rest g (take (prefix_len (is_of g) items) items) (drop (prefix_len (is_of g) items) items) (run_of g items) (rest_after g items first up).0
       (subst AreKnown (sym all) known))
 
-  pub peeled_run : AreKnown items → (number_of is_accepted run == 0) ≡ false → IsAddress g.to × IsAddress g.from
+  pub peeled_run : AreKnown items → (count_of is_accepted run == 0) ≡ false → IsAddress g.to × IsAddress g.from
   peeled_run known some =
       known_run g (take (prefix_len (is_of g) items) items) (drop (prefix_len (is_of g) items) items) (run_of g items) (rest_after g items first up).0
-      (subst AreKnown (sym all) known) (ap (λ (l : List Item). number_of is_accepted l == 0) (sym the_run) ∙ some)
+      (subst AreKnown (sym all) known) (ap (λ (l : List Item). count_of is_accepted l == 0) (sym the_run) ∙ some)

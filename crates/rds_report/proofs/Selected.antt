@@ -14,18 +14,18 @@ use Rattle.rds_model.specs.Past.{accepted}
 use Rattle.rds_report.specs.declared.item.What.{What}
 use Rattle.rds_report.specs.declared.item.What.TheVariants.{Accepted, Received, Unread, Dropped, Port0, Cancelled}
 use Rattle.rds_report.specs.declared.item.Item.{Item}
-use Rattle.rds_report.specs.FinalState.{Socket, Side, FinalHost, past_with, past_of, sockets_of}
+use Rattle.rds_report.specs.FinalState.{Socket, FinalJournal, FinalHost, past_with, past_of, sockets_of}
 use Rattle.rds_report.specs.Report.{Group}
 use Rattle.rds_report.specs.Items.{item, accepted_items, sent_items, read_items, came_items, socket_items, is_lost, side_items, host_items, items}
 use Rattle.rds_report.specs.ItemReport.{is_of, of_pair}
 
 -- lists of which each differs from those after it
 
-abbrev pub SidesDiffer : ℕ → List Side → Type 0
+abbrev pub SidesDiffer : ℕ → List FinalJournal → Type 0
 SidesDiffer peer [] = ⊤
 SidesDiffer peer (s ∷ sides) = (s.peer == peer ≡ false) × SidesDiffer peer sides
 
-abbrev pub SidesOnce : List Side → Type 0
+abbrev pub SidesOnce : List FinalJournal → Type 0
 SidesOnce [] = ⊤
 SidesOnce (s ∷ sides) = SidesDiffer s.peer sides × SidesOnce sides
 
@@ -37,12 +37,12 @@ abbrev pub EndsOnce : List FinalHost → Type 0
 EndsOnce [] = ⊤
 EndsOnce (e ∷ ends) = EndsDiffer e.addr ends × EndsOnce ends
 
-sides_differ : (s : Side) (sides : List Side) → ((k : ℕ) (d : Side) → k < length sides → s.peer ≢ (get_or sides k d).peer) → SidesDiffer s.peer sides
+sides_differ : (s : FinalJournal) (sides : List FinalJournal) → ((k : ℕ) (d : FinalJournal) → k < length sides → s.peer ≢ (get_or sides k d).peer) → SidesDiffer s.peer sides
 sides_differ s [] h = tt
 sides_differ s (t ∷ sides) h =
     (ne_eqb t.peer s.peer (λ e. h 0 t (omega arith) (sym e)), sides_differ s sides (λ k d l. h (suc k) d (omega arith)))
 
-pub sides_once : (sides : List Side) → AllPairs (λ (a b : Side). a.peer ≢ b.peer) sides → SidesOnce sides
+pub sides_once : (sides : List FinalJournal) → AllPairs (λ (a b : FinalJournal). a.peer ≢ b.peer) sides → SidesOnce sides
 sides_once [] h = tt
 sides_once (s ∷ sides) h =
     (sides_differ s sides (λ k d l. h 0 (suc k) d (omega arith) (omega arith)), sides_once sides (λ i j d a b. h (suc i) (suc j) d (omega arith) (omega arith)))
@@ -59,13 +59,13 @@ ends_once (e ∷ ends) h =
 
 -- of lists that differ one is chosen
 
-module _ {A : Type 0} (peer : ℕ) (h : Side → List A) (k : List Entry → List A) (none : k [] ≡ [])
-    (other : (s : Side) → (s.peer == peer) ≡ false → h s ≡ []) (own : (s : Side) → (s.peer == peer) ≡ true → h s ≡ k s.past) where
-  no_side : (sides : List Side) → SidesDiffer peer sides → flat_map h sides ≡ []
+module _ {A : Type 0} (peer : ℕ) (h : FinalJournal → List A) (k : List Entry → List A) (none : k [] ≡ [])
+    (other : (s : FinalJournal) → (s.peer == peer) ≡ false → h s ≡ []) (own : (s : FinalJournal) → (s.peer == peer) ≡ true → h s ≡ k s.past) where
+  no_side : (sides : List FinalJournal) → SidesDiffer peer sides → flat_map h sides ≡ []
   no_side [] d = refl
   no_side (s ∷ sides) d = ap (λ (l : List A). l ++ flat_map h sides) (other s d.0) ∙ no_side sides d.1
 
-  pub one_side : (sides : List Side) → SidesOnce sides → flat_map h sides ≡ k (past_with peer sides)
+  pub one_side : (sides : List FinalJournal) → SidesOnce sides → flat_map h sides ≡ k (past_with peer sides)
   one_side [] once = sym none
   one_side (s ∷ sides) once = go (s.peer == peer) refl (one_side sides once.1)
     where
@@ -285,7 +285,7 @@ AllSidesOnce (e ∷ ends) = SidesOnce e.sides × AllSidesOnce ends
 
 -- where the items of a kind and a pair are
 module _ (kind : What → Bool) (g : Group) (all : List FinalHost) where
-  abbrev at_side : ℕ → Side → List Item
+  abbrev at_side : ℕ → FinalJournal → List Item
   at_side addr s = chosen kind g (side_items all addr s)
 
   abbrev at_end : FinalHost → List Item
@@ -296,10 +296,10 @@ module _ (kind : What → Bool) (g : Group) (all : List FinalHost) where
       chosen_append kind g (flat_map (side_items all e.addr) e.sides) (flat_map (socket_items e.addr) e.sockets)
       ∙ ap (λ (l : List Item). l ++ chosen kind g (flat_map (socket_items e.addr) e.sockets)) (chosen_spread kind g (side_items all e.addr) e.sides)
 
-  side_parts : (addr : ℕ) (s : Side) → at_side addr s ≡ chosen kind g (sent_items addr s.peer (is_lost s.past (past_of s.peer addr all)) s.past) ++ chosen kind g (came_items s.peer addr s.past)
+  side_parts : (addr : ℕ) (s : FinalJournal) → at_side addr s ≡ chosen kind g (sent_items addr s.peer (is_lost s.past (past_of s.peer addr all)) s.past) ++ chosen kind g (came_items s.peer addr s.past)
   side_parts addr s = chosen_append kind g (sent_items addr s.peer (is_lost s.past (past_of s.peer addr all)) s.past) (came_items s.peer addr s.past)
 
-  no_sides : (addr : ℕ) → ((s : Side) → at_side addr s ≡ []) → (sides : List Side) → flat_map (at_side addr) sides ≡ []
+  no_sides : (addr : ℕ) → ((s : FinalJournal) → at_side addr s ≡ []) → (sides : List FinalJournal) → flat_map (at_side addr) sides ≡ []
   no_sides addr none [] = refl
   no_sides addr none (s ∷ sides) = ap (λ (l : List Item). l ++ flat_map (at_side addr) sides) (none s) ∙ no_sides addr none sides
 
@@ -308,7 +308,7 @@ module _ (kind : What → Bool) (g : Group) (all : List FinalHost) where
     abbrev sent_at : List Entry → List Item
     sent_at past = chosen kind g (sent_items g.from g.to (is_lost past (past_of g.to g.from all)) past)
 
-    only_sent : (addr : ℕ) (s : Side) → at_side addr s ≡ chosen kind g (sent_items addr s.peer (is_lost s.past (past_of s.peer addr all)) s.past)
+    only_sent : (addr : ℕ) (s : FinalJournal) → at_side addr s ≡ chosen kind g (sent_items addr s.peer (is_lost s.past (past_of s.peer addr all)) s.past)
     only_sent addr s =
         side_parts addr s ∙ ap (λ (l : List Item). chosen kind g (sent_items addr s.peer (is_lost s.past (past_of s.peer addr all)) s.past) ++ l) (no_came s.peer addr s.past)
         ∙ append-nil (chosen kind g (sent_items addr s.peer (is_lost s.past (past_of s.peer addr all)) s.past))
@@ -342,7 +342,7 @@ module _ (kind : What → Bool) (g : Group) (all : List FinalHost) where
         ∙ one_end g.from at_end sent_at (λ (e : FinalHost). past_with g.to e.sides) (past_of g.from g.to) refl (λ e ends. refl) sent_other all (sent_owns all sides) once
 
   module _ (no_sent : (from to : ℕ) (lost : ℕ → Bool) (past : List Entry) → chosen kind g (sent_items from to lost past) ≡ []) where
-    only_came : (addr : ℕ) (s : Side) → at_side addr s ≡ chosen kind g (came_items s.peer addr s.past)
+    only_came : (addr : ℕ) (s : FinalJournal) → at_side addr s ≡ chosen kind g (came_items s.peer addr s.past)
     only_came addr s = side_parts addr s ∙ ap (λ (l : List Item). l ++ chosen kind g (came_items s.peer addr s.past)) (no_sent addr s.peer (is_lost s.past (past_of s.peer addr all)) s.past)
 
     module _ (no_sockets : (to : ℕ) (sockets : List Socket) → chosen kind g (flat_map (socket_items to) sockets) ≡ []) where

@@ -18,11 +18,11 @@ use Rattle.rds_report.specs.declared.item.What.{What}
 use Rattle.rds_report.specs.declared.item.What.TheVariants.{Accepted, Received, Unread, Dropped, Port0, Cancelled}
 use Rattle.rds_report.specs.declared.item.Item.{Item}
 use Rattle.rds_report.specs.Hosts.{IsAddress}
-use Rattle.rds_report.specs.FinalState.{Socket, Side, FinalHost, past_of, sockets_of}
+use Rattle.rds_report.specs.FinalState.{Socket, FinalJournal, FinalHost, past_of, sockets_of}
 use Rattle.rds_report.specs.Report.{Group, Counts, accepted_groups, ascending, groups, of_group, received, unread, counts, counts_line, data_line, group_text, pair_text}
 use Rattle.rds_report.specs.Views.{AreSides, AreFinalHosts}
 use Rattle.rds_report.specs.Items.{seen, item, accepted_items, sent_items, read_items, came_items, socket_items, is_lost, side_items, host_items, items}
-use Rattle.rds_report.specs.ItemReport.{is_same, is_of, of_pair, is_accepted, is_received, is_unread, is_dropped, is_port0, is_cancelled, tally, data_lines, pair_lines, accepted_pairs, groups_text, AreKnown}
+use Rattle.rds_report.specs.ItemReport.{is_same, is_of, of_pair, is_accepted, is_received, is_unread, is_dropped, is_port0, is_cancelled_item, tally, data_lines, pair_lines, accepted_pairs, groups_text, AreKnown}
 use Rattle.rds_report.proofs.Orders.{has, rising_one, rising_ascending, has_ascending, same_is}
 use Rattle.rds_report.proofs.Chunks.{accepting, pairs_append, same_counts}
 use Rattle.rds_report.proofs.Selected.{eq_comm, of_kind, chosen, chosen_append, none_chosen, kindless_sent, kindless_came, kindless_sockets, kindless_map, EndsOnce, AllSidesOnce, sides_once, ends_once, all_sent, all_came, all_kept}
@@ -55,11 +55,11 @@ module _ (g : Group) (lost : ℕ → Bool) where
   accepted_one sport dport false false is = ap (λ (x : Bool). length (of_kind is_accepted (cond x (item g.to dport g.from sport Accepted ∷ []) []))) is
 
   cancelled_one : (sport dport : ℕ) (b t : Bool) → is_of g (item g.to dport g.from sport Accepted) ≡ t →
-      length (chosen is_cancelled g (accepted_items g.from g.to sport dport b)) ≡ (if t then (if b then 1 else 0) else 0)
-  cancelled_one sport dport true true is = ap (λ (x : Bool). length (of_kind is_cancelled (cond x (item g.to dport g.from sport Accepted ∷ cond x (item g.to dport g.from sport Cancelled ∷ []) []) (cond x (item g.to dport g.from sport Cancelled ∷ []) [])))) is
-  cancelled_one sport dport true false is = ap (λ (x : Bool). length (of_kind is_cancelled (cond x (item g.to dport g.from sport Accepted ∷ cond x (item g.to dport g.from sport Cancelled ∷ []) []) (cond x (item g.to dport g.from sport Cancelled ∷ []) [])))) is
-  cancelled_one sport dport false true is = ap (λ (x : Bool). length (of_kind is_cancelled (cond x (item g.to dport g.from sport Accepted ∷ []) []))) is
-  cancelled_one sport dport false false is = ap (λ (x : Bool). length (of_kind is_cancelled (cond x (item g.to dport g.from sport Accepted ∷ []) []))) is
+      length (chosen is_cancelled_item g (accepted_items g.from g.to sport dport b)) ≡ (if t then (if b then 1 else 0) else 0)
+  cancelled_one sport dport true true is = ap (λ (x : Bool). length (of_kind is_cancelled_item (cond x (item g.to dport g.from sport Accepted ∷ cond x (item g.to dport g.from sport Cancelled ∷ []) []) (cond x (item g.to dport g.from sport Cancelled ∷ []) [])))) is
+  cancelled_one sport dport true false is = ap (λ (x : Bool). length (of_kind is_cancelled_item (cond x (item g.to dport g.from sport Accepted ∷ cond x (item g.to dport g.from sport Cancelled ∷ []) []) (cond x (item g.to dport g.from sport Cancelled ∷ []) [])))) is
+  cancelled_one sport dport false true is = ap (λ (x : Bool). length (of_kind is_cancelled_item (cond x (item g.to dport g.from sport Accepted ∷ []) []))) is
+  cancelled_one sport dport false false is = ap (λ (x : Bool). length (of_kind is_cancelled_item (cond x (item g.to dport g.from sport Accepted ∷ []) []))) is
 
   pub accepted_count : (past : List Entry) → length (chosen is_accepted g (sent_items g.from g.to lost past)) ≡ length (accepted_for g.sport g.dport past)
   accepted_count [] = refl
@@ -74,11 +74,11 @@ module _ (g : Group) (lost : ℕ → Bool) where
       go false = omega arith
   accepted_count (_ ∷ past) = accepted_count past
 
-  pub cancelled_count : (past : List Entry) → length (chosen is_cancelled g (sent_items g.from g.to lost past)) ≡ length (filter lost (accepted_for g.sport g.dport past))
+  pub cancelled_count : (past : List Entry) → length (chosen is_cancelled_item g (sent_items g.from g.to lost past)) ≡ length (filter lost (accepted_for g.sport g.dport past))
   cancelled_count [] = refl
   cancelled_count (Accept slot sport dport payload ∷ past) =
-      more_length is_cancelled g (sent_items g.from g.to lost past) (accepted_items g.from g.to sport dport (lost (suc (accepted past))))
-      ∙ ap (λ (n : ℕ). n + length (chosen is_cancelled g (accepted_items g.from g.to sport dport (lost (suc (accepted past)))))) (cancelled_count past)
+      more_length is_cancelled_item g (sent_items g.from g.to lost past) (accepted_items g.from g.to sport dport (lost (suc (accepted past))))
+      ∙ ap (λ (n : ℕ). n + length (chosen is_cancelled_item g (accepted_items g.from g.to sport dport (lost (suc (accepted past)))))) (cancelled_count past)
       ∙ ap (λ (n : ℕ). length (filter lost (accepted_for g.sport g.dport past)) + n) (cancelled_one sport dport (lost (suc (accepted past))) (sport == g.sport && (dport == g.dport)) (is_between_hosts g dport sport Accepted))
       ∙ go (sport == g.sport && (dport == g.dport))
     where
@@ -291,7 +291,7 @@ module _ (ends : List FinalHost) (once : EndsOnce ends) (sides : AllSidesOnce en
       (ap length (all_kept is_unread g ends (no_sent is_unread refl refl) (no_came is_unread refl refl) once ∙ left_chosen g (sockets_of g.to ends)) ∙ length-map (unread ends g) (left_item g))
       (ap length (all_came is_dropped g ends (no_sent is_dropped refl refl) (no_kept is_dropped (λ p. refl) refl) once sides) ∙ dropped_count g back)
       (ap length (all_came is_port0 g ends (no_sent is_port0 refl refl) (no_kept is_port0 (λ p. refl) refl) once sides) ∙ port0_count g back)
-      (ap length (all_sent is_cancelled g ends (no_came is_cancelled refl refl) (no_kept is_cancelled (λ p. refl) refl) once sides) ∙ cancelled_count g (is_lost there back) there
+      (ap length (all_sent is_cancelled_item g ends (no_came is_cancelled_item refl refl) (no_kept is_cancelled_item (λ p. refl) refl) once sides) ∙ cancelled_count g (is_lost there back) there
       ∙ ap length (filter_twice (was_taken_back there) (was_passed back) (accepted_for g.sport g.dport there)))
 
   pub pair_is : pair_lines g (of_pair g (items ends)) ≡ group_text ends g
@@ -358,7 +358,7 @@ has_spread g f h same (x ∷ xs) =
     ∙ ap (λ (b : Bool). has g (h x) || b) (has_spread g f h same xs)
     ∙ sym (list_any-append (is_same g) (h x) (flat_map h xs))
 
-abbrev pub side_groups : ℕ → Side → List Group
+abbrev pub side_groups : ℕ → FinalJournal → List Group
 side_groups addr s = accepted_groups addr s.peer s.past
 
 abbrev pub end_groups : FinalHost → List Group
@@ -370,7 +370,7 @@ has_items g ends = has_spread g (host_items ends) end_groups at_end ends
     none : (xs : List Item) → of_kind is_accepted xs ≡ [] → has g (accepted_pairs xs) ≡ false
     none xs is = ap (λ (l : List Item). has g (map (λ (i : Item). seen i.group) l)) is
 
-    at_side : (addr : ℕ) (s : Side) → has g (accepted_pairs (side_items ends addr s)) ≡ has g (side_groups addr s)
+    at_side : (addr : ℕ) (s : FinalJournal) → has g (accepted_pairs (side_items ends addr s)) ≡ has g (side_groups addr s)
     at_side addr s =
         has_append g (sent_items addr s.peer (is_lost s.past (past_of s.peer addr ends)) s.past) (came_items s.peer addr s.past)
         ∙ ap (λ (b : Bool). has g (accepted_pairs (sent_items addr s.peer (is_lost s.past (past_of s.peer addr ends)) s.past)) || b) (none (came_items s.peer addr s.past) (kindless_came is_accepted refl refl s.peer addr s.past))

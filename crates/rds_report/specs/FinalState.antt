@@ -11,18 +11,18 @@ pub record Socket : Type 0 where
   pub unread : List Datagram
 
 -- a journal with the host at an address, newest entry first
-pub record Side : Type 0 where
+pub record FinalJournal : Type 0 where
   pub peer : ℕ
   pub past : List Entry
 
 -- a host: its address, its journals, and its sockets by slot
 pub record FinalHost : Type 0 where
   pub addr : ℕ
-  pub sides : List Side
+  pub sides : List FinalJournal
   pub sockets : List Socket
 
 -- the journal with the host at an address
-abbrev pub past_with : ℕ → List Side → List Entry
+abbrev pub past_with : ℕ → List FinalJournal → List Entry
 past_with peer [] = []
 past_with peer (s ∷ sides) = if s.peer == peer then s.past else past_with peer sides
 

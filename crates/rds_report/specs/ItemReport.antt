@@ -38,23 +38,23 @@ abbrev pub is_port0 : What → Bool
 is_port0 Port0 = true
 is_port0 _ = false
 
-abbrev pub is_cancelled : What → Bool
-is_cancelled Cancelled = true
-is_cancelled _ = false
+abbrev pub is_cancelled_item : What → Bool
+is_cancelled_item Cancelled = true
+is_cancelled_item _ = false
 
 -- how many items are of a kind
-abbrev pub number_of : (What → Bool) → List Item → ℕ
-number_of kind items = length (filter (λ (i : Item). kind i.what) items)
+abbrev pub count_of : (What → Bool) → List Item → ℕ
+count_of kind items = length (filter (λ (i : Item). kind i.what) items)
 
 -- the items of each kind
 abbrev pub tally : List Item → Counts
 tally items = record {
-  accepted = number_of is_accepted items;
-  received = number_of is_received items;
-  unread = number_of is_unread items;
-  dropped = number_of is_dropped items;
-  port0 = number_of is_port0 items;
-  cancelled = number_of is_cancelled items;
+  accepted = count_of is_accepted items;
+  received = count_of is_received items;
+  unread = count_of is_unread items;
+  dropped = count_of is_dropped items;
+  port0 = count_of is_port0 items;
+  cancelled = count_of is_cancelled_item items;
 }
 
 -- the line of an item, where it was received
@@ -80,7 +80,7 @@ groups_text items = flat_map (λ g. pair_lines g (of_pair g items)) (ascending (
 
 -- the lines of the items of a pair, unless none of them was accepted
 abbrev pub lines_of : Group → List Item → List ℕ
-lines_of g items = if number_of is_accepted items == 0 then [] else pair_lines g items
+lines_of g items = if count_of is_accepted items == 0 then [] else pair_lines g items
 
 -- the pairs of the accepted items are of hosts
 abbrev pub AreKnown : List Item → Type 0

@@ -15,7 +15,7 @@ use Rattle.rds_report.specs.declared.item.Group.{Group as Key}
 use Rattle.rds_report.specs.declared.item.What.{What}
 use Rattle.rds_report.specs.declared.item.What.TheVariants.{Accepted, Received, Unread, Dropped, Port0, Cancelled}
 use Rattle.rds_report.specs.declared.item.Item.{Item}
-use Rattle.rds_report.specs.FinalState.{Socket, Side, FinalHost, past_of}
+use Rattle.rds_report.specs.FinalState.{Socket, FinalJournal, FinalHost, past_of}
 use Rattle.rds_report.specs.Report.{Group}
 
 -- whether each number from 1 to m passes a test
@@ -82,7 +82,7 @@ passes_number (Read stream frame outcome) n = passes outcome && (number frame ==
 passes_number _ n = false
 
 -- the items of a journal of a host
-abbrev pub side_items : List FinalHost → ℕ → Side → List Item
+abbrev pub side_items : List FinalHost → ℕ → FinalJournal → List Item
 side_items hosts addr s =
     sent_items addr s.peer (is_lost s.past (past_of s.peer addr hosts)) s.past ++ came_items s.peer addr s.past
 

@@ -9,7 +9,7 @@ use Rattle.rds_model.specs.Streams.{was_passed}
 use Rattle.rds_model.specs.Pairs.{accepted_for, dropped, taken_by_port_0, taken_back}
 use Rattle.rds_text.specs.Words.{host_name, hex}
 use Rattle.rds_report.specs.Hosts.{host_at}
-use Rattle.rds_report.specs.FinalState.{Socket, Side, FinalHost, past_of, sockets_of}
+use Rattle.rds_report.specs.FinalState.{Socket, FinalJournal, FinalHost, past_of, sockets_of}
 use Rattle.rds_text.specs.Lines.{line, phrase}
 
 -- a port pair: from port sport of the host at `from` to port dport of the host at `to`
@@ -48,7 +48,7 @@ accepted_groups from to (_ ∷ past) = accepted_groups from to past
 -- the pairs with a datagram that was accepted, ascending
 abbrev pub groups : List FinalHost → List Group
 groups hosts =
-    ascending (flat_map (λ (host : FinalHost). flat_map (λ (s : Side). accepted_groups host.addr s.peer s.past) host.sides) hosts)
+    ascending (flat_map (λ (host : FinalHost). flat_map (λ (s : FinalJournal). accepted_groups host.addr s.peer s.past) host.sides) hosts)
 
 -- those of the datagrams that are of the pair
 abbrev pub of_group : Group → List Datagram → List Datagram

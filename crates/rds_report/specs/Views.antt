@@ -5,12 +5,12 @@ use Rattle.rds_model.specs.Log.{Log}
 use Rattle.rds_report.specs.declared.final_state.Kept.{Kept}
 use Rattle.rds_report.specs.declared.final_state.HostEnd.{HostEnd}
 use Rattle.rds_report.specs.Hosts.{IsAddress}
-use Rattle.rds_report.specs.FinalState.{Socket, Side, FinalHost}
+use Rattle.rds_report.specs.FinalState.{Socket, FinalJournal, FinalHost}
 
 abbrev pub socket_view : Kept → Socket
 socket_view k = record { slot = k.slot; port = k.port; got = k.got.items; unread = k.unread.items }
 
-abbrev pub side_view : ℕ × Log → Side
+abbrev pub side_view : ℕ × Log → FinalJournal
 side_view j = record { peer = j.0; past = j.1.past }
 
 abbrev pub host_view : HostEnd → FinalHost
@@ -20,9 +20,9 @@ abbrev pub host_views : List HostEnd → List FinalHost
 host_views hosts = map host_view hosts
 
 -- the journals of a host are with hosts, and with each at most one
-pub record AreSides (sides : List Side) : Type 0 where
-  pub once : AllPairs (λ (a b : Side). a.peer ≢ b.peer) sides
-  pub peers : All (λ (s : Side). IsAddress s.peer) sides
+pub record AreSides (sides : List FinalJournal) : Type 0 where
+  pub once : AllPairs (λ (a b : FinalJournal). a.peer ≢ b.peer) sides
+  pub peers : All (λ (s : FinalJournal). IsAddress s.peer) sides
 
 -- each is a host, each address is one host's, and each host has its journals
 pub record AreFinalHosts (hosts : List FinalHost) : Type 0 where

@@ -1,5 +1,5 @@
 ghost use Rattle.std.specs.Prelude.{◌≡◌, ◌-◌, ◌+◌};
-ghost use Rattle.rds_report.specs.ItemReport.{number_of, is_accepted, is_received, is_unread, is_dropped, is_port0, is_cancelled};
+ghost use Rattle.rds_report.specs.ItemReport.{count_of, is_accepted, is_received, is_unread, is_dropped, is_port0, is_cancelled_item};
 
 use crate::item::{Item, What};
 
@@ -17,12 +17,12 @@ pub struct Counts {
 impl Counts {
     /// Counts the items of a group.
     pub fn of(items: &[Item]) -> Counts
-        ensures accepted { result.accepted ≡ number_of is_accepted items.now }
-        ensures received { result.received ≡ number_of is_received items.now }
-        ensures unread { result.unread ≡ number_of is_unread items.now }
-        ensures dropped { result.dropped ≡ number_of is_dropped items.now }
-        ensures port0 { result.port0 ≡ number_of is_port0 items.now }
-        ensures cancelled { result.cancelled ≡ number_of is_cancelled items.now }
+        ensures accepted { result.accepted ≡ count_of is_accepted items.now }
+        ensures received { result.received ≡ count_of is_received items.now }
+        ensures unread { result.unread ≡ count_of is_unread items.now }
+        ensures dropped { result.dropped ≡ count_of is_dropped items.now }
+        ensures port0 { result.port0 ≡ count_of is_port0 items.now }
+        ensures cancelled { result.cancelled ≡ count_of is_cancelled_item items.now }
     {
         Counts {
             accepted: accepted(items),
@@ -48,7 +48,7 @@ impl Counts {
 }
 
 fn accepted(items: &[Item]) -> u64
-    ensures { result ≡ number_of is_accepted items.now }
+    ensures { result ≡ count_of is_accepted items.now }
 {
     items
         .iter()
@@ -57,7 +57,7 @@ fn accepted(items: &[Item]) -> u64
 }
 
 fn received(items: &[Item]) -> u64
-    ensures { result ≡ number_of is_received items.now }
+    ensures { result ≡ count_of is_received items.now }
 {
     items
         .iter()
@@ -66,7 +66,7 @@ fn received(items: &[Item]) -> u64
 }
 
 fn unread(items: &[Item]) -> u64
-    ensures { result ≡ number_of is_unread items.now }
+    ensures { result ≡ count_of is_unread items.now }
 {
     items
         .iter()
@@ -75,7 +75,7 @@ fn unread(items: &[Item]) -> u64
 }
 
 fn dropped(items: &[Item]) -> u64
-    ensures { result ≡ number_of is_dropped items.now }
+    ensures { result ≡ count_of is_dropped items.now }
 {
     items
         .iter()
@@ -84,7 +84,7 @@ fn dropped(items: &[Item]) -> u64
 }
 
 fn port0(items: &[Item]) -> u64
-    ensures { result ≡ number_of is_port0 items.now }
+    ensures { result ≡ count_of is_port0 items.now }
 {
     items
         .iter()
@@ -93,7 +93,7 @@ fn port0(items: &[Item]) -> u64
 }
 
 fn cancelled(items: &[Item]) -> u64
-    ensures { result ≡ number_of is_cancelled items.now }
+    ensures { result ≡ count_of is_cancelled_item items.now }
 {
     items
         .iter()

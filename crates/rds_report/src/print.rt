@@ -6,7 +6,7 @@ ghost use Rattle.rds_report.specs.Hosts.{IsAddress};
 ghost use Rattle.rds_report.specs.Report.{pair_text, counts_line};
 ghost use Rattle.rds_text.specs.Lines.{phrase};
 ghost use Rattle.rds_report.specs.Items.{seen};
-ghost use Rattle.rds_report.specs.ItemReport.{AreKnown, IsUp, groups_text, lines_of, data_lines, number_of, is_accepted, is_of};
+ghost use Rattle.rds_report.specs.ItemReport.{AreKnown, IsUp, groups_text, lines_of, data_lines, count_of, is_accepted, is_of};
 
 use crate::counts::Counts;
 use crate::host_of;
@@ -50,7 +50,7 @@ fn is_in(group: Group, item: &Item) -> bool
 
 // Prints the items of a group, unless none was accepted.
 fn print_group(text: &mut String, group: Group, items: &[Item]) -> Result<(), Memory>
-    ensures { ((number_of is_accepted items.now == 0) ≡ false → IsAddress group.to × IsAddress group.from) →
+    ensures { ((count_of is_accepted items.now == 0) ≡ false → IsAddress group.to × IsAddress group.from) →
         OnOk result (string_bytes text.new ≡ string_bytes text.old ++ lines_of (seen group) items.now) }
 {
     let counts = Counts::of(items);

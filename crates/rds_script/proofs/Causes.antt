@@ -14,7 +14,7 @@ use Rattle.rds_script.specs.Text.{is_text, words}
 use Rattle.rds_script.specs.Line.{Place, a_host, another_host, a_number, a_payload, places, first_of, has_command}
 use Rattle.rds_script.specs.Refusal.{FailsBy, LeftmostFails, IsNoCommand, WordFails, Holds, rank, IsFirstCause}
 use Rattle.rds_script.specs.Grammar.{Meaning}
-use Rattle.rds_script.specs.Reading.{word_of, places_of, name_of, is_hosts}
+use Rattle.rds_script.specs.Reading.{name_word, places_of, name_of, is_hosts}
 use Rattle.rds_script.proofs.NameLemmas.{places-name, name-again, places-of}
 use Rattle.rds_script.proofs.Spelled.{hosts_name}
 
@@ -47,7 +47,7 @@ module _ (hosts : ℕ) (w : List ℕ) where
   pub unknown : name_of w ≡ None → IsNoCommand hosts w
   unknown e = inl (places-name w ∙ ap (option_map places_of) e)
 
-  pub named_hosts : (n : Name) → w ≡ word_of n → w ≡ codes "hosts" → is_hosts n ≡ true
+  pub named_hosts : (n : Name) → w ≡ name_word n → w ≡ codes "hosts" → is_hosts n ≡ true
   named_hosts n w-is is-hosts =
       let again = sym (name-again n) ∙ ap name_of (sym w-is ∙ is-hosts) ∙ name-again Hosts in
       let same : n ≡ Hosts = some_is again in
@@ -57,7 +57,7 @@ module _ (hosts : ℕ) (w : List ℕ) where
       some_is e = cc
 
   -- the command isn't the one that is due
-  pub undue : (n : Name) → w ≡ word_of n → beq (is_hosts n) (eqb hosts 0) ≡ false → IsNoCommand hosts w
+  pub undue : (n : Name) → w ≡ name_word n → beq (is_hosts n) (eqb hosts 0) ≡ false → IsNoCommand hosts w
   undue n w-is e = inr (go (is_hosts n) (eqb hosts 0) refl refl (e))
     where
       go : (a b : Bool) → is_hosts n ≡ a → eqb hosts 0 ≡ b → beq (is_hosts n) (eqb hosts 0) ≡ false → ((hosts ≡ 0) × (w ≢ codes "hosts")) ⊎ ((hosts ≢ 0) × (w ≡ codes "hosts"))
@@ -65,7 +65,7 @@ module _ (hosts : ℕ) (w : List ℕ) where
         where
           no : true ≡ false → ⊥
           no e = cc
-      go true false p q f = inr (eqb-false hosts 0 q, w-is ∙ ap word_of (hosts_name n p))
+      go true false p q f = inr (eqb-false hosts 0 q, w-is ∙ ap name_word (hosts_name n p))
       go false true p q f = inl (eqb-true hosts 0 q, λ is. let h = named_hosts n w-is is in cc)
       go false false p q f = absurd (let g = rw (p, q) at f in no g)
         where
@@ -73,13 +73,13 @@ module _ (hosts : ℕ) (w : List ℕ) where
           no e = cc
 
   -- the command is the one that is due
-  pub due : (n : Name) → w ≡ word_of n → beq (is_hosts n) (eqb hosts 0) ≡ true → IsNoCommand hosts w → ⊥
+  pub due : (n : Name) → w ≡ name_word n → beq (is_hosts n) (eqb hosts 0) ≡ true → IsNoCommand hosts w → ⊥
   due n w-is e (inl none) =
       let row = ap places w-is ∙ places-of n in
       cc
   due n w-is e (inr (inl x)) =
       let is : is_hosts n ≡ true = same_bits _ _ e ∙ eq-eqb hosts 0 x.0 in
-      x.1 (w-is ∙ ap word_of (hosts_name n is))
+      x.1 (w-is ∙ ap name_word (hosts_name n is))
   due n w-is e (inr (inr x)) =
       let some = ne_eqb hosts 0 x.0 in
       let h = named_hosts n w-is x.1 in

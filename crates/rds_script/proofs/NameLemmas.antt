@@ -9,7 +9,7 @@ use Rattle.rds_script.specs.declared.name.Name.{Name}
 use Rattle.rds_script.specs.declared.name.Name.TheVariants.{Hosts, Bind, BindAny, Send, Recv, Cancel, Close, Open, Move, Cut, Drain}
 use Rattle.rds_script.specs.Line as line
 use Rattle.rds_script.specs.Line.{Place, a_host, another_host, a_number, a_payload, Value, the_number, the_bytes, Stands, Fills, places, values_of}
-use Rattle.rds_script.specs.Reading.{word_of, places_of, name_of, is_hosts, as_number, as_bytes, value_in, command_of}
+use Rattle.rds_script.specs.Reading.{name_word, places_of, name_of, is_hosts, as_number, as_bytes, value_in, command_of}
 use Rattle.rds_script.proofs.Binds.{chosen}
 
 -- a choice seen by a function
@@ -23,16 +23,16 @@ unfolding name_of
 places-name word = sym (simp map-choice)
 
 -- one test of a name
-is_word : (word name : List ℕ) (x n : Name) (y : Option Name) → word_of x ≡ name → (y ≡ Some n → word ≡ word_of n) → cond (bytes_eq word name) (Some x) y ≡ Some n → word ≡ word_of n
+is_word : (word name : List ℕ) (x n : Name) (y : Option Name) → name_word x ≡ name → (y ≡ Some n → word ≡ name_word n) → cond (bytes_eq word name) (Some x) y ≡ Some n → word ≡ name_word n
 is_word word name x n y x-is others e =
     elim (chosen (bytes_eq word name) (Some x) y (Some n) e) [
       | inl t ↦
           let same : x ≡ n = cc in
-          (bytes_eq-Decides word name).0 t.0 ∙ sym x-is ∙ ap word_of same
+          (bytes_eq-Decides word name).0 t.0 ∙ sym x-is ∙ ap name_word same
       | inr t ↦ others t.1
     ]
 
-pub name-word : (word : List ℕ) (n : Name) → name_of word ≡ Some n → word ≡ word_of n
+pub name-word : (word : List ℕ) (n : Name) → name_of word ≡ Some n → word ≡ name_word n
 unfolding name_of
 name-word w n e =
     is_word w _ Hosts n _ refl
@@ -51,7 +51,7 @@ name-word w n e =
     none_some : None ≡ Some n → ⊥
     none_some none = cc
 
-pub name-again : (n : Name) → name_of (word_of n) ≡ Some n
+pub name-again : (n : Name) → name_of (name_word n) ≡ Some n
 unfolding name_of
 name-again Hosts = refl
 name-again Bind = refl
@@ -65,8 +65,8 @@ name-again Move = refl
 name-again Cut = refl
 name-again Drain = refl
 
-pub places-of : (n : Name) → places (word_of n) ≡ Some (places_of n)
-places-of n = places-name (word_of n) ∙ ap (option_map places_of) (name-again n)
+pub places-of : (n : Name) → places (name_word n) ≡ Some (places_of n)
+places-of n = places-name (name_word n) ∙ ap (option_map places_of) (name-again n)
 
 -- ---- a command has a name, and is made of its values
 
@@ -84,7 +84,7 @@ named_by command.Drain = Drain
 
 -- what is known of the name of a command
 pub record IsNamed (c : Command) (n : Name) : Type 0 where
-  pub word : word_of n ≡ line.name_of c
+  pub word : name_word n ≡ line.name_of c
   pub other : is_hosts n ≡ false
   pub made : command_of n (values_of c) ≡ c
 
@@ -146,7 +146,7 @@ rebuilt Move vs other = refl
 rebuilt Cut vs other = refl
 rebuilt Drain vs other = refl
 
-command-name : (n : Name) (vs : List Value) → is_hosts n ≡ false → line.name_of (command_of n vs) ≡ word_of n
+command-name : (n : Name) (vs : List Value) → is_hosts n ≡ false → line.name_of (command_of n vs) ≡ name_word n
 command-name Hosts vs other = absurd cc
 command-name Bind vs other = refl
 command-name BindAny vs other = refl
@@ -161,7 +161,7 @@ command-name Drain vs other = refl
 
 -- the command that is made of the values has the name and these values
 pub record IsMade (n : Name) (vs : List Value) : Type 0 where
-  pub word : line.name_of (command_of n vs) ≡ word_of n
+  pub word : line.name_of (command_of n vs) ≡ name_word n
   pub values : values_of (command_of n vs) ≡ vs
 
 pub made : (hosts : ℕ) (first : List ℕ) (n : Name) (ws : List (List ℕ)) (vs : List Value) → is_hosts n ≡ false → Fills hosts first (places_of n) ws vs → IsMade n vs

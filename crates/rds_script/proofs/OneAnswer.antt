@@ -15,7 +15,7 @@ use Rattle.rds_script.specs.Line.{Place, places, first_of, is_named, has_command
 use Rattle.rds_script.specs.Script.{payload_len, cut_count, payload_total, cut_total}
 use Rattle.rds_script.specs.Grammar.{Meaning}
 use Rattle.rds_script.specs.Refusal.{LeftmostFails, WordFails, Holds, rank, IsFirstCause}
-use Rattle.rds_script.specs.Reading.{word_of, places_of, is_hosts, as_number, values_at}
+use Rattle.rds_script.specs.Reading.{name_word, places_of, is_hosts, as_number, values_at}
 use Rattle.rds_script.proofs.Binds.{ok_is}
 use Rattle.rds_script.proofs.Places.{leftmost_failed}
 use Rattle.rds_script.proofs.NameLemmas.{named_by}
@@ -92,7 +92,7 @@ one_cause s k line c d f g = elim (cases_order (rank c) (rank d)) [
 
 -- ---- a line that adds something has no cause
 
-word_named : (n : Name) → is_named (word_of n) ≡ true
+word_named : (n : Name) → is_named (name_word n) ≡ true
 word_named Hosts = refl
 word_named Bind = refl
 word_named BindAny = refl
@@ -129,7 +129,7 @@ module _ (s : Meaning) (k : ℕ) (line : List ℕ) (cuts : cut_total s.commands 
   skipped_clear has cause.Empty h = h
 
   module _ (w : List ℕ) (args : List (List ℕ)) (parts : words line ≡ w ∷ args) (has : is_named w ≡ true) where
-    module _ (n : Name) (w-is : w ≡ word_of n) (is-due : beq (is_hosts n) (eqb s.hosts 0) ≡ true) (len : length args ≡ length (places_of n)) where
+    module _ (n : Name) (w-is : w ≡ name_word n) (is-due : beq (is_hosts n) (eqb s.hosts 0) ≡ true) (len : length args ≡ length (places_of n)) where
       line_clear : (vs : List Value) → values_at s.hosts (first_of args) (places_of n) args ≡ Ok vs → (Holds s k line cause.Total → ⊥) → (Holds s k line cause.Cuts → ⊥) → (c : Cause) → Holds s k line c → ⊥
       line_clear vs stand no_total no_cuts cause.TooLarge h = h
       line_clear vs stand no_total no_cuts cause.Lines h = number h

@@ -16,7 +16,7 @@ use Rattle.rds_script.specs.Line.{Place, places, first_of, is_named, has_command
 use Rattle.rds_script.specs.Script.{payload_len, cut_count, payload_total, cut_total}
 use Rattle.rds_script.specs.Grammar.{Meaning}
 use Rattle.rds_script.specs.Refusal.{IsNoCommand, WordFails, Holds, IsFirstCause}
-use Rattle.rds_script.specs.Reading.{◌>>=◌, word_of, places_of, name_of, is_hosts, as_number, number_at, values_at, command_at, added, hosts_at, named, counted, command_line, line_at}
+use Rattle.rds_script.specs.Reading.{◌>>=◌, name_word, places_of, name_of, is_hosts, as_number, number_at, values_at, command_at, with_command, hosts_at, named, counted, command_line, line_at}
 use Rattle.rds_script.proofs.Binds.{bind_ok, bind_err, ok_is, chosen}
 use Rattle.rds_script.proofs.NameLemmas.{name-word, name-again, places-of, named_by}
 use Rattle.rds_script.proofs.Spelled.{hosts_name, word_fails, word_failed, command_spelled, command_values, command_read, hosts_spelled}
@@ -73,8 +73,8 @@ record Fits (s : Meaning) (m : ℕ) (c : Command) (t : Meaning) : Type 0 where
   cuts : cut_total s.commands + cut_count c ≤ 1024
   is : t ≡ record s { commands = s.commands ++ record { line = m; command = c } ∷ [] }
 
-added_ok : (s : Meaning) (m : ℕ) (c : Command) (t : Meaning) → added s m c ≡ Ok t → Fits s m c t
-unfolding added
+added_ok : (s : Meaning) (m : ℕ) (c : Command) (t : Meaning) → with_command s m c ≡ Ok t → Fits s m c t
+unfolding with_command
 added_ok s m c t e =
     elim (chosen (ltb 16777216 (payload_total s.commands + payload_len c)) _ _ (Ok t) e) [
       | inl x ↦ absurd (no_ok x.1)
@@ -95,8 +95,8 @@ abbrev PassesCuts : Meaning → Command → Cause → Type 0
 PassesCuts s c d =
     (cause.Cuts ≡ d) × (payload_total s.commands + payload_len c ≤ 16777216) × (1024 < cut_total s.commands + cut_count c)
 
-added_err : (s : Meaning) (m : ℕ) (c : Command) (d : Cause) → added s m c ≡ Err d → PassesTotal s c d ⊎ PassesCuts s c d
-unfolding added
+added_err : (s : Meaning) (m : ℕ) (c : Command) (d : Cause) → with_command s m c ≡ Err d → PassesTotal s c d ⊎ PassesCuts s c d
+unfolding with_command
 added_err s m c d e =
     elim (chosen (ltb 16777216 (payload_total s.commands + payload_len c)) _ _ (Err d) e) [
       | inl x ↦ inl (err_is x.1, ltb-true _ _ x.0)
@@ -139,7 +139,7 @@ module _ (s : Meaning) (k : ℕ) (line : List ℕ) (cuts : cut_total s.commands 
         first = clear s k line 3 (omega arith) (λ _. number) (λ _. text) (λ lt. absurd (omega arith)) (λ lt. absurd (omega arith)) (λ lt. absurd (omega arith)) (λ lt. absurd (omega arith));
       }
 
-      module _ (n : Name) (w-is : w ≡ word_of n) (is-due : beq (is_hosts n) (eqb s.hosts 0) ≡ true) where
+      module _ (n : Name) (w-is : w ≡ name_word n) (is-due : beq (is_hosts n) (eqb s.hosts 0) ≡ true) where
         pub not_command : Holds s k line cause.Command → ⊥
         not_command h = due s.hosts w n w-is is-due (subst (λ (ws : List (List ℕ)). IsNoCommand s.hosts (first_of ws)) parts h.1)
 
@@ -175,7 +175,7 @@ module _ (s : Meaning) (k : ℕ) (line : List ℕ) (cuts : cut_total s.commands 
           hosts_case is (Ok t) e =
               let x = bind_ok (number_at 2 8 args) _ t e in
               let n-is = hosts_name n is in
-              let w-hosts : w ≡ codes "hosts" = w-is ∙ ap word_of n-is in
+              let w-hosts : w ≡ codes "hosts" = w-is ∙ ap name_word n-is in
               let one : length args ≡ 1 = len ∙ ap (λ (n : Name). length (places_of n)) n-is in
               record {
                 number = number;
@@ -210,7 +210,7 @@ module _ (s : Meaning) (k : ℕ) (line : List ℕ) (cuts : cut_total s.commands 
             words_stand : (d : Cause) → WordFails s.hosts (words line) d → ⊥
             words_stand = let v = values_of_command c read in no_bad_word v.0 v.1
 
-            command_goes : (t : Meaning) → added s m c ≡ Ok t → Goes s k line t
+            command_goes : (t : Meaning) → with_command s m c ≡ Ok t → Goes s k line t
             command_goes t e =
                 let f = added_ok s m c t e in
                 record {
@@ -247,10 +247,10 @@ module _ (s : Meaning) (k : ℕ) (line : List ℕ) (cuts : cut_total s.commands 
                     let len-is : payload_len h.0 ≡ payload_len c = ap payload_len same in
                     omega (arith, h.2)
 
-          command_case : is_hosts n ≡ false → (r : Result Meaning Cause) → (command_at s.hosts n args >>= added s m) ≡ r → Outcome s k line r
+          command_case : is_hosts n ≡ false → (r : Result Meaning Cause) → (command_at s.hosts n args >>= with_command s m) ≡ r → Outcome s k line r
           command_case other (Ok t) e =
-              let x = bind_ok (command_at s.hosts n args) (added s m) t e in command_goes other x.0 x.1 t x.2
-          command_case other (Err d) e = elim (bind_err (command_at s.hosts n args) (added s m) d e) [
+              let x = bind_ok (command_at s.hosts n args) (with_command s m) t e in command_goes other x.0 x.1 t x.2
+          command_case other (Err d) e = elim (bind_err (command_at s.hosts n args) (with_command s m) d e) [
             | inl f ↦ bad_word d (command_values s.hosts w args n w-is d f)
             | inr x ↦
                 elim (added_err s m x.0 d x.2) [
@@ -268,7 +268,7 @@ module _ (s : Meaning) (k : ℕ) (line : List ℕ) (cuts : cut_total s.commands 
           | inr x ↦ command_case len x.0 r x.1
         ]
 
-      counted_case : (n : Name) → w ≡ word_of n → (r : Result Meaning Cause) → counted s m n args ≡ r → Outcome s k line r
+      counted_case : (n : Name) → w ≡ name_word n → (r : Result Meaning Cause) → counted s m n args ≡ r → Outcome s k line r
       unfolding counted
       counted_case n w-is r e = elim (chosen (beq (is_hosts n) (eqb s.hosts 0)) _ _ r e) [
         | inl x ↦

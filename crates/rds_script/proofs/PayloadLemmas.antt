@@ -12,7 +12,7 @@ use Rattle.hex.specs.declared.error.FromHexError.TheVariants.{OddLength}
 use Rattle.hex.specs.Hex as hex
 use Rattle.hex.specs.Hex.{decode_of, decode_pairs, hex_digit_value, pair_value, value_at, digit_or_error}
 use Rattle.rds_script.specs.Word.{IsNumber, IsHex, IsCount, IsPayload, IsPlain, IsHexed, IsFilled}
-use Rattle.rds_script.specs.Reading.{number_of, limited, counting, filled, hexed, formed, payload_of}
+use Rattle.rds_script.specs.Reading.{numeral_of, limited, counting, filled, hexed, formed, payload_of}
 use Rattle.rds_script.proofs.Binds.{ok_is, ok_of, guard_some, chosen}
 use Rattle.rds_script.proofs.WordLemmas.{number-found, number-again}
 
@@ -131,9 +131,9 @@ Filled digits b = IsNumber digits (length b) × IsCount b × (length b ≤ 20971
 filled-found : (digits b : List ℕ) → filled digits ≡ Some b → Filled digits b
 unfolding filled
 filled-found digits b e =
-    option_and_then_some (λ n. cond (leb n 2097152) (limited (counting n)) None) (number_of digits) b e (λ n n-is f-is. all n n-is (guard_some (leb n 2097152) (limited (counting n)) b f-is).1)
+    option_and_then_some (λ n. cond (leb n 2097152) (limited (counting n)) None) (numeral_of digits) b e (λ n n-is f-is. all n n-is (guard_some (leb n 2097152) (limited (counting n)) b f-is).1)
   where
-    all : (n : ℕ) → number_of digits ≡ Some n → limited (counting n) ≡ Some b → Filled digits b
+    all : (n : ℕ) → numeral_of digits ≡ Some n → limited (counting n) ≡ Some b → Filled digits b
     all n n-is l-is =
         let l = limited-found (counting n) b l-is in
         let len : n ≡ length (counting n) = sym (length-map-range_with_len (λ (k : ℕ). k % 256) 0 n) in

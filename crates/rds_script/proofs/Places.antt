@@ -9,7 +9,7 @@ use Rattle.rds_script.specs.declared.cause.Cause.TheVariants as cause
 use Rattle.rds_script.specs.Word.{IsHost, IsNumberIn, IsPayload}
 use Rattle.rds_script.specs.Line.{Place, a_host, another_host, a_number, a_payload, Value, the_number, the_bytes, Stands, Fills}
 use Rattle.rds_script.specs.Refusal.{FailsBy, LeftmostFails}
-use Rattle.rds_script.specs.Reading.{host_of, number_of, in_range, payload_of, host_at, number_at, payload_at, other_than, peer_at, value_at, values_at}
+use Rattle.rds_script.specs.Reading.{host_of, numeral_of, in_range, payload_of, host_value, number_at, payload_at, other_than, peer_at, value_at, values_at}
 use Rattle.rds_script.proofs.Binds.{bind_ok, bind_err, or_ok, or_err, none_from, ok_is, chosen}
 use Rattle.rds_script.proofs.WordLemmas.{host-found, host-again, number_in-found, number_in-again}
 use Rattle.rds_script.proofs.PayloadLemmas.{payload-found, payload-again}
@@ -31,30 +31,30 @@ module _ (hosts : ℕ) (first w : List ℕ) (ws : List (List ℕ)) where
       let P : With → Type 0 = λ y. Taken hosts first p w ws y in
       subst P (sym e) (record { stands = h; rest = refl })
 
-  host_taken : (x : With) → host_at hosts (w ∷ ws) ≡ Ok x → (n : ℕ) × IsHost hosts w n × (x ≡ (the_number n, ws))
-  unfolding host_at
+  host_taken : (x : With) → host_value hosts (w ∷ ws) ≡ Ok x → (n : ℕ) × IsHost hosts w n × (x ≡ (the_number n, ws))
+  unfolding host_value
   host_taken x e =
       let o = or_ok (λ n. (the_number n, ws)) (host_of hosts w) cause.Host x e in
       (o.0, host-found hosts w o.0 o.1, sym o.2)
 
-  host_again : (n : ℕ) → IsHost hosts w n → host_at hosts (w ∷ ws) ≡ Ok (the_number n, ws)
-  unfolding host_at
+  host_again : (n : ℕ) → IsHost hosts w n → host_value hosts (w ∷ ws) ≡ Ok (the_number n, ws)
+  unfolding host_value
   host_again n h = rw (host-again hosts w n h) refl
 
-  no_host : (c : Cause) → host_at hosts (w ∷ ws) ≡ Err c → ((n : ℕ) → IsHost hosts w n → ⊥) × (cause.Host ≡ c)
-  unfolding host_at
+  no_host : (c : Cause) → host_value hosts (w ∷ ws) ≡ Err c → ((n : ℕ) → IsHost hosts w n → ⊥) × (cause.Host ≡ c)
+  unfolding host_value
   no_host c e =
       let o = or_err (λ n. (the_number n, ws)) (host_of hosts w) cause.Host c e in
       (λ n h. let s = host-again hosts w n h in absurd cc, o.1)
 
-  host_failed : ((n : ℕ) → IsHost hosts w n → ⊥) → host_at hosts (w ∷ ws) ≡ Err cause.Host
-  unfolding host_at
+  host_failed : ((n : ℕ) → IsHost hosts w n → ⊥) → host_value hosts (w ∷ ws) ≡ Err cause.Host
+  unfolding host_value
   host_failed h = rw (none_from (host_of hosts w) (λ n e. h n (host-found hosts w n e))) refl
 
   peer_taken : (x : With) → peer_at hosts first (w ∷ ws) ≡ Ok x → Taken hosts first another_host w ws x
   unfolding peer_at
   peer_taken x e =
-      let b = bind_ok (host_at hosts (w ∷ ws)) (other_than first w) x e in
+      let b = bind_ok (host_value hosts (w ∷ ws)) (other_than first w) x e in
       let h = host_taken b.0 b.1 in
       elim (chosen (bytes_eq w first) (Err cause.SameHost) (Ok b.0) (Ok x) b.2) [
         | inl t ↦ absurd (err-ok t.1)
@@ -75,7 +75,7 @@ module _ (hosts : ℕ) (first w : List ℕ) (ws : List (List ℕ)) where
 
   no_peer : (c : Cause) → peer_at hosts first (w ∷ ws) ≡ Err c → FailsBy hosts first another_host w c
   unfolding peer_at
-  no_peer c e = go (bind_err (host_at hosts (w ∷ ws)) (other_than first w) c e)
+  no_peer c e = go (bind_err (host_value hosts (w ∷ ws)) (other_than first w) c e)
     where
       same : (n : ℕ) → IsHost hosts w n → (x : With) → other_than first w x ≡ Err c → FailsBy hosts first another_host w c
       same n h x f =
@@ -89,7 +89,7 @@ module _ (hosts : ℕ) (first w : List ℕ) (ws : List (List ℕ)) where
           ok-err : ◌≡◌ {A = Result With Cause} (Ok x) (Err c) → ⊥
           ok-err e = cc
 
-      go : (host_at hosts (w ∷ ws) ≡ Err c) ⊎ ((x : With) × (host_at hosts (w ∷ ws) ≡ Ok x) × (other_than first w x ≡ Err c)) → FailsBy hosts first another_host w c
+      go : (host_value hosts (w ∷ ws) ≡ Err c) ⊎ ((x : With) × (host_value hosts (w ∷ ws) ≡ Ok x) × (other_than first w x ≡ Err c)) → FailsBy hosts first another_host w c
       go (inl f) = let n = no_host c f in subst (FailsBy hosts first another_host w) n.1 n.0
       go (inr f) = let h = host_taken f.0 f.1 in same h.0 h.1 f.0 f.2
 
@@ -104,7 +104,7 @@ module _ (hosts : ℕ) (first w : List ℕ) (ws : List (List ℕ)) where
   number_taken : (low high : ℕ) (x : With) → number_at low high (w ∷ ws) ≡ Ok x → Taken hosts first (a_number low high) w ws x
   unfolding number_at
   number_taken low high x e =
-      let o = or_ok (λ n. (the_number n, ws)) (option_and_then (in_range low high) (number_of w)) cause.Number x e in
+      let o = or_ok (λ n. (the_number n, ws)) (option_and_then (in_range low high) (numeral_of w)) cause.Number x e in
       take_as (a_number low high) (the_number o.0) x (number_in-found low high w o.0 o.1) (sym o.2)
 
   number_again : (low high n : ℕ) → IsNumberIn low high w n → number_at low high (w ∷ ws) ≡ Ok (the_number n, ws)
@@ -114,13 +114,13 @@ module _ (hosts : ℕ) (first w : List ℕ) (ws : List (List ℕ)) where
   no_number : (low high : ℕ) (c : Cause) → number_at low high (w ∷ ws) ≡ Err c → FailsBy hosts first (a_number low high) w c
   unfolding number_at
   no_number low high c e =
-      let o = or_err (λ n. (the_number n, ws)) (option_and_then (in_range low high) (number_of w)) cause.Number c e in
+      let o = or_err (λ n. (the_number n, ws)) (option_and_then (in_range low high) (numeral_of w)) cause.Number c e in
       subst (FailsBy hosts first (a_number low high) w) o.1 (λ n h. let s = number_in-again low high w n h in absurd cc)
 
   number_failed : (low high : ℕ) → ((n : ℕ) → IsNumberIn low high w n → ⊥) → number_at low high (w ∷ ws) ≡ Err cause.Number
   unfolding number_at
   number_failed low high h =
-      rw (none_from (option_and_then (in_range low high) (number_of w)) (λ n e. h n (number_in-found low high w n e))) refl
+      rw (none_from (option_and_then (in_range low high) (numeral_of w)) (λ n e. h n (number_in-found low high w n e))) refl
 
   payload_taken : (x : With) → payload_at (w ∷ ws) ≡ Ok x → Taken hosts first a_payload w ws x
   unfolding payload_at

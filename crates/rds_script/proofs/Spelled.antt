@@ -7,7 +7,7 @@ use Rattle.rds_script.specs.declared.name.Name.{Name}
 use Rattle.rds_script.specs.declared.name.Name.TheVariants.{Hosts, Bind, BindAny, Send, Recv, Cancel, Close, Open, Move, Cut, Drain}
 use Rattle.rds_script.specs.Line.{Place, a_number, Value, the_number, Fills, places, first_of, values_of, SpellsHosts, SpellsCommand}
 use Rattle.rds_script.specs.Refusal.{LeftmostFails, WordFails}
-use Rattle.rds_script.specs.Reading.{word_of, places_of, is_hosts, as_number, command_of, number_at, values_at, command_at}
+use Rattle.rds_script.specs.Reading.{name_word, places_of, is_hosts, as_number, command_of, number_at, values_at, command_at}
 use Rattle.rds_script.proofs.Binds.{bind_ok, bind_err, ok_is}
 use Rattle.rds_script.proofs.Places.{With, again, fills, fills_again, fills_length, leftmost_fails, leftmost_failed}
 use Rattle.rds_script.proofs.NameLemmas.{places-of, named_by, named, made, hosts_made}
@@ -36,7 +36,7 @@ module _ (hosts : ℕ) (w : List ℕ) (args : List (List ℕ)) where
   abbrev FailsRow : Cause → Option (List Place) → Type 0
   FailsRow c row = IsSomeAnd row (λ ps. LeftmostFails hosts (first_of args) ps args c)
 
-  module _ (n : Name) (w-is : w ≡ word_of n) where
+  module _ (n : Name) (w-is : w ≡ name_word n) where
     row-is : places w ≡ Some (places_of n)
     row-is = ap places w-is ∙ places-of n
 
@@ -80,7 +80,7 @@ module _ (hosts : ℕ) (w : List ℕ) (args : List (List ℕ)) where
 
   -- the name of a line that spells a command, and what reading it gives
   pub record IsCommandLine (c : Command) (n : Name) : Type 0 where
-    pub word : w ≡ word_of n
+    pub word : w ≡ name_word n
     pub other : is_hosts n ≡ false
     pub len : length args ≡ length (places_of n)
     pub read : command_at hosts n args ≡ Ok c
@@ -94,7 +94,7 @@ module _ (hosts : ℕ) (w : List ℕ) (args : List (List ℕ)) where
   command_read c h =
       let n = named_by c in
       let k = named c in
-      let w-is : w ≡ word_of n = h.0 ∙ sym k.word in
+      let w-is : w ≡ name_word n = h.0 ∙ sym k.word in
       let f = of_row n w-is (values_of c) h.1 in
       record {
         word = w-is;

@@ -6,7 +6,7 @@ use Rattle.rds_script.specs.declared.cause.Cause.TheVariants as cause
 use Rattle.rds_script.specs.declared.fault.Fault.{Fault}
 use Rattle.rds_script.specs.declared.fault.Fault.TheVariants as fault
 use Rattle.rds_script.specs.Grammar.{Meaning}
-use Rattle.rds_script.specs.Reading.{Fails, ErrsAt, placed, line_at, lines_at}
+use Rattle.rds_script.specs.Reading.{Fails, ErrsAt, at_its_line, line_at, lines_at}
 
 -- the line after the last one that is allowed
 pub stops : (s : Meaning) (k : ℕ) (line : List ℕ) (more : List (List ℕ)) → k ≡ 200000 → lines_at s k (line ∷ more) ≡ Err (k + 1, cause.Lines)
@@ -17,7 +17,7 @@ pub goes_on : (s t : Meaning) (k : ℕ) (line : List ℕ) (more : List (List ℕ
 unfolding lines_at
 goes_on s t k line more other e = rw (ne_eqb k 200000 other, e) refl
 
-pub fails : (s : Meaning) (k : ℕ) (line : List ℕ) (more : List (List ℕ)) (f : Fault) → (k ≡ 200000 → ⊥) → Fails f (line_at s (k + 1) line) → ErrsAt (placed f (k + 1)) (lines_at s k (line ∷ more))
+pub fails : (s : Meaning) (k : ℕ) (line : List ℕ) (more : List (List ℕ)) (f : Fault) → (k ≡ 200000 → ⊥) → Fails f (line_at s (k + 1) line) → ErrsAt (at_its_line f (k + 1)) (lines_at s k (line ∷ more))
 unfolding lines_at
 fails s k line more (fault.Refused e) other e-is = rw (ne_eqb k 200000 other, e-is) refl
 fails s k line more fault.Memory other e-is = tt

@@ -54,8 +54,8 @@ Becomes (Err e) read new = Fails e read
 abbrev pub is_numeral : List ℕ → Bool
 is_numeral word = nat_lt 0 (length word) && (nat_le (length word) 10 && list_all is_ascii_digit word)
 
-unfoldable pub number_of : List ℕ → Option ℕ
-number_of word = if is_numeral word then Some (digits_value 10 word) else None
+unfoldable pub numeral_of : List ℕ → Option ℕ
+numeral_of word = if is_numeral word then Some (digits_value 10 word) else None
 
 unfoldable pub host_of : ℕ → List ℕ → Option ℕ
 host_of hosts [] = None
@@ -70,7 +70,7 @@ abbrev pub counting : ℕ → List ℕ
 counting n = map (λ i. i % 256) (range_with_len 0 n)
 
 unfoldable pub filled : List ℕ → Option (List ℕ)
-filled digits = option_and_then (λ n. if nat_le n 2097152 then limited (counting n) else None) (number_of digits)
+filled digits = option_and_then (λ n. if nat_le n 2097152 then limited (counting n) else None) (numeral_of digits)
 
 unfoldable pub hexed : List ℕ → Option (List ℕ)
 hexed digits = option_and_then limited (result_ok (decode_of digits))
@@ -88,15 +88,15 @@ payload_of (form ∷ colon ∷ rest) = if colon == 58 then formed form rest else
 
 -- ---- the first of some words, and the words after it
 
-unfoldable pub host_at : ℕ → List (List ℕ) → Result (Value × List (List ℕ)) Cause
-host_at hosts line = ok_or (option_map (λ n. (the_number n, drop 1 line)) (host_of hosts (first_of line))) cause.Host
+unfoldable pub host_value : ℕ → List (List ℕ) → Result (Value × List (List ℕ)) Cause
+host_value hosts line = ok_or (option_map (λ n. (the_number n, drop 1 line)) (host_of hosts (first_of line))) cause.Host
 
 abbrev pub in_range : ℕ → ℕ → ℕ → Option ℕ
 in_range low high n = if nat_le low n && nat_le n high then Some n else None
 
 unfoldable pub number_at : ℕ → ℕ → List (List ℕ) → Result (Value × List (List ℕ)) Cause
 number_at low high line =
-    ok_or (option_map (λ n. (the_number n, drop 1 line)) (option_and_then (in_range low high) (number_of (first_of line)))) cause.Number
+    ok_or (option_map (λ n. (the_number n, drop 1 line)) (option_and_then (in_range low high) (numeral_of (first_of line)))) cause.Number
 
 unfoldable pub payload_at : List (List ℕ) → Result (Value × List (List ℕ)) Cause
 payload_at line = ok_or (option_map (λ b. (the_bytes b, drop 1 line)) (payload_of (first_of line))) cause.Payload
@@ -107,10 +107,10 @@ other_than first word x = if bytes_eq word first then Err cause.SameHost else Ok
 
 -- a host other than the one that is this word
 unfoldable pub peer_at : ℕ → List ℕ → List (List ℕ) → Result (Value × List (List ℕ)) Cause
-peer_at hosts first line = host_at hosts line >>= other_than first (first_of line)
+peer_at hosts first line = host_value hosts line >>= other_than first (first_of line)
 
 abbrev pub value_at : ℕ → List ℕ → Place → List (List ℕ) → Result (Value × List (List ℕ)) Cause
-value_at hosts first a_host line = host_at hosts line
+value_at hosts first a_host line = host_value hosts line
 value_at hosts first another_host line = peer_at hosts first line
 value_at hosts first (a_number low high) line = number_at low high line
 value_at hosts first a_payload line = payload_at line
@@ -124,18 +124,18 @@ values_at hosts first (p ∷ ps) line = do
 
 -- ---- names
 
-abbrev pub word_of : Name → List ℕ
-word_of Hosts = codes "hosts"
-word_of Bind = codes "bind"
-word_of BindAny = codes "bindany"
-word_of Send = codes "send"
-word_of Recv = codes "recv"
-word_of Cancel = codes "cancel"
-word_of Close = codes "close"
-word_of Open = codes "open"
-word_of Move = codes "move"
-word_of Cut = codes "cut"
-word_of Drain = codes "drain"
+abbrev pub name_word : Name → List ℕ
+name_word Hosts = codes "hosts"
+name_word Bind = codes "bind"
+name_word BindAny = codes "bindany"
+name_word Send = codes "send"
+name_word Recv = codes "recv"
+name_word Cancel = codes "cancel"
+name_word Close = codes "close"
+name_word Open = codes "open"
+name_word Move = codes "move"
+name_word Cut = codes "cut"
+name_word Drain = codes "drain"
 
 abbrev pub places_of : Name → List Place
 places_of Hosts = a_number 2 8 ∷ []
@@ -210,8 +210,8 @@ command_of Drain v = command.Drain
 unfoldable pub command_at : ℕ → Name → List (List ℕ) → Result Command Cause
 command_at hosts name line = values_at hosts (first_of line) (places_of name) line >>= λ v. Ok (command_of name v)
 
-unfoldable pub added : Meaning → ℕ → Command → Result Meaning Cause
-added s number c =
+unfoldable pub with_command : Meaning → ℕ → Command → Result Meaning Cause
+with_command s number c =
     if nat_lt 16777216 (payload_total s.commands + payload_len c) then Err cause.Total
     else (if nat_lt 1024 (cut_total s.commands + cut_count c) then Err cause.Cuts
     else Ok (record s { commands = s.commands ++ record { line = number; command = c } ∷ [] }))
@@ -221,7 +221,7 @@ hosts_at s number line = number_at 2 8 line >>= λ v. Ok (record s { hosts = as_
 
 -- the line of this name, which has as many words as it wants
 unfoldable pub named : Meaning → ℕ → Name → List (List ℕ) → Result Meaning Cause
-named s number name line = if is_hosts name then hosts_at s number line else (command_at s.hosts name line >>= added s number)
+named s number name line = if is_hosts name then hosts_at s number line else (command_at s.hosts name line >>= with_command s number)
 
 unfoldable pub counted : Meaning → ℕ → Name → List (List ℕ) → Result Meaning Cause
 counted s number name line =
@@ -241,9 +241,9 @@ line_at s number line =
 -- ---- texts
 
 -- the fault at this line
-abbrev pub placed : Fault → ℕ → ScriptError
-placed (fault.Refused e) line = error.BadLine line e
-placed fault.Memory line = error.Memory
+abbrev pub at_its_line : Fault → ℕ → ScriptError
+at_its_line (fault.Refused e) line = error.BadLine line e
+at_its_line fault.Memory line = error.Memory
 
 -- where it fails, with the number of the line
 abbrev pub at_line : {X : Type 0} → ℕ → Result X Cause → Result X (ℕ × Cause)

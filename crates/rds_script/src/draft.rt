@@ -107,9 +107,9 @@ impl Draft {
         Ok(())
     }
 
-    #[tactic(auto, unfolding(crate::specs::Reading::added))]
+    #[tactic(auto, unfolding(crate::specs::Reading::with_command))]
     fn add(&mut self, number: u32, command: Command) -> Result<(), Fault>
-        ensures { Becomes result (reading.added (meaning self.old.script) number command)
+        ensures { Becomes result (reading.with_command (meaning self.old.script) number command)
             (meaning self.new.script) }
     {
         let total = self.total + sent_len(&command);

@@ -14,11 +14,11 @@ pub(crate) enum Fault {
 }
 
 impl Fault {
-    ghost use Rattle.rds_script.specs.Reading.{placed};
+    ghost use Rattle.rds_script.specs.Reading.{at_its_line};
 
     /// The fault at this line.
     pub(crate) fn at(self, line: u32) -> ScriptError
-        ensures { result ≡ placed self line }
+        ensures { result ≡ at_its_line self line }
     {
         match self {
             Fault::Refused(cause) => ScriptError::BadLine { line, cause },

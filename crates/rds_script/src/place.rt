@@ -26,10 +26,10 @@ fn host_of(hosts: u8, word: &[u8]) -> Option<u8>
 }
 
 /// A host.
-#[tactic(auto, unfolding(crate::specs::Reading::host_at))]
+#[tactic(auto, unfolding(crate::specs::Reading::host_value))]
 pub(crate) fn host_at(hosts: u8, line: &[u8]) -> Result<(u8, &[u8]), Cause>
     ensures value { Gives (λ r. (the_number r.0, words r.1.now)) result
-        (reading.host_at hosts (words line.now)) }
+        (reading.host_value hosts (words line.now)) }
     ensures letter { IfOk result (λ r. first_of (words line.now) ≡ (65 + r.0) ∷ []) }
 {
     let (word, rest) = first_word(line);
@@ -53,9 +53,9 @@ pub(crate) fn peer_at(hosts: u8, host: u8, line: &[u8]) -> Result<(u8, &[u8]), C
 }
 
 /// The value of 1 to 10 decimal digits.
-#[tactic(auto, unfolding(crate::specs::Reading::number_of))]
+#[tactic(auto, unfolding(crate::specs::Reading::numeral_of))]
 pub(crate) fn number_of(word: &[u8]) -> Option<u64>
-    ensures { result ≡ reading.number_of word.now }
+    ensures { result ≡ reading.numeral_of word.now }
 {
     if !is_number(word) {
         return None;

@@ -9,10 +9,10 @@ use Rattle.rds_mail.specs.Passes.{Putter}
 use Rattle.rds_parts.specs.Refusals.{AskRefused}
 use Rattle.rds_parts.specs.declared.error.CancelError.{CancelError}
 use Rattle.rds_parts.specs.declared.error.NoRoute.{NoRoute}
-use Rattle.rds_parts.specs.Lanes.{Lane, At, IsOf, IsPutAt, IsPutTo, NoneTo, ArePut, ArePutOf, IsLookAt, IsLookTo, RoutesStay, fixed, with_order, with_reader}
+use Rattle.rds_parts.specs.Lanes.{Lane, IsLaneAt, IsOf, IsPutAt, IsPutTo, NoneTo, ArePut, ArePutOf, IsLookAt, IsLookTo, RoutesStay, fixed, with_order, with_reader}
 
 module _ {R : Type 0} (slot : ℕ) where
-  of_lane : (routes : List (Lane R)) (place : ℕ) (lane : Lane R) → At routes place lane → ArePutOf slot routes → All (IsOf slot) lane.pass.put
+  of_lane : (routes : List (Lane R)) (place : ℕ) (lane : Lane R) → IsLaneAt routes place lane → ArePutOf slot routes → All (IsOf slot) lane.pass.put
   of_lane routes place lane at all =
       subst (λ (l : Lane R). All (IsOf slot) l.pass.put) (get_or_from_slice_get routes place lane lane at) (All-get_or (λ (l : Lane R). All (IsOf slot) l.pass.put) routes place lane (slice_get_within routes place lane at) all)
 
@@ -43,7 +43,7 @@ module _ {R : Type 0} (slot : ℕ) where
   of_tell from upto item old new mine put all place d small =
       let within : place < length old = (let e = put.0 in omega arith) in
       let lane : Lane R = get_or old place d in
-      let at : At old place lane = slice_get-get_or old place d within in
+      let at : IsLaneAt old place lane = slice_get-get_or old place d within in
       let now : Lane R = cond (nat_le from place && nat_lt place upto) (with_order lane item) lane in
       subst (λ (l : Lane R). All (IsOf slot) l.pass.put) (sym (get_or_from_slice_get new place now d (put.1 place lane at))) (of_either (nat_le from place && nat_lt place upto) lane item mine (of_lane old place lane at all))
 
@@ -65,5 +65,5 @@ pub none_seen : {R : Type 0} (r : Result Seen NoRoute) (peer : ℕ) (xs z new : 
 none_seen (Ok seen) peer xs z new is p = tt
 none_seen (Err e) peer xs z new is p = (p.0, subst (λ ys. NoneTo ys peer) is p.1)
 
-pub note_seen : {R : Type 0} (place : ℕ) (note : Putter Order) (xs z : List (Lane R)) → xs ≡ z → (lane : Lane R) × At xs place lane × (note ≡ lane.pass) → (lane : Lane R) × At z place lane × (note ≡ lane.pass)
-note_seen {R} place note xs z is p = subst (λ ys. (lane : Lane R) × At ys place lane × (note ≡ lane.pass)) is p
+pub note_seen : {R : Type 0} (place : ℕ) (note : Putter Order) (xs z : List (Lane R)) → xs ≡ z → (lane : Lane R) × IsLaneAt xs place lane × (note ≡ lane.pass) → (lane : Lane R) × IsLaneAt z place lane × (note ≡ lane.pass)
+note_seen {R} place note xs z is p = subst (λ ys. (lane : Lane R) × IsLaneAt ys place lane × (note ≡ lane.pass)) is p

@@ -4,14 +4,14 @@ use Rattle.rds_meter.specs.Places.{freed_word}
 use Rattle.rds_model.specs.declared.order.Order.{Order}
 use Rattle.rds_fmap.specs.declared.seen.Seen.{Seen}
 use Rattle.rds_parts.specs.Words.{Purse}
-use Rattle.rds_parts.specs.Lanes.{Lane, At, LeadsTo, NoneTo, IsLookAt, IsLookTo, IsPutAt, ArePutOf, with_reader}
+use Rattle.rds_parts.specs.Lanes.{Lane, IsLaneAt, LeadsTo, NoneTo, IsLookAt, IsLookTo, IsPutAt, ArePutOf, with_reader}
 use Rattle.rds_parts.specs.PlaceLaws.{here}
 use Rattle.std.proofs.lemmas.Option.{slice_get_within, same_Some}
 use Rattle.rds_socket.specs.declared.error.SendError.{SendError}
 use Rattle.rds_socket.specs.declared.error.SendError.TheVariants as refusal
 use Rattle.rds_socket.specs.Holding.{Open, IsOpen}
 use Rattle.rds_socket.specs.Calls.{with_own, with_routes, with_total, after_freed}
-use Rattle.rds_socket.specs.Sends.{limit_of, order_of, IsClear, RefusalFits, SendFits, after_load}
+use Rattle.rds_socket.specs.Sends.{limit_of, order_of, IsClear, RefusalFits, SendFits, after_freed_load}
 use Rattle.rds_socket.proofs.Quiet.{quiet_load}
 use Rattle.rds_socket.proofs.Kept.{moved, open_on}
 
@@ -49,20 +49,20 @@ module _ {R : Type 0} (looks : R → R → ℕ → Seen → Type 0) (peer dport 
     leads_still =
         let lane : Lane R = look.0 in
         let same : lane.peer ≡ peer = ap (λ (l : Lane R). l.peer) (same_lane look.2 leads.1) ∙ leads.2 in
-        (with_reader lane look.1, subst (λ l. At l place (with_reader lane look.1)) (sym look.4) (here v.own.routes place (with_reader lane look.1) (slice_get_within v.own.routes place lane look.2)), same)
+        (with_reader lane look.1, subst (λ l. IsLaneAt l place (with_reader lane look.1)) (sym look.4) (here v.own.routes place (with_reader lane look.1) (slice_get_within v.own.routes place lane look.2)), same)
 
     module _ (words : Purse) (freed : ℕ) (loaded : words ≡ after_freed v.own.words freed) where
       abbrev now : Open R
       now = with_own v (moved v.own words v.own.inbox routes v.own.total)
 
-      is_loaded : now ≡ after_load v routes freed
+      is_loaded : now ≡ after_freed_load v routes freed
       is_loaded = ap (λ (p : Purse). with_own v (moved v.own p v.own.inbox routes v.own.total)) loaded
 
       pub send_full : (queued len limit : ℕ) → seen.set ≡ false → queued ≡ v.own.total - freed → len ≡ length payload → limit ≡ v.sndbuf → limit < queued + len → RefusalFits looks peer dport payload z (refusal.SendFull queued len limit) now
       send_full queued len limit set a b c d = fits_on (refusal.SendFull queued len limit) now (clear set, (freed, a, b, c, d, is_loaded))
 
-      pub loaded_at : now ≡ after_load z routes freed
-      loaded_at = is_loaded ∙ ap (λ (o : Open R). after_load o routes freed) view_is
+      pub loaded_at : now ≡ after_freed_load z routes freed
+      loaded_at = is_loaded ∙ ap (λ (o : Open R). after_freed_load o routes freed) view_is
 
 module _ {R : Type 0} (v : Open R) (words : Purse) (freed : ℕ) (routes : List (Lane R)) (loaded : words ≡ after_freed v.own.words freed) where
   -- the socket stays whole after a look and a load
@@ -71,7 +71,7 @@ module _ {R : Type 0} (v : Open R) (words : Purse) (freed : ℕ) (routes : List 
 
 -- what a send answers, by what it found and whether the order was put
 module _ {R : Type 0} (looks : R → R → ℕ → Seen → Type 0) (peer dport place freed : ℕ) (payload : List ℕ) (old mid : Open R) (clear : IsClear looks peer dport payload old mid.own.routes)
-    (leads : LeadsTo mid.own.routes peer place) (room : old.own.total - freed + length payload ≤ old.sndbuf) (is : mid ≡ after_load old mid.own.routes freed) where
+    (leads : LeadsTo mid.own.routes peer place) (room : old.own.total - freed + length payload ≤ old.sndbuf) (is : mid ≡ after_freed_load old mid.own.routes freed) where
   pub send_answer : (r : Result (Unit {0}) (List ℕ × SendError)) (new : Open R)
       → OnOk r (IsPutAt place (order_of mid dport payload) mid.own.routes new.own.routes)
       → OnOk r (new ≡ with_own mid (with_total (with_routes mid.own new.own.routes) (mid.own.total + length payload)))

@@ -42,15 +42,15 @@ module _ {R : Type 0} where
       × (new ≡ with_own old (with_words (with_inbox old.own (after_taking_out old.own.inbox number item)) words))
 
   -- peers were told from the first that hadn't been, up to this place
-  abbrev pub AreTold : ℕ → Open R → List (Lane R) → Type 0
-  AreTold upto old routes = (told_of old ≤ upto) × ArePut (told_of old) upto (order.CloseSocket old.own.words.slot) old.own.routes routes
+  abbrev pub PeersAreTold : ℕ → Open R → List (Lane R) → Type 0
+  PeersAreTold upto old routes = (told_of old ≤ upto) × ArePut (told_of old) upto (order.CloseSocket old.own.words.slot) old.own.routes routes
 
   -- each peer was told, then the port was released, its bit lowered and the change counted
   abbrev pub IsClosed : Open R → Holding R → Type 0
-  IsClosed old h = AreTold (length old.own.routes) old h.routes × ((change : ℕ) ×
+  IsClosed old h = PeersAreTold (length old.own.routes) old h.routes × ((change : ℕ) ×
       (h ≡ record { ports = knowing old.own.ports (after_release old.own.ports.view); words = purse_with old.own.words (after_clearing old.own.words.seat.view old.port change); inbox = old.own.inbox; routes = h.routes; total = old.own.total }))
 
   -- some peers were told, and nothing else was done
   abbrev pub IsClosing : Open R → Open R → Type 0
-  IsClosing old new = (upto : ℕ) × (upto < length old.own.routes) × AreTold upto old new.own.routes
+  IsClosing old new = (upto : ℕ) × (upto < length old.own.routes) × PeersAreTold upto old new.own.routes
       × (new ≡ record { port = old.port; sndbuf = old.sndbuf; rcvbuf = old.rcvbuf; told = Some upto; own = with_routes old.own new.own.routes })

@@ -18,12 +18,12 @@ module _ {R : Type 0} where
   order_of o dport payload = order.Send o.own.words.slot o.port dport payload
 
   -- the socket after a look, which left these routes
-  abbrev pub after_look : Open R → List (Lane R) → Open R
-  after_look o routes = with_own o (with_routes o.own routes)
+  abbrev pub after_route_look : Open R → List (Lane R) → Open R
+  after_route_look o routes = with_own o (with_routes o.own routes)
 
   -- then after a load that found so many bytes freed
-  abbrev pub after_load : Open R → List (Lane R) → ℕ → Open R
-  after_load o routes freed = with_own o (with_words (with_routes o.own routes) (after_freed o.own.words freed))
+  abbrev pub after_freed_load : Open R → List (Lane R) → ℕ → Open R
+  after_freed_load o routes freed = with_own o (with_words (with_routes o.own routes) (after_freed o.own.words freed))
 
   -- then once so many bytes were put
   abbrev pub after_send : Open R → List (Lane R) → ℕ → ℕ → Open R
@@ -41,10 +41,10 @@ module _ {R : Type 0} where
     RefusalFits old (TooLong len limit) new = (len ≡ length payload) × (limit ≡ limit_of old) × (limit < len) × (new ≡ old)
     RefusalFits old (NoRoute named) new = (length payload ≤ limit_of old) × (named ≡ peer) × NoneTo old.own.routes peer × (new ≡ old)
     RefusalFits old (Congested port version) new = (length payload ≤ limit_of old) × (port ≡ dport)
-        × IsLookTo looks peer dport (record { version = version; set = true }) old.own.routes new.own.routes × (new ≡ after_look old new.own.routes)
+        × IsLookTo looks peer dport (record { version = version; set = true }) old.own.routes new.own.routes × (new ≡ after_route_look old new.own.routes)
     RefusalFits old (SendFull queued len limit) new = IsClear old new.own.routes × ((freed : ℕ) × (queued ≡ old.own.total - freed)
-        × (len ≡ length payload) × (limit ≡ old.sndbuf) × (limit < queued + len) × (new ≡ after_load old new.own.routes freed))
-    RefusalFits old Memory new = IsClear old new.own.routes × ((freed : ℕ) × (old.own.total - freed + length payload ≤ old.sndbuf) × (new ≡ after_load old new.own.routes freed))
+        × (len ≡ length payload) × (limit ≡ old.sndbuf) × (limit < queued + len) × (new ≡ after_freed_load old new.own.routes freed))
+    RefusalFits old Memory new = IsClear old new.own.routes × ((freed : ℕ) × (old.own.total - freed + length payload ≤ old.sndbuf) × (new ≡ after_freed_load old new.own.routes freed))
 
     -- it was found short enough, clear and within the send buffer, and was put
     abbrev pub IsSent : Open R → Open R → Type 0

@@ -5,7 +5,7 @@ ghost use Rattle.rds_mail.specs.Learning.{AllGot};
 ghost use Rattle.rds_mail.specs.Numbers.{Number};
 ghost use Rattle.rds_mail.specs.Passes.{after_note};
 ghost use Rattle.rds_model.specs.declared.order.Order.TheVariants as order;
-ghost use Rattle.rds_parts.specs.Lanes.{At, Lane, IsPutTo, ArePutOf};
+ghost use Rattle.rds_parts.specs.Lanes.{IsLaneAt, Lane, IsPutTo, ArePutOf};
 ghost use Rattle.rds_parts.specs.Ports.{HasClaimedOnly};
 ghost use Rattle.rds_parts.specs.Refusals.{AskRefused};
 ghost use Rattle.rds_parts.specs.Words.{IsQuietSeat};
@@ -81,7 +81,7 @@ impl<R: MapReader> Closed<R> {
     pub fn order_note(&mut self, place: usize) -> Note<Asked>
         requires { place < length self.old.routes }
         ensures same { self.new ≡ self.old }
-        ensures note { (lane : Lane R) × At self.old.routes place lane × (result ≡ lane.pass) }
+        ensures note { (lane : Lane R) × IsLaneAt self.old.routes place lane × (result ≡ lane.pass) }
     {
         self.routes.note(place)
     }

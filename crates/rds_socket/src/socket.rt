@@ -3,7 +3,7 @@ ghost use Rattle.std.specs.Prelude.{◌≡◌, ◌<◌, ◌≤◌, ◌-◌, ℕ,
 ghost use Rattle.rds_bindtab.specs.Seats.{knowing, note_of};
 ghost use Rattle.rds_mail.specs.Passes.{after_note};
 ghost use Rattle.rds_model.specs.declared.order.Order.TheVariants as order;
-ghost use Rattle.rds_parts.specs.Lanes.{At, Lane, NoneTo, IsPutTo, IsLookTo};
+ghost use Rattle.rds_parts.specs.Lanes.{IsLaneAt, Lane, NoneTo, IsPutTo, IsLookTo};
 ghost use Rattle.rds_parts.specs.Refusals.{AskRefused};
 ghost use Rattle.rds_socket.specs.Calls.{with_own, with_words, with_inbox, with_routes, after_freed};
 ghost use Rattle.rds_socket.specs.Stays.{Stays};
@@ -136,7 +136,7 @@ impl<R: MapReader> Socket<R> {
     pub fn order_note(&mut self, place: usize) -> Note<Asked>
         requires { place < length self.old.own.routes }
         ensures same { self.new ≡ self.old }
-        ensures note { (lane : Lane R) × At self.old.own.routes place lane × (result ≡ lane.pass) }
+        ensures note { (lane : Lane R) × IsLaneAt self.old.own.routes place lane × (result ≡ lane.pass) }
     {
         self.routes.note(place)
     }

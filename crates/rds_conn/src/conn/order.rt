@@ -5,7 +5,7 @@ ghost use Rattle.rds_model.specs.declared.entry.Target.TheVariants as target;
 ghost use Rattle.rds_model.specs.declared.entry.Msg.{Msg};
 ghost use Rattle.rds_conn.specs.Connection.{IsReady, freed_bytes_of, with_entries};
 ghost use Rattle.rds_conn.specs.Released.{released_bytes};
-ghost use Rattle.rds_conn.specs.Orders.{IsOrderFor, after_order, put_bytes};
+ghost use Rattle.rds_conn.specs.Orders.{IsOrderFor, after_order, accepted_bytes};
 ghost use Rattle.rds_conn.specs.Unacked.{alive_bytes};
 
 use super::Conn;
@@ -25,7 +25,7 @@ impl Conn {
         ensures freed { (slot : ℕ) → slot < self.old.slots →
             freed_bytes_of slot self.new + released_bytes slot self.old.log.past ≡ freed_bytes_of slot self.old + released_bytes slot self.new.log.past }
         ensures conserved { (slot : ℕ) → slot < self.old.slots → freed_bytes_of slot self.new + alive_bytes slot self.new.log.past
-            ≡ freed_bytes_of slot self.old + alive_bytes slot self.old.log.past + put_bytes slot order }
+            ≡ freed_bytes_of slot self.old + alive_bytes slot self.old.log.past + accepted_bytes slot order }
     {
         match order {
             Order::Send {

@@ -2,7 +2,7 @@ ghost use Rattle.std.specs.Prelude.{◌≡◌, ℕ, ◌+◌, ◌<◌, IsSome, If
 ghost use Rattle.rds_model.specs.Reading.{verdict_of as verdict_after};
 ghost use Rattle.rds_conn.specs.Connection.{IsReady, freed_bytes_of};
 ghost use Rattle.rds_conn.specs.Released.{released_bytes};
-ghost use Rattle.rds_conn.specs.Orders.{IsOrderFor, after_order, put_bytes};
+ghost use Rattle.rds_conn.specs.Orders.{IsOrderFor, after_order, accepted_bytes};
 ghost use Rattle.rds_conn.specs.Passing.{Matches, Passes};
 ghost use Rattle.rds_conn.specs.Unacked.{alive_bytes};
 
@@ -21,7 +21,7 @@ impl Conn {
         ensures freed { (slot : ℕ) → slot < self.old.slots →
             freed_bytes_of slot self.new + released_bytes slot self.old.log.past ≡ freed_bytes_of slot self.old + released_bytes slot self.new.log.past }
         ensures conserved { (slot : ℕ) → slot < self.old.slots → freed_bytes_of slot self.new + alive_bytes slot self.new.log.past
-            ≡ freed_bytes_of slot self.old + alive_bytes slot self.old.log.past + put_bytes slot order }
+            ≡ freed_bytes_of slot self.old + alive_bytes slot self.old.log.past + accepted_bytes slot order }
     {
         order_by::<Brand>(self, order, Blank::new(1))
     }
@@ -47,7 +47,7 @@ fn order_by<L: Ledger>(conn: &mut Conn, order: Order, blank: Blank)
     ensures freed { (slot : ℕ) → slot < conn.old.slots →
         freed_bytes_of slot conn.new + released_bytes slot conn.old.log.past ≡ freed_bytes_of slot conn.old + released_bytes slot conn.new.log.past }
     ensures conserved { (slot : ℕ) → slot < conn.old.slots → freed_bytes_of slot conn.new + alive_bytes slot conn.new.log.past
-        ≡ freed_bytes_of slot conn.old + alive_bytes slot conn.old.log.past + put_bytes slot order }
+        ≡ freed_bytes_of slot conn.old + alive_bytes slot conn.old.log.past + accepted_bytes slot order }
 {
     let mut steps = Steps::<L>::new(blank);
     conn.order(order, &mut steps);

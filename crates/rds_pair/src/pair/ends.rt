@@ -9,7 +9,7 @@ impl Pair {
     ghost use Rattle.rds_wire.specs.declared.frame.Frame.{Frame};
     ghost use Rattle.rds_model.specs.Past.{accepted, newest_stream, open_stream};
     ghost use Rattle.rds_model.specs.Reading.{verdict_of};
-    ghost use Rattle.rds_pair.specs.Sides.{HasRoom, IsFull, of_end, TakesFrameByFrame};
+    ghost use Rattle.rds_pair.specs.Sides.{HasRoomForTwo, IsFull, of_end, TakesFrameByFrame};
     ghost use Rattle.rds_pair.specs.declared.error.PairError.TheVariants as errors;
 
     /// Makes room for the next step of an end: the journal has room for two entries more. Nothing happens in it.
@@ -20,7 +20,7 @@ impl Pair {
     /// there is none for them. The pair is as before in both cases.
     pub fn reserve(&mut self, end: PairEnd) -> Result<(), PairError>
         ensures same { self.new ≡ self.old }
-        ensures room { OnOk result (HasRoom (of_end end self.old)) }
+        ensures room { OnOk result (HasRoomForTwo (of_end end self.old)) }
         ensures spent { (entries : ℕ) → result ≡ Err (errors.Spent entries) → IsFull entries (of_end end self.old) }
     {
         match end {

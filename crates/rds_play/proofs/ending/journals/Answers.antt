@@ -6,7 +6,7 @@ use Rattle.std.proofs.lemmas.List.{map-id}
 use Rattle.std.proofs.lemmas.Bool.{eq-eqb, ne_eqb}
 use Rattle.std.proofs.lemmas.Iterator.Adapters.{YieldsList-from_vec}
 use Rattle.std.proofs.lemmas.Iterator.Consumers.{YieldsList-end}
-use Rattle.rds_report.specs.FinalState.{Side}
+use Rattle.rds_report.specs.FinalState.{FinalJournal}
 use Rattle.rds_report.specs.Views.{side_view}
 use Rattle.rds_play.specs.Ending.{sides}
 use Rattle.rds_play.proofs.FinalLists.{map_push, sides_more, sides_same}
@@ -33,7 +33,7 @@ loop-link-preserved c =
           ap (map side_view) items ∙ map_push side_view old j
           ∙ ap (λ i. map side_view old ++ record { peer = i; past = j.1.past } ∷ []) w.address.ensures
           ∙ ap (λ (past : List Entry). map side_view old ++ record { peer = address_of l.peer; past = past } ∷ []) c.into_journal-journal.ensures.past
-          ∙ ap (λ (sides : List Side). sides ++ record { peer = address_of l.peer; past = l.conn.log.past } ∷ []) c.loop-link.invariant
+          ∙ ap (λ (sides : List FinalJournal). sides ++ record { peer = address_of l.peer; past = l.conn.log.past } ∷ []) c.loop-link.invariant
           ∙ sym (sides_more h before l other)
       | else-peer-host w ↦
           let items : c.if-peer-host.journals.items ≡ old = ap (λ (v : Vec (ℕ × Log) Global). v.items) w.journals-is in

@@ -5,7 +5,7 @@ use Rattle.std.specs.List.{flat_map}
 use Rattle.rds_report.specs.declared.item.Item.{Item}
 use Rattle.rds_report.specs.Report.{Counts, pair_text, counts_line}
 use Rattle.rds_report.specs.Items.{seen}
-use Rattle.rds_report.specs.ItemReport.{number_of, is_accepted, pair_lines, data_lines}
+use Rattle.rds_report.specs.ItemReport.{count_of, is_accepted, pair_lines, data_lines}
 use Rattle.rds_report.proofs.Chunks.{same_counts}
 use Rattle.rds_report.proofs.print.print_group.Goals as goal
 
@@ -16,7 +16,7 @@ returns c =
     let head = pair_text (seen c.args.group) in
     let lines = flat_map (λ (i : Item). data_lines i.what) items in
     let n = c.of-counts.ensures in
-    let some : (number_of is_accepted items == 0) ≡ false = ne_eqb (number_of is_accepted items) 0 (λ e. c.if-counts-eq0.false (n.accepted ∙ e)) in
+    let some : (count_of is_accepted items == 0) ≡ false = ne_eqb (count_of is_accepted items) 0 (λ e. c.if-counts-eq0.false (n.accepted ∙ e)) in
     let m = c.of-counts.result in
     let k' : Counts = record { accepted = m.accepted; received = m.received; unread = m.unread; dropped = m.dropped; port0 = m.port0; cancelled = m.cancelled } in
     let counts = same_counts n.accepted n.received n.unread n.dropped n.port0 n.cancelled in

@@ -1,6 +1,6 @@
 use Rattle.std.proofs.Common.{◌≡◌, ◌<◌, ap, sym, subst, length}
 use Rattle.std.specs.Prelude.{List, slice_set}
-use Rattle.rds_parts.specs.Lanes.{Lane, Fixed, At, HasSeen, RoutesStay, with_reader}
+use Rattle.rds_parts.specs.Lanes.{Lane, Fixed, IsLaneAt, HasSeen, RoutesStay, with_reader}
 use Rattle.rds_parts.specs.ChangeLaws.{at_read, stay_in}
 use Rattle.rds_parts.specs.PlaceLaws.{here}
 use Rattle.rds_parts.proofs.routes.Routes.look.Goals as goal
@@ -9,7 +9,7 @@ pub returns-clause-look : goal.returns-clause-look
 returns-clause-look g c =
     let r = c.route.inside in
     let was : Lane g.row.R.Denot = record { peer = r.peer; pass = r.pass; reader = r.map } in
-    let at : At c.args.self.now c.args.place was = at_read _ _ c.args.place was _ c.self.view_is c.requires c.route.view_is c.index_mut-route.ensures.value in
+    let at : IsLaneAt c.args.self.now c.args.place was = at_read _ _ c.args.place was _ c.self.view_is c.requires c.route.view_is c.index_mut-route.ensures.value in
     (was, c.bit.new.self, at, c.bit.ensures.look, ap (λ (l : List (Lane g.row.R.Denot)). slice_set l c.args.place (with_reader was c.bit.new.self)) c.self.view_is)
 
 pub returns-clause-seen : goal.returns-clause-seen
@@ -23,6 +23,6 @@ pub returns-clause-stay : goal.returns-clause-stay
 returns-clause-stay g c =
     let r = c.route.inside in
     let was : Lane g.row.R.Denot = record { peer = r.peer; pass = r.pass; reader = r.map } in
-    let at : At c.args.self.now c.args.place was = at_read _ _ c.args.place was _ c.self.view_is c.requires c.route.view_is c.index_mut-route.ensures.value in
+    let at : IsLaneAt c.args.self.now c.args.place was = at_read _ _ c.args.place was _ c.self.view_is c.requires c.route.view_is c.index_mut-route.ensures.value in
     stay_in g.R.MapReader.pair g.R.MapReader.has_seen _ _ c.args.place was (with_reader was c.bit.new.self) c.self.view_is at c.requires
     (ap (λ p. record { peer = r.peer; mail = r.pass.mail; number = r.pass.number; splits = r.pass.splits; pair = p }) c.bit.ensures.pair) c.bit.ensures.kept

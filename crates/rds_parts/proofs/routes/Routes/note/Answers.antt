@@ -1,4 +1,4 @@
-use Rattle.rds_parts.specs.Lanes.{Lane, At}
+use Rattle.rds_parts.specs.Lanes.{Lane, IsLaneAt}
 use Rattle.rds_parts.specs.ChangeLaws.{at_read}
 use Rattle.rds_parts.proofs.routes.Routes.note.Goals as goal
 

@@ -2,7 +2,7 @@ use Rattle.std.proofs.Common.{◌≡◌, [], ◌∷◌, sym, ap, ◌∙◌, subs
 use Rattle.std.specs.Prelude.{Contains}
 use Rattle.std.proofs.lemmas.List.Elements.{Contains-append_left}
 use Rattle.atomic_table.specs.Seated.{TableId}
-use Rattle.rds_fmap.specs.Readers.{ReaderView, HasSeen, word_of}
+use Rattle.rds_fmap.specs.Readers.{ReaderView, HasSeen, half_of_port}
 use Rattle.rds_fmap.specs.declared.words.view.View.{View}
 use Rattle.rds_fmap.specs.declared.words.view.Look.{Look}
 use Rattle.rds_fmap.proofs.Steps.{looks}
@@ -20,7 +20,7 @@ load-number-requires c =
 pub returns-clause-kept : goal.returns-clause-kept
 returns-clause-kept c p seen k =
     let was : HasSeen c.args.self.now p seen = k in
-    let look : Look = record { word = word_of p; number = was.0 } in
+    let look : Look = record { word = half_of_port p; number = was.0 } in
     let old = c.self.inside.seat.me.0.looks in
     let mine : Contains old look = subst (λ (x : ReaderView). Contains x.found look) (sym c.self.view_is) was.1 in
     let more = Contains-append_left old (record { word = c.from-word.result; number = c.load-number.result } ∷ []) look mine in
