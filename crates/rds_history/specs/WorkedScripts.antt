@@ -4,7 +4,7 @@ use Rattle.std.specs.List.{flat_map}
 use Rattle.rds_script.specs.declared.script.Placed.{Placed}
 use Rattle.rds_script.specs.declared.script.Command.{Command}
 use Rattle.rds_script.specs.declared.script.Command.TheVariants.{Bind, Send, Recv, Open, Move, Cut, Cancel, Drain}
-use Rattle.rds_text.specs.Lines.{line}
+use Rattle.rds_text.specs.Lines.{text_line}
 
 -- a command of line 0, since lines don't matter for what it does
 abbrev pub at_line_0 : Command → Placed
@@ -12,7 +12,7 @@ at_line_0 command = record { line = 0; command = command }
 
 -- a text by its lines
 abbrev pub text_of_lines : List (List ℕ) → List ℕ
-text_of_lines lines = flat_map (λ l. line (l ∷ [])) lines
+text_of_lines lines = flat_map (λ l. text_line (l ∷ [])) lines
 
 -- one datagram goes from host A to host B
 abbrev pub hello : List Placed

@@ -40,9 +40,3 @@ pub record IsSettledBetween (s : ℕ) (a b : List Entry) : Type 0 where
   pub none_alive_b : alive_numbers b ≡ []
   pub map_a : last_map_read a ≡ last_map s b
   pub map_b : last_map_read b ≡ last_map s a
-
--- nothing is left to do between two journals
-pub record IsDrained (a b : List Entry) : Type 0 where
-  pub s : ℕ
-  pub quiet : IsQuiet s a b
-  pub settled : IsSettledBetween s a b

@@ -6,7 +6,7 @@ use Rattle.rds_report.specs.declared.item.What.{What}
 use Rattle.rds_report.specs.declared.item.What.TheVariants.{Accepted, Received, Unread, Dropped, Port0, Cancelled}
 use Rattle.rds_report.specs.declared.item.Item.{Item}
 use Rattle.rds_report.specs.Hosts.{IsAddress}
-use Rattle.rds_text.specs.Lines.{line}
+use Rattle.rds_text.specs.Lines.{text_line}
 use Rattle.rds_report.specs.Report.{Group, Counts, is_before, ascending, pair_text, counts_line}
 use Rattle.rds_report.specs.Items.{seen}
 
@@ -59,7 +59,7 @@ tally items = record {
 
 -- the line of an item, where it was received
 abbrev pub data_lines : What → List ℕ
-data_lines (Received payload) = line (codes " data=" ∷ hex payload ∷ [])
+data_lines (Received payload) = text_line (codes " data=" ∷ hex payload ∷ [])
 data_lines _ = []
 
 -- the lines of a pair whose items these are

@@ -10,7 +10,7 @@ use Rattle.rds_model.specs.Pairs.{accepted_for, dropped, taken_by_port_0, taken_
 use Rattle.rds_text.specs.Words.{host_name, hex}
 use Rattle.rds_report.specs.Hosts.{host_at}
 use Rattle.rds_report.specs.FinalState.{Socket, FinalJournal, FinalHost, past_of, sockets_of}
-use Rattle.rds_text.specs.Lines.{line, phrase}
+use Rattle.rds_text.specs.Lines.{text_line, phrase}
 
 -- a port pair: from port sport of the host at `from` to port dport of the host at `to`
 pub record Group : Type 0 where
@@ -97,12 +97,12 @@ pair_text g =
 
 abbrev pub counts_line : Counts → List ℕ
 counts_line c =
-    line (codes " accepted " ∷ decimal c.accepted ∷ codes " received " ∷ decimal c.received ∷ codes " unread " ∷ decimal c.unread
+    text_line (codes " accepted " ∷ decimal c.accepted ∷ codes " received " ∷ decimal c.received ∷ codes " unread " ∷ decimal c.unread
     ∷ codes " dropped " ∷ decimal c.dropped ∷ codes " port0 " ∷ decimal c.port0 ∷ codes " cancelled " ∷ decimal c.cancelled
     ∷ codes " pending " ∷ decimal (pending c) ∷ [])
 
 abbrev pub data_line : Datagram → List ℕ
-data_line d = line (codes " data=" ∷ hex d.payload ∷ [])
+data_line d = text_line (codes " data=" ∷ hex d.payload ∷ [])
 
 -- a line with the counts of a pair, and a line for each datagram of it that was handed out
 abbrev pub group_text : List FinalHost → Group → List ℕ
@@ -110,4 +110,4 @@ group_text hosts g = pair_text g ++ (counts_line (counts hosts g) ++ flat_map da
 
 -- the report
 abbrev pub report : List FinalHost → List ℕ
-report hosts = flat_map (group_text hosts) (groups hosts) ++ line (codes "end ok" ∷ [])
+report hosts = flat_map (group_text hosts) (groups hosts) ++ text_line (codes "end ok" ∷ [])

@@ -1,7 +1,7 @@
 -- The command line, and the lines that stand in place of a transcript. Source: this project's own.
 use Rattle.std.specs.Prelude.{◌≡◌, ℕ, List, [], ◌∷◌, map, codes, String, string_bytes, slice_get, Some}
 use Rattle.clap.specs.Words.{Kinds, new_app, fault_of}
-use Rattle.rds_text.specs.Lines.{line}
+use Rattle.rds_text.specs.Lines.{text_line}
 use Rattle.std.specs.Fmt.{decimal}
 use Rattle.std.specs.Global.{Global}
 
@@ -14,11 +14,11 @@ abbrev pub ArePlay : List (String Global) → Type 0
 ArePlay words = (slice_get (map string_bytes words) 0 ≡ Some (codes "play")) × (play_faults (map string_bytes words) ≡ [])
 
 abbrev pub usage_line : List ℕ
-usage_line = line (codes "usage: rds play | rds run [--wire memory|tcp] | rds gen N SEED" ∷ [])
+usage_line = text_line (codes "usage: rds play | rds run [--wire memory|tcp] | rds gen N SEED" ∷ [])
 
 abbrev pub read_fault_line : List ℕ
-read_fault_line = line (codes "read fault" ∷ [])
+read_fault_line = text_line (codes "read fault" ∷ [])
 
 -- the line of a script that is refused: the number of the line, and the words of the cause
 abbrev pub bad_line : ℕ → List ℕ → List ℕ
-bad_line number cause = line (codes "bad line " ∷ decimal number ∷ codes ": " ∷ cause ∷ [])
+bad_line number cause = text_line (codes "bad line " ∷ decimal number ∷ codes ": " ∷ cause ∷ [])

@@ -14,9 +14,9 @@ use Rattle.rds_text.specs.Words.{host_name, slot_name, hex, hex_byte, numbers}
 use Rattle.rds_text.specs.Ports.{set_ports}
 
 -- words, one after another, and LF
-abbrev pub line : List (List ℕ) → List ℕ
-line [] = 10 ∷ []
-line (word ∷ words) = word ++ line words
+abbrev pub text_line : List (List ℕ) → List ℕ
+text_line [] = 10 ∷ []
+text_line (word ∷ words) = word ++ text_line words
 
 -- words, one after another
 abbrev pub phrase : List (List ℕ) → List ℕ
@@ -72,63 +72,63 @@ target_text All = codes "all"
 
 abbrev pub accept_line : (h k n slot sport dport : ℕ) → List ℕ → List ℕ
 accept_line h k n slot sport dport payload =
-    line (journal_name h k ∷ codes " accept n=" ∷ decimal n ∷ codes " slot=" ∷ slot_name slot ∷ codes " " ∷ decimal sport
+    text_line (journal_name h k ∷ codes " accept n=" ∷ decimal n ∷ codes " slot=" ∷ slot_name slot ∷ codes " " ∷ decimal sport
     ∷ codes ">" ∷ decimal dport ∷ codes " data=" ∷ hex payload ∷ [])
 
 abbrev pub cancel_line : (h k slot : ℕ) → Target → (begun unbegun : List ℕ) → List ℕ
 cancel_line h k slot target begun unbegun =
-    line (journal_name h k ∷ codes " cancel slot=" ∷ decimal slot ∷ codes " dport=" ∷ target_text target
+    text_line (journal_name h k ∷ codes " cancel slot=" ∷ decimal slot ∷ codes " dport=" ∷ target_text target
     ∷ codes " begun=" ∷ numbers begun ∷ codes " unbegun=" ∷ numbers unbegun ∷ [])
 
 abbrev pub open_line : (h k stream : ℕ) → List ℕ
-open_line h k stream = line (journal_name h k ∷ codes " open k=" ∷ decimal stream ∷ [])
+open_line h k stream = text_line (journal_name h k ∷ codes " open k=" ∷ decimal stream ∷ [])
 
 abbrev pub pull_line : (h k stream : ℕ) → Frame → List ℕ
 pull_line h k stream frame =
-    line (journal_name h k ∷ codes " pull k=" ∷ decimal stream ∷ codes " " ∷ frame_text frame ∷ [])
+    text_line (journal_name h k ∷ codes " pull k=" ∷ decimal stream ∷ codes " " ∷ frame_text frame ∷ [])
 
 abbrev pub read_line : (h k stream : ℕ) → Frame → Outcome → List ℕ
 read_line h k stream frame outcome =
-    line (journal_name h k ∷ codes " read k=" ∷ decimal stream ∷ codes " " ∷ frame_text frame ∷ outcome_text outcome ∷ [])
+    text_line (journal_name h k ∷ codes " read k=" ∷ decimal stream ∷ codes " " ∷ frame_text frame ∷ outcome_text outcome ∷ [])
 
 abbrev pub shut_line : (h k stream : ℕ) → List ℕ
-shut_line h k stream = line (journal_name h k ∷ codes " shut k=" ∷ decimal stream ∷ [])
+shut_line h k stream = text_line (journal_name h k ∷ codes " shut k=" ∷ decimal stream ∷ [])
 
 -- the lines of commands
 
 abbrev pub bind_line : (host port slot : ℕ) → List ℕ
-bind_line host port slot = line (codes "bind " ∷ host_name host ∷ codes " " ∷ decimal port ∷ codes " slot " ∷ decimal slot ∷ [])
+bind_line host port slot = text_line (codes "bind " ∷ host_name host ∷ codes " " ∷ decimal port ∷ codes " slot " ∷ decimal slot ∷ [])
 
 -- the socket at the port was handed the bytes that port sport of host `from` had sent
 abbrev pub recv_line : (host port from sport : ℕ) → List ℕ → List ℕ
 recv_line host port from sport payload =
-    line (codes "recv " ∷ host_name host ∷ codes " " ∷ decimal port ∷ codes " " ∷ host_name from ∷ codes ":" ∷ decimal sport
+    text_line (codes "recv " ∷ host_name host ∷ codes " " ∷ decimal port ∷ codes " " ∷ host_name from ∷ codes ":" ∷ decimal sport
     ∷ codes " data=" ∷ hex payload ∷ [])
 
 abbrev pub recv_none_line : (host port : ℕ) → List ℕ
-recv_none_line host port = line (codes "recv " ∷ host_name host ∷ codes " " ∷ decimal port ∷ codes " none" ∷ [])
+recv_none_line host port = text_line (codes "recv " ∷ host_name host ∷ codes " " ∷ decimal port ∷ codes " none" ∷ [])
 
 abbrev pub drained_line : List ℕ
-drained_line = line (codes "drained" ∷ [])
+drained_line = text_line (codes "drained" ∷ [])
 
 -- the line of a script that fills a journal: that of `host` with `peer`, which has so many entries
 abbrev pub spent_line : (host peer entries : ℕ) → List ℕ
 spent_line host peer entries =
-    line (codes "spent " ∷ host_name host ∷ codes " " ∷ host_name peer ∷ codes " " ∷ decimal entries ∷ [])
+    text_line (codes "spent " ∷ host_name host ∷ codes " " ∷ host_name peer ∷ codes " " ∷ decimal entries ∷ [])
 
 -- so many bytes were moved
 abbrev pub move_line : (h k count : ℕ) → List ℕ
 move_line h k count =
-    line (codes "move " ∷ host_name h ∷ codes " " ∷ host_name k ∷ codes " moved " ∷ decimal count ∷ [])
+    text_line (codes "move " ∷ host_name h ∷ codes " " ∷ host_name k ∷ codes " moved " ∷ decimal count ∷ [])
 
 -- so many bytes were in flight each way when the stream was cut
 abbrev pub cut_line : (h k forth back : ℕ) → List ℕ
 cut_line h k forth back =
-    line (codes "cut " ∷ host_name h ∷ codes " " ∷ host_name k ∷ codes " lost " ∷ decimal forth ∷ codes " " ∷ decimal back ∷ [])
+    text_line (codes "cut " ∷ host_name h ∷ codes " " ∷ host_name k ∷ codes " lost " ∷ decimal forth ∷ codes " " ∷ decimal back ∷ [])
 
 abbrev pub close_line : (h port slot unread : ℕ) → List ℕ
 close_line h port slot unread =
-    line (codes "close " ∷ host_name h ∷ codes " " ∷ decimal port ∷ codes " slot " ∷ decimal slot ∷ codes " unread "
+    text_line (codes "close " ∷ host_name h ∷ codes " " ∷ decimal port ∷ codes " slot " ∷ decimal slot ∷ codes " unread "
     ∷ decimal unread ∷ [])
 
 abbrev pub mark_word : Bool → List ℕ
@@ -138,9 +138,9 @@ mark_word false = codes "clear"
 -- a port became congested or free
 abbrev pub mark_line : (h port : ℕ) → Bool → (queued limit : ℕ) → List ℕ
 mark_line h port set queued limit =
-    line (codes "mark " ∷ host_name h ∷ codes " " ∷ decimal port ∷ codes " " ∷ mark_word set ∷ codes " queued="
+    text_line (codes "mark " ∷ host_name h ∷ codes " " ∷ decimal port ∷ codes " " ∷ mark_word set ∷ codes " queued="
     ∷ decimal queued ∷ codes " limit=" ∷ decimal limit ∷ [])
 
 -- the last line of each whole text
 abbrev pub end_line : List ℕ
-end_line = line (codes "end ok" ∷ [])
+end_line = text_line (codes "end ok" ∷ [])

@@ -2,7 +2,7 @@
 use Rattle.std.specs.Prelude.{ℕ, List, [], ◌∷◌, codes}
 use Rattle.std.specs.Fmt.{decimal}
 use Rattle.rds_text.specs.Words.{host_name}
-use Rattle.rds_text.specs.Lines.{line, phrase}
+use Rattle.rds_text.specs.Lines.{text_line, phrase}
 use Rattle.rds_text.specs.declared.refusal.Refusal.{Refusal}
 use Rattle.rds_text.specs.declared.refusal.Refusal.TheVariants as refusal
 
@@ -63,15 +63,15 @@ refusal_text refusal.Down = is_down
 -- the line of a send that is refused
 abbrev pub send_refused_line : (h port k dport : ℕ) → List ℕ → List ℕ
 send_refused_line h port k dport why =
-    line (codes "send " ∷ host_name h ∷ codes ":" ∷ decimal port ∷ codes " " ∷ host_name k ∷ codes ":" ∷ decimal dport
+    text_line (codes "send " ∷ host_name h ∷ codes ":" ∷ decimal port ∷ codes " " ∷ host_name k ∷ codes ":" ∷ decimal dport
     ∷ codes " refused " ∷ why ∷ [])
 
 -- the line of a command on a socket that is refused; the command has this word
 abbrev pub socket_refused_line : List ℕ → (h port : ℕ) → List ℕ → List ℕ
 socket_refused_line word h port why =
-    line (word ∷ codes " " ∷ host_name h ∷ codes " " ∷ decimal port ∷ codes " refused " ∷ why ∷ [])
+    text_line (word ∷ codes " " ∷ host_name h ∷ codes " " ∷ decimal port ∷ codes " refused " ∷ why ∷ [])
 
 -- the line of a command on a pair of hosts that is refused; the command has this word
 abbrev pub pair_refused_line : List ℕ → (h k : ℕ) → List ℕ → List ℕ
 pair_refused_line word h k why =
-    line (word ∷ codes " " ∷ host_name h ∷ codes " " ∷ host_name k ∷ codes " refused " ∷ why ∷ [])
+    text_line (word ∷ codes " " ∷ host_name h ∷ codes " " ∷ host_name k ∷ codes " refused " ∷ why ∷ [])

@@ -1,6 +1,6 @@
 ghost use Rattle.std.specs.Prelude.{◌≡◌, ◌++◌, ◌∷◌, [], ◌<◌, OnOk, Some, codes, string_bytes};
 ghost use Rattle.std.specs.Fmt.{decimal};
-ghost use Rattle.rds_text.specs.Lines.{bind_line as line_of_bind, close_line as line_of_close, cut_line as line_of_cut, drained_line as line_of_drained, line, mark_line as line_of_mark, mark_word, move_line as line_of_move, recv_line as line_of_recv, recv_none_line as line_of_recv_none, spent_line as line_of_spent};
+ghost use Rattle.rds_text.specs.Lines.{bind_line as line_of_bind, close_line as line_of_close, cut_line as line_of_cut, drained_line as line_of_drained, text_line, mark_line as line_of_mark, mark_word, move_line as line_of_move, recv_line as line_of_recv, recv_none_line as line_of_recv_none, spent_line as line_of_spent};
 
 use crate::{Hex, HostName};
 use rds_wire::Memory;
@@ -151,7 +151,7 @@ pub fn cut_line(
 // The rest of the line of a cut.
 fn loss(text: &mut String, forth: usize, back: usize) -> Result<(), Memory>
     ensures { OnOk result (string_bytes text.new ≡
-        string_bytes text.old ++ line (codes " lost " ∷ decimal forth ∷ codes " " ∷ decimal back ∷ [])) }
+        string_bytes text.old ++ text_line (codes " lost " ∷ decimal forth ∷ codes " " ∷ decimal back ∷ [])) }
 {
     writeln!(text, " lost {forth} {back}")?;
     Ok(())

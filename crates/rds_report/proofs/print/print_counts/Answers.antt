@@ -1,6 +1,6 @@
 use Rattle.std.proofs.Common.{rules, ◌≡◌, ◌∙◌, ◌++◌, ◌∷◌, ℕ, List, [], codes, ap, append_assoc, string_bytes}
 use Rattle.std.specs.Fmt.{decimal}
-use Rattle.rds_text.specs.Lines.{phrase, line}
+use Rattle.rds_text.specs.Lines.{phrase, text_line}
 use Rattle.rds_report.proofs.print.print_counts.Goals as goal
 
 -- words and two counts, and what follows
@@ -18,7 +18,7 @@ pub returns : goal.returns
 returns c =
     let n = c.args.counts in
     let old = string_bytes c.args.text.now in
-    let tail : ℕ → List ℕ = λ k. line (codes " pending " ∷ decimal k ∷ []) in
+    let tail : ℕ → List ℕ = λ k. text_line (codes " pending " ∷ decimal k ∷ []) in
     let last : List ℕ = tail c.pending-pending.result in
     let written : string_bytes c.writeln.new.self ≡ string_bytes c.print_two-3.new.text ++ last = search rules in
     let p = phrase (codes " accepted " ∷ decimal n.accepted ∷ codes " received " ∷ decimal n.received ∷ []) in
