@@ -83,7 +83,7 @@ in_order_is_kept = record {
   closed = λ h port slot unread past p a s. p a s;
   marked = λ h port set bytes most past p a s. p a s;
   moved = λ h k count past p a s. p a s;
-  handed_out = ordered_received;
+  received = ordered_received;
   appended = λ h k e past quiet p. ordered_entry h k e past p;
   opened = λ limit h k past p. holds_then InOrder InOrder (open_one limit h k past) (open_one limit k h)
       (holds_appends InOrder InOrder limit h k (Open (suc (newest_stream (journal h k past)))) past p (λ before q. ordered_entry h k (Open (suc (newest_stream (journal h k past)))) before q))
