@@ -25,7 +25,7 @@ after_order order.Cut c = c
 
 -- how many bytes more the datagrams of a slot have after an order
 abbrev pub accepted_bytes : ℕ → Order → ℕ
-accepted_bytes s (order.Send slot sport dport payload) = if slot == s then length payload else 0
-accepted_bytes s (order.Cancel slot dport) = 0
-accepted_bytes s (order.CloseSocket slot) = 0
-accepted_bytes s order.Cut = 0
+accepted_bytes owner (order.Send slot sport dport payload) = if slot == owner then length payload else 0
+accepted_bytes owner (order.Cancel slot dport) = 0
+accepted_bytes owner (order.CloseSocket slot) = 0
+accepted_bytes owner order.Cut = 0

@@ -46,9 +46,9 @@ impl Conn {
         requires fits { length payload ≤ MAX_LENGTH }
         ensures entry { self.new ≡
             record (with_entries (entry.Accept slot sport dport payload ∷ []) self.old) { store_spare = self.old.store_spare - 1 } }
-        ensures gone { (s : ℕ) → released_bytes s self.new.log.past ≡ released_bytes s self.old.log.past }
-        ensures alive { (s : ℕ) → alive_bytes s self.new.log.past
-            ≡ alive_bytes s self.old.log.past + (if slot == s then length payload else 0) }
+        ensures gone { (other : ℕ) → released_bytes other self.new.log.past ≡ released_bytes other self.old.log.past }
+        ensures alive { (other : ℕ) → alive_bytes other self.new.log.past
+            ≡ alive_bytes other self.old.log.past + (if slot == other then length payload else 0) }
     {
         self.accepted += 1;
         self.charges.add(slot, u64::from(payload.len()));
@@ -69,10 +69,10 @@ impl Conn {
         requires ready { IsReady self.old }
         requires slot { slot < self.old.slots }
         ensures entry { self.new ≡ record (with_entries (entry.Cancel slot (target.Port dport) ∷ []) self.old) { freed = self.new.freed } }
-        ensures freed { (s : ℕ) → s < self.old.slots →
-            freed_bytes_of s self.new + released_bytes s self.old.log.past ≡ freed_bytes_of s self.old + released_bytes s self.new.log.past }
-        ensures conserved { (s : ℕ) → s < self.old.slots →
-            freed_bytes_of s self.new + alive_bytes s self.new.log.past ≡ freed_bytes_of s self.old + alive_bytes s self.old.log.past }
+        ensures freed { (other : ℕ) → other < self.old.slots →
+            freed_bytes_of other self.new + released_bytes other self.old.log.past ≡ freed_bytes_of other self.old + released_bytes other self.new.log.past }
+        ensures conserved { (other : ℕ) → other < self.old.slots →
+            freed_bytes_of other self.new + alive_bytes other self.new.log.past ≡ freed_bytes_of other self.old + alive_bytes other self.old.log.past }
     {
         let bytes = self.store.cancel(slot, dport, steps);
         self.freed.add(slot, bytes);
@@ -87,10 +87,10 @@ impl Conn {
         requires ready { IsReady self.old }
         requires slot { slot < self.old.slots }
         ensures entry { self.new ≡ record (with_entries (entry.Cancel slot target.All ∷ []) self.old) { freed = self.new.freed } }
-        ensures freed { (s : ℕ) → s < self.old.slots →
-            freed_bytes_of s self.new + released_bytes s self.old.log.past ≡ freed_bytes_of s self.old + released_bytes s self.new.log.past }
-        ensures conserved { (s : ℕ) → s < self.old.slots →
-            freed_bytes_of s self.new + alive_bytes s self.new.log.past ≡ freed_bytes_of s self.old + alive_bytes s self.old.log.past }
+        ensures freed { (other : ℕ) → other < self.old.slots →
+            freed_bytes_of other self.new + released_bytes other self.old.log.past ≡ freed_bytes_of other self.old + released_bytes other self.new.log.past }
+        ensures conserved { (other : ℕ) → other < self.old.slots →
+            freed_bytes_of other self.new + alive_bytes other self.new.log.past ≡ freed_bytes_of other self.old + alive_bytes other self.old.log.past }
     {
         let bytes = self.store.cancel_all(slot, steps);
         self.freed.add(slot, bytes);
