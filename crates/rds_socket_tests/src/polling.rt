@@ -111,12 +111,7 @@ fn looks(
 }
 
 /// What one socket answers: to polls, to `recv`, of its send buffer and of a port of the peer.
-fn answers(
-    rt: &impl Wait,
-    alloc: Global,
-    task: &MockTask,
-    bound: &mut Bound,
-) -> Answers
+fn answers(rt: &impl Wait, alloc: Global, task: &MockTask, bound: &mut Bound) -> Answers
     requires told { bound.old.socket.told ≡ None }
     requires map { bound.old.map.published ≡ [] }
 {
