@@ -23,7 +23,7 @@ pub fn tell<R: Print + Wait + AllocGlobal + RandomSource>(
     requires map { a.map.published ≡ [] }
 {
     let used = use_sockets(rt, &mut a, &mut b);
-    close_sockets(rt, a.socket, b.socket)?;
+    close_sockets(rt, a.into_socket(), b.into_socket())?;
     used
 }
 

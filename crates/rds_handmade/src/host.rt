@@ -1,21 +1,16 @@
 //! How a host is made by hand, with one slot and one peer.
 ghost use Rattle.std.specs.Prelude.{◌≡◌, ◌≤◌, ◌∷◌, ℕ, [], None, IfOk};
-ghost use Rattle.std.specs.Arc.{arc_value};
 ghost use Rattle.rds_parts.specs.Lanes.{peers_of, ArePutOf};
 
 use crate::line::End;
 use crate::queues::{Inbox, Orders};
 use crate::seats::Seats;
 use rds_fmap::{Reader, Writer, pair};
-use rds_mail::{GetPass, Mail};
-use rds_model::Datagram;
 use rds_socket::{BindError, Route, Socket, Vacant};
 use rds_wire::Memory;
 use std::alloc::Global;
-use std::sync::Arc;
 
 /// A host whose socket isn't bound yet.
-#[derive(Drop)]
 pub struct Host {
     /// Its slot, which can be bound.
     pub vacant: Vacant<Reader>,
@@ -23,6 +18,17 @@ pub struct Host {
     pub end: End,
     /// Where the peer's congestion map is published.
     pub map: Writer,
+}
+
+// By hand, so that one call drops it wherever it is let go, and no function that owns one drops each field.
+impl Drop for Host {
+    fn drop(self) {
+        let Self {
+            vacant: _vacant,
+            end: _end,
+            map: _map,
+        } = self;
+    }
 }
 
 impl Host {
@@ -39,7 +45,7 @@ impl Host {
             inbox,
             orders,
         };
-        let vacant = vacant(seats, mail, get, routes);
+        let vacant = seats.into_vacant(mail, get, routes);
         Ok(Host { vacant, end, map })
     }
 
@@ -56,10 +62,21 @@ impl Host {
             Err((_, error)) => Err(error),
         }
     }
+
+    /// Its slot alone.
+    pub fn into_vacant(self) -> Vacant<Reader>
+        ensures { result ≡ self.vacant }
+    {
+        let Host {
+            vacant,
+            end: _end,
+            map: _map,
+        } = self;
+        vacant
+    }
 }
 
 /// A host with a socket.
-#[derive(Drop)]
 pub struct Bound {
     pub socket: Socket<Reader>,
     /// Its end of the line to the peer.
@@ -68,24 +85,29 @@ pub struct Bound {
     pub map: Writer,
 }
 
-// The slot with these seats, this mailbox and these routes.
-fn vacant(
-    seats: Seats,
-    mail: Arc<Mail<Datagram>>,
-    get: GetPass<Datagram>,
-    routes: Vec<Route<Reader>>,
-) -> Vacant<Reader>
-    requires mail { get.mail ≡ (arc_value mail).line }
-    requires put { ArePutOf 0 routes.items }
-    requires peers { (peer : ℕ) × (peers_of routes.items ≡ peer ∷ []) }
-{
-    let Seats {
-        table,
-        seat,
-        meter,
-        own,
-    } = seats;
-    Vacant::of(table, seat, meter, own, mail, get, routes)
+// By hand, so that one call drops it wherever it is let go, and no function that owns one drops each field.
+impl Drop for Bound {
+    fn drop(self) {
+        let Self {
+            socket: _socket,
+            end: _end,
+            map: _map,
+        } = self;
+    }
+}
+
+impl Bound {
+    /// Its socket alone.
+    pub fn into_socket(self) -> Socket<Reader>
+        ensures { result ≡ self.socket }
+    {
+        let Bound {
+            socket,
+            end: _end,
+            map: _map,
+        } = self;
+        socket
+    }
 }
 
 // The route to the peer, the getter of its orders, and the writer of the peer's map.

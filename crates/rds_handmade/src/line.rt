@@ -6,13 +6,24 @@ use rds_wire::{Memory, Payload};
 use std::sync::Wait;
 
 /// What a line to the peer holds of a host.
-#[derive(Drop)]
 pub struct End {
     /// The host's IPv4 address.
     pub address: u32,
     pub counts: Counts,
     pub inbox: Inbox,
     pub orders: Orders,
+}
+
+// By hand, so that one call drops it wherever it is let go, and no function that owns one drops each field.
+impl Drop for End {
+    fn drop(self) {
+        let Self {
+            address: _,
+            counts: _counts,
+            inbox: _inbox,
+            orders: _orders,
+        } = self;
+    }
 }
 
 impl End {

@@ -10,11 +10,20 @@ use std::alloc::Global;
 use std::sync::{Arc, Wait};
 
 /// Takes orders from the queue of a route.
-#[derive(Drop)]
 pub struct Orders {
     mail: Arc<Mail<Asked>>,
     get: GetPass<Asked>,
     ghost tied: { get.mail ≡ (arc_value mail).line },
+}
+
+// By hand, so that one call drops it wherever it is let go, and no function that owns one drops each field.
+impl Drop for Orders {
+    fn drop(self) {
+        let Self {
+            mail: _mail,
+            get: _get,
+        } = self;
+    }
 }
 
 impl Orders {
@@ -39,11 +48,20 @@ impl Orders {
 }
 
 /// Puts datagrams into a socket's mailbox.
-#[derive(Drop)]
 pub struct Inbox {
     mail: Arc<Mail<Datagram>>,
     put: PutPass<Datagram>,
     ghost tied: { put.mail ≡ (arc_value mail).line },
+}
+
+// By hand, so that one call drops it wherever it is let go, and no function that owns one drops each field.
+impl Drop for Inbox {
+    fn drop(self) {
+        let Self {
+            mail: _mail,
+            put: _put,
+        } = self;
+    }
 }
 
 impl Inbox {

@@ -1,18 +1,22 @@
 //! The seats of a slot.
-ghost use Rattle.std.specs.Prelude.{◌≡◌, Some, None, IfOk};
+ghost use Rattle.std.specs.Prelude.{◌≡◌, ◌∷◌, ℕ, [], Some, None, IfOk};
 ghost use Rattle.std.specs.Arc.{arc_value};
+ghost use Rattle.rds_parts.specs.Lanes.{peers_of, ArePutOf};
 ghost use Rattle.rds_parts.specs.Ports.{HasClaimedOnly};
 ghost use Rattle.rds_meter.specs.Seats.{newcomer, first_view};
 
 use crate::counts::Counts;
 use rds_bindtab::{BindSeat, BindTable};
+use rds_fmap::Reader;
+use rds_mail::{GetPass, Mail};
 use rds_meter::{Meter, MeterSeat};
+use rds_model::Datagram;
+use rds_socket::{Route, Vacant};
 use rds_wire::Memory;
 use std::alloc::Global;
 use std::sync::Arc;
 
 /// The seats of slot 0 at its host's port table and meter.
-#[derive(Drop)]
 pub(crate) struct Seats {
     pub(crate) table: Arc<BindTable>,
     pub(crate) seat: BindSeat,
@@ -27,6 +31,18 @@ pub(crate) struct Seats {
     ghost idle: { own.view ≡ newcomer (first_view 1) },
 }
 
+// By hand, so that one call drops it wherever it is let go, and no function that owns one drops each field.
+impl Drop for Seats {
+    fn drop(self) {
+        let Self {
+            table: _table,
+            seat: _seat,
+            meter: _meter,
+            own: _own,
+        } = self;
+    }
+}
+
 impl Seats {
     /// New seats, and the counts of a line.
     pub(crate) fn new(alloc: Global) -> Result<(Seats, Counts), Memory> {
@@ -39,6 +55,26 @@ impl Seats {
             own,
         };
         Ok((seats, counts))
+    }
+
+    /// The slot with these seats, this mailbox and these routes.
+    pub(crate) fn into_vacant(
+        self,
+        mail: Arc<Mail<Datagram>>,
+        get: GetPass<Datagram>,
+        routes: Vec<Route<Reader>>,
+    ) -> Vacant<Reader>
+        requires mail { get.mail ≡ (arc_value mail).line }
+        requires put { ArePutOf 0 routes.items }
+        requires peers { (peer : ℕ) × (peers_of routes.items ≡ peer ∷ []) }
+    {
+        let Seats {
+            table,
+            seat,
+            meter,
+            own,
+        } = self;
+        Vacant::of(table, seat, meter, own, mail, get, routes)
     }
 }
 

@@ -24,13 +24,25 @@ use std::sync::{Arc, Wait};
 
 /// A slot whose socket was closed or finished, or that never had one. What is left in its mailbox can be taken out.
 /// Contracts see what they see of a socket, but its port and buffers.
-#[derive(Drop)]
 pub struct Closed<R: MapReader> {
     pub(crate) ports: Ports,
     pub(crate) words: Words,
     pub(crate) inbox: Inbox,
     pub(crate) routes: Routes<R>,
     pub(crate) total: u64,
+}
+
+// By hand, so that one call drops it wherever it is let go, and no function that owns one drops each field.
+impl<R: MapReader> Drop for Closed<R> {
+    fn drop(self) {
+        let Self {
+            ports: _ports,
+            words: _words,
+            inbox: _inbox,
+            routes: _routes,
+            total: _,
+        } = self;
+    }
 }
 
 impl<R: MapReader> Model for Closed<R> {
@@ -110,7 +122,7 @@ impl<R: MapReader> Closed<R> {
             words,
             inbox,
             routes,
-            ..
+            total: _,
         } = self;
         let (table, seat) = ports.into_parts();
         let (meter, own) = words.into_parts();

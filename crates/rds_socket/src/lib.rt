@@ -1,9 +1,7 @@
 //! Sockets: what a program holds in its hand to bind a port, send and receive datagrams, cancel and close.
 #![tactic(auto)]
 
-mod binding;
 mod closed;
-mod closing;
 mod error;
 mod polling;
 mod sending;

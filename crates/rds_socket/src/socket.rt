@@ -1,11 +1,11 @@
-//! A socket, and its smaller calls.
+//! A socket, how it is closed, and its smaller calls.
 ghost use Rattle.std.specs.Prelude.{◌≡◌, ◌<◌, ◌≤◌, ◌-◌, ℕ, nat_lt, length, is_some, None, IfOk, IfErr, OnOk, OnErr};
 ghost use Rattle.rds_bindtab.specs.Seats.{knowing, note_of};
 ghost use Rattle.rds_mail.specs.Passes.{after_note};
 ghost use Rattle.rds_model.specs.declared.order.Order.TheVariants as order;
-ghost use Rattle.rds_parts.specs.Lanes.{IsLaneAt, Lane, NoneTo, IsPutTo, IsLookTo};
+ghost use Rattle.rds_parts.specs.Lanes.{IsLaneAt, Lane, NoneTo, IsPutTo, IsLookTo, RoutesStay};
 ghost use Rattle.rds_parts.specs.Refusals.{AskRefused};
-ghost use Rattle.rds_socket.specs.Calls.{with_own, with_words, with_inbox, with_routes, after_freed};
+ghost use Rattle.rds_socket.specs.Calls.{with_own, with_words, with_inbox, with_routes, after_freed, IsClosed, IsClosing};
 ghost use Rattle.rds_socket.specs.Stays.{Stays};
 
 use crate::closed::Closed;
@@ -14,12 +14,12 @@ use rds_fmap::{MapReader, Seen};
 use rds_mail::{Asked, Note};
 use rds_model::{Datagram, Order};
 use rds_parts::{CancelError, Inbox, NoRoute, Ports, Routes, Words};
+use rds_wire::Memory;
 use std::marker::Model;
 use std::sync::Wait;
 
 /// A socket that is bound to a port of its host. Contracts see its port and buffers, how far its close came, its seats, its mailbox,
 /// its routes with all that it has put on each, and how many bytes it has sent.
-#[derive(Drop)]
 pub struct Socket<R: MapReader> {
     pub(crate) port: u16,
     pub(crate) sndbuf: u32,
@@ -32,6 +32,23 @@ pub struct Socket<R: MapReader> {
     pub(crate) routes: Routes<R>,
     // How many bytes it has sent.
     pub(crate) total: u64,
+}
+
+// By hand, so that one call drops it wherever it is let go, and no function that owns one drops each field.
+impl<R: MapReader> Drop for Socket<R> {
+    fn drop(self) {
+        let Self {
+            port: _,
+            sndbuf: _,
+            rcvbuf: _,
+            told: _,
+            ports: _ports,
+            words: _words,
+            inbox: _inbox,
+            routes: _routes,
+            total: _,
+        } = self;
+    }
 }
 
 impl<R: MapReader> Model for Socket<R> {
@@ -111,17 +128,66 @@ impl<R: MapReader> Socket<R> {
         self.routes.look_up(peer, port)
     }
 
-    /// Ends the use of the slot without an order to any peer. The port stays held.
-    pub fn finish(self) -> Closed<R>
-        ensures { result ≡ self.own }
+    /// Tells each peer in turn to give up what the socket has sent and isn't acknowledged, and then releases the port. After
+    /// `Memory` the socket is closing: it holds its port and still receives, and a further `close` goes on with the first peer that
+    /// wasn't told.
+    pub fn close<W: Wait>(self, rt: &W) -> Result<Closed<R>, (Socket<R>, Memory)>
+        ensures closed { IfOk result (IsClosed self) }
+        ensures stay { IfOk result (λ closed. RoutesStay R.pair R.has_seen self.own.routes closed.routes) }
+        ensures closing { IfErr result (λ r. IsClosing self r.0) }
+        ensures still { IfErr result (λ r. RoutesStay R.pair R.has_seen self.own.routes r.0.own.routes) }
     {
         let Socket {
+            port,
+            sndbuf,
+            rcvbuf,
+            told,
+            mut ports,
+            mut words,
+            inbox,
+            mut routes,
+            total,
+        } = self;
+        let from = told.unwrap_or(0);
+        if let Err(upto) = routes.tell(rt, from, words.slot()) {
+            let socket = Socket {
+                port,
+                sndbuf,
+                rcvbuf,
+                told: Some(upto),
+                ports,
+                words,
+                inbox,
+                routes,
+                total,
+            };
+            return Err((socket, Memory));
+        }
+        ports.release();
+        words.clear(port);
+        Ok(Closed {
             ports,
             words,
             inbox,
             routes,
             total,
-            ..
+        })
+    }
+
+    /// Ends the use of the slot without an order to any peer. The port stays held.
+    pub fn finish(self) -> Closed<R>
+        ensures { result ≡ self.own }
+    {
+        let Socket {
+            port: _,
+            sndbuf: _,
+            rcvbuf: _,
+            told: _,
+            ports,
+            words,
+            inbox,
+            routes,
+            total,
         } = self;
         Closed {
             ports,

@@ -1,4 +1,4 @@
-//! A slot without a port.
+//! A slot without a port, and how it gets one.
 ghost use Rattle.std.specs.Prelude.{◌≡◌, ◌<◌, ◌≤◌, ℕ, [], Some, None, OnOk, OnErr, IfErr};
 ghost use Rattle.rds_model.specs.declared.entry.TheConstants.{MAX_SLOTS};
 ghost use Rattle.std.specs.Arc.{arc_value};
@@ -10,11 +10,13 @@ ghost use Rattle.rds_parts.specs.Words.{IsQuietSeat, Purse};
 ghost use Rattle.rds_parts.specs.Boxes.{Box};
 ghost use Rattle.rds_parts.specs.Lanes.{Ascend, peers_of, ArePutOf, IsPutTo};
 ghost use Rattle.rds_parts.specs.Refusals.{AskRefused};
+ghost use Rattle.rds_socket.specs.Binds.{BindFits, BindAnyFits};
 ghost use Rattle.rds_socket.specs.Calls.{with_routes};
 ghost use Rattle.rds_socket.specs.Stays.{HoldingStays};
 
 use crate::closed::Closed;
-use rds_bindtab::{BindSeat, BindTable};
+use crate::socket::Socket;
+use rds_bindtab::{BindError, BindSeat, BindTable};
 use rds_fmap::MapReader;
 use rds_mail::{Asked, GetPass, Mail};
 use rds_meter::{Meter, MeterSeat};
@@ -24,12 +26,23 @@ use std::marker::Model;
 use std::sync::{Arc, Wait};
 
 /// A slot of a host that has no port yet. Contracts see its seats, its mailbox and its routes.
-#[derive(Drop)]
 pub struct Vacant<R: MapReader> {
     pub(crate) ports: Ports,
     pub(crate) words: Words,
     pub(crate) inbox: Inbox,
     pub(crate) routes: Routes<R>,
+}
+
+// By hand, so that one call drops it wherever it is let go, and no function that owns one drops each field.
+impl<R: MapReader> Drop for Vacant<R> {
+    fn drop(self) {
+        let Self {
+            ports: _ports,
+            words: _words,
+            inbox: _inbox,
+            routes: _routes,
+        } = self;
+    }
 }
 
 impl<R: MapReader> Model for Vacant<R> {
@@ -84,6 +97,91 @@ impl<R: MapReader> Vacant<R> {
         ensures { result ≡ self.now.words.slot }
     {
         self.words.slot()
+    }
+
+    /// Binds a port, with a send buffer of 1 to 16,777,216 bytes and a receive buffer of 2 to 16,777,216. The slot's receive limit
+    /// is set first, and stays set where the port is refused: ports 0 and 1 are reserved, and another may be in use.
+    pub fn bind(
+        self,
+        port: u16,
+        sndbuf: u32,
+        rcvbuf: u32,
+    ) -> Result<Socket<R>, (Vacant<R>, BindError)>
+        requires sndbuf { (1 ≤ sndbuf) × (sndbuf ≤ 16777216) }
+        requires rcvbuf { (2 ≤ rcvbuf) × (rcvbuf ≤ 16777216) }
+        ensures { BindFits self port sndbuf rcvbuf result }
+    {
+        let Vacant {
+            mut ports,
+            mut words,
+            inbox,
+            routes,
+        } = self;
+        words.set_limit(rcvbuf);
+        match ports.claim(port) {
+            Ok(()) => Ok(Socket {
+                port,
+                sndbuf,
+                rcvbuf,
+                told: None,
+                ports,
+                words,
+                inbox,
+                routes,
+                total: 0,
+            }),
+            Err(error) => {
+                let vacant = Vacant {
+                    ports,
+                    words,
+                    inbox,
+                    routes,
+                };
+                Err((vacant, error))
+            }
+        }
+    }
+
+    /// Binds the first port from `start` upward that is free, where port 2 follows port 65,535.
+    pub fn bind_any(
+        self,
+        start: u16,
+        sndbuf: u32,
+        rcvbuf: u32,
+    ) -> Result<Socket<R>, (Vacant<R>, BindError)>
+        requires sndbuf { (1 ≤ sndbuf) × (sndbuf ≤ 16777216) }
+        requires rcvbuf { (2 ≤ rcvbuf) × (rcvbuf ≤ 16777216) }
+        ensures { BindAnyFits self start sndbuf rcvbuf result }
+    {
+        let Vacant {
+            mut ports,
+            mut words,
+            inbox,
+            routes,
+        } = self;
+        words.set_limit(rcvbuf);
+        match ports.search(start) {
+            Some(port) => Ok(Socket {
+                port,
+                sndbuf,
+                rcvbuf,
+                told: None,
+                ports,
+                words,
+                inbox,
+                routes,
+                total: 0,
+            }),
+            None => {
+                let vacant = Vacant {
+                    ports,
+                    words,
+                    inbox,
+                    routes,
+                };
+                Err((vacant, BindError::NoneFree))
+            }
+        }
     }
 
     /// Ends the slot without an order to any peer.

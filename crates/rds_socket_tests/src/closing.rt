@@ -61,7 +61,7 @@ fn uses(
 
 fn slot(alloc: Global) -> Option<Vacant<Reader>> {
     match Host::new(alloc, 1, PEER) {
-        Ok(host) => Some(host.vacant),
+        Ok(host) => Some(host.into_vacant()),
         Err(_) => None,
     }
 }

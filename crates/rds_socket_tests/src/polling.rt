@@ -9,7 +9,8 @@ use rds_handmade::{Bound, Counts, End, Host};
 use rds_model::Datagram;
 use rds_socket::{NoRoute, Socket};
 use rds_wire::{Memory, Payload};
-use std::alloc::Global;
+use std::alloc::{AllocGlobal, Global};
+use std::random::RandomSource;
 use std::sync::Wait;
 use std::test::Fail;
 
@@ -17,6 +18,14 @@ const PEER: u32 = 2;
 
 /// The sender's port and the length of a datagram, or `None` where there was none.
 type Came = Option<(u16, u32)>;
+
+/// What polls found, whether `recv` found nothing, what was found of the send buffer, and of a port of the peer.
+type Answers = (
+    (Came, bool, bool, Came),
+    bool,
+    (bool, bool, bool),
+    [Result<Seen, NoRoute>; 2],
+);
 
 /// Puts one datagram of two bytes and rings.
 fn delivers(rt: &impl Wait, alloc: Global, end: &mut End) -> Result<(), Memory> {
@@ -102,17 +111,7 @@ fn looks(
 }
 
 /// What one socket answers: to polls, to `recv`, of its send buffer and of a port of the peer.
-fn answers(
-    rt: &impl Wait,
-    alloc: Global,
-    task: &MockTask,
-    bound: &mut Bound,
-) -> (
-    (Came, bool, bool, Came),
-    bool,
-    (bool, bool, bool),
-    [Result<Seen, NoRoute>; 2],
-)
+fn answers(rt: &impl Wait, alloc: Global, task: &MockTask, bound: &mut Bound) -> Answers
     requires told { bound.old.socket.told ≡ None }
     requires map { bound.old.map.published ≡ [] }
 {
@@ -136,11 +135,21 @@ fn bound(alloc: Global) -> Option<Bound>
     }
 }
 
+/// What the socket of a new host answers. `None` where memory runs out.
+fn of_a_new_host(rt: &impl Wait, alloc: Global, task: &MockTask) -> Option<Answers> {
+    let mut bound = bound(alloc)?;
+    Some(answers(rt, alloc, task, &mut bound))
+}
+
+/// The same, polled by a new task.
+fn of_a_new_task<R: Wait + AllocGlobal + RandomSource>(rt: &R) -> Option<Answers> {
+    let task = MockTask::new(rt).ok()?;
+    of_a_new_host(rt, rt.alloc(), &task)
+}
+
 #[test]
 fn answers_follow_what_was_written(rt: HostRuntime) -> Result<(), Fail> {
-    let task = MockTask::new(&rt)?;
-    let mut bound = bound(rt.alloc()).expect(&rt, "memory");
-    let (polls, is_empty, writes, looks) = answers(&rt, rt.alloc(), &task, &mut bound);
+    let (polls, is_empty, writes, looks) = of_a_new_task(&rt).expect(&rt, "memory");
     assert_eq!(rt; polls, (None, false, true, Some((5, 2))));
     assert!(rt; is_empty);
     assert_eq!(rt; writes, (true, false, true));
