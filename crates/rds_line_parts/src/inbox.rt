@@ -1,0 +1,69 @@
+//! The orders of a line.
+ghost use Rattle.std.specs.Prelude.{◌≡◌, IfSome, IfNone};
+ghost use Rattle.std.specs.Arc.{arc_value};
+ghost use Rattle.rds_mail.specs.Numbers.{Number};
+ghost use Rattle.rds_mail.specs.Passes.{after_get, after_note};
+ghost use Rattle.rds_mail.specs.Learning.{AllGot};
+ghost use Rattle.rds_mail.specs.Orders.{IsAsked};
+
+use rds_mail::{Asked, GetPass, Mail, Note};
+use rds_model::Order;
+use std::marker::Model;
+use std::sync::{Arc, Wait};
+
+/// The queue of a line's orders and its getter. Contracts see the getter.
+#[derive(Drop)]
+pub struct Inbox {
+    orders: Arc<Mail<Asked>>,
+    get: GetPass<Asked>,
+}
+
+impl Model for Inbox {
+    ghost use Rattle.std.specs.Prelude.{◌≡◌};
+    ghost use Rattle.std.specs.Arc.{arc_value};
+    ghost use Rattle.rds_model.specs.declared.order.Order.{Order};
+    ghost use Rattle.rds_mail.specs.Passes.{Getter};
+
+    ghost Value = { Getter Order };
+
+    ghost view = { λ i. i.get };
+
+    ghost invariant = { λ i. i.get.mail ≡ (arc_value i.orders).line };
+}
+
+impl Inbox {
+    pub fn new(orders: Arc<Mail<Asked>>, get: GetPass<Asked>) -> Inbox
+        requires { get.mail ≡ (arc_value orders).line }
+        ensures { result ≡ get }
+    {
+        Inbox { orders, get }
+    }
+
+    pub fn into_parts(self) -> (Arc<Mail<Asked>>, GetPass<Asked>)
+        ensures get { result.1 ≡ self }
+        ensures orders { self.mail ≡ (arc_value result.0).line }
+    {
+        let Inbox { orders, get } = self;
+        (orders, get)
+    }
+
+    /// Takes the first order. `None` where its own step found the queue empty, which shows that all orders that it was told of
+    /// were got.
+    pub fn take_order<W: Wait>(&mut self, rt: &W) -> Option<Order>
+        ensures got { IfSome result (λ order. (number : Number) × (self.new ≡ after_get self.old number order)) }
+        ensures asked { IfSome result IsAsked }
+        ensures same { IfNone result (self.new ≡ self.old) }
+        ensures empty { IfNone result (AllGot self.old) }
+    {
+        let asked = self.orders.get(rt, &mut self.get)?;
+        Some(asked.order())
+    }
+
+    /// The getter is told of what a putter had put.
+    pub fn hear(&mut self, note: Note<Asked>)
+        requires { note.mail ≡ self.old.mail }
+        ensures { self.new ≡ after_note self.old note }
+    {
+        self.orders.learn(&mut self.get, note);
+    }
+}
