@@ -31,12 +31,12 @@ pub record IsFed (bytes used : ℕ) (w w_new r r_new : Side) : Type 0 where
 -- bytes are left, or none is
 came_in_part : (flying left : List ℕ) (w r : End) → 0 < length left → came_from flying left w r ≡ r
 came_in_part [] left w r some = refl
-came_in_part (byte ∷ bytes) [] w r some = omega (arith, some)
+came_in_part (byte ∷ bytes) [] w r some = absurd (omega (arith, some))
 came_in_part (byte ∷ bytes) (next ∷ more) w r some = refl
 
 came_whole : (flying left : List ℕ) (w r : End) → 0 < length flying → left ≡ [] →
     came_from flying left w r ≡ record r { waiting = newest_pull w.past }
-came_whole [] left w r some none = omega (arith, some)
+came_whole [] left w r some none = absurd (omega (arith, some))
 came_whole (byte ∷ bytes) [] w r some none = refl
 came_whole (byte ∷ bytes) (next ∷ more) w r some none = cc
 
