@@ -1,13 +1,13 @@
 -- Bytes come to an end: the newest frame goes on coming, or has come.
-use Rattle.std.proofs.Common.{◌≡◌, inl, inr, ℕ, ◌<◌, ◌≤◌, min, Result, Ok, Err, Option, Some, None, IfSome, is_some, List, [], ◌∷◌, ◌++◌, length, take, drop, refl, sym, ◌∙◌, ap, subst, arith, append_assoc, length-drop}
+use Rattle.std.proofs.Common.{◌==◌, false, Bool, ◌≡◌, inl, inr, ℕ, ◌<◌, min, Result, Ok, Err, Option, Some, None, IfSome, is_some, List, [], ◌∷◌, ◌++◌, length, take, drop, refl, sym, ◌∙◌, ap, subst, arith, append_assoc, length-drop}
 use Rattle.std.specs.Prelude.{IfOk, OnErr}
-use Rattle.std.proofs.lemmas.Bool.{cases_lt}
+use Rattle.std.proofs.lemmas.Bool.{cases_lt, eqb-false}
 use Rattle.std.proofs.lemmas.List.{append-nil, drop_all, take-append-drop}
 use Rattle.rds_wire.specs.declared.frame.Frame.{Frame}
 use Rattle.rds_wire.specs.Bytes.{frame_bytes}
 use Rattle.rds_frame.specs.Splitting.{IsFrame}
 use Rattle.rds_frame.specs.Holding.{waiting_bytes}
-use Rattle.rds_frame.proofs.OneSplit.{frame_bytes-append, partial-no_frame}
+use Rattle.rds_joint.proofs.Frames.{frame_bytes-append, partial-no_frame}
 use Rattle.rds_model.specs.Past.{open_stream}
 use Rattle.rds_model.specs.Legal.{IsLegal}
 use Rattle.rds_pair.specs.declared.step.PairEnd.{PairEnd}
@@ -88,13 +88,13 @@ fed_in_part bytes used w w_new r r_new moves joint reads going whole waits = rec
   joint = record {
     streams = streams_still bytes used w w_new r r_new moves joint;
     forth = inr (inl (record {
-          frame = going.frame;
-          newest = ap (λ (e : Side). newest_pull e.past) moves.gone ∙ going.newest;
-          bytes = ap (λ (e : Side). r_new.rest ++ e.flying) moves.gone ∙ kept;
-          some_fly = subst (λ (e : Side). 0 < length e.flying) (sym moves.gone) some_left;
-          none_waits = waits;
-          on = ap (λ (e : Side). is_some (open_stream e.past)) moves.gone ∙ going.on;
-        }));
+      frame = going.frame;
+      newest = ap (λ (e : Side). newest_pull e.past) moves.gone ∙ going.newest;
+      bytes = ap (λ (e : Side). r_new.rest ++ e.flying) moves.gone ∙ kept;
+      some_fly = subst (λ (e : Side). 0 < length e.flying) (sym moves.gone) some_left;
+      none_waits = waits;
+      on = ap (λ (e : Side). is_some (open_stream e.past)) moves.gone ∙ going.on;
+    }));
     back = back_still bytes used w w_new r r_new moves joint;
   };
 }
@@ -130,12 +130,12 @@ fed_whole bytes used w w_new r r_new moves joint reads going whole g waits whole
   joint = record {
     streams = streams_still bytes used w w_new r r_new moves joint;
     forth = inr (inr (record {
-          frame = going.frame;
-          newest = ap (λ (e : Side). newest_pull e.past) moves.gone ∙ going.newest;
-          waits = waits_is;
-          none_flies = ap (λ (e : Side). e.flying) moves.gone ∙ same.1;
-          none_kept = none_kept;
-        }));
+      frame = going.frame;
+      newest = ap (λ (e : Side). newest_pull e.past) moves.gone ∙ going.newest;
+      waits = waits_is;
+      none_flies = ap (λ (e : Side). e.flying) moves.gone ∙ same.1;
+      none_kept = none_kept;
+    }));
     back = back_still bytes used w w_new r r_new moves joint;
   };
 }
@@ -231,3 +231,13 @@ seen_fed (Err e) to bytes old new done = done
 pub fed_nothing : (to : PairEnd) (used : ℕ) (p : Ends) → used ≡ 0 → (facing to p).flying ≡ [] → p ≡ fed to used p
 fed_nothing First used p none idle = subst (λ (n : ℕ). p ≡ fed First n p) (sym none) (λ i. record { first = nothing_came p.second.flying p.second p.first idle i; second = p.second })
 fed_nothing Second used p none idle = subst (λ (n : ℕ). p ≡ fed Second n p) (sym none) (λ i. record { first = p.first; second = nothing_came p.first.flying p.first p.second idle i })
+
+-- the same of the ends that contracts see
+pub count_seen : {E : Type 0} (came : Result ℕ E) (to : PairEnd) (bytes : ℕ) (old new : Sides) → IfOk came (λ used. IsFedTo to bytes used old new) →
+    IfOk came (λ used. used ≡ min bytes (length (facing to (ends old)).flying))
+count_seen came First bytes old new done = count_fed came First bytes old new done
+count_seen came Second bytes old new done = count_fed came Second bytes old new done
+
+-- some bytes
+pub some_are : (bytes : List ℕ) (test : Bool) → test ≡ (length bytes == 0) → test ≡ false → 0 < length bytes
+some_are bytes test is full = let apart = eqb-false (length bytes) 0 (sym is ∙ full) in omega (arith, apart)

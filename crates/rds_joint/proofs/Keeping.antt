@@ -81,13 +81,13 @@ kept_pulled map a b idle none joint = by_stream (open_stream a.past) refl
         record {
           streams = joint.streams;
           forth = inr (inl (record {
-                frame = f;
-                newest = refl;
-                bytes = ap (λ (front : List ℕ). front ++ (a.flying ++ frame_bytes f)) rest_is ∙ flying;
-                some_fly = subst (λ (bytes : List ℕ). 0 < length bytes) (sym flying) (frame_has_bytes f);
-                none_waits = none;
-                on = ap is_some on;
-              }));
+            frame = f;
+            newest = refl;
+            bytes = ap (λ (front : List ℕ). front ++ (a.flying ++ frame_bytes f)) rest_is ∙ flying;
+            some_fly = subst (λ (bytes : List ℕ). 0 < length bytes) (sym flying) (frame_has_bytes f);
+            none_waits = none;
+            on = ap is_some on;
+          }));
           back = joint.back;
         }
 

@@ -4,3 +4,4 @@ pub mod Keeping
 pub mod Feeding
 pub mod Trying
 pub mod Pulling
+mod Frames

@@ -1,5 +1,5 @@
 -- What is on its way from one end to the other, and what a change does to that.
-use Rattle.std.proofs.Common.{◌≡◌, ◌⊎◌, inl, inr, ℕ, ◌+◌, ◌<◌, Option, Some, None, is_some, IsSome, MatchOption, List, [], ◌∷◌, ◌++◌, length, refl, sym, ◌∙◌, ap, subst, arith, length-append}
+use Rattle.std.proofs.Common.{◌≡◌, inl, inr, ℕ, ◌<◌, Option, Some, None, is_some, IsSome, MatchOption, List, [], ◌∷◌, ◌++◌, length, refl, sym, ◌∙◌, ap, subst, arith, length-append}
 use Rattle.std.proofs.lemmas.Bool.{false≢true}
 use Rattle.rds_wire.specs.declared.frame.Frame.{Frame}
 use Rattle.rds_wire.specs.Bytes.{header_bytes, frame_bytes}
@@ -10,7 +10,7 @@ use Rattle.rds_model.specs.Past.{open_stream}
 use Rattle.rds_model.specs.Legal.{IsLawful, IsLegal, IsPong, pong_to}
 use Rattle.rds_joint.specs.Ends.{End}
 use Rattle.rds_joint.specs.Steps.{newest_pull}
-use Rattle.rds_joint.specs.OnTheWay.{IsIdle, IsGoing, HasCome, HasAtMostOne}
+use Rattle.rds_joint.specs.OnTheWay.{IsGoing, HasAtMostOne}
 
 -- a frame has some bytes
 pub frame_has_bytes : (f : Frame) → 0 < length (frame_bytes f)

@@ -1,5 +1,5 @@
 -- A call of the pair, whether it was done or failed: what is kept, and what contracts see.
-use Rattle.std.proofs.Common.{◌≡◌, ℕ, Result, Ok, Err, sym, ◌∙◌, ap, subst}
+use Rattle.std.proofs.Common.{◌≡◌, Result, Ok, Err, sym, ◌∙◌, ap, subst}
 use Rattle.std.specs.Prelude.{OnOk, OnErr}
 use Rattle.rds_pair.specs.Sides.{Sides}
 use Rattle.rds_joint.specs.Ends.{Ends}

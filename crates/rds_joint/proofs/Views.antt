@@ -11,7 +11,7 @@ use Rattle.rds_pair.specs.declared.step.PairEnd.TheVariants.{First, Second}
 use Rattle.rds_pair.specs.Sides.{Side, Sides}
 use Rattle.rds_pair.specs.Sides as pair
 use Rattle.rds_pair.specs.Changes as was
-use Rattle.rds_joint.specs.Ends.{End, Ends, at_both, of_end, with_end}
+use Rattle.rds_joint.specs.Ends.{End, at_both, of_end, with_end}
 use Rattle.rds_joint.specs.Steps.{ordered, opened, opened_from, shut, shut_from, pulled, pulled_from, with_pull, passed, passed_from}
 use Rattle.rds_joint.specs.Inside.{end, ends}
 

@@ -29,7 +29,7 @@ impl Drop for Table {
 }
 
 // A socket of the first end sends `hello` to a port of the second.
-fn table(alloc: Global, dport: u16) -> Result<Table, Memory> {
+fn new_table(alloc: Global, dport: u16) -> Result<Table, Memory> {
     Ok(Table {
         joint: Joint::new(alloc, 1, 2, 4, 100)?,
         map: PortMap::new(alloc)?,
@@ -116,7 +116,7 @@ fn assert_delivered(rt: &impl Abort, table: &Table, at: u32) {
 
 #[test]
 fn hello_is_delivered(rt: HostRuntime) -> Result<(), Fail> {
-    let mut table = table(rt.alloc(), 4001)?;
+    let mut table = new_table(rt.alloc(), 4001)?;
     assert_eq!(rt; play(&mut table, &Game::Delivery), Ok(()));
     assert_eq!(rt; table.joint.journal(PairEnd::First).len(), 5);
     assert_delivered(&rt, &table, 2);
@@ -125,7 +125,7 @@ fn hello_is_delivered(rt: HostRuntime) -> Result<(), Fail> {
 
 #[test]
 fn hello_is_delivered_once_over_a_cut_in_its_payload(rt: HostRuntime) -> Result<(), Fail> {
-    let mut table = table(rt.alloc(), 4001)?;
+    let mut table = new_table(rt.alloc(), 4001)?;
     assert_eq!(rt; play(&mut table, &Game::Cut), Ok(()));
     assert_eq!(rt; table.joint.journal(PairEnd::Second).len(), 6);
     assert_delivered(&rt, &table, 5);
@@ -134,7 +134,7 @@ fn hello_is_delivered_once_over_a_cut_in_its_payload(rt: HostRuntime) -> Result<
 
 #[test]
 fn a_ping_is_answered(rt: HostRuntime) -> Result<(), Fail> {
-    let mut table = table(rt.alloc(), 0)?;
+    let mut table = new_table(rt.alloc(), 0)?;
     assert_eq!(rt; play(&mut table, &Game::Delivery), Ok(()));
     assert_eq!(rt; table.joint.accepted(PairEnd::Second), 1);
     Ok(())

@@ -1,4 +1,3 @@
-use Rattle.rds_joint.specs.Inside.{end}
 use Rattle.rds_joint.proofs.Keeping.{reads_all, swapped}
 use Rattle.rds_joint.proofs.joint.Joint.known.Goals as goal
 
@@ -20,3 +19,9 @@ pub returns-clause-all_back : goal.returns-clause-all_back
 returns-clause-all_back c =
     let p = c.self.inside.pair in
     rw (← c.self.view_is) (reads_all p.second p.first (swapped p.first p.second c.self.invariant) c.known.ensures.flows_back)
+
+pub returns-clause-forth : goal.returns-clause-forth
+returns-clause-forth c sport dport = rw (← c.self.view_is) (c.known.ensures.forth sport dport)
+
+pub returns-clause-back : goal.returns-clause-back
+returns-clause-back c sport dport = rw (← c.self.view_is) (c.known.ensures.back sport dport)
