@@ -5,3 +5,4 @@ pub mod Refusing
 pub mod Joining
 pub mod Trying
 pub mod Playing
+pub mod Whole

@@ -1,4 +1,5 @@
-ghost use Rattle.std.specs.Prelude.{◌≡◌, ℕ, ◌<◌, ◌≤◌, None, Err, IfOk, OnOk, OnErr};
+ghost use Rattle.std.specs.Prelude.{◌≡◌, ℕ, ◌<◌, ◌≤◌, None, Err, IfOk, IfSome, OnOk, OnErr};
+ghost use Rattle.rds_frame.specs.Splitting.{IsFrame};
 ghost use Rattle.rds_model.specs.Past.{open_stream, newest_stream};
 ghost use Rattle.rds_model.specs.declared.entry.TheConstants.{MAX_SLOTS};
 ghost use Rattle.rds_model.specs.Legal.{IsWhole};
@@ -59,7 +60,8 @@ impl Half {
 
     /// What every end keeps of its reading.
     pub fn reading(&self)
-        ensures { TakesFrameByFrame (side_of self.now) }
+        ensures taking { TakesFrameByFrame (side_of self.now) }
+        ensures whole { IfSome self.now.conn.waiting IsFrame }
     {
         self.conn.known();
     }

@@ -4,7 +4,8 @@ use rds_model::Verdict;
 use rds_wire::Frame;
 
 impl Pair {
-    ghost use Rattle.std.specs.Prelude.{◌≡◌, ℕ, Err, OnOk, OnErr};
+    ghost use Rattle.std.specs.Prelude.{◌≡◌, ℕ, Err, IfSome, OnOk, OnErr};
+    ghost use Rattle.rds_frame.specs.Splitting.{IsFrame};
     ghost use Rattle.std.specs.Option.{option_copied, option_map};
     ghost use Rattle.rds_wire.specs.declared.frame.Frame.{Frame};
     ghost use Rattle.rds_model.specs.Past.{accepted, newest_stream, open_stream};
@@ -79,10 +80,12 @@ impl Pair {
         }
     }
 
-    /// What every pair keeps of its reading. It does nothing: a caller gets these facts from it.
+    /// What every pair keeps of its reading; a frame that waits is whole. It does nothing: a caller gets these facts from it.
     pub fn reading(&self)
         ensures first { TakesFrameByFrame self.now.first }
         ensures second { TakesFrameByFrame self.now.second }
+        ensures whole_first { IfSome self.now.first.waiting IsFrame }
+        ensures whole_second { IfSome self.now.second.waiting IsFrame }
         ensures newest { newest_stream self.now.first.past ≡ newest_stream self.now.second.past }
     {
         self.first.reading();

@@ -1,0 +1,145 @@
+ghost use Rattle.std.specs.Prelude.{◌≡◌, ℕ, Err, OnOk, OnErr};
+ghost use Rattle.rds_pair.specs.declared.error.PairError.TheVariants as errors;
+
+mod steps;
+
+use rds_model::{Journal, Verdict};
+use rds_pair::{Pair, PairEnd, PairError};
+use rds_wire::{Frame, Memory};
+use std::alloc::Global;
+use std::marker::Model;
+
+/// Two connections with at most one frame on its way in each direction. Contracts see both ends.
+#[derive(Drop)]
+pub struct Joint {
+    pair: Pair,
+}
+
+impl Model for Joint {
+    ghost use Rattle.rds_joint.specs.Ends.{Ends};
+
+    ghost Value = { Ends };
+
+    ghost use Rattle.rds_joint.specs.Inside.{JointInvariant, joint_view};
+
+    ghost view = { joint_view };
+
+    ghost invariant = { JointInvariant };
+}
+
+impl Joint {
+    ghost use Rattle.std.specs.Prelude.{◌≤◌, IfOk};
+    ghost use Rattle.std.specs.Option.{option_copied, option_map};
+    ghost use Rattle.rds_wire.specs.declared.frame.Frame.{Frame};
+    ghost use Rattle.rds_model.specs.declared.entry.TheConstants.{MAX_SLOTS};
+    ghost use Rattle.rds_model.specs.declared.journal.TheConstants.{MIN_ENTRIES, MAX_ENTRIES};
+    ghost use Rattle.rds_model.specs.Past.{accepted, newest_stream, open_stream};
+    ghost use Rattle.rds_model.specs.Reading.{verdict_of};
+    ghost use Rattle.rds_model.specs.Legal.{IsWhole};
+    ghost use Rattle.rds_model.specs.Honest.{IsHonest};
+    ghost use Rattle.rds_model.specs.Fifo.{HasNoBad};
+    ghost use Rattle.rds_model.specs.Pairs.{IsDeliveredOnce};
+    ghost use Rattle.rds_joint.specs.Ends.{HasRoomForTwo, IsFull, blank, of_end};
+    ghost use Rattle.rds_joint.specs.OnTheWay.{ReadsAll, SendsOneByOne};
+
+    /// Two ends of a connection between two hosts, given by their IPv4 addresses, of which nothing has happened. The slots
+    /// of sockets are below `slots`, and each journal may have `limit` entries.
+    ///
+    /// # Errors
+    ///
+    /// Where there is no memory for its tables.
+    pub fn new(
+        alloc: Global,
+        first: u32,
+        second: u32,
+        slots: u16,
+        limit: u32,
+    ) -> Result<Joint, Memory>
+        requires slots { slots ≤ MAX_SLOTS }
+        requires least { MIN_ENTRIES ≤ limit }
+        requires most { limit ≤ MAX_ENTRIES }
+        ensures { IfOk result (λ joint. joint ≡ record { first = blank slots limit; second = blank slots limit }) }
+    {
+        Ok(Joint {
+            pair: Pair::new(alloc, first, second, slots, limit)?,
+        })
+    }
+
+    /// Makes room for the next step of an end: its journal has room for two entries more. Nothing happens in it. After it
+    /// that step isn't refused for want of room.
+    ///
+    /// # Errors
+    ///
+    /// `Spent` exactly where two entries more would pass the journal's limit, whatever memory there is; else `Memory` where
+    /// there is none for them. The joint is as before in both cases.
+    pub fn reserve(&mut self, end: PairEnd) -> Result<(), PairError>
+        ensures same { self.new ≡ self.old }
+        ensures room { OnOk result (HasRoomForTwo (of_end end self.old)) }
+        ensures spent { (entries : ℕ) → result ≡ Err (errors.Spent entries) → IsFull entries (of_end end self.old) }
+    {
+        self.pair.reserve(end)
+    }
+
+    /// The bytes that an end wrote and that are in flight to the other.
+    pub fn in_flight(&self, end: PairEnd) -> &[u8]
+        ensures { result.now ≡ (of_end end self.now).flying }
+    {
+        self.pair.in_flight(end)
+    }
+
+    /// The stream that is open at an end, and so at both.
+    pub fn stream(&self, end: PairEnd) -> Option<u32>
+        ensures { result ≡ open_stream (of_end end self.now).past }
+    {
+        self.pair.stream(end)
+    }
+
+    /// The whole frame that has come to an end and that it didn't pass.
+    pub fn waiting(&self, end: PairEnd) -> Option<&Frame>
+        ensures { option_copied result ≡ (of_end end self.now).waiting }
+    {
+        self.pair.waiting(end)
+    }
+
+    /// What has to become of the frame that waits at an end, or `None` where none does.
+    pub fn verdict(&self, end: PairEnd) -> Option<Verdict>
+        ensures { result ≡ option_map (λ (f : Frame). verdict_of (of_end end self.now).past f.header) (of_end end self.now).waiting }
+    {
+        self.pair.verdict(end)
+    }
+
+    /// How many datagrams an end has accepted, pongs among them.
+    pub fn accepted(&self, end: PairEnd) -> u64
+        ensures { result ≡ accepted (of_end end self.now).past }
+    {
+        self.pair.accepted(end)
+    }
+
+    /// The journal of an end.
+    pub fn journal(&self, end: PairEnd) -> &Journal
+        ensures { result.now.past ≡ (of_end end self.now).past }
+    {
+        self.pair.journal(end)
+    }
+
+    /// What every joint keeps: the same stream is open at both ends, at most one frame is on its way each way, both journals
+    /// are legal and honest, each datagram was delivered at most once, and no header was refused.
+    pub fn known(&self)
+        ensures streams { open_stream self.now.first.past ≡ open_stream self.now.second.past }
+        ensures newest { newest_stream self.now.first.past ≡ newest_stream self.now.second.past }
+        ensures one_forth { SendsOneByOne self.now.first self.now.second }
+        ensures one_back { SendsOneByOne self.now.second self.now.first }
+        ensures all_forth { ReadsAll self.now.first self.now.second }
+        ensures all_back { ReadsAll self.now.second self.now.first }
+
+        ensures whole_first { IsWhole self.now.first.past }
+        ensures whole_second { IsWhole self.now.second.past }
+        ensures honest { IsHonest self.now.first.past self.now.second.past }
+        ensures forth { (sport dport : ℕ) → IsDeliveredOnce sport dport self.now.first.past self.now.second.past }
+        ensures back { (sport dport : ℕ) → IsDeliveredOnce sport dport self.now.second.past self.now.first.past }
+        ensures none_refused { HasNoBad self.now.first.past × HasNoBad self.now.second.past }
+    {
+        self.pair.known();
+        self.pair.reading();
+    }
+}
