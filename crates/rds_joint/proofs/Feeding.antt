@@ -15,7 +15,7 @@ use Rattle.rds_pair.specs.declared.step.PairEnd.TheVariants.{First, Second}
 use Rattle.rds_pair.specs.Sides.{Side, Sides, TakesFrameByFrame, unpassed_bytes}
 use Rattle.rds_pair.specs.Changes.{Moves, MovesTo}
 use Rattle.rds_joint.specs.Ends.{End, Ends, facing}
-use Rattle.rds_joint.specs.Steps.{came, came_from, fed, newest_pull, went}
+use Rattle.rds_joint.specs.Steps.{came, came_from, fed, last_pulled_frame, went}
 use Rattle.rds_joint.specs.OnTheWay.{HasAtMostOne, IsGoing}
 use Rattle.rds_joint.specs.Inside.{end, ends, IsJoint}
 use Rattle.rds_joint.proofs.Keeping.{across, IsJointPair, swapped}
@@ -35,7 +35,7 @@ came_in_part (byte ∷ bytes) [] w r some = absurd (omega (arith, some))
 came_in_part (byte ∷ bytes) (next ∷ more) w r some = refl
 
 came_whole : (flying left : List ℕ) (w r : End) → 0 < length flying → left ≡ [] →
-    came_from flying left w r ≡ record r { waiting = newest_pull w.past }
+    came_from flying left w r ≡ record r { waiting = last_pulled_frame w.past }
 came_whole [] left w r some none = absurd (omega (arith, some))
 came_whole (byte ∷ bytes) [] w r some none = refl
 came_whole (byte ∷ bytes) (next ∷ more) w r some none = cc
@@ -66,7 +66,7 @@ back_still : (bytes used : ℕ) (w w_new r r_new : Side) → Moves bytes used w 
 back_still bytes used w w_new r r_new moves joint =
     subst (λ (e : Side). HasAtMostOne e.rest (end r_new) e.waiting) (sym moves.gone)
     (on_its_way_still w.rest (end r) (end r_new) w.waiting
-    (ap (λ (e : Side). newest_pull e.past) moves.rest_same)
+    (ap (λ (e : Side). last_pulled_frame e.past) moves.rest_same)
     (ap (λ (e : Side). open_stream e.past) moves.rest_same)
     (ap (λ (e : Side). e.flying) moves.rest_same)
     joint.back)
@@ -89,7 +89,7 @@ fed_in_part bytes used w w_new r r_new moves joint reads going whole waits = rec
     streams = streams_still bytes used w w_new r r_new moves joint;
     forth = inr (inl (record {
       frame = going.frame;
-      newest = ap (λ (e : Side). newest_pull e.past) moves.gone ∙ going.newest;
+      newest = ap (λ (e : Side). last_pulled_frame e.past) moves.gone ∙ going.newest;
       bytes = ap (λ (e : Side). r_new.rest ++ e.flying) moves.gone ∙ kept;
       some_fly = subst (λ (e : Side). 0 < length e.flying) (sym moves.gone) some_left;
       none_waits = waits;
@@ -125,13 +125,13 @@ fed_whole bytes used w w_new r r_new moves joint reads going whole g waits whole
   count = omega (arith, moves.within, ap length same.1, length-drop used w.flying);
   writer = ap end moves.gone;
   reader =
-      seen_reader bytes used w w_new r r_new moves (newest_pull w.past) (waits_is ∙ sym going.newest)
+      seen_reader bytes used w w_new r r_new moves (last_pulled_frame w.past) (waits_is ∙ sym going.newest)
       ∙ sym (came_whole w.flying (drop used w.flying) (end w) (end r) going.some_fly same.1);
   joint = record {
     streams = streams_still bytes used w w_new r r_new moves joint;
     forth = inr (inr (record {
       frame = going.frame;
-      newest = ap (λ (e : Side). newest_pull e.past) moves.gone ∙ going.newest;
+      newest = ap (λ (e : Side). last_pulled_frame e.past) moves.gone ∙ going.newest;
       waits = waits_is;
       none_flies = ap (λ (e : Side). e.flying) moves.gone ∙ same.1;
       none_kept = none_kept;

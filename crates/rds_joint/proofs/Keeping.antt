@@ -19,7 +19,7 @@ use Rattle.rds_pair.specs.declared.step.PairEnd.TheVariants.{First, Second}
 use Rattle.rds_pair.specs.Sides.{Side, Sides, TakesFrameByFrame, of_end, unpassed_bytes, with_end}
 use Rattle.rds_pair.specs.Joined.{Flows}
 use Rattle.rds_pair.specs.Changes.{entries_of, found_for, is_allowed, opened, ordered, passed, passed_on, opened_at_both, opened_from, pong_entries, pulled, shut_from, shut_one, with_owed_on, with_pull, without_flight}
-use Rattle.rds_joint.specs.Steps.{newest_pull}
+use Rattle.rds_joint.specs.Steps.{last_pulled_frame}
 use Rattle.rds_joint.specs.OnTheWay.{HasAtMostOne, ReadsAll}
 use Rattle.rds_joint.specs.Inside.{end, IsJoint}
 use Rattle.rds_joint.proofs.OnTheWay.{frame_has_bytes, nothing_kept, on_its_way_still, passed_on_its_way}
@@ -43,7 +43,7 @@ kept_end First made p kept joint = kept joint
 kept_end Second made p kept joint = swapped (made p.second) p.first (kept (swapped p.first p.second joint))
 
 -- an entry of an order tells of no pull, and of no stream
-newest_ordered : (o : Order) (s : Side) → newest_pull (entries_of o ++ s.past) ≡ newest_pull s.past
+newest_ordered : (o : Order) (s : Side) → last_pulled_frame (entries_of o ++ s.past) ≡ last_pulled_frame s.past
 newest_ordered (order.Send slot sport dport payload) s = refl
 newest_ordered (order.Cancel slot dport) s = refl
 newest_ordered (order.CloseSocket slot) s = refl

@@ -9,7 +9,7 @@ use Rattle.rds_model.specs.declared.entry.Entry.TheVariants.{Accept, Cancel, Ope
 use Rattle.rds_model.specs.Past.{open_stream}
 use Rattle.rds_model.specs.Legal.{IsLawful, IsLegal, IsPong, pong_to}
 use Rattle.rds_joint.specs.Ends.{End}
-use Rattle.rds_joint.specs.Steps.{newest_pull}
+use Rattle.rds_joint.specs.Steps.{last_pulled_frame}
 use Rattle.rds_joint.specs.OnTheWay.{IsGoing, HasAtMostOne}
 
 -- a frame has some bytes
@@ -24,7 +24,7 @@ lawful_pull s f past None lawful = lawful
 lawful_pull s f past (Some port) pong = let never = pong.is in cc
 
 -- a frame that was pulled is whole
-pub newest_is_frame : (past : List Entry) (f : Frame) → IsLegal past → newest_pull past ≡ Some f → IsFrame f
+pub newest_is_frame : (past : List Entry) (f : Frame) → IsLegal past → last_pulled_frame past ≡ Some f → IsFrame f
 newest_is_frame [] f legal is = cc
 newest_is_frame (Pull stream frame ∷ past) f legal is =
     let lawful = lawful_pull stream frame past (pong_to past) legal.0 in
@@ -38,7 +38,7 @@ newest_is_frame (Shut stream ∷ past) f legal is = newest_is_frame past f legal
 newest_is_frame (Bad stream header cause ∷ past) f legal is = newest_is_frame past f legal.1 is
 
 -- the writer changed, but not what it pulled last, what is in flight, nor its open stream
-pub on_its_way_still : (kept : List ℕ) (w w_new : End) (waiting : Option Frame) → newest_pull w_new.past ≡ newest_pull w.past →
+pub on_its_way_still : (kept : List ℕ) (w w_new : End) (waiting : Option Frame) → last_pulled_frame w_new.past ≡ last_pulled_frame w.past →
     open_stream w_new.past ≡ open_stream w.past → w_new.flying ≡ w.flying → HasAtMostOne kept w waiting → HasAtMostOne kept w_new waiting
 on_its_way_still kept w w_new waiting newest stream flying (inl idle) =
     inl (record { none_flies = flying ∙ idle.none_flies; none_waits = idle.none_waits; none_kept = idle.none_kept })

@@ -12,7 +12,7 @@ use Rattle.rds_pair.specs.Sides.{Side, Sides}
 use Rattle.rds_pair.specs.Sides as pair
 use Rattle.rds_pair.specs.Changes as was
 use Rattle.rds_joint.specs.Ends.{End, at_both, of_end, with_end}
-use Rattle.rds_joint.specs.Steps.{ordered, opened, opened_from, shut, shut_from, pulled, pulled_from, with_pull, passed, passed_from}
+use Rattle.rds_joint.specs.Steps.{ordered, opened, opened_from, stream_shut, shut_from, pulled, pulled_from, with_pull, passed, passed_from}
 use Rattle.rds_joint.specs.Inside.{end, ends}
 
 -- a change of one end
@@ -75,7 +75,7 @@ unpulled_waiting map there e some = by_stream (open_stream e.past) e.flying ther
 
 -- an end was shut, where nothing is in flight unless a stream is open
 pub seen_shut : (s : Side) → (open_stream s.past ≡ None → s.flying ≡ []) →
-    end (was.without_flight (was.shut_one s)) ≡ shut (end s)
+    end (was.without_flight (was.shut_one s)) ≡ stream_shut (end s)
 seen_shut s no_flight = by_stream (open_stream s.past) refl
   where
     by_stream : (o : Option ℕ) → open_stream s.past ≡ o → end (was.without_flight (was.shut_from o s)) ≡ shut_from o (end s)
@@ -114,7 +114,7 @@ seen_opened_at_both p streams idle_a idle_b newest = by_streams (open_stream p.f
 
 -- both ends were shut
 pub seen_cut : (p : Sides) → (open_stream p.first.past ≡ None → p.first.flying ≡ []) → (open_stream p.second.past ≡ None → p.second.flying ≡ []) →
-    ends (was.cut_pair p) ≡ at_both shut (ends p)
+    ends (was.cut_pair p) ≡ at_both stream_shut (ends p)
 seen_cut p idle_a idle_b =
     let first = seen_shut p.first idle_a in
     let second = seen_shut p.second idle_b in

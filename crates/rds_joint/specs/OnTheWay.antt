@@ -5,7 +5,7 @@ use Rattle.rds_wire.specs.Bytes.{frame_bytes}
 use Rattle.rds_model.specs.Past.{open_stream}
 use Rattle.rds_model.specs.Streams.{written_bytes, read_bytes}
 use Rattle.rds_joint.specs.Ends.{End}
-use Rattle.rds_joint.specs.Steps.{newest_pull}
+use Rattle.rds_joint.specs.Steps.{last_pulled_frame}
 
 -- Here `writer` is the end that pulls, `waiting` the whole frame that has come to the other end and wasn't passed, and
 -- `kept` what that end has of a frame which isn't whole.
@@ -19,7 +19,7 @@ pub record IsIdle (kept : List ℕ) (writer : End) (waiting : Option Frame) : Ty
 -- the frame that was pulled last has come in part: what is kept and what is in flight are its bytes
 pub record IsGoing (kept : List ℕ) (writer : End) (waiting : Option Frame) : Type 0 where
   pub frame : Frame
-  pub newest : newest_pull writer.past ≡ Some frame
+  pub newest : last_pulled_frame writer.past ≡ Some frame
   pub bytes : kept ++ writer.flying ≡ frame_bytes frame
   pub some_fly : 0 < length writer.flying
   pub none_waits : waiting ≡ None
@@ -28,7 +28,7 @@ pub record IsGoing (kept : List ℕ) (writer : End) (waiting : Option Frame) : T
 -- the frame that was pulled last has come whole
 pub record HasCome (kept : List ℕ) (writer : End) (waiting : Option Frame) : Type 0 where
   pub frame : Frame
-  pub newest : newest_pull writer.past ≡ Some frame
+  pub newest : last_pulled_frame writer.past ≡ Some frame
   pub waits : waiting ≡ Some frame
   pub none_flies : writer.flying ≡ []
   pub none_kept : kept ≡ []

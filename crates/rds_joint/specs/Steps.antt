@@ -33,8 +33,8 @@ abbrev pub shut_from : Option ℕ → End → End
 shut_from None e = e
 shut_from (Some s) e = record e { past = entry.Shut s ∷ e.past; waiting = None; flying = [] }
 
-abbrev pub shut : End → End
-shut e = shut_from (open_stream e.past) e
+abbrev pub stream_shut : End → End
+stream_shut e = shut_from (open_stream e.past) e
 
 -- this is owed to stream s, and was pulled
 abbrev pub with_pull : ℕ → Option Frame → End → End
@@ -51,10 +51,10 @@ abbrev pub pulled : (map : List ℕ) → (there : Option Frame) → End → End
 pulled map there e = pulled_from (open_stream e.past) e.flying there map e
 
 -- the frame that was pulled last
-abbrev pub newest_pull : List Entry → Option Frame
-newest_pull [] = None
-newest_pull (entry.Pull stream frame ∷ past) = Some frame
-newest_pull (_ ∷ past) = newest_pull past
+abbrev pub last_pulled_frame : List Entry → Option Frame
+last_pulled_frame [] = None
+last_pulled_frame (entry.Pull stream frame ∷ past) = Some frame
+last_pulled_frame (_ ∷ past) = last_pulled_frame past
 
 -- so many bytes in flight went
 abbrev pub went : ℕ → (writer : End) → End
@@ -63,7 +63,7 @@ went count writer = record writer { flying = drop count writer.flying }
 -- the frame that the writer pulled last has come, where bytes were in flight and none is left
 abbrev pub came_from : (flying left : List ℕ) → (writer reader : End) → End
 came_from [] left writer reader = reader
-came_from (byte ∷ bytes) [] writer reader = record reader { waiting = newest_pull writer.past }
+came_from (byte ∷ bytes) [] writer reader = record reader { waiting = last_pulled_frame writer.past }
 came_from (byte ∷ bytes) (next ∷ more) writer reader = reader
 
 abbrev pub came : ℕ → (writer reader : End) → End

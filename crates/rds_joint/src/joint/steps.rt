@@ -12,7 +12,7 @@ impl Joint {
     ghost use Rattle.std.specs.Prelude.{◌≡◌, ℕ, Err, OnOk, OnErr, IfOk, min, length};
     ghost use Rattle.rds_pair.specs.declared.error.PairError.TheVariants as errors;
     ghost use Rattle.rds_joint.specs.Ends.{HasFull, IsFull, at_both, facing, of_end, with_end};
-    ghost use Rattle.rds_joint.specs.Steps.{fed, opened, ordered, passed, pulled, shut};
+    ghost use Rattle.rds_joint.specs.Steps.{fed, opened, ordered, passed, pulled, stream_shut};
 
     /// A socket of an end gives an order, which the end takes if it is allowed: its slot is one of the host's, its payload
     /// isn't too long, and it is no cut.
@@ -53,7 +53,7 @@ impl Joint {
     ///
     /// `Memory`, and `Spent` where one of the journals is full. The joint is as before.
     pub fn cut(&mut self) -> Result<(), PairError>
-        ensures ok { OnOk result (self.new ≡ at_both shut self.old) }
+        ensures ok { OnOk result (self.new ≡ at_both stream_shut self.old) }
         ensures err { OnErr result (self.new ≡ self.old) }
         ensures spent { (entries : ℕ) → result ≡ Err (errors.Spent entries) → HasFull entries self.old }
     {

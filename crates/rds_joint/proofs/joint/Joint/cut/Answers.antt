@@ -1,6 +1,6 @@
 use Rattle.rds_pair.specs.Changes.{cut_pair}
 use Rattle.rds_joint.specs.Ends.{at_both}
-use Rattle.rds_joint.specs.Steps.{shut}
+use Rattle.rds_joint.specs.Steps.{stream_shut}
 use Rattle.rds_joint.specs.Inside.{end, ends}
 use Rattle.rds_joint.proofs.Views.{seen_cut}
 use Rattle.rds_joint.proofs.OnTheWay.{nothing_flies}
@@ -19,5 +19,5 @@ returns-clause-ok c =
     let p = c.self.inside.pair in
     let joint = c.self.invariant in
     rw (← c.self.view_is)
-    (seen_ok c.cut.result c.cut.new.self (cut_pair p) (at_both shut (ends p)) c.cut.ensures.ok
+    (seen_ok c.cut.result c.cut.new.self (cut_pair p) (at_both stream_shut (ends p)) c.cut.ensures.ok
     (seen_cut p (nothing_flies p.second.rest (end p.first) p.second.waiting joint.forth) (nothing_flies p.first.rest (end p.second) p.first.waiting joint.back)))
