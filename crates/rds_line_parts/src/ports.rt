@@ -9,12 +9,12 @@ use std::sync::Arc;
 
 /// A line's seat at its host's port table, beside the table. Contracts see the seat.
 #[derive(Drop)]
-pub struct Ports {
+pub struct LinePorts {
     table: Arc<BindTable>,
     seat: BindSeat,
 }
 
-impl Model for Ports {
+impl Model for LinePorts {
     ghost use Rattle.std.specs.Prelude.{◌≡◌};
     ghost use Rattle.std.specs.Arc.{arc_value};
     ghost use Rattle.rds_bindtab.specs.Seats.{PortSeat};
@@ -26,19 +26,21 @@ impl Model for Ports {
     ghost invariant = { λ p. p.seat.table ≡ arc_value p.table };
 }
 
-impl Ports {
-    pub fn new(table: Arc<BindTable>, seat: BindSeat) -> Ports
+impl LinePorts {
+    /// The port table, and a seat that is at it.
+    pub fn new(table: Arc<BindTable>, seat: BindSeat) -> LinePorts
         requires { seat.table ≡ arc_value table }
         ensures { result ≡ seat }
     {
-        Ports { table, seat }
+        LinePorts { table, seat }
     }
 
+    /// Both, as they are now.
     pub fn into_parts(self) -> (Arc<BindTable>, BindSeat)
         ensures seat { result.1 ≡ self }
         ensures table { self.table ≡ arc_value result.0 }
     {
-        let Ports { table, seat } = self;
+        let LinePorts { table, seat } = self;
         (table, seat)
     }
 

@@ -13,12 +13,12 @@ use std::sync::{Arc, Wait};
 
 /// The queue of a line's orders and its getter. Contracts see the getter.
 #[derive(Drop)]
-pub struct Inbox {
+pub struct LineOrders {
     orders: Arc<Mail<Asked>>,
     get: GetPass<Asked>,
 }
 
-impl Model for Inbox {
+impl Model for LineOrders {
     ghost use Rattle.std.specs.Prelude.{◌≡◌};
     ghost use Rattle.std.specs.Arc.{arc_value};
     ghost use Rattle.rds_model.specs.declared.order.Order.{Order};
@@ -31,19 +31,21 @@ impl Model for Inbox {
     ghost invariant = { λ i. i.get.mail ≡ (arc_value i.orders).line };
 }
 
-impl Inbox {
-    pub fn new(orders: Arc<Mail<Asked>>, get: GetPass<Asked>) -> Inbox
+impl LineOrders {
+    /// The queue of a line's orders, and the getter that is of it.
+    pub fn new(orders: Arc<Mail<Asked>>, get: GetPass<Asked>) -> LineOrders
         requires { get.mail ≡ (arc_value orders).line }
         ensures { result ≡ get }
     {
-        Inbox { orders, get }
+        LineOrders { orders, get }
     }
 
+    /// Both, as they are now.
     pub fn into_parts(self) -> (Arc<Mail<Asked>>, GetPass<Asked>)
         ensures get { result.1 ≡ self }
         ensures orders { self.mail ≡ (arc_value result.0).line }
     {
-        let Inbox { orders, get } = self;
+        let LineOrders { orders, get } = self;
         (orders, get)
     }
 
