@@ -1,7 +1,7 @@
 //! A host with a bound socket.
 ghost use Rattle.std.specs.Prelude.{◌≡◌, None, IfSome};
 
-use rds_handmade::{Bound, Host};
+use rds_handmade::{Bound, HandmadeHost};
 use std::alloc::Global;
 
 /// The only peer.
@@ -14,7 +14,7 @@ const BUFFER: u32 = 16_777_216;
 pub fn bound(alloc: Global) -> Option<Bound>
     ensures { IfSome result (λ b. b.socket.told ≡ None) }
 {
-    let Ok(host) = Host::new(alloc, 1, PEER) else {
+    let Ok(host) = HandmadeHost::new(alloc, 1, PEER) else {
         return None;
     };
     match host.bind(4000, BUFFER, BUFFER) {

@@ -1,7 +1,7 @@
 //! Datagrams that are put into a socket's mailbox, each received at once.
 use crate::bound::{PEER, bound};
 use rds_fmap::Reader;
-use rds_handmade::{Bound, Inbox};
+use rds_handmade::{Bound, Deliverer};
 use rds_model::Datagram;
 use rds_socket::Socket;
 use rds_wire::Payload;
@@ -12,7 +12,7 @@ use std::sync::Wait;
 fn receive(
     rt: &impl Wait,
     socket: &mut Socket<Reader>,
-    inbox: &mut Inbox,
+    inbox: &mut Deliverer,
     datagram: Datagram,
 ) -> Option<Datagram> {
     inbox.put(rt, datagram).ok()?;
@@ -23,7 +23,7 @@ fn receive(
 fn receipts(
     rt: &impl Wait,
     socket: &mut Socket<Reader>,
-    inbox: &mut Inbox,
+    inbox: &mut Deliverer,
     mut datagram: Datagram,
     rounds: u32,
 ) -> u32 {

@@ -1,7 +1,7 @@
 //! The two hosts of the example, and how their sockets are bound.
 ghost use Rattle.std.specs.Prelude.{◌≡◌, [], None, IfOk};
 
-use rds_handmade::{Bound, Host};
+use rds_handmade::{Bound, HandmadeHost};
 use rds_wire::Memory;
 use std::alloc::{AllocError, Global};
 
@@ -26,7 +26,7 @@ fn bind(alloc: Global, address: u32, peer: u32, port: u16) -> anyhow::Result<Bou
     ensures told { IfOk result (λ b. b.socket.told ≡ None) }
     ensures map { IfOk result (λ b. b.map.published ≡ []) }
 {
-    let host = Host::new(alloc, address, peer).map_err(out_of_memory)?;
+    let host = HandmadeHost::new(alloc, address, peer).map_err(out_of_memory)?;
     Ok(host.bind(port, 8, 64)?)
 }
 

@@ -5,7 +5,7 @@ use crate::hosts::{B, out_of_memory};
 use crate::waiting::NextDatagram;
 use futures::executor::block_on;
 use rds_fmap::Reader;
-use rds_handmade::End;
+use rds_handmade::LineEnd;
 use rds_model::Datagram;
 use rds_socket::Socket;
 use rds_wire::Payload;
@@ -34,7 +34,7 @@ pub fn send<R: Print + Wait + AllocGlobal>(
 }
 
 /// One datagram is carried from A to B.
-pub fn carry(rt: &(impl Print + Wait), a: &mut End, b: &mut End) -> anyhow::Result<()> {
+pub fn carry(rt: &(impl Print + Wait), a: &mut LineEnd, b: &mut LineEnd) -> anyhow::Result<()> {
     if a.carry(rt, b).map_err(out_of_memory)? {
         println!(rt; "A datagram is carried to B.")?;
     }

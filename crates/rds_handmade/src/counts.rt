@@ -16,7 +16,7 @@ const SLOT: u16 = 0;
 const MOST: u64 = 4_503_599_627_370_496;
 
 /// Counts the bytes that reached a host's socket, and those of its own that the peer has acknowledged.
-pub struct Counts {
+pub struct LineCounts {
     meter: Arc<Meter>,
     seat: MeterSeat,
     // How many bytes it has added to all words.
@@ -26,7 +26,7 @@ pub struct Counts {
 }
 
 // By hand, so that one call drops it wherever it is let go, and no function that owns one drops each field.
-impl Drop for Counts {
+impl Drop for LineCounts {
     fn drop(self) {
         let Self {
             meter: _meter,
@@ -36,9 +36,9 @@ impl Drop for Counts {
     }
 }
 
-impl Counts {
+impl LineCounts {
     /// A new meter with one slot, the seat that owns it, and the line's counts.
-    pub(crate) fn new(alloc: Global) -> Result<(Arc<Meter>, MeterSeat, Counts), Memory>
+    pub(crate) fn new(alloc: Global) -> Result<(Arc<Meter>, MeterSeat, LineCounts), Memory>
         ensures table { IfOk result (λ r. r.1.table ≡ arc_value r.0) }
         ensures slot { IfOk result (λ r. r.1.slot ≡ Some 0) }
         ensures seat { IfOk result (λ r. r.1.view ≡ newcomer (first_view 1)) }
@@ -47,7 +47,7 @@ impl Counts {
         let mut own = meter.split(&mut seat);
         meter.own(&mut own, SLOT);
         let meter = Arc::new(alloc, meter)?;
-        let counts = Counts {
+        let counts = LineCounts {
             meter: Arc::try_clone(&meter)?,
             seat,
             added: 0,

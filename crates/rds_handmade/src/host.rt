@@ -2,8 +2,8 @@
 ghost use Rattle.std.specs.Prelude.{◌≡◌, ◌≤◌, ◌∷◌, ℕ, [], None, IfOk};
 ghost use Rattle.rds_parts.specs.Lanes.{peers_of, ArePutOf};
 
-use crate::line::End;
-use crate::queues::{Inbox, Orders};
+use crate::line::LineEnd;
+use crate::queues::{Deliverer, Orders};
 use crate::seats::Seats;
 use rds_fmap::{Reader, Writer, pair};
 use rds_socket::{BindError, Route, Socket, Vacant};
@@ -11,17 +11,17 @@ use rds_wire::Memory;
 use std::alloc::Global;
 
 /// A host whose socket isn't bound yet.
-pub struct Host {
+pub struct HandmadeHost {
     /// Its slot, which can be bound.
     pub vacant: Vacant<Reader>,
     /// Its end of the line to the peer.
-    pub end: End,
+    pub end: LineEnd,
     /// Where the peer's congestion map is published.
     pub map: Writer,
 }
 
 // By hand, so that one call drops it wherever it is let go, and no function that owns one drops each field.
-impl Drop for Host {
+impl Drop for HandmadeHost {
     fn drop(self) {
         let Self {
             vacant: _vacant,
@@ -31,22 +31,22 @@ impl Drop for Host {
     }
 }
 
-impl Host {
+impl HandmadeHost {
     /// A host of this address with one peer.
-    pub fn new(alloc: Global, address: u32, peer: u32) -> Result<Host, Memory>
+    pub fn new(alloc: Global, address: u32, peer: u32) -> Result<HandmadeHost, Memory>
         ensures { IfOk result (λ h. h.map.published ≡ []) }
     {
         let (seats, counts) = Seats::new(alloc)?;
-        let (mail, get, inbox) = Inbox::new(alloc)?;
+        let (mail, get, inbox) = Deliverer::new(alloc)?;
         let (routes, orders, map) = routes(alloc, peer)?;
-        let end = End {
+        let end = LineEnd {
             address,
             counts,
             inbox,
             orders,
         };
         let vacant = seats.into_vacant(mail, get, routes);
-        Ok(Host { vacant, end, map })
+        Ok(HandmadeHost { vacant, end, map })
     }
 
     /// Binds its socket to a port. Where the port is refused, the host is given up.
@@ -56,7 +56,7 @@ impl Host {
         ensures told { IfOk result (λ b. b.socket.told ≡ None) }
         ensures map { IfOk result (λ b. b.map ≡ self.map) }
     {
-        let Host { vacant, end, map } = self;
+        let HandmadeHost { vacant, end, map } = self;
         match vacant.bind(port, sndbuf, rcvbuf) {
             Ok(socket) => Ok(Bound { socket, end, map }),
             Err((_, error)) => Err(error),
@@ -67,7 +67,7 @@ impl Host {
     pub fn into_vacant(self) -> Vacant<Reader>
         ensures { result ≡ self.vacant }
     {
-        let Host {
+        let HandmadeHost {
             vacant,
             end: _end,
             map: _map,
@@ -80,7 +80,7 @@ impl Host {
 pub struct Bound {
     pub socket: Socket<Reader>,
     /// Its end of the line to the peer.
-    pub end: End,
+    pub end: LineEnd,
     /// Where the peer's congestion map is published.
     pub map: Writer,
 }

@@ -7,7 +7,7 @@ mod line;
 mod queues;
 mod seats;
 
-pub use counts::Counts;
-pub use host::{Bound, Host};
-pub use line::End;
-pub use queues::{Inbox, Orders};
+pub use counts::LineCounts;
+pub use host::{Bound, HandmadeHost};
+pub use line::LineEnd;
+pub use queues::{Deliverer, Orders};

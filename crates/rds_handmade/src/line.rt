@@ -1,21 +1,21 @@
 //! What carries datagrams from one host to another, in place of a connection and a network.
-use crate::counts::Counts;
-use crate::queues::{Inbox, Orders};
+use crate::counts::LineCounts;
+use crate::queues::{Deliverer, Orders};
 use rds_model::{Datagram, Order};
 use rds_wire::{Memory, Payload};
 use std::sync::Wait;
 
 /// What a line to the peer holds of a host.
-pub struct End {
+pub struct LineEnd {
     /// The host's IPv4 address.
     pub address: u32,
-    pub counts: Counts,
-    pub inbox: Inbox,
+    pub counts: LineCounts,
+    pub inbox: Deliverer,
     pub orders: Orders,
 }
 
 // By hand, so that one call drops it wherever it is let go, and no function that owns one drops each field.
-impl Drop for End {
+impl Drop for LineEnd {
     fn drop(self) {
         let Self {
             address: _,
@@ -26,7 +26,7 @@ impl Drop for End {
     }
 }
 
-impl End {
+impl LineEnd {
     /// Gives a datagram to the host's socket.
     pub fn deliver(&mut self, rt: &impl Wait, datagram: Datagram) -> Result<(), Memory> {
         let bytes = datagram.payload.len();
@@ -51,7 +51,7 @@ impl End {
 
     /// Carries the oldest datagram that this host's socket has sent to the other host, and answers whether there was one. It
     /// arrives at once, whatever its port, and its bytes no longer count against the sender's buffer.
-    pub fn carry(&mut self, rt: &impl Wait, to: &mut End) -> Result<bool, Memory> {
+    pub fn carry(&mut self, rt: &impl Wait, to: &mut LineEnd) -> Result<bool, Memory> {
         let Some((payload, sport, dport)) = self.next(rt) else {
             return Ok(false);
         };

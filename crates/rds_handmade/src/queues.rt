@@ -48,14 +48,14 @@ impl Orders {
 }
 
 /// Puts datagrams into a socket's mailbox.
-pub struct Inbox {
+pub struct Deliverer {
     mail: Arc<Mail<Datagram>>,
     put: PutPass<Datagram>,
     ghost tied: { put.mail ≡ (arc_value mail).line },
 }
 
 // By hand, so that one call drops it wherever it is let go, and no function that owns one drops each field.
-impl Drop for Inbox {
+impl Drop for Deliverer {
     fn drop(self) {
         let Self {
             mail: _mail,
@@ -64,16 +64,16 @@ impl Drop for Inbox {
     }
 }
 
-impl Inbox {
+impl Deliverer {
     /// A new mailbox, the right to get from it, and the putter.
     pub(crate) fn new(
         alloc: Global,
-    ) -> Result<(Arc<Mail<Datagram>>, GetPass<Datagram>, Inbox), Memory>
+    ) -> Result<(Arc<Mail<Datagram>>, GetPass<Datagram>, Deliverer), Memory>
         ensures { IfOk result (λ r. r.1 ≡ first_getter (arc_value r.0).line) }
     {
         let (mail, put, get) = Mail::new(alloc)?;
         let mail = Arc::new(alloc, mail)?;
-        let inbox = Inbox {
+        let inbox = Deliverer {
             mail: Arc::try_clone(&mail)?,
             put,
         };

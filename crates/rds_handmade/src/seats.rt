@@ -5,7 +5,7 @@ ghost use Rattle.rds_parts.specs.Lanes.{peers_of, ArePutOf};
 ghost use Rattle.rds_parts.specs.Ports.{HasClaimedOnly};
 ghost use Rattle.rds_meter.specs.Seats.{newcomer, first_view};
 
-use crate::counts::Counts;
+use crate::counts::LineCounts;
 use rds_bindtab::{BindSeat, BindTable};
 use rds_fmap::Reader;
 use rds_mail::{GetPass, Mail};
@@ -45,9 +45,9 @@ impl Drop for Seats {
 
 impl Seats {
     /// New seats, and the counts of a line.
-    pub(crate) fn new(alloc: Global) -> Result<(Seats, Counts), Memory> {
+    pub(crate) fn new(alloc: Global) -> Result<(Seats, LineCounts), Memory> {
         let (table, seat) = port_table(alloc)?;
-        let (meter, own, counts) = Counts::new(alloc)?;
+        let (meter, own, counts) = LineCounts::new(alloc)?;
         let seats = Seats {
             table,
             seat,

@@ -14,7 +14,7 @@ use Rattle.rds_pair.specs.declared.step.PairEnd.{PairEnd}
 use Rattle.rds_pair.specs.declared.step.PairEnd.TheVariants.{First, Second}
 use Rattle.rds_pair.specs.Sides.{Side, Sides, TakesFrameByFrame, unpassed_bytes}
 use Rattle.rds_pair.specs.Changes.{Moves, MovesTo}
-use Rattle.rds_joint.specs.Ends.{End, Ends, facing}
+use Rattle.rds_joint.specs.Ends.{JointEnd, JointEnds, facing}
 use Rattle.rds_joint.specs.Steps.{came, came_from, fed, last_pulled_frame, went}
 use Rattle.rds_joint.specs.OnTheWay.{HasAtMostOne, IsGoing}
 use Rattle.rds_joint.specs.Inside.{end, ends, IsJoint}
@@ -29,18 +29,18 @@ pub record IsFed (bytes used : ℕ) (w w_new r r_new : Side) : Type 0 where
   pub joint : IsJoint w_new r_new
 
 -- bytes are left, or none is
-came_in_part : (flying left : List ℕ) (w r : End) → 0 < length left → came_from flying left w r ≡ r
+came_in_part : (flying left : List ℕ) (w r : JointEnd) → 0 < length left → came_from flying left w r ≡ r
 came_in_part [] left w r some = refl
 came_in_part (byte ∷ bytes) [] w r some = absurd (omega (arith, some))
 came_in_part (byte ∷ bytes) (next ∷ more) w r some = refl
 
-came_whole : (flying left : List ℕ) (w r : End) → 0 < length flying → left ≡ [] →
+came_whole : (flying left : List ℕ) (w r : JointEnd) → 0 < length flying → left ≡ [] →
     came_from flying left w r ≡ record r { waiting = last_pulled_frame w.past }
 came_whole [] left w r some none = absurd (omega (arith, some))
 came_whole (byte ∷ bytes) [] w r some none = refl
 came_whole (byte ∷ bytes) (next ∷ more) w r some none = cc
 
-nothing_came : (flying : List ℕ) (w r : End) → flying ≡ [] → r ≡ came_from flying flying w r
+nothing_came : (flying : List ℕ) (w r : JointEnd) → flying ≡ [] → r ≡ came_from flying flying w r
 nothing_came [] w r idle = refl
 nothing_came (byte ∷ bytes) w r idle = cc
 
@@ -228,7 +228,7 @@ seen_fed (Ok used) to bytes old new done = done.seen
 seen_fed (Err e) to bytes old new done = done
 
 -- where nothing is in flight nothing comes
-pub fed_nothing : (to : PairEnd) (used : ℕ) (p : Ends) → used ≡ 0 → (facing to p).flying ≡ [] → p ≡ fed to used p
+pub fed_nothing : (to : PairEnd) (used : ℕ) (p : JointEnds) → used ≡ 0 → (facing to p).flying ≡ [] → p ≡ fed to used p
 fed_nothing First used p none idle = subst (λ (n : ℕ). p ≡ fed First n p) (sym none) (λ i. record { first = nothing_came p.second.flying p.second p.first idle i; second = p.second })
 fed_nothing Second used p none idle = subst (λ (n : ℕ). p ≡ fed Second n p) (sym none) (λ i. record { first = p.first; second = nothing_came p.first.flying p.first p.second idle i })
 

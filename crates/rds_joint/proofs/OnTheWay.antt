@@ -8,7 +8,7 @@ use Rattle.rds_model.specs.declared.entry.Entry.{Entry}
 use Rattle.rds_model.specs.declared.entry.Entry.TheVariants.{Accept, Cancel, Open, Pull, Read, Shut, Bad}
 use Rattle.rds_model.specs.Past.{open_stream}
 use Rattle.rds_model.specs.Legal.{IsLawful, IsLegal, IsPong, pong_to}
-use Rattle.rds_joint.specs.Ends.{End}
+use Rattle.rds_joint.specs.Ends.{JointEnd}
 use Rattle.rds_joint.specs.Steps.{last_pulled_frame}
 use Rattle.rds_joint.specs.OnTheWay.{IsGoing, HasAtMostOne}
 
@@ -38,7 +38,7 @@ newest_is_frame (Shut stream ∷ past) f legal is = newest_is_frame past f legal
 newest_is_frame (Bad stream header cause ∷ past) f legal is = newest_is_frame past f legal.1 is
 
 -- the writer changed, but not what it pulled last, what is in flight, nor its open stream
-pub on_its_way_still : (kept : List ℕ) (w w_new : End) (waiting : Option Frame) → last_pulled_frame w_new.past ≡ last_pulled_frame w.past →
+pub on_its_way_still : (kept : List ℕ) (w w_new : JointEnd) (waiting : Option Frame) → last_pulled_frame w_new.past ≡ last_pulled_frame w.past →
     open_stream w_new.past ≡ open_stream w.past → w_new.flying ≡ w.flying → HasAtMostOne kept w waiting → HasAtMostOne kept w_new waiting
 on_its_way_still kept w w_new waiting newest stream flying (inl idle) =
     inl (record { none_flies = flying ∙ idle.none_flies; none_waits = idle.none_waits; none_kept = idle.none_kept })
@@ -67,25 +67,25 @@ none_of_some : (bytes : List ℕ) → 0 < length bytes → bytes ≡ [] → ⊥
 none_of_some bytes some is = omega (arith, some, ap length is)
 
 -- where no stream is open nothing is in flight
-pub nothing_flies : (kept : List ℕ) (w : End) (waiting : Option Frame) → HasAtMostOne kept w waiting → open_stream w.past ≡ None → w.flying ≡ []
+pub nothing_flies : (kept : List ℕ) (w : JointEnd) (waiting : Option Frame) → HasAtMostOne kept w waiting → open_stream w.past ≡ None → w.flying ≡ []
 nothing_flies kept w waiting (inl idle) closed = idle.none_flies
 nothing_flies kept w waiting (inr (inl going)) closed = absurd (some_of_none (open_stream w.past) going.on closed)
 nothing_flies kept w waiting (inr (inr come)) closed = come.none_flies
 
 -- where nothing is in flight nothing is kept
-pub nothing_kept : (kept : List ℕ) (w : End) (waiting : Option Frame) → HasAtMostOne kept w waiting → w.flying ≡ [] → kept ≡ []
+pub nothing_kept : (kept : List ℕ) (w : JointEnd) (waiting : Option Frame) → HasAtMostOne kept w waiting → w.flying ≡ [] → kept ≡ []
 nothing_kept kept w waiting (inl idle) none = idle.none_kept
 nothing_kept kept w waiting (inr (inl going)) none = absurd (none_of_some w.flying going.some_fly none)
 nothing_kept kept w waiting (inr (inr come)) none = come.none_kept
 
 -- where something is in flight the newest frame is on its way in part
-pub is_going : (kept : List ℕ) (w : End) (waiting : Option Frame) → HasAtMostOne kept w waiting → 0 < length w.flying → IsGoing kept w waiting
+pub is_going : (kept : List ℕ) (w : JointEnd) (waiting : Option Frame) → HasAtMostOne kept w waiting → 0 < length w.flying → IsGoing kept w waiting
 is_going kept w waiting (inl idle) some = absurd (none_of_some w.flying some idle.none_flies)
 is_going kept w waiting (inr (inl going)) some = going
 is_going kept w waiting (inr (inr come)) some = absurd (none_of_some w.flying some come.none_flies)
 
 -- the frame that waited was passed
-pub passed_on_its_way : (kept : List ℕ) (w : End) (f : Frame) → HasAtMostOne kept w (Some f) → HasAtMostOne kept w None
+pub passed_on_its_way : (kept : List ℕ) (w : JointEnd) (f : Frame) → HasAtMostOne kept w (Some f) → HasAtMostOne kept w None
 passed_on_its_way kept w f (inl idle) = let never = idle.none_waits in cc
 passed_on_its_way kept w f (inr (inl going)) = let never = going.none_waits in cc
 passed_on_its_way kept w f (inr (inr come)) =

@@ -8,7 +8,7 @@ use Rattle.rds_pair.specs.declared.step.PairEnd.TheVariants.{First, Second}
 use Rattle.rds_pair.specs.Sides as pair
 use Rattle.rds_pair.specs.Sides.{Sides}
 use Rattle.rds_pair.specs.Changes as was
-use Rattle.rds_joint.specs.Ends.{Ends, facing, of_end, other_end, with_end}
+use Rattle.rds_joint.specs.Ends.{JointEnds, facing, of_end, other_end, with_end}
 use Rattle.rds_joint.specs.Steps.{pulled}
 use Rattle.rds_joint.specs.Inside.{end, ends}
 use Rattle.rds_joint.proofs.Views.{seen_pulled, unpulled_flying, unpulled_waiting}
@@ -19,12 +19,12 @@ pub seen_pulled_at : (who : PairEnd) (map : List ℕ) (p : Sides) → (pair.of_e
 seen_pulled_at First map p idle none = seen_pulled map p.second.waiting p.first idle none
 seen_pulled_at Second map p idle none = seen_pulled map p.first.waiting p.second idle none
 
-pub unpulled_flying_at : (who : PairEnd) (map : List ℕ) (p : Ends) → ((of_end who p).flying ≡ [] → ⊥) →
+pub unpulled_flying_at : (who : PairEnd) (map : List ℕ) (p : JointEnds) → ((of_end who p).flying ≡ [] → ⊥) →
     p ≡ with_end who (pulled map (facing who p).waiting) p
 unpulled_flying_at First map p some = λ i. record { first = sym (unpulled_flying map p.second.waiting p.first some) i; second = p.second }
 unpulled_flying_at Second map p some = λ i. record { first = p.first; second = sym (unpulled_flying map p.first.waiting p.second some) i }
 
-pub unpulled_waiting_at : (who : PairEnd) (map : List ℕ) (p : Ends) → ((facing who p).waiting ≡ None → ⊥) →
+pub unpulled_waiting_at : (who : PairEnd) (map : List ℕ) (p : JointEnds) → ((facing who p).waiting ≡ None → ⊥) →
     p ≡ with_end who (pulled map (facing who p).waiting) p
 unpulled_waiting_at First map p some = λ i. record { first = sym (unpulled_waiting map p.second.waiting p.first some) i; second = p.second }
 unpulled_waiting_at Second map p some = λ i. record { first = p.first; second = sym (unpulled_waiting map p.first.waiting p.second some) i }

@@ -2,7 +2,7 @@
 use Rattle.std.proofs.Common.{◌≡◌, Result, Ok, Err, sym, ◌∙◌, ap, subst}
 use Rattle.std.specs.Prelude.{OnOk, OnErr}
 use Rattle.rds_pair.specs.Sides.{Sides}
-use Rattle.rds_joint.specs.Ends.{Ends}
+use Rattle.rds_joint.specs.Ends.{JointEnds}
 use Rattle.rds_joint.specs.Inside.{ends}
 use Rattle.rds_joint.proofs.Keeping.{IsJointPair}
 
@@ -11,7 +11,7 @@ pub kept_tried : {T E : Type 0} (came : Result T E) (old new made : Sides) → O
 kept_tried (Ok x) old new made ok err joint_made joint = subst IsJointPair (sym ok) joint_made
 kept_tried (Err e) old new made ok err joint_made joint = subst IsJointPair (sym err) joint
 
-pub seen_ok : {T E : Type 0} (came : Result T E) (new made : Sides) (seen : Ends) → OnOk came (new ≡ made) → ends made ≡ seen →
+pub seen_ok : {T E : Type 0} (came : Result T E) (new made : Sides) (seen : JointEnds) → OnOk came (new ≡ made) → ends made ≡ seen →
     OnOk came (ends new ≡ seen)
 seen_ok (Ok x) new made seen ok is = ap ends ok ∙ is
 seen_ok (Err e) new made seen ok is = ok

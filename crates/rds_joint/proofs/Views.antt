@@ -11,12 +11,12 @@ use Rattle.rds_pair.specs.declared.step.PairEnd.TheVariants.{First, Second}
 use Rattle.rds_pair.specs.Sides.{Side, Sides}
 use Rattle.rds_pair.specs.Sides as pair
 use Rattle.rds_pair.specs.Changes as was
-use Rattle.rds_joint.specs.Ends.{End, at_both, of_end, with_end}
+use Rattle.rds_joint.specs.Ends.{JointEnd, at_both, of_end, with_end}
 use Rattle.rds_joint.specs.Steps.{ordered, opened, opened_from, stream_shut, shut_from, pulled, pulled_from, with_pull, passed, passed_from}
 use Rattle.rds_joint.specs.Inside.{end, ends}
 
 -- a change of one end
-pub seen_end : (who : PairEnd) (made : Side → Side) (seen : End → End) (p : Sides) →
+pub seen_end : (who : PairEnd) (made : Side → Side) (seen : JointEnd → JointEnd) (p : Sides) →
     end (made (pair.of_end who p)) ≡ seen (of_end who (ends p)) → ends (pair.with_end who made p) ≡ with_end who seen (ends p)
 seen_end First made seen p is = λ i. record { first = is i; second = end p.second }
 seen_end Second made seen p is = λ i. record { first = end p.first; second = is i }
@@ -56,7 +56,7 @@ seen_pulled map there s idle none = by_stream (open_stream s.past) s.flying ther
     by_stream (Some j) (byte ∷ bytes) w flying_is w_is = cc
 
 -- no pull where something is on its way
-pub unpulled_flying : (map : List ℕ) (there : Option Frame) (e : End) → (e.flying ≡ [] → ⊥) → pulled map there e ≡ e
+pub unpulled_flying : (map : List ℕ) (there : Option Frame) (e : JointEnd) → (e.flying ≡ [] → ⊥) → pulled map there e ≡ e
 unpulled_flying map there e some = by_stream (open_stream e.past) e.flying some
   where
     by_stream : (o : Option ℕ) (flying : List ℕ) → (flying ≡ [] → ⊥) → pulled_from o flying there map e ≡ e
@@ -64,7 +64,7 @@ unpulled_flying map there e some = by_stream (open_stream e.past) e.flying some
     by_stream (Some j) [] some = absurd (some refl)
     by_stream (Some j) (byte ∷ bytes) some = refl
 
-pub unpulled_waiting : (map : List ℕ) (there : Option Frame) (e : End) → (there ≡ None → ⊥) → pulled map there e ≡ e
+pub unpulled_waiting : (map : List ℕ) (there : Option Frame) (e : JointEnd) → (there ≡ None → ⊥) → pulled map there e ≡ e
 unpulled_waiting map there e some = by_stream (open_stream e.past) e.flying there some
   where
     by_stream : (o : Option ℕ) (flying : List ℕ) (w : Option Frame) → (w ≡ None → ⊥) → pulled_from o flying w map e ≡ e
@@ -121,7 +121,7 @@ seen_cut p idle_a idle_b =
     λ i. record { first = first i; second = second i }
 
 -- the same of the end that a call names
-at_end : (who : PairEnd) (made : Side → Side) (seen : End → End) (p : Sides) →
+at_end : (who : PairEnd) (made : Side → Side) (seen : JointEnd → JointEnd) (p : Sides) →
     ((s : Side) → end (made s) ≡ seen (end s)) → end (made (pair.of_end who p)) ≡ seen (of_end who (ends p))
 at_end First made seen p is = is p.first
 at_end Second made seen p is = is p.second

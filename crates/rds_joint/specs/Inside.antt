@@ -3,16 +3,16 @@ use Rattle.std.specs.Prelude.{◌≡◌}
 use Rattle.rds_model.specs.Past.{open_stream}
 use Rattle.rds_pair.specs.Sides.{Side, Sides}
 use Rattle.rds_joint.specs.declared.joint.Joint.TheInside.{Inside}
-use Rattle.rds_joint.specs.Ends.{End, Ends}
+use Rattle.rds_joint.specs.Ends.{JointEnd, JointEnds}
 use Rattle.rds_joint.specs.OnTheWay.{HasAtMostOne}
 
-abbrev pub end : Side → End
+abbrev pub end : Side → JointEnd
 end s = record { slots = s.slots; past = s.past; limit = s.limit; waiting = s.waiting; flying = s.flying }
 
-abbrev pub ends : Sides → Ends
+abbrev pub ends : Sides → JointEnds
 ends p = record { first = end p.first; second = end p.second }
 
-abbrev pub joint_view : Inside → Ends
+abbrev pub joint_view : Inside → JointEnds
 joint_view j = ends j.pair
 
 -- the same stream is open at both ends, or none, and at most one frame is on its way each way

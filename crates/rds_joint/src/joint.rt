@@ -4,7 +4,7 @@ ghost use Rattle.rds_pair.specs.declared.error.PairError.TheVariants as errors;
 mod steps;
 
 use rds_model::{Journal, Verdict};
-use rds_pair::{Pair, PairEnd, PairError};
+use rds_pair::{ConnPair, PairEnd, PairError};
 use rds_wire::{Frame, Memory};
 use std::alloc::Global;
 use std::marker::Model;
@@ -12,13 +12,13 @@ use std::marker::Model;
 /// Two connections with at most one frame on its way in each direction. Contracts see both ends.
 #[derive(Drop)]
 pub struct Joint {
-    pair: Pair,
+    pair: ConnPair,
 }
 
 impl Model for Joint {
-    ghost use Rattle.rds_joint.specs.Ends.{Ends};
+    ghost use Rattle.rds_joint.specs.Ends.{JointEnds};
 
-    ghost Value = { Ends };
+    ghost Value = { JointEnds };
 
     ghost use Rattle.rds_joint.specs.Inside.{JointInvariant, joint_view};
 
@@ -61,7 +61,7 @@ impl Joint {
         ensures { IfOk result (λ joint. joint ≡ record { first = blank slots limit; second = blank slots limit }) }
     {
         Ok(Joint {
-            pair: Pair::new(alloc, first, second, slots, limit)?,
+            pair: ConnPair::new(alloc, first, second, slots, limit)?,
         })
     }
 

@@ -1,5 +1,5 @@
 -- How contracts see the fields of a pair.
-use Rattle.rds_pair.specs.declared.pair.Pair.TheInside.{Inside}
+use Rattle.rds_pair.specs.declared.pair.ConnPair.TheInside.{Inside}
 use Rattle.rds_pair.specs.Sides.{Sides}
 use Rattle.rds_pair.specs.Joined.{IsJoined}
 use Rattle.rds_pair.specs.Half.{side_of}

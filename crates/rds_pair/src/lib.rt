@@ -12,8 +12,8 @@ mod run;
 mod step;
 
 pub use error::PairError;
-pub use pair::Pair;
-pub use step::{PairEnd, Step};
+pub use pair::ConnPair;
+pub use step::{PairEnd, PairStep};
 
 #[cfg(test)]
 mod tests;

@@ -21,14 +21,14 @@ use std::sync::ledger::Ledger;
 
 /// Two connections, and what is in flight between them. Contracts see both ends.
 #[derive(Drop)]
-pub struct Pair {
+pub struct ConnPair {
     first: Half,
     second: Half,
     // How many streams were opened.
     streams: u32,
 }
 
-impl Model for Pair {
+impl Model for ConnPair {
     ghost use Rattle.rds_pair.specs.Sides.{Sides};
 
     ghost Value = { Sides };
@@ -40,7 +40,7 @@ impl Model for Pair {
     ghost invariant = { PairInvariant };
 }
 
-impl Pair {
+impl ConnPair {
     ghost use Rattle.std.specs.Prelude.{◌≤◌, IfOk};
     ghost use Rattle.rds_model.specs.declared.entry.TheConstants.{MAX_SLOTS};
     ghost use Rattle.rds_model.specs.Legal.{IsLegal};
@@ -60,13 +60,13 @@ impl Pair {
         second: u32,
         slots: u16,
         limit: u32,
-    ) -> Result<Pair, Memory>
+    ) -> Result<ConnPair, Memory>
         requires slots { slots ≤ MAX_SLOTS }
         requires least { MIN_ENTRIES ≤ limit }
         requires most { limit ≤ MAX_ENTRIES }
         ensures { IfOk result (λ pair. pair ≡ record { first = blank slots limit; second = blank slots limit }) }
     {
-        Ok(Pair {
+        Ok(ConnPair {
             first: Half::new(alloc, first, second, slots, limit)?,
             second: Half::new(alloc, second, first, slots, limit)?,
             streams: 0,

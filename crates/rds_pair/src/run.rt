@@ -1,8 +1,8 @@
-use crate::{Pair, PairError, Step};
+use crate::{ConnPair, PairError, PairStep};
 use rds_msgs::Steps;
 use std::sync::ledger::Ledger;
 
-impl Pair {
+impl ConnPair {
     ghost use Rattle.std.specs.Prelude.{◌≡◌, ℕ, Err, OnOk, OnErr};
     ghost use Rattle.rds_model.specs.Legal.{IsWhole};
     ghost use Rattle.rds_model.specs.Honest.{IsHonest};
@@ -14,7 +14,7 @@ impl Pair {
     /// Does the steps, one after another, whatever they are. After an error the steps before it were done.
     pub fn run<L: Ledger>(
         &mut self,
-        steps: &[Step],
+        steps: &[PairStep],
         visited: &mut Steps<L>,
     ) -> Result<(), PairError>
         ensures ok { OnOk result (DoesAll steps.now self.old self.new) }
@@ -33,7 +33,11 @@ impl Pair {
     }
 
     // Does the steps, one after another.
-    fn do_all<L: Ledger>(&mut self, steps: &[Step], visited: &mut Steps<L>) -> Result<(), PairError>
+    fn do_all<L: Ledger>(
+        &mut self,
+        steps: &[PairStep],
+        visited: &mut Steps<L>,
+    ) -> Result<(), PairError>
         ensures ok { OnOk result (DoesAll steps.now self.old self.new) }
         ensures err { OnErr result (Stops steps.now self.old self.new) }
         ensures spent { (entries : ℕ) → result ≡ Err (errors.Spent entries) → HasFull entries self.new }
@@ -45,19 +49,23 @@ impl Pair {
     }
 
     /// Does one step.
-    pub fn step<L: Ledger>(&mut self, step: &Step, visited: &mut Steps<L>) -> Result<(), PairError>
+    pub fn step<L: Ledger>(
+        &mut self,
+        step: &PairStep,
+        visited: &mut Steps<L>,
+    ) -> Result<(), PairError>
         ensures ok { OnOk result (Does step.now self.old self.new) }
         ensures err { OnErr result (self.new ≡ self.old) }
         ensures spent { (entries : ℕ) → result ≡ Err (errors.Spent entries) → HasFull entries self.old }
     {
         match step {
-            Step::Order { end, order } => self.order(*end, order, visited),
-            Step::Open => self.open(),
-            Step::Shut { end } => self.shut(*end),
-            Step::Cut => self.cut(),
-            Step::Pull { end, map } => self.pull(*end, map),
-            Step::Move { to, bytes } => self.move_bytes(*to, *bytes).map(|_| ()),
-            Step::Pass { end, slot } => self.pass(*end, *slot, visited),
+            PairStep::Order { end, order } => self.order(*end, order, visited),
+            PairStep::Open => self.open(),
+            PairStep::Shut { end } => self.shut(*end),
+            PairStep::Cut => self.cut(),
+            PairStep::Pull { end, map } => self.pull(*end, map),
+            PairStep::Move { to, bytes } => self.move_bytes(*to, *bytes).map(|_| ()),
+            PairStep::Pass { end, slot } => self.pass(*end, *slot, visited),
         }
     }
 }

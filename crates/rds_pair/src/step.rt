@@ -10,7 +10,7 @@ pub enum PairEnd {
 
 /// One step of a pair. A step that can't be done is passed over.
 #[derive(Drop)]
-pub enum Step {
+pub enum PairStep {
     /// A socket of an end gives an order. A cut isn't one that an end takes.
     Order { end: PairEnd, order: Order },
     /// The next stream is opened at both ends, if none is open at either.

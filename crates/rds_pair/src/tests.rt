@@ -1,7 +1,7 @@
 ghost use Rattle.std.specs.Prelude.{◌≡◌, ◌<◌, ◌≤◌};
 ghost use Rattle.rds_model.specs.declared.journal.TheConstants.{MIN_ENTRIES, MAX_ENTRIES};
 
-use crate::{Pair, PairEnd, PairError, Step};
+use crate::{ConnPair, PairEnd, PairError, PairStep};
 use rds_cong::PortMap;
 use rds_model::{Entry, Journal, Order, Outcome};
 use rds_msgs::Steps;
@@ -14,7 +14,7 @@ use std::test::Fail;
 
 // A pair whose slots of sockets are below 4. Each test that owns one is proved the faster where one call drops it.
 struct Played {
-    pair: Pair,
+    pair: ConnPair,
 }
 
 impl Drop for Played {
@@ -34,16 +34,16 @@ fn unplayed(alloc: Global, limit: u32) -> Result<Played, Memory>
     requires least { MIN_ENTRIES ≤ limit }
     requires most { limit ≤ MAX_ENTRIES }
 {
-    let pair = Pair::new(alloc, 1, 2, 4, limit)?;
+    let pair = ConnPair::new(alloc, 1, 2, 4, limit)?;
     Ok(Played { pair })
 }
 
 // Runs these steps.
-fn run(played: &mut Played, steps: &[Step]) -> Result<(), PairError> {
+fn run(played: &mut Played, steps: &[PairStep]) -> Result<(), PairError> {
     run_by::<Brand>(&mut played.pair, steps, Blank::new(1))
 }
 
-fn run_by<L: Ledger>(pair: &mut Pair, steps: &[Step], blank: Blank) -> Result<(), PairError>
+fn run_by<L: Ledger>(pair: &mut ConnPair, steps: &[PairStep], blank: Blank) -> Result<(), PairError>
     requires name { blank.name ≡ L.name }
     requires parts { blank.parts ≡ L.parts }
     requires whole { 0 < L.parts }
@@ -53,9 +53,9 @@ fn run_by<L: Ledger>(pair: &mut Pair, steps: &[Step], blank: Blank) -> Result<()
 }
 
 // A socket of the first end sends a datagram.
-fn hello(alloc: Global) -> Result<Step, Fail> {
+fn hello(alloc: Global) -> Result<PairStep, Fail> {
     let payload = Payload::copy_of(alloc, b"hello")?;
-    Ok(Step::Order {
+    Ok(PairStep::Order {
         end: PairEnd::First,
         order: Order::Send {
             slot: 0,
@@ -66,21 +66,21 @@ fn hello(alloc: Global) -> Result<Step, Fail> {
     })
 }
 
-fn pull(alloc: Global, end: PairEnd) -> Result<Step, Fail> {
+fn pull(alloc: Global, end: PairEnd) -> Result<PairStep, Fail> {
     let map = PortMap::new(alloc)?;
-    Ok(Step::Pull { end, map })
+    Ok(PairStep::Pull { end, map })
 }
 
 // A frame goes from one end to the other, which passes it.
 fn push_frame(
     alloc: Global,
-    steps: &mut Vec<Step>,
+    steps: &mut Vec<PairStep>,
     from: PairEnd,
     to: PairEnd,
 ) -> Result<(), Fail> {
     steps.push(pull(alloc, from)?)?;
-    steps.push(Step::Move { to, bytes: 10_000 })?;
-    steps.push(Step::Pass {
+    steps.push(PairStep::Move { to, bytes: 10_000 })?;
+    steps.push(PairStep::Pass {
         end: to,
         slot: Some(3),
     })?;
@@ -88,9 +88,9 @@ fn push_frame(
 }
 
 // A socket of the first end sends a datagram, a stream is opened, and the congestion map goes ahead.
-fn push_beginning(alloc: Global, steps: &mut Vec<Step>) -> Result<(), Fail> {
+fn push_beginning(alloc: Global, steps: &mut Vec<PairStep>) -> Result<(), Fail> {
     steps.push(hello(alloc)?)?;
-    steps.push(Step::Open)?;
+    steps.push(PairStep::Open)?;
     push_frame(alloc, steps, PairEnd::First, PairEnd::Second)
 }
 
@@ -133,15 +133,15 @@ fn hello_is_delivered_once(rt: HostRuntime) -> Result<(), Fail> {
 }
 
 // A stream is cut in the middle of a payload, and the next one carries the datagram again.
-fn push_cut(alloc: Global, steps: &mut Vec<Step>) -> Result<(), Fail> {
+fn push_cut(alloc: Global, steps: &mut Vec<PairStep>) -> Result<(), Fail> {
     push_beginning(alloc, steps)?;
     steps.push(pull(alloc, PairEnd::First)?)?;
-    steps.push(Step::Move {
+    steps.push(PairStep::Move {
         to: PairEnd::Second,
         bytes: 50,
     })?;
-    steps.push(Step::Cut)?;
-    steps.push(Step::Open)?;
+    steps.push(PairStep::Cut)?;
+    steps.push(PairStep::Open)?;
     push_frame(alloc, steps, PairEnd::First, PairEnd::Second)?;
     push_frame(alloc, steps, PairEnd::First, PairEnd::Second)
 }
@@ -180,17 +180,17 @@ fn hello_is_delivered_once_over_a_cut_in_its_payload(rt: HostRuntime) -> Result<
 }
 
 // One end is shut while what it wrote is in flight, and that arrives.
-fn push_shut(alloc: Global, steps: &mut Vec<Step>) -> Result<(), Fail> {
+fn push_shut(alloc: Global, steps: &mut Vec<PairStep>) -> Result<(), Fail> {
     push_beginning(alloc, steps)?;
     steps.push(pull(alloc, PairEnd::First)?)?;
-    steps.push(Step::Shut {
+    steps.push(PairStep::Shut {
         end: PairEnd::First,
     })?;
-    steps.push(Step::Move {
+    steps.push(PairStep::Move {
         to: PairEnd::Second,
         bytes: 60,
     })?;
-    steps.push(Step::Pass {
+    steps.push(PairStep::Pass {
         end: PairEnd::Second,
         slot: None,
     })?;

@@ -1,6 +1,6 @@
 //! A socket from its bind to its parts.
 use rds_fmap::Reader;
-use rds_handmade::Host;
+use rds_handmade::HandmadeHost;
 use rds_socket::{BindError, CancelError, Closed, Socket, Vacant};
 use std::alloc::Global;
 use std::sync::Wait;
@@ -60,7 +60,7 @@ fn uses(
 }
 
 fn slot(alloc: Global) -> Option<Vacant<Reader>> {
-    match Host::new(alloc, 1, PEER) {
+    match HandmadeHost::new(alloc, 1, PEER) {
         Ok(host) => Some(host.into_vacant()),
         Err(_) => None,
     }

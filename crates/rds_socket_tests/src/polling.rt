@@ -5,7 +5,7 @@ use futures::task::Poll;
 use futures::test::MockTask;
 use rds_cong::PortMap;
 use rds_fmap::{MapWriter, Reader, Seen, Writer};
-use rds_handmade::{Bound, Counts, End, Host};
+use rds_handmade::{Bound, HandmadeHost, LineCounts, LineEnd};
 use rds_model::Datagram;
 use rds_socket::{NoRoute, Socket};
 use rds_wire::{Memory, Payload};
@@ -28,7 +28,7 @@ type Answers = (
 );
 
 /// Puts one datagram of two bytes and rings.
-fn delivers(rt: &impl Wait, alloc: Global, end: &mut End) -> Result<(), Memory> {
+fn delivers(rt: &impl Wait, alloc: Global, end: &mut LineEnd) -> Result<(), Memory> {
     let payload = Payload::copy_of(alloc, b"hi")?;
     let datagram = Datagram {
         from: PEER,
@@ -53,7 +53,7 @@ fn polls(
     alloc: Global,
     task: &MockTask,
     socket: &mut Socket<Reader>,
-    end: &mut End,
+    end: &mut LineEnd,
 ) -> (Came, bool, bool, Came) {
     let before = polled(rt, task, socket);
     let early = task.is_woken();
@@ -77,7 +77,7 @@ fn writes(
     rt: &impl Wait,
     alloc: Global,
     socket: &mut Socket<Reader>,
-    counts: &mut Counts,
+    counts: &mut LineCounts,
 ) -> (bool, bool, bool)
     requires { socket.old.told ≡ None }
 {
@@ -126,7 +126,7 @@ fn bound(alloc: Global) -> Option<Bound>
     ensures told { IfSome result (λ b. b.socket.told ≡ None) }
     ensures map { IfSome result (λ b. b.map.published ≡ []) }
 {
-    let Ok(host) = Host::new(alloc, 1, PEER) else {
+    let Ok(host) = HandmadeHost::new(alloc, 1, PEER) else {
         return None;
     };
     match host.bind(4000, 10, 100) {

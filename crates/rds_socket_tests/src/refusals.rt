@@ -3,7 +3,7 @@ ghost use Rattle.std.specs.Prelude.{◌≡◌, ◌≤◌, [], None};
 
 use rds_cong::PortMap;
 use rds_fmap::{MapWriter, Reader, Writer};
-use rds_handmade::{Bound, Counts, Host};
+use rds_handmade::{Bound, HandmadeHost, LineCounts};
 use rds_socket::{SendError, Socket};
 use rds_wire::{Memory, Payload};
 use std::alloc::Global;
@@ -38,7 +38,7 @@ fn fills(
     rt: &impl Wait,
     alloc: Global,
     socket: &mut Socket<Reader>,
-    counts: &mut Counts,
+    counts: &mut LineCounts,
 ) -> [Answer; 3]
     requires { socket.old.told ≡ None }
     ensures { socket.new.told ≡ None }
@@ -87,7 +87,7 @@ fn of_a_new_host(
     rt: &impl Wait,
     alloc: Global,
 ) -> Option<([Answer; 3], Result<u64, Memory>, [Answer; 3])> {
-    let Ok(host) = Host::new(alloc, OWN, PEER) else {
+    let Ok(host) = HandmadeHost::new(alloc, OWN, PEER) else {
         return None;
     };
     match host.bind(4000, 10, 100) {

@@ -1,9 +1,9 @@
-use super::Pair;
+use super::ConnPair;
 use crate::{PairEnd, PairError};
 use rds_model::Verdict;
 use rds_wire::Frame;
 
-impl Pair {
+impl ConnPair {
     ghost use Rattle.std.specs.Prelude.{◌≡◌, ℕ, Err, IfSome, OnOk, OnErr};
     ghost use Rattle.rds_frame.specs.Splitting.{IsFrame};
     ghost use Rattle.std.specs.Option.{option_copied, option_map};

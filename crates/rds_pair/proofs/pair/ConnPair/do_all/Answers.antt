@@ -1,5 +1,5 @@
 use Rattle.rds_pair.proofs.Playing.{does_all_next}
-use Rattle.rds_pair.proofs.pair.Pair.do_all.Goals as goal
+use Rattle.rds_pair.proofs.pair.ConnPair.do_all.Goals as goal
 
 pub loop-step-preserved : goal.loop-step-preserved
 loop-step-preserved g c =

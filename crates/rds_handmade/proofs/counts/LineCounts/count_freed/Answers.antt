@@ -2,7 +2,7 @@ use Rattle.std.proofs.Common.{◌≤◌, ◌+◌, sym, subst, arith}
 use Rattle.rds_meter.specs.Places.{part, freed_word}
 use Rattle.rds_meter.specs.Seats.{MeterSeat}
 use Rattle.rds_handmade.proofs.Amounts.{part-most}
-use Rattle.rds_handmade.proofs.counts.Counts.count_freed.Goals as goal
+use Rattle.rds_handmade.proofs.counts.LineCounts.count_freed.Goals as goal
 
 pub invariant_of-self-clause-bounded : goal.invariant_of-self-clause-bounded
 invariant_of-self-clause-bounded c =

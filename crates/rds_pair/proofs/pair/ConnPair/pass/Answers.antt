@@ -2,7 +2,7 @@ use Rattle.rds_pair.specs.Changes.{passed}
 use Rattle.rds_pair.specs.Half.{side_of}
 use Rattle.rds_pair.proofs.Joining.{joined_passed}
 use Rattle.rds_pair.proofs.Trying.{joined_tried, joined_tried_back}
-use Rattle.rds_pair.proofs.pair.Pair.pass.Goals as goal
+use Rattle.rds_pair.proofs.pair.ConnPair.pass.Goals as goal
 
 pub invariant_of-self : goal.invariant_of-self
 invariant_of-self g c =

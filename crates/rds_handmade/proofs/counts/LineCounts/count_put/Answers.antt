@@ -2,7 +2,7 @@ use Rattle.std.proofs.Common.{◌≤◌, ◌+◌, sym, subst, arith}
 use Rattle.rds_meter.specs.Places.{part, put_word}
 use Rattle.rds_meter.specs.Seats.{MeterSeat}
 use Rattle.rds_handmade.proofs.Amounts.{part-most}
-use Rattle.rds_handmade.proofs.counts.Counts.count_put.Goals as goal
+use Rattle.rds_handmade.proofs.counts.LineCounts.count_put.Goals as goal
 
 pub invariant_of-self-clause-bounded : goal.invariant_of-self-clause-bounded
 invariant_of-self-clause-bounded c =

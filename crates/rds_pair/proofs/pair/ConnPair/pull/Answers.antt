@@ -2,7 +2,7 @@ use Rattle.rds_pair.specs.Changes.{pulled}
 use Rattle.rds_pair.specs.Half.{side_of}
 use Rattle.rds_pair.proofs.Joining.{joined_pulled}
 use Rattle.rds_pair.proofs.Trying.{joined_tried, joined_tried_back}
-use Rattle.rds_pair.proofs.pair.Pair.pull.Goals as goal
+use Rattle.rds_pair.proofs.pair.ConnPair.pull.Goals as goal
 
 pub invariant_of-self : goal.invariant_of-self
 invariant_of-self c =

@@ -3,7 +3,7 @@ use Rattle.rds_pair.specs.Changes.{without_flight, shut_one}
 use Rattle.rds_pair.specs.Half.{side_of}
 use Rattle.rds_pair.proofs.Joining.{joined_cut}
 use Rattle.rds_pair.proofs.Trying.{joined_as, whole_as}
-use Rattle.rds_pair.proofs.pair.Pair.cut.Goals as goal
+use Rattle.rds_pair.proofs.pair.ConnPair.cut.Goals as goal
 
 pub invariant_of-self-2 : goal.invariant_of-self-2
 invariant_of-self-2 c =

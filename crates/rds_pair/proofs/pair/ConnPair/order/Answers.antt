@@ -2,7 +2,7 @@ use Rattle.rds_pair.specs.Changes.{ordered}
 use Rattle.rds_pair.specs.Half.{side_of}
 use Rattle.rds_pair.proofs.Joining.{joined_ordered}
 use Rattle.rds_pair.proofs.Trying.{joined_tried, joined_tried_back}
-use Rattle.rds_pair.proofs.pair.Pair.order.Goals as goal
+use Rattle.rds_pair.proofs.pair.ConnPair.order.Goals as goal
 
 pub invariant_of-self : goal.invariant_of-self
 invariant_of-self g c =

@@ -4,7 +4,7 @@ use Rattle.rds_model.specs.Pairs.{IsDeliveredOnce}
 use Rattle.rds_pair.specs.Sides.{Sides}
 use Rattle.rds_pair.specs.Half.{side_of}
 use Rattle.rds_pair.proofs.Joining.{honest_of}
-use Rattle.rds_pair.proofs.pair.Pair.known.Goals as goal
+use Rattle.rds_pair.proofs.pair.ConnPair.known.Goals as goal
 
 pub headline-requires-clause-honest : goal.headline-requires-clause-honest
 headline-requires-clause-honest c =

@@ -4,7 +4,7 @@ use Rattle.rds_pair.specs.Changes.{opened}
 use Rattle.rds_pair.specs.Half.{side_of}
 use Rattle.rds_pair.proofs.Joining.{joined_opened}
 use Rattle.rds_pair.proofs.Trying.{joined_as, whole_as}
-use Rattle.rds_pair.proofs.pair.Pair.open.Goals as goal
+use Rattle.rds_pair.proofs.pair.ConnPair.open.Goals as goal
 
 pub invariant_of-self-2 : goal.invariant_of-self-2
 invariant_of-self-2 c =

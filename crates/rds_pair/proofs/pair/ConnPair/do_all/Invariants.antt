@@ -1,6 +1,6 @@
 use Rattle.std.proofs.Common.{take}
 use Rattle.rds_pair.specs.Playing.{DoesAll}
-use Rattle.rds_pair.proofs.pair.Pair.do_all.Given as goal
+use Rattle.rds_pair.proofs.pair.ConnPair.do_all.Given as goal
 
 -- the steps so far were done
 abbrev pub invariant-loop-step : goal.invariant-loop-step

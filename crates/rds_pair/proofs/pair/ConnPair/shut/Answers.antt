@@ -1,7 +1,7 @@
 use Rattle.rds_pair.specs.Half.{side_of}
 use Rattle.rds_pair.proofs.Joining.{swapped}
 use Rattle.rds_pair.proofs.Trying.{joined_shut_tried}
-use Rattle.rds_pair.proofs.pair.Pair.shut.Goals as goal
+use Rattle.rds_pair.proofs.pair.ConnPair.shut.Goals as goal
 
 pub invariant_of-self : goal.invariant_of-self
 invariant_of-self c =
