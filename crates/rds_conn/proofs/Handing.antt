@@ -7,7 +7,7 @@ use Rattle.rds_conn.specs.declared.conn.Conn.TheInside.{Inside}
 use Rattle.rds_conn.specs.declared.freed.Freed.{Freed}
 use Rattle.rds_conn.specs.Freeing.{HandsOutFreed}
 use Rattle.rds_conn.specs.Invariant.{ConnectionInvariant, IsCharged}
-use Rattle.rds_conn.specs.Unacked.{alive_bytes}
+use Rattle.rds_model.specs.Alive.{alive_bytes}
 use Rattle.rds_conn.proofs.Bounds.{accepted_within}
 use Rattle.rds_conn.proofs.Charging.{charged_after_taken, left_within}
 use Rattle.rds_conn.proofs.ReleasedBytes.{left_alive}

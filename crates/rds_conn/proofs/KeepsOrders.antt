@@ -29,7 +29,7 @@ use Rattle.rds_conn.proofs.Messages.{numbers_of, alive_known, messages_after_can
 use Rattle.rds_conn.proofs.MessagesHeld.{AllTell, messages_tell, numbers_sieved, holds_after_accept, holds_after_cancel}
 use Rattle.rds_conn.proofs.Totals.{total_sieved, total_all, total_none}
 use Rattle.rds_conn.specs.Released.{released_bytes}
-use Rattle.rds_conn.specs.Unacked.{alive_bytes}
+use Rattle.rds_model.specs.Alive.{alive_bytes}
 use Rattle.rds_conn.proofs.ReleasedBytes.{gone_after_cancel, conserved_by}
 use Rattle.rds_conn.proofs.KeepsStreams.{whole_with}
 use Rattle.rds_conn.proofs.Charging.{freed_same, freed_other, length-with_freed, sum-with_freed, charged_after_accept, charged_after, charge_within}

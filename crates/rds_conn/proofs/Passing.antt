@@ -13,7 +13,7 @@ use Rattle.rds_model.specs.Legal.{IsLegal, IsWhole, pong_for}
 use Rattle.rds_conn.specs.declared.conn.Found.{Found}
 use Rattle.rds_conn.specs.Connection.{Connection, freed_bytes_of, with_entries, stream_of}
 use Rattle.rds_conn.specs.Released.{released_bytes}
-use Rattle.rds_conn.specs.Unacked.{alive_bytes}
+use Rattle.rds_model.specs.Alive.{alive_bytes}
 use Rattle.rds_conn.specs.Passing.{Passes, with_pong, outcome_of, after_pass}
 use Rattle.rds_conn.proofs.ReleasedBytes.{gone_after_read, gone_after_accept, alive_bytes_after_accept, conserved_by}
 use Rattle.rds_conn.proofs.KeepsPassing.{of_some}

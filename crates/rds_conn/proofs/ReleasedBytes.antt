@@ -11,12 +11,12 @@ use Rattle.rds_model.specs.declared.entry.Msg.{Msg}
 use Rattle.rds_model.specs.declared.entry.Outcome.{Outcome}
 use Rattle.rds_model.specs.declared.entry.Target.{Target}
 use Rattle.rds_model.specs.Past.{Accepted, accepted, datagram}
-use Rattle.rds_model.specs.Alive.{is_alive, up_to, alive_numbers}
+use Rattle.rds_model.specs.Alive.{is_alive, up_to, alive_numbers, is_from, payload_bytes}
 use Rattle.rds_model.specs.Store.{message, alive_messages}
 use Rattle.rds_model.specs.Legal.{IsLegal}
 use Rattle.rds_conn.specs.Freeing.{bytes_of_slot}
-use Rattle.rds_conn.specs.Released.{is_from, payload_bytes, is_released, released_bytes}
-use Rattle.rds_conn.specs.Unacked.{alive_bytes}
+use Rattle.rds_conn.specs.Released.{is_released, released_bytes}
+use Rattle.rds_model.specs.Alive.{alive_bytes}
 use Rattle.rds_conn.proofs.Charging.{left_after}
 use Rattle.rds_conn.proofs.Totals.{total, total-cons, total-append, total_same_up_to, total_split}
 use Rattle.rds_conn.proofs.Filters.{filter-filter}

@@ -3,7 +3,6 @@ pub mod Orders
 pub mod Readying
 pub mod Freeing
 pub mod Released
-pub mod Unacked
 pub mod Asking
 pub mod Choosing
 pub mod Pulling

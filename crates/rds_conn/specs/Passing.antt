@@ -15,7 +15,7 @@ use Rattle.rds_conn.specs.declared.conn.Found.{Found}
 use Rattle.rds_conn.specs.declared.conn.Found.TheVariants as found
 use Rattle.rds_conn.specs.Connection.{Connection, freed_bytes_of, with_entries, stream_of}
 use Rattle.rds_conn.specs.Released.{released_bytes}
-use Rattle.rds_conn.specs.Unacked.{alive_bytes}
+use Rattle.rds_model.specs.Alive.{alive_bytes}
 
 -- a datagram's port was looked up: the socket of a slot holds it, or none
 abbrev pub IsLookedUp : ℕ → Found → Type 0

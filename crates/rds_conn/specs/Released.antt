@@ -1,18 +1,8 @@
 -- The datagrams of a socket that an end need not deliver any more. Source: this project's own.
-use Rattle.std.specs.Prelude.{ℕ, ◌==◌, ◌&&◌, not, Bool, false, Option, Some, None, List, length, filter, sum_by}
+use Rattle.std.specs.Prelude.{ℕ, ◌&&◌, not, Bool, List, filter, sum_by}
 use Rattle.rds_model.specs.declared.entry.Entry.{Entry}
-use Rattle.rds_model.specs.Past.{Accepted, accepted, datagram}
-use Rattle.rds_model.specs.Alive.{is_alive, up_to}
-
--- a datagram came from the socket of a slot
-abbrev pub is_from : ℕ → Option Accepted → Bool
-is_from slot None = false
-is_from slot (Some d) = d.slot == slot
-
--- how many bytes a datagram has
-abbrev pub payload_bytes : Option Accepted → ℕ
-payload_bytes None = 0
-payload_bytes (Some d) = length d.payload
+use Rattle.rds_model.specs.Past.{accepted, datagram}
+use Rattle.rds_model.specs.Alive.{is_alive, is_from, payload_bytes, up_to}
 
 -- number n came from the socket of a slot, and is alive no longer
 abbrev pub is_released : ℕ → List Entry → ℕ → Bool

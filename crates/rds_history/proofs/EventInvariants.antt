@@ -21,7 +21,8 @@ use Rattle.rds_text.specs.Lines.{cut_line, drained_line, move_line, recv_none_li
 use Rattle.rds_text.specs.Refusals.{is_down, is_open, no_socket, socket_refused_line, pair_refused_line, send_refused_line}
 use Rattle.rds_history.specs.Events.{Event, Appended, Bound, Closed, Received, Marked, Moved, Printed}
 use Rattle.rds_history.specs.Courses.{Course, and_then, if_room, appends, prints, or_refuses, with_socket, on_stream, each, again}
-use Rattle.rds_history.specs.Journals.{journal, moved_in_all, in_flight, is_marked, own_map, last_pulled_frame, peers}
+use Rattle.rds_model.specs.Sums.{last_pulled_frame}
+use Rattle.rds_history.specs.Journals.{journal, moved_in_all, in_flight, is_marked, own_map, peers}
 use Rattle.rds_history.specs.Sockets.{next_slot, holder, queue, queued, receive_buffer}
 use Rattle.rds_history.specs.Mark.{update_mark, if_changed}
 use Rattle.rds_history.specs.Bind.{bind, bind_refusal, free_port}

@@ -45,12 +45,6 @@ written_to_open past = option_map_or (λ stream. written_bytes stream past) (ope
 abbrev pub in_flight : (h k : ℕ) → List Event → List ℕ
 in_flight h k past = drop (moved_count h k past) (written_to_open (journal h k past))
 
--- the frame that was pulled last
-abbrev pub last_pulled_frame : List Entry → Option Frame
-last_pulled_frame [] = None
-last_pulled_frame (Pull stream frame ∷ past) = Some frame
-last_pulled_frame (_ ∷ past) = last_pulled_frame past
-
 -- a port of host h is congested
 abbrev pub is_marked : (h port : ℕ) → List Event → Bool
 is_marked h port [] = false

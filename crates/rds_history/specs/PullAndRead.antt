@@ -10,9 +10,10 @@ use Rattle.rds_model.specs.declared.entry.Verdict.TheVariants as verdict
 use Rattle.rds_model.specs.declared.entry.TheConstants.{NO_SLOT}
 use Rattle.rds_model.specs.Past.{open_stream}
 use Rattle.rds_model.specs.Owed.{owed_frame}
+use Rattle.rds_model.specs.Sums.{last_pulled_frame}
 use Rattle.rds_model.specs.Reading.{verdict_of}
 use Rattle.rds_history.specs.Events.{Event, Appended}
-use Rattle.rds_history.specs.Journals.{journal, own_map, last_pulled_frame}
+use Rattle.rds_history.specs.Journals.{journal, own_map}
 use Rattle.rds_history.specs.Sockets.{holder}
 use Rattle.rds_history.specs.Mark.{update_mark}
 

@@ -1,18 +1,16 @@
 -- What a past says of the sockets. Source: this project's own.
-use Rattle.std.specs.Prelude.{ℕ, suc, ◌==◌, ◌&&◌, if◌then◌else◌, Option, Some, None, List, [], ◌∷◌, ◌++◌, length, drop, filter, sum_by}
+use Rattle.std.specs.Prelude.{ℕ, suc, ◌==◌, ◌&&◌, if◌then◌else◌, Option, Some, None, List, [], ◌∷◌, ◌++◌, length, drop, sum_by}
 use Rattle.rds_wire.specs.declared.frame.Frame.{Frame}
 use Rattle.rds_model.specs.declared.order.Datagram.{Datagram}
 use Rattle.rds_model.specs.declared.entry.Entry.{Entry}
 use Rattle.rds_model.specs.declared.entry.Entry.TheVariants.{Read}
 use Rattle.rds_model.specs.declared.entry.Outcome.{Outcome}
 use Rattle.rds_model.specs.declared.entry.Outcome.TheVariants as outcome
-use Rattle.rds_model.specs.declared.entry.Msg.{Msg}
 use Rattle.rds_model.specs.Deliveries.{datagram_from}
-use Rattle.rds_model.specs.Store.{alive_messages}
-use Rattle.rds_text.specs.Ports.{below}
+use Rattle.rds_model.specs.Alive.{alive_bytes}
 use Rattle.rds_history.specs.Events.{Event, Appended, Bound, Closed, Received}
 use Rattle.rds_report.specs.Hosts.{address_of}
-use Rattle.rds_history.specs.Journals.{journal}
+use Rattle.rds_history.specs.Journals.{journal, peers}
 
 -- the slot of the next socket of host h: it has bound so many
 abbrev pub next_slot : ℕ → List Event → ℕ
@@ -73,10 +71,6 @@ queue h slot past = drop (length (handed_out h slot past)) (arrived_datagrams h 
 abbrev pub queued : (h slot : ℕ) → List Event → ℕ
 queued h slot past = sum_by (λ (d : Datagram). length d.payload) (queue h slot past)
 
--- the bytes of a slot's datagrams that are alive in a journal
-abbrev pub message_bytes : ℕ → List Entry → ℕ
-message_bytes slot past = sum_by (λ (m : Msg). m.len) (filter (λ (m : Msg). m.slot == slot) (alive_messages past))
-
--- the same over all peers
+-- the bytes of a slot's datagrams that are alive at any peer
 abbrev pub unacknowledged : (hosts h slot : ℕ) → List Event → ℕ
-unacknowledged hosts h slot past = sum_by (λ k. message_bytes slot (journal h k past)) (below hosts)
+unacknowledged hosts h slot past = sum_by (λ k. alive_bytes slot (journal h k past)) (peers hosts h)

@@ -15,7 +15,8 @@ use Rattle.rds_pair.specs.declared.step.PairEnd.TheVariants.{First, Second}
 use Rattle.rds_pair.specs.Sides.{Side, Sides, TakesFrameByFrame, unpassed_bytes}
 use Rattle.rds_pair.specs.Changes.{Moves, MovesTo}
 use Rattle.rds_joint.specs.Ends.{JointEnd, JointEnds, facing}
-use Rattle.rds_joint.specs.Steps.{came, came_from, fed, last_pulled_frame, went}
+use Rattle.rds_model.specs.Sums.{last_pulled_frame}
+use Rattle.rds_joint.specs.Steps.{came, came_from, fed, went}
 use Rattle.rds_joint.specs.OnTheWay.{HasAtMostOne, IsGoing}
 use Rattle.rds_joint.specs.Inside.{end, ends, IsJoint}
 use Rattle.rds_joint.proofs.Keeping.{across, IsJointPair, swapped}

@@ -19,7 +19,7 @@ use Rattle.rds_pair.specs.declared.step.PairEnd.TheVariants.{First, Second}
 use Rattle.rds_pair.specs.Sides.{Side, Sides, TakesFrameByFrame, of_end, unpassed_bytes, with_end}
 use Rattle.rds_pair.specs.Joined.{Flows}
 use Rattle.rds_pair.specs.Changes.{entries_of, found_for, is_allowed, opened, ordered, passed, passed_on, opened_at_both, opened_from, pong_entries, pulled, shut_from, shut_one, with_owed_on, with_pull, without_flight}
-use Rattle.rds_joint.specs.Steps.{last_pulled_frame}
+use Rattle.rds_model.specs.Sums.{last_pulled_frame}
 use Rattle.rds_joint.specs.OnTheWay.{HasAtMostOne, ReadsAll}
 use Rattle.rds_joint.specs.Inside.{end, IsJoint}
 use Rattle.rds_joint.proofs.OnTheWay.{frame_has_bytes, nothing_kept, on_its_way_still, passed_on_its_way}

@@ -9,7 +9,7 @@ use Rattle.rds_model.specs.declared.entry.Entry.TheVariants.{Accept, Cancel, Ope
 use Rattle.rds_model.specs.Past.{open_stream}
 use Rattle.rds_model.specs.Legal.{IsLawful, IsLegal, IsPong, pong_to}
 use Rattle.rds_joint.specs.Ends.{JointEnd}
-use Rattle.rds_joint.specs.Steps.{last_pulled_frame}
+use Rattle.rds_model.specs.Sums.{last_pulled_frame}
 use Rattle.rds_joint.specs.OnTheWay.{IsGoing, HasAtMostOne}
 
 -- a frame has some bytes

@@ -5,7 +5,7 @@ use Rattle.rds_wire.specs.Bytes.{frame_bytes}
 use Rattle.rds_model.specs.Past.{open_stream}
 use Rattle.rds_model.specs.Streams.{written_bytes, read_bytes}
 use Rattle.rds_joint.specs.Ends.{JointEnd}
-use Rattle.rds_joint.specs.Steps.{last_pulled_frame}
+use Rattle.rds_model.specs.Sums.{last_pulled_frame}
 
 -- Here `writer` is the end that pulls, `waiting` the whole frame that has come to the other end and wasn't passed, and
 -- `kept` what that end has of a frame which isn't whole.

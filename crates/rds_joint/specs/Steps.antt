@@ -8,6 +8,7 @@ use Rattle.rds_model.specs.declared.entry.Outcome.{Outcome}
 use Rattle.rds_model.specs.declared.order.Order.{Order}
 use Rattle.rds_model.specs.Past.{open_stream, newest_stream}
 use Rattle.rds_model.specs.Owed.{owed_frame}
+use Rattle.rds_model.specs.Sums.{last_pulled_frame}
 use Rattle.rds_model.specs.Reading.{verdict_of}
 use Rattle.rds_model.specs.Legal.{pong_for}
 use Rattle.rds_conn.specs.Passing.{outcome_of}
@@ -49,12 +50,6 @@ pulled_from _ _ _ map e = e
 -- what is owed was pulled, where the host's own map is `map`, and `there` waits at the other end
 abbrev pub pulled : (map : List ℕ) → (there : Option Frame) → JointEnd → JointEnd
 pulled map there e = pulled_from (open_stream e.past) e.flying there map e
-
--- the frame that was pulled last
-abbrev pub last_pulled_frame : List Entry → Option Frame
-last_pulled_frame [] = None
-last_pulled_frame (entry.Pull stream frame ∷ past) = Some frame
-last_pulled_frame (_ ∷ past) = last_pulled_frame past
 
 -- so many bytes in flight went
 abbrev pub went : ℕ → (writer : JointEnd) → JointEnd

@@ -3,7 +3,7 @@ ghost use Rattle.rds_pair.specs.declared.error.PairError.TheVariants as errors;
 
 mod steps;
 
-use rds_model::{Journal, Verdict};
+use rds_model::{Journal, Target, Verdict};
 use rds_pair::{ConnPair, PairEnd, PairError};
 use rds_wire::{Frame, Memory};
 use std::alloc::Global;
@@ -28,13 +28,15 @@ impl Model for Joint {
 }
 
 impl Joint {
-    ghost use Rattle.std.specs.Prelude.{◌≤◌, IfOk};
+    ghost use Rattle.std.specs.Prelude.{◌<◌, ◌≤◌, ◌^◌, nat_le, true, IfOk, filter};
     ghost use Rattle.std.specs.Option.{option_copied, option_map};
     ghost use Rattle.rds_wire.specs.declared.frame.Frame.{Frame};
     ghost use Rattle.rds_model.specs.declared.entry.TheConstants.{MAX_SLOTS};
     ghost use Rattle.rds_model.specs.declared.journal.TheConstants.{MIN_ENTRIES, MAX_ENTRIES};
-    ghost use Rattle.rds_model.specs.Past.{accepted, newest_stream, open_stream};
+    ghost use Rattle.rds_model.specs.Alive.{alive_bytes, alive_numbers, covers, is_alive};
+    ghost use Rattle.rds_model.specs.Past.{accepted, datagram, highest_pulled, newest_stream, open_stream};
     ghost use Rattle.rds_model.specs.Reading.{verdict_of};
+    ghost use Rattle.rds_model.specs.Streams.{was_pulled};
     ghost use Rattle.rds_model.specs.Legal.{IsWhole};
     ghost use Rattle.rds_model.specs.Honest.{IsHonest};
     ghost use Rattle.rds_model.specs.Fifo.{HasNoBad};
@@ -120,6 +122,54 @@ impl Joint {
         ensures { result.now.past ≡ (of_end end self.now).past }
     {
         self.pair.journal(end)
+    }
+
+    /// How many bytes the datagrams of a slot have in all that an end has accepted and that are neither acknowledged nor
+    /// taken back. It takes the same time whatever their number.
+    pub fn unacked_bytes(&self, end: PairEnd, slot: u16) -> u64
+        requires { slot < (of_end end self.now).slots }
+        ensures bytes { result ≡ alive_bytes slot (of_end end self.now).past }
+        ensures most { result ≤ 2 ^ 52 }
+    {
+        self.pair.unacked_bytes(end, slot)
+    }
+
+    /// Replaces `out` by the numbers of the datagrams that a cancellation by a slot of an end would take back now,
+    /// ascending.
+    ///
+    /// # Errors
+    ///
+    /// Where there is no memory for them. `out` is as before.
+    pub fn covered(
+        &self,
+        end: PairEnd,
+        slot: u16,
+        target: &Target,
+        out: &mut Vec<u64>,
+    ) -> Result<(), Memory>
+        ensures ok { OnOk result (out.new.items ≡ filter (λ n. covers slot target.now (datagram (of_end end self.now).past n))
+            (alive_numbers (of_end end self.now).past)) }
+        ensures err { OnErr result (out.new.items ≡ out.old.items) }
+    {
+        self.pair.covered(end, slot, target, out)
+    }
+
+    /// The highest number of a datagram that an end ever pulled, or 0. Of the numbers that are alive it has pulled those up
+    /// to this one, and no other.
+    pub fn highest(&self, end: PairEnd) -> u64
+        ensures number { result ≡ highest_pulled (of_end end self.now).past }
+        ensures pulled { (n : ℕ) → is_alive (of_end end self.now).past n ≡ true →
+            was_pulled (of_end end self.now).past n ≡ nat_le n result }
+    {
+        self.pair.highest(end)
+    }
+
+    /// Gives up the connections, and keeps both journals, that of the first end first.
+    pub fn into_journals(self) -> (Journal, Journal)
+        ensures first { result.0.past ≡ self.first.past }
+        ensures second { result.1.past ≡ self.second.past }
+    {
+        self.pair.into_journals()
     }
 
     /// What every joint keeps: the same stream is open at both ends, at most one frame is on its way each way, both journals

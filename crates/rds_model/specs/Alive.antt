@@ -1,6 +1,6 @@
 -- Which datagrams an end still has to deliver. Sources: rds(7) for the cancellation by destination; the rest is this
 -- project's own.
-use Rattle.std.specs.Prelude.{ℕ, zero, suc, ◌==◌, ◌&&◌, ◌||◌, not, nat_lt, Bool, true, false, Option, Some, None, is_some, List, [], ◌∷◌, ◌++◌, filter}
+use Rattle.std.specs.Prelude.{ℕ, zero, suc, ◌==◌, ◌&&◌, ◌||◌, not, nat_lt, Bool, true, false, Option, Some, None, is_some, List, [], ◌∷◌, ◌++◌, length, filter, sum_by}
 use Rattle.rds_model.specs.declared.entry.Entry.{Entry}
 use Rattle.rds_model.specs.declared.entry.Entry.TheVariants.{Cancel}
 use Rattle.rds_model.specs.declared.entry.Target.{Target}
@@ -36,6 +36,20 @@ up_to (suc m) = up_to m ++ suc m ∷ []
 -- the numbers that are alive, ascending
 abbrev pub alive_numbers : List Entry → List ℕ
 alive_numbers past = filter (is_alive past) (up_to (accepted past))
+
+-- a datagram came from the socket of a slot
+abbrev pub is_from : ℕ → Option Accepted → Bool
+is_from slot None = false
+is_from slot (Some d) = d.slot == slot
+
+-- how many bytes a datagram has
+abbrev pub payload_bytes : Option Accepted → ℕ
+payload_bytes None = 0
+payload_bytes (Some d) = length d.payload
+
+-- the bytes of the datagrams from the socket of a slot that are alive
+abbrev pub alive_bytes : ℕ → List Entry → ℕ
+alive_bytes slot past = sum_by (λ n. payload_bytes (datagram past n)) (filter (λ n. is_from slot (datagram past n)) (alive_numbers past))
 
 -- the numbers that are alive and were not pulled on stream s, ascending
 abbrev pub due_numbers : ℕ → List Entry → List ℕ

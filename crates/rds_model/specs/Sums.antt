@@ -54,3 +54,9 @@ abbrev pub newest_pull : ℕ → List Entry → Option Frame
 newest_pull s [] = None
 newest_pull s (Pull stream frame ∷ past) = if stream == s then Some frame else newest_pull s past
 newest_pull s (_ ∷ past) = newest_pull s past
+
+-- the frame that was pulled last, on whatever stream
+abbrev pub last_pulled_frame : List Entry → Option Frame
+last_pulled_frame [] = None
+last_pulled_frame (Pull stream frame ∷ past) = Some frame
+last_pulled_frame (_ ∷ past) = last_pulled_frame past

@@ -1,6 +1,8 @@
-ghost use Rattle.std.specs.Prelude.{◌≡◌, ℕ, ◌<◌, ◌≤◌, None, Err, IfOk, IfSome, OnOk, OnErr};
+ghost use Rattle.std.specs.Prelude.{◌≡◌, ℕ, ◌<◌, ◌≤◌, nat_le, true, None, Err, IfOk, IfSome, OnOk, OnErr};
 ghost use Rattle.rds_frame.specs.Splitting.{IsFrame};
-ghost use Rattle.rds_model.specs.Past.{open_stream, newest_stream};
+ghost use Rattle.rds_model.specs.Alive.{is_alive};
+ghost use Rattle.rds_model.specs.Past.{highest_pulled, open_stream, newest_stream};
+ghost use Rattle.rds_model.specs.Streams.{was_pulled};
 ghost use Rattle.rds_model.specs.declared.entry.TheConstants.{MAX_SLOTS};
 ghost use Rattle.rds_model.specs.Legal.{IsWhole};
 ghost use Rattle.rds_model.specs.declared.journal.TheConstants.{MIN_ENTRIES, MAX_ENTRIES};
@@ -64,6 +66,16 @@ impl Half {
         ensures whole { IfSome self.now.conn.waiting IsFrame }
     {
         self.conn.known();
+    }
+
+    /// The highest number of a datagram that was ever pulled, or 0.
+    pub fn highest(&self) -> u64
+        ensures number { result ≡ highest_pulled self.now.conn.log.past }
+        ensures pulled { (n : ℕ) → is_alive self.now.conn.log.past n ≡ true →
+            was_pulled self.now.conn.log.past n ≡ nat_le n result }
+    {
+        self.conn.known();
+        self.conn.highest()
     }
 
     /// Gives an order to the connection, if it takes such.

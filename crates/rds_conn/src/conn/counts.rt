@@ -1,7 +1,7 @@
 ghost use Rattle.std.specs.Prelude.{◌≡◌, ◌<◌, ◌≤◌, ◌^◌, length};
 ghost use Rattle.rds_model.specs.Alive.{alive_numbers};
 ghost use Rattle.rds_model.specs.Past.{accepted, highest_pulled, last_passed, newest_stream};
-ghost use Rattle.rds_conn.specs.Unacked.{alive_bytes};
+ghost use Rattle.rds_model.specs.Alive.{alive_bytes};
 
 use super::Conn;
 

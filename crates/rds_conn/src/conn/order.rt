@@ -6,7 +6,7 @@ ghost use Rattle.rds_model.specs.declared.entry.Msg.{Msg};
 ghost use Rattle.rds_conn.specs.Connection.{IsReady, freed_bytes_of, with_entries};
 ghost use Rattle.rds_conn.specs.Released.{released_bytes};
 ghost use Rattle.rds_conn.specs.Orders.{IsOrderFor, after_order, accepted_bytes};
-ghost use Rattle.rds_conn.specs.Unacked.{alive_bytes};
+ghost use Rattle.rds_model.specs.Alive.{alive_bytes};
 
 use super::Conn;
 use rds_model::{Entry, Journal, Msg, NO_SLOT, Order, Target};

@@ -4,7 +4,7 @@ ghost use Rattle.rds_conn.specs.Connection.{IsReady, freed_bytes_of};
 ghost use Rattle.rds_conn.specs.Released.{released_bytes};
 ghost use Rattle.rds_conn.specs.Orders.{IsOrderFor, after_order, accepted_bytes};
 ghost use Rattle.rds_conn.specs.Passing.{Matches, Passes};
-ghost use Rattle.rds_conn.specs.Unacked.{alive_bytes};
+ghost use Rattle.rds_model.specs.Alive.{alive_bytes};
 
 use super::{Conn, Found};
 use rds_model::Order;

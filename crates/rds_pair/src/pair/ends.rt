@@ -1,15 +1,17 @@
 use super::ConnPair;
 use crate::{PairEnd, PairError};
-use rds_model::Verdict;
-use rds_wire::Frame;
+use rds_model::{Target, Verdict};
+use rds_wire::{Frame, Memory};
 
 impl ConnPair {
-    ghost use Rattle.std.specs.Prelude.{◌≡◌, ℕ, Err, IfSome, OnOk, OnErr};
+    ghost use Rattle.std.specs.Prelude.{◌≡◌, ◌<◌, ◌≤◌, ◌^◌, nat_le, true, ℕ, Err, IfSome, OnOk, OnErr, filter};
     ghost use Rattle.rds_frame.specs.Splitting.{IsFrame};
     ghost use Rattle.std.specs.Option.{option_copied, option_map};
     ghost use Rattle.rds_wire.specs.declared.frame.Frame.{Frame};
-    ghost use Rattle.rds_model.specs.Past.{accepted, newest_stream, open_stream};
+    ghost use Rattle.rds_model.specs.Alive.{alive_bytes, alive_numbers, covers, is_alive};
+    ghost use Rattle.rds_model.specs.Past.{accepted, datagram, highest_pulled, newest_stream, open_stream};
     ghost use Rattle.rds_model.specs.Reading.{verdict_of};
+    ghost use Rattle.rds_model.specs.Streams.{was_pulled};
     ghost use Rattle.rds_pair.specs.Sides.{HasRoomForTwo, IsFull, of_end, TakesFrameByFrame};
     ghost use Rattle.rds_pair.specs.declared.error.PairError.TheVariants as errors;
 
@@ -77,6 +79,55 @@ impl ConnPair {
         match end {
             PairEnd::First => self.first.conn.accepted(),
             PairEnd::Second => self.second.conn.accepted(),
+        }
+    }
+
+    /// How many bytes the datagrams of a slot have in all that an end has accepted and that are neither acknowledged nor
+    /// taken back. It takes the same time whatever their number.
+    pub fn unacked_bytes(&self, end: PairEnd, slot: u16) -> u64
+        requires { slot < (of_end end self.now).slots }
+        ensures bytes { result ≡ alive_bytes slot (of_end end self.now).past }
+        ensures most { result ≤ 2 ^ 52 }
+    {
+        match end {
+            PairEnd::First => self.first.conn.unacked_bytes(slot),
+            PairEnd::Second => self.second.conn.unacked_bytes(slot),
+        }
+    }
+
+    /// Replaces `out` by the numbers of the datagrams that a cancellation by a slot of an end would take back now,
+    /// ascending.
+    ///
+    /// # Errors
+    ///
+    /// Where there is no memory for them. `out` is as before.
+    pub fn covered(
+        &self,
+        end: PairEnd,
+        slot: u16,
+        target: &Target,
+        out: &mut Vec<u64>,
+    ) -> Result<(), Memory>
+        ensures ok { OnOk result (out.new.items ≡ filter (λ n. covers slot target.now (datagram (of_end end self.now).past n))
+            (alive_numbers (of_end end self.now).past)) }
+        ensures err { OnErr result (out.new.items ≡ out.old.items) }
+    {
+        match end {
+            PairEnd::First => self.first.conn.covered(slot, target, out),
+            PairEnd::Second => self.second.conn.covered(slot, target, out),
+        }
+    }
+
+    /// The highest number of a datagram that an end ever pulled, or 0. Of the numbers that are alive it has pulled those up
+    /// to this one, and no other.
+    pub fn highest(&self, end: PairEnd) -> u64
+        ensures number { result ≡ highest_pulled (of_end end self.now).past }
+        ensures pulled { (n : ℕ) → is_alive (of_end end self.now).past n ≡ true →
+            was_pulled (of_end end self.now).past n ≡ nat_le n result }
+    {
+        match end {
+            PairEnd::First => self.first.highest(),
+            PairEnd::Second => self.second.highest(),
         }
     }
 
