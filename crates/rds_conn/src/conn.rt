@@ -124,8 +124,8 @@ impl Model for Conn {
 }
 
 impl Conn {
-    ghost use Rattle.rds_model.specs.Alive.{alive_numbers, covers, is_alive};
-    ghost use Rattle.rds_model.specs.Past.{datagram, highest_pulled};
+    ghost use Rattle.rds_model.specs.Alive.{covered, is_alive};
+    ghost use Rattle.rds_model.specs.Past.{highest_pulled};
     ghost use Rattle.rds_model.specs.Streams.{was_pulled};
     ghost use Rattle.rds_model.specs.Legal.{IsWhole};
     ghost use Rattle.rds_frame.specs.Splitting.{IsClear, IsPartial, IsSound};
@@ -232,8 +232,7 @@ impl Conn {
     ///
     /// Where there is no memory for them. `out` is as before.
     pub fn covered(&self, slot: u16, target: &Target, out: &mut Vec<u64>) -> Result<(), Memory>
-        ensures ok { OnOk result (out.new.items ≡
-            filter (λ n. covers slot target.now (datagram self.now.log.past n)) (alive_numbers self.now.log.past)) }
+        ensures ok { OnOk result (out.new.items ≡ covered slot target.now self.now.log.past) }
         ensures err { OnErr result (out.new.items ≡ out.old.items) }
     {
         self.store.covered(slot, target, out)

@@ -2,18 +2,13 @@
 use Rattle.std.specs.Prelude.{ℕ, suc, not, List, [], ◌∷◌, ◌++◌, filter}
 use Rattle.rds_model.specs.declared.entry.Entry.{Entry}
 use Rattle.rds_model.specs.declared.entry.Entry.TheVariants.{Accept, Cancel, Open, Pull, Read, Shut, Bad}
-use Rattle.rds_model.specs.declared.entry.Target.{Target}
-use Rattle.rds_model.specs.Past.{accepted, datagram}
+use Rattle.rds_model.specs.Past.{accepted}
 use Rattle.rds_model.specs.Streams.{was_pulled}
-use Rattle.rds_model.specs.Alive.{covers, alive_numbers}
+use Rattle.rds_model.specs.Alive.{covered}
 use Rattle.rds_history.specs.Events.{Event, Appended, Bound, Closed, Received, Marked, Moved, Printed}
 use Rattle.rds_report.specs.Hosts.{host_at}
 use Rattle.rds_history.specs.Journals.{journal}
 use Rattle.rds_text.specs.Lines.{accept_line, cancel_line, open_line, pull_line, read_line, shut_line, bind_line, recv_line, close_line, mark_line}
-
--- the numbers that are alive and that a cancellation covers
-abbrev pub covered : ℕ → Target → List Entry → List ℕ
-covered slot target past = filter (λ n. covers slot target (datagram past n)) (alive_numbers past)
 
 -- the line of an entry of the journal of host h with k, after this past of the journal. No script makes a malformed
 -- header.

@@ -28,13 +28,13 @@ impl Model for Joint {
 }
 
 impl Joint {
-    ghost use Rattle.std.specs.Prelude.{◌<◌, ◌≤◌, ◌^◌, nat_le, true, IfOk, filter};
+    ghost use Rattle.std.specs.Prelude.{◌<◌, ◌≤◌, ◌^◌, nat_le, true, IfOk};
     ghost use Rattle.std.specs.Option.{option_copied, option_map};
     ghost use Rattle.rds_wire.specs.declared.frame.Frame.{Frame};
     ghost use Rattle.rds_model.specs.declared.entry.TheConstants.{MAX_SLOTS};
     ghost use Rattle.rds_model.specs.declared.journal.TheConstants.{MIN_ENTRIES, MAX_ENTRIES};
-    ghost use Rattle.rds_model.specs.Alive.{alive_bytes, alive_numbers, covers, is_alive};
-    ghost use Rattle.rds_model.specs.Past.{accepted, datagram, highest_pulled, newest_stream, open_stream};
+    ghost use Rattle.rds_model.specs.Alive.{alive_bytes, covered, is_alive};
+    ghost use Rattle.rds_model.specs.Past.{accepted, highest_pulled, newest_stream, open_stream};
     ghost use Rattle.rds_model.specs.Reading.{verdict_of};
     ghost use Rattle.rds_model.specs.Streams.{was_pulled};
     ghost use Rattle.rds_model.specs.Legal.{IsWhole};
@@ -147,8 +147,7 @@ impl Joint {
         target: &Target,
         out: &mut Vec<u64>,
     ) -> Result<(), Memory>
-        ensures ok { OnOk result (out.new.items ≡ filter (λ n. covers slot target.now (datagram (of_end end self.now).past n))
-            (alive_numbers (of_end end self.now).past)) }
+        ensures ok { OnOk result (out.new.items ≡ covered slot target.now (of_end end self.now).past) }
         ensures err { OnErr result (out.new.items ≡ out.old.items) }
     {
         self.pair.covered(end, slot, target, out)

@@ -51,6 +51,10 @@ payload_bytes (Some d) = length d.payload
 abbrev pub alive_bytes : ℕ → List Entry → ℕ
 alive_bytes slot past = sum_by (λ n. payload_bytes (datagram past n)) (filter (λ n. is_from slot (datagram past n)) (alive_numbers past))
 
+-- the numbers that are alive and that a cancellation by a slot covers, ascending
+abbrev pub covered : ℕ → Target → List Entry → List ℕ
+covered slot target past = filter (λ n. covers slot target (datagram past n)) (alive_numbers past)
+
 -- the numbers that are alive and were not pulled on stream s, ascending
 abbrev pub due_numbers : ℕ → List Entry → List ℕ
 due_numbers s past = filter (λ n. is_alive past n && not (pulled_on s past n)) (up_to (accepted past))

@@ -4,12 +4,12 @@ use rds_model::{Target, Verdict};
 use rds_wire::{Frame, Memory};
 
 impl ConnPair {
-    ghost use Rattle.std.specs.Prelude.{◌≡◌, ◌<◌, ◌≤◌, ◌^◌, nat_le, true, ℕ, Err, IfSome, OnOk, OnErr, filter};
+    ghost use Rattle.std.specs.Prelude.{◌≡◌, ◌<◌, ◌≤◌, ◌^◌, nat_le, true, ℕ, Err, IfSome, OnOk, OnErr};
     ghost use Rattle.rds_frame.specs.Splitting.{IsFrame};
     ghost use Rattle.std.specs.Option.{option_copied, option_map};
     ghost use Rattle.rds_wire.specs.declared.frame.Frame.{Frame};
-    ghost use Rattle.rds_model.specs.Alive.{alive_bytes, alive_numbers, covers, is_alive};
-    ghost use Rattle.rds_model.specs.Past.{accepted, datagram, highest_pulled, newest_stream, open_stream};
+    ghost use Rattle.rds_model.specs.Alive.{alive_bytes, covered, is_alive};
+    ghost use Rattle.rds_model.specs.Past.{accepted, highest_pulled, newest_stream, open_stream};
     ghost use Rattle.rds_model.specs.Reading.{verdict_of};
     ghost use Rattle.rds_model.specs.Streams.{was_pulled};
     ghost use Rattle.rds_pair.specs.Sides.{HasRoomForTwo, IsFull, of_end, TakesFrameByFrame};
@@ -108,8 +108,7 @@ impl ConnPair {
         target: &Target,
         out: &mut Vec<u64>,
     ) -> Result<(), Memory>
-        ensures ok { OnOk result (out.new.items ≡ filter (λ n. covers slot target.now (datagram (of_end end self.now).past n))
-            (alive_numbers (of_end end self.now).past)) }
+        ensures ok { OnOk result (out.new.items ≡ covered slot target.now (of_end end self.now).past) }
         ensures err { OnErr result (out.new.items ≡ out.old.items) }
     {
         match end {
