@@ -1,0 +1,12 @@
+//! The connections between up to eight hosts: a joint for each two of them, found by the two hosts.
+#![tactic(auto)]
+
+mod mesh;
+mod place;
+mod steps;
+
+pub use mesh::Mesh;
+pub use rds_joint::PairError;
+
+#[cfg(test)]
+mod tests;
