@@ -1,0 +1,4 @@
+pub mod KeptSockets
+pub mod OneSocket
+pub mod Receiving
+pub mod Searching
