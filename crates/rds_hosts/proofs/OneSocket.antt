@@ -47,3 +47,15 @@ host_replaced h slot past later old new y t in_range change places told = record
         socket_same h s past later z (change.others s ne)
         (t.sockets_are s s_in z (z_is ∙ get_or-set_other old.sockets.items slot s y z ne)))
         (cases_eq s slot)
+
+-- the socket found at a place is the host's at its slot
+pub found_at : (slot i : ℕ) (old : ScriptHost) (x : ScriptSocket) → i ≡ slot → x ≡ get_or old.sockets.items i x → x ≡ get_or old.sockets.items slot x
+found_at slot i old x at x_is = x_is ∙ ap (λ j. get_or old.sockets.items j x) at
+
+pub places : (slot i : ℕ) (old new : ScriptHost) (y : ScriptSocket) → i ≡ slot → new.sockets.items ≡ set old.sockets.items i y → new.holders ≡ old.holders →
+    new.map ≡ old.map → Replaces slot y old new
+places slot i old new y at sockets_are holders_same map_same = record {
+  sockets_are = sockets_are ∙ ap (λ j. set old.sockets.items j y) at;
+  holders_same = holders_same;
+  map_same = map_same;
+}

@@ -17,7 +17,7 @@ use Rattle.rds_hosts.specs.declared.host.ScriptSocket.{ScriptSocket}
 use Rattle.rds_hosts.specs.HostLaws.{same_pair, other_pair}
 use Rattle.rds_hosts.specs.Receiving.{HandsOut, KeepsAll}
 use Rattle.rds_hosts.specs.Telling.{TellsHost, TellsSocket}
-use Rattle.rds_hosts.proofs.OneSocket.{ChangesSlot, Replaces, host_replaced}
+use Rattle.rds_hosts.proofs.OneSocket.{found_at, host_replaced, places}
 
 drop_next : {X : Type 0} (n : ℕ) (xs : List X) (y : X) (ys : List X) → drop n xs ≡ y ∷ ys → drop (suc n) xs ≡ ys
 drop_next zero [] y ys is = cc
@@ -67,18 +67,6 @@ socket_handed h port slot past a waiting old new text_old text_new t items out =
           (drop_short (length (handed_out h slot past)) (arrived_datagrams h slot past) a.datagram (map (λ (x : Arrived). x.datagram) waiting) front);
     }
 
--- the socket found at a place is the host's at its slot
-found_at : (slot i : ℕ) (old : ScriptHost) (x : ScriptSocket) → i ≡ slot → x ≡ get_or old.sockets.items i x → x ≡ get_or old.sockets.items slot x
-found_at slot i old x at x_is = x_is ∙ ap (λ j. get_or old.sockets.items j x) at
-
-places : (slot i : ℕ) (old new : ScriptHost) (y : ScriptSocket) → i ≡ slot → new.sockets.items ≡ set old.sockets.items i y → new.holders ≡ old.holders →
-    new.map ≡ old.map → Replaces slot y old new
-places slot i old new y at sockets_are holders_same map_same = record {
-  sockets_are = sockets_are ∙ ap (λ j. set old.sockets.items j y) at;
-  holders_same = holders_same;
-  map_same = map_same;
-}
-
 -- the first of a queue, by its datagram
 record IsFront (q : List Arrived) (d : Datagram) : Type 0 where
   pub a : Arrived
@@ -105,18 +93,20 @@ handed h port slot i past d waiting old new x y text_old text_new (Err e) t in_r
 handed h port slot i past d waiting old new x y text_old text_new (Ok some) t in_range at x_is is sockets_are holders_same map_same hands =
     let socket = t.sockets_are slot in_range x (found_at slot i old x at x_is) in
     let first = front x.queue.items d waiting (socket.queue_is ∙ is) in
-    let out = hands first.a first.rest first.items_are in
-    (out.0, subst (λ e. TellsHost h (Received h port slot e ∷ past) new) first.datagram_is
-      (host_replaced h slot past (Received h port slot first.a.datagram ∷ past) old new y t in_range
-      (record {
-        slots = refl;
-        holders = λ q. refl;
-        map_same = refl;
-        marks = λ q. refl;
-        others = λ s apart. record { binds = λ choose. refl; came = refl; left = received_there h port slot s first.a.datagram past apart };
-      })
-      (places slot i old new y at sockets_are holders_same map_same)
-      (socket_handed h port slot past first.a first.rest x y text_old text_new socket first.items_are out.1)))
+    let out = hands first.a first.rest first.items_are in (
+      out.0,
+      subst (λ e. TellsHost h (Received h port slot e ∷ past) new) first.datagram_is
+          (host_replaced h slot past (Received h port slot first.a.datagram ∷ past) old new y t in_range
+          (record {
+            slots = refl;
+            holders = λ q. refl;
+            map_same = refl;
+            marks = λ q. refl;
+            others = λ s apart. record { binds = λ choose. refl; came = refl; left = received_there h port slot s first.a.datagram past apart };
+          })
+          (places slot i old new y at sockets_are holders_same map_same)
+          (socket_handed h port slot past first.a first.rest x y text_old text_new socket first.items_are out.1)),
+    )
 
 -- the line of the datagram
 pub handed_text : (h port slot i : ℕ) (past : List Event) (d : Datagram) (waiting : List Datagram) (old : ScriptHost)
@@ -162,13 +152,15 @@ pub looked : (h slot i : ℕ) (past : List Event) (old new : ScriptHost) (x y : 
 looked h slot i past old new x y text_old text_new (Err e) t in_range at x_is empty sockets_are holders_same map_same keeps = tt
 looked h slot i past old new x y text_old text_new (Ok some) t in_range at x_is empty sockets_are holders_same map_same keeps =
     let socket = t.sockets_are slot in_range x (found_at slot i old x at x_is) in
-    let out = keeps (no_queue x.queue.items (socket.queue_is ∙ empty)) in
-    (out.0, host_replaced h slot past past old new y t in_range
-      (record {
-        slots = refl;
-        holders = λ q. refl;
-        map_same = refl;
-        marks = λ q. refl;
-        others = λ s apart. record { binds = λ choose. refl; came = refl; left = refl };
-      })
-      (places slot i old new y at sockets_are holders_same map_same) (socket_kept h slot past x y text_old text_new socket out.1))
+    let out = keeps (no_queue x.queue.items (socket.queue_is ∙ empty)) in (
+      out.0,
+      host_replaced h slot past past old new y t in_range
+          (record {
+            slots = refl;
+            holders = λ q. refl;
+            map_same = refl;
+            marks = λ q. refl;
+            others = λ s apart. record { binds = λ choose. refl; came = refl; left = refl };
+          })
+          (places slot i old new y at sockets_are holders_same map_same) (socket_kept h slot past x y text_old text_new socket out.1),
+    )

@@ -17,7 +17,13 @@ impl ScriptHost {
     /// # Errors
     ///
     /// Where there is no memory for the lines.
-    pub fn unbind(&mut self, text: &mut String, host: u8, port: u16, slot: u16) -> Result<(), Memory>
+    pub fn unbind(
+        &mut self,
+        text: &mut String,
+        host: u8,
+        port: u16,
+        slot: u16,
+    ) -> Result<(), Memory>
         requires { host < MAX_HOSTS }
         ensures told { (past : List Event) → slot < next_slot host past → TellsHost host past self.old →
             OnOk result (TellsHost host (unbind host port slot past) self.new) }

@@ -22,7 +22,13 @@ impl ScriptHost {
     /// # Errors
     ///
     /// Where there is no memory for the line, or to keep the datagram.
-    pub fn hand_out(&mut self, text: &mut String, host: u8, port: u16, slot: u16) -> Result<bool, Memory>
+    pub fn hand_out(
+        &mut self,
+        text: &mut String,
+        host: u8,
+        port: u16,
+        slot: u16,
+    ) -> Result<bool, Memory>
         requires { host < MAX_HOSTS }
         ensures none { (past : List Event) → slot < next_slot host past → TellsHost host past self.old → queue host slot past ≡ [] →
             IfOk result (λ some. (some ≡ false) × TellsHost host past self.new) }
@@ -68,7 +74,12 @@ impl ScriptHost {
 }
 
 // Hands out the datagram that has waited longest at a socket, and prints it. Answers whether there was one.
-fn hand_out(text: &mut String, socket: &mut ScriptSocket, host: u8, port: u16) -> Result<bool, Memory>
+fn hand_out(
+    text: &mut String,
+    socket: &mut ScriptSocket,
+    host: u8,
+    port: u16,
+) -> Result<bool, Memory>
     requires { host < MAX_HOSTS }
     ensures none { socket.old.queue.items ≡ [] →
         IfOk result (λ some. (some ≡ false) × KeepsAll socket.old socket.new (string_bytes text.old) (string_bytes text.new)) }
