@@ -1,0 +1,5 @@
+pub mod KeptSockets
+pub mod OneSocket
+pub mod Receiving
+pub mod Searching
+pub mod TakingIn

@@ -1,0 +1,4 @@
+pub mod Elsewhere
+pub mod HostLaws
+pub mod Receiving
+pub mod Telling
