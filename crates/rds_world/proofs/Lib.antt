@@ -1,0 +1,4 @@
+pub mod Journaling
+pub mod Replacing
+pub mod Comings
+pub mod Ends

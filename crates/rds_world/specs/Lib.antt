@@ -1,0 +1,4 @@
+pub mod Coming
+pub mod Printing
+pub mod Readiness
+pub mod Telling
