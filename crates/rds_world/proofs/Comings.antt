@@ -1,5 +1,5 @@
 -- What comes of courses, one after another.
-use Rattle.std.proofs.Common.{◌≡◌, ◌≢◌, ℕ, ◌<◌, Bool, true, false, cond, Result, Ok, Err, List, ◌∷◌, ◌++◌, length, refl, sym, ap, subst}
+use Rattle.std.proofs.Common.{◌≡◌, ◌≢◌, ℕ, ◌+◌, ◌<◌, Bool, true, false, cond, Result, Ok, Err, List, ◌∷◌, ◌++◌, length, refl, sym, ap, subst}
 use Rattle.std.specs.Prelude.{OnOk, nat_lt}
 use Rattle.std.proofs.lemmas.Bool.{cond-true, cond-false}
 use Rattle.rds_history.specs.Events.{Event, Printed}
@@ -65,7 +65,13 @@ tells_printed w limit hosts past line s t = record {
   text_is = ap (λ (x : List ℕ). x ++ line) t.text_is;
   hosts_are = λ a a_in x is. untouched a (Printed line) past x tt (t.hosts_are a a_in x is);
   ends_are = λ a b a_in b_in apart. let e = t.ends_are a b a_in b_in apart in record {
-    slots_are = e.slots_are; journal_is = e.journal_is; limit_is = e.limit_is; waiting_is = e.waiting_is; flying_is = e.flying_is; within = e.within };
+    slots_are = e.slots_are;
+    journal_is = e.journal_is;
+    limit_is = e.limit_is;
+    waiting_is = e.waiting_is;
+    flying_is = e.flying_is;
+    within = e.within;
+  };
   peers_are = λ a b a_in b_in p is. let q = t.peers_are a b a_in b_in p is in record { map_is = q.map_is; version_is = q.version_is };
 }
 

@@ -1,6 +1,7 @@
 -- Whether a journal has room for the next call. Source: this project's own.
 use Rattle.std.specs.Prelude.{◌≡◌, ℕ, ◌+◌, nat_lt, true, false, Result, Ok, Err, List, length}
 use Rattle.rds_model.specs.declared.entry.Entry.{Entry}
+use Rattle.rds_pair.specs.declared.error.PairError.{PairError}
 use Rattle.rds_world.specs.declared.stop.Full.{Full}
 use Rattle.rds_world.specs.declared.stop.Stop.{Stop}
 use Rattle.rds_world.specs.declared.stop.Stop.TheVariants as stop
@@ -35,3 +36,8 @@ IsStopped limit h k past stop.Memory = Unit {0}
 abbrev pub Readies : {A : Type 0} (limit h k : ℕ) → List Entry → Result A Stop → Type 0
 Readies limit h k past (Ok _) = nat_lt limit (length past + 2) ≡ false
 Readies limit h k past (Err why) = IsStopped limit h k past why
+
+-- a step that was tried where there is room fails for want of memory alone
+abbrev pub or_memory : {A : Type 0} → Result A PairError → Result A Stop
+or_memory (Ok x) = Ok x
+or_memory (Err why) = Err stop.Memory

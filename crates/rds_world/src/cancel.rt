@@ -1,6 +1,6 @@
 ghost use Rattle.std.specs.Prelude.{◌≡◌, ◌≢◌, ◌<◌};
 
-use crate::opening::{no_memory, ready};
+use crate::opening::or_memory;
 use crate::stop::Stop;
 use crate::world::World;
 use rds_model::{Order, Target};
@@ -77,11 +77,9 @@ impl World {
         requires apart { peer ≢ host }
         ensures count { self.new.count ≡ self.old.count }
     {
-        ready(&mut self.mesh, host, peer)?;
+        self.ready(host, peer)?;
         let covered = self.covered(host, peer, slot, target)?;
-        self.mesh
-            .order(host, peer, &order(slot, target), steps)
-            .map_err(no_memory)?;
+        or_memory(self.mesh.order(host, peer, &order(slot, target), steps))?;
         cancel_line(
             &mut self.text,
             host,

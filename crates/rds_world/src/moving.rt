@@ -1,6 +1,6 @@
 ghost use Rattle.std.specs.Prelude.{◌≡◌, ◌≢◌, ◌<◌};
 
-use crate::opening::{no_memory, ready};
+use crate::opening::or_memory;
 use crate::printing::print;
 use crate::stop::Stop;
 use crate::world::World;
@@ -94,10 +94,10 @@ impl World {
         if !self.mesh.in_flight(from, to).is_empty() {
             return Ok(());
         }
-        ready(&mut self.mesh, from, to)?;
+        self.ready(from, to)?;
         let first = self.mesh.journal(from, to).len();
         let map = self.hosts[usize::from(from)].map();
-        self.mesh.pull(from, to, map).map_err(no_memory)?;
+        or_memory(self.mesh.pull(from, to, map))?;
         print(&mut self.text, &self.mesh, from, to, first)?;
         Ok(())
     }
@@ -119,11 +119,8 @@ impl World {
         if flight == 0 {
             return Ok(0);
         }
-        ready(&mut self.mesh, to, from)?;
-        let moved = self
-            .mesh
-            .feed(from, to, portion(left, flight))
-            .map_err(no_memory)?;
+        self.ready(to, from)?;
+        let moved = or_memory(self.mesh.feed(from, to, portion(left, flight)))?;
         if self.mesh.in_flight(from, to).is_empty() {
             self.read(to, from, steps)?;
         }

@@ -1,4 +1,9 @@
-ghost use Rattle.std.specs.Prelude.{◌≡◌, ◌≢◌, ◌<◌};
+ghost use Rattle.std.specs.Prelude.{◌≡◌, ◌≢◌, ◌<◌, ◌≤◌, ◌∷◌, ◌++◌, List, OnOk, length, string_bytes};
+ghost use Rattle.rds_model.specs.declared.entry.Entry.{Entry as EntryOf};
+ghost use Rattle.rds_model.specs.Past.{accepted};
+ghost use Rattle.rds_history.specs.Transcript.{entry_line};
+ghost use Rattle.rds_mesh.specs.Ends.{end_at};
+ghost use Rattle.rds_world.specs.Printing.{PrintsAlone};
 ghost use Rattle.rds_text.specs.declared.host.TheConstants.{MAX_HOSTS};
 
 use rds_mesh::Mesh;
@@ -11,7 +16,12 @@ pub fn print(text: &mut String, mesh: &Mesh, host: u8, peer: u8, at: u32) -> Res
     requires host { host < mesh.now.count }
     requires peer { peer < mesh.now.count }
     requires apart { peer ≢ host }
+    ensures line { OnOk result ((e : EntryOf) (before after : List EntryOf) → (end_at host peer mesh.now).past ≡ after ++ e ∷ before →
+        at ≡ length before → PrintsAlone (accepted (end_at host peer mesh.now).past) before e →
+        string_bytes text.new ≡ string_bytes text.old ++ entry_line host peer before e) }
+    ensures none { length (end_at host peer mesh.now).past ≤ at → OnOk result (string_bytes text.new ≡ string_bytes text.old) }
 {
+    mesh.count();
     match mesh.journal(host, peer).at(at) {
         Some(entry) => print_entry(text, host, peer, mesh.accepted(host, peer), entry),
         None => Ok(()),
@@ -22,6 +32,8 @@ pub fn print(text: &mut String, mesh: &Mesh, host: u8, peer: u8, at: u32) -> Res
 fn print_entry(text: &mut String, host: u8, peer: u8, n: u64, entry: &Entry) -> Result<(), Memory>
     requires host { host < MAX_HOSTS }
     requires peer { peer < MAX_HOSTS }
+    ensures { OnOk result ((before : List EntryOf) → PrintsAlone n before entry.now →
+        string_bytes text.new ≡ string_bytes text.old ++ entry_line host peer before entry.now) }
 {
     match entry {
         Entry::Accept {

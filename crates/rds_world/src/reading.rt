@@ -1,6 +1,6 @@
 ghost use Rattle.std.specs.Prelude.{◌≡◌, ◌≢◌, ◌<◌};
 
-use crate::opening::no_memory;
+use crate::opening::or_memory;
 use crate::printing::print;
 use crate::stop::Stop;
 use crate::world::{World, place};
@@ -103,7 +103,7 @@ impl World {
         ensures count { self.new.count ≡ self.old.count }
     {
         let first = self.mesh.journal(host, peer).len();
-        self.mesh.pass(host, peer, slot, steps).map_err(no_memory)?;
+        or_memory(self.mesh.pass(host, peer, slot, steps))?;
         print(&mut self.text, &self.mesh, host, peer, first)?;
         Ok(())
     }

@@ -1,7 +1,7 @@
 ghost use Rattle.std.specs.Prelude.{◌≡◌, ◌≢◌, ◌<◌, ◌≤◌, ◌*◌, ◌^◌};
 ghost use Rattle.rds_model.specs.declared.entry.TheConstants.{MAX_SLOTS};
 
-use crate::opening::{no_memory, ready};
+use crate::opening::or_memory;
 use crate::stop::Stop;
 use crate::world::{World, place};
 use rds_model::Order;
@@ -53,8 +53,8 @@ impl World {
         requires apart { to ≢ host }
         ensures count { self.new.count ≡ self.old.count }
     {
-        ready(&mut self.mesh, host, to)?;
-        self.mesh.order(host, to, order, steps).map_err(no_memory)?;
+        self.ready(host, to)?;
+        or_memory(self.mesh.order(host, to, order, steps))?;
         self.print_newest(host, to)
     }
 
