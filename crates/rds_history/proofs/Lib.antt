@@ -2,3 +2,7 @@ mod EventInvariants
 mod EndsAgree
 mod InOrder
 mod OneMap
+mod Again
+mod OnlyWritten
+mod Pieces
+mod Turns

@@ -1,0 +1,18 @@
+//! The step limits in the definitions of a move and of a drain are no part of what is promised.
+ghost use Rattle.std.specs.Prelude.{◌≡◌, ◌≤◌, ◌+◌, ℕ, Ok, Option, List};
+ghost use Rattle.rds_history.specs.Events.{Event};
+ghost use Rattle.rds_history.specs.Courses.{again};
+ghost use Rattle.rds_history.specs.Move.{move_up_to};
+ghost use Rattle.rds_history.specs.Limits.{MovesOnlyWritten, IsMoved, turn_up_to};
+
+/// A move has enough turns: any greater number of them comes to the same, whatever happened before. It ends because what
+/// was asked was moved or because there is nothing to send, never because the turns were used up, and so one more turn
+/// changes nothing.
+pub fn turns_suffice()
+    ensures enough { (limit h k turns : ℕ) (most : Option ℕ) (past : List Event) → limit + 1 ≤ turns →
+        again turns (turn_up_to limit h k most) past ≡ move_up_to limit h k most past }
+    ensures ended { (limit h k : ℕ) (most : Option ℕ) (past later : List Event) → MovesOnlyWritten past →
+        move_up_to limit h k most past ≡ Ok later → IsMoved h k most later }
+    ensures still { (limit h k : ℕ) (most : Option ℕ) (past later : List Event) → MovesOnlyWritten past →
+        move_up_to limit h k most past ≡ Ok later → turn_up_to limit h k most later ≡ Ok later }
+{}
