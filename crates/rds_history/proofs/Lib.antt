@@ -3,6 +3,8 @@ mod EndsAgree
 mod InOrder
 mod OneMap
 mod Again
+mod Moves
 mod OnlyWritten
 mod Pieces
+mod Rounds
 mod Turns

@@ -1,7 +1,9 @@
 //! The step limits in the definitions of a move and of a drain are no part of what is promised.
 ghost use Rattle.std.specs.Prelude.{◌≡◌, ◌≤◌, ◌+◌, ℕ, Ok, Option, List};
+ghost use Rattle.rds_text.specs.declared.host.TheConstants.{MAX_HOSTS};
 ghost use Rattle.rds_history.specs.Events.{Event};
 ghost use Rattle.rds_history.specs.Courses.{again};
+ghost use Rattle.rds_history.specs.Drain.{drain, round, rounds};
 ghost use Rattle.rds_history.specs.Move.{move_up_to};
 ghost use Rattle.rds_history.specs.Limits.{MovesOnlyWritten, IsMoved, turn_up_to};
 
@@ -15,4 +17,12 @@ pub fn turns_suffice()
         move_up_to limit h k most past ≡ Ok later → IsMoved h k most later }
     ensures still { (limit h k : ℕ) (most : Option ℕ) (past later : List Event) → MovesOnlyWritten past →
         move_up_to limit h k most past ≡ Ok later → turn_up_to limit h k most later ≡ Ok later }
+{}
+
+/// A drain has enough rounds: any greater number of them comes to the same.
+pub fn rounds_suffice()
+    ensures enough { (limit hosts times : ℕ) (past : List Event) → hosts ≤ MAX_HOSTS → rounds limit ≤ times →
+        again times (round limit hosts) past ≡ again (rounds limit) (round limit hosts) past }
+    ensures still { (limit hosts : ℕ) (past later : List Event) → hosts ≤ MAX_HOSTS → MovesOnlyWritten past →
+        drain limit hosts past ≡ Ok later → round limit hosts later ≡ Ok later }
 {}
