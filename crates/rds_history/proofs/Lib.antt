@@ -1,4 +1,5 @@
 mod EventInvariants
+mod Drained
 mod EndsAgree
 mod InOrder
 mod OneMap
@@ -7,4 +8,5 @@ mod Moves
 mod OnlyWritten
 mod Pieces
 mod Rounds
+mod SameStreams
 mod Turns

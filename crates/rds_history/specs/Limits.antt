@@ -32,3 +32,14 @@ pub record IsIdle (h k : ℕ) (past : List Event) : Type 0 where
 -- a move until `most` bytes were moved in all has come to its end: they were moved, or there is nothing to send
 abbrev pub IsMoved : (h k : ℕ) → (most : Option ℕ) → List Event → Type 0
 IsMoved h k most past = (bytes_left most past ≡ Some 0) ⊎ IsIdle h k past
+
+-- what a drain leaves between hosts h and k: one stream is open at both ends, nothing is in flight either way, and neither
+-- owes a frame for its own map
+pub record IsDrained (h k : ℕ) (past : List Event) : Type 0 where
+  pub stream : ℕ
+  pub open_here : open_stream (journal h k past) ≡ Some stream
+  pub open_there : open_stream (journal k h past) ≡ Some stream
+  pub nothing_flies : in_flight h k past ≡ []
+  pub nothing_flies_back : in_flight k h past ≡ []
+  pub nothing_owed : owed_frame stream (journal h k past) (own_map h past) ≡ None
+  pub nothing_owed_back : owed_frame stream (journal k h past) (own_map k past) ≡ None
