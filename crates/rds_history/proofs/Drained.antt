@@ -1,5 +1,5 @@
 -- After a drain there is nothing left to do between any two hosts.
-use Rattle.std.proofs.Common.{◌≡◌, ◌≢◌, ◌⊎◌, inl, inr, ⊎_elim, ℕ, zero, suc, ◌==◌, ◌&&◌, ◌<◌, ◌≤◌, Bool, true, false, cond, Option, Some, None, Ok, Err, List, [], ◌∷◌, ◌++◌, map, refl, sym, ◌∙◌, ap, subst, arith}
+use Rattle.std.proofs.Common.{◌≡◌, ◌≢◌, ◌⊎◌, inl, inr, ⊎_elim, ℕ, zero, suc, ◌==◌, ◌&&◌, ◌<◌, ◌≤◌, Bool, true, Option, Some, None, Ok, Err, List, [], ◌∷◌, ◌++◌, map, refl, sym, ◌∙◌, ap, subst, arith}
 use Rattle.std.proofs.lemmas.Bool.{cond_both, cases_eq, cases_order, cond-true, lt-ltb}
 use Rattle.std.specs.Prelude.{nat_lt, filter}
 use Rattle.std.specs.Option.{option_map_or, option_and_then}
@@ -13,10 +13,10 @@ use Rattle.rds_text.specs.declared.host.TheConstants.{MAX_HOSTS}
 use Rattle.rds_text.specs.Lines.{drained_line}
 use Rattle.rds_text.specs.Ports.{below}
 use Rattle.rds_history.specs.Events.{Event, Appended}
-use Rattle.rds_history.specs.Courses.{Course, and_then, appends, each, again, prints}
+use Rattle.rds_history.specs.Courses.{Course, and_then, each, again, prints}
 use Rattle.rds_history.specs.Journals.{journal, own_map}
 use Rattle.rds_history.specs.Open.{open_both, open_one}
-use Rattle.rds_history.specs.Drain.{Pair, pairs, open_if_closed, both_ways, round, rounds, drain}
+use Rattle.rds_history.specs.Drain.{Pair, pairs, open_if_closed, round, rounds, drain}
 use Rattle.rds_history.specs.History.{history}
 use Rattle.rds_history.specs.Limits.{IsDrained, IsIdle}
 use Rattle.rds_history.proofs.EventInvariants.{Holds, holds_then, holds_appends, holds_each, holds_again, keeps_after}
@@ -129,8 +129,10 @@ module _ (limit : ℕ) where
       go (Some stream) is = (stream, is)
       go None is = holds_then (Opens p.low p.high) (Opens p.low p.high) (open_one limit p.low p.high past) (open_one limit p.high p.low)
           (holds_appends (λ before. Unit {0}) (Opens p.low p.high) limit p.low p.high (Open (suc (newest_stream (journal p.low p.high past)))) past tt
-          (λ before so. (suc (newest_stream (journal p.low p.high past)),
-          ap open_stream (journal_own p.low p.high p.low p.high (Open (suc (newest_stream (journal p.low p.high past)))) before (here p.low p.high)))))
+          (λ before so. (
+            suc (newest_stream (journal p.low p.high past)),
+            ap open_stream (journal_own p.low p.high p.low p.high (Open (suc (newest_stream (journal p.low p.high past)))) before (here p.low p.high)),
+          )))
           (λ mid so. holds_appends (Opens p.low p.high) (Opens p.low p.high) limit p.high p.low (Open (suc (newest_stream (journal p.high p.low mid)))) mid so
           (λ before now. opens_entry p.low p.high p.high p.low (suc (newest_stream (journal p.high p.low mid))) before now))
 

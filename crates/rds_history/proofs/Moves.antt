@@ -1,10 +1,9 @@
 -- What a move without a limit does to what is in flight, and when it does nothing.
-use Rattle.std.proofs.Common.{◌≡◌, ◌⊎◌, inl, inr, ⊎_elim, ℕ, zero, suc, ◌+◌, ◌-◌, ◌==◌, ◌&&◌, ◌<◌, ◌≤◌, Bool, true, false, cond, Option, Some, None, Ok, Err, List, [], ◌∷◌, length, refl, sym, ◌∙◌, ap, subst, arith}
+use Rattle.std.proofs.Common.{◌≡◌, ◌⊎◌, inl, inr, ⊎_elim, ℕ, suc, ◌+◌, ◌==◌, ◌&&◌, ◌<◌, ◌≤◌, Bool, true, false, cond, Option, Some, None, Ok, Err, List, [], ◌∷◌, length, refl, sym, ◌∙◌, ap, subst, arith}
 use Rattle.std.proofs.lemmas.Bool.{cases_Bool, and_parts, eqb-true, eq-eqb, ltb-true, ltb-false, le-ltb, cond-true, cond-false}
 use Rattle.std.proofs.lemmas.Option.{none-some}
 use Rattle.std.specs.Prelude.{nat_lt, min}
 use Rattle.std.specs.Option.{option_map_or, option_and_then}
-use Rattle.rds_wire.specs.declared.frame.Frame.{Frame}
 use Rattle.rds_model.specs.declared.entry.Entry.TheVariants.{Pull}
 use Rattle.rds_model.specs.Owed.{owed_frame}
 use Rattle.rds_model.specs.Past.{open_stream}
@@ -12,8 +11,8 @@ use Rattle.rds_history.specs.Events.{Event, Appended}
 use Rattle.rds_history.specs.Courses.{Course, and_then, if_room, again}
 use Rattle.rds_history.specs.Journals.{journal, moved_in_all, in_flight, own_map}
 use Rattle.rds_history.specs.PullAndRead.{pull, pull_on}
-use Rattle.rds_history.specs.Move.{pull_if_idle, arrive, turn, move_up_to, portion, move_piece}
-use Rattle.rds_history.specs.Limits.{MovesOnlyWritten, IsIdle, owed_to, turn_up_to}
+use Rattle.rds_history.specs.Move.{pull_if_idle, arrive, move_up_to, portion, move_piece}
+use Rattle.rds_history.specs.Limits.{MovesOnlyWritten, owed_to, turn_up_to}
 use Rattle.rds_history.proofs.EventInvariants.{Holds, holds_then, holds_again}
 use Rattle.rds_history.proofs.Again.{IsLast, last_step}
 use Rattle.rds_history.proofs.Turns.{IsResting, HasStopped, HasMoved, IsOnward, IsTurned, turned, ends_move}
@@ -84,8 +83,11 @@ module _ (limit h k : ℕ) where
   begun_more : (past mid later : List Event) → IsTurned limit h k None past mid → moved_in_all past < moved_in_all mid → IsForth mid later → HasBegun past later
   begun_more past mid later is more so = record {
     rises = λ any. ⊎_elim (λ (stopped : HasStopped limit h k None past mid). absurd (omega (arith, stopped.same, more)))
-        (λ (moved : HasMoved limit h k None past mid). (moved.room, λ none.
-        let grown = moved.grown none in omega (arith, grown.0, grown.1, so.onward.longer h k))) is.outcome;
+        (λ (moved : HasMoved limit h k None past mid). (
+          moved.room,
+          λ none.
+              let grown = moved.grown none in omega (arith, grown.0, grown.1, so.onward.longer h k),
+        )) is.outcome;
     still = λ written same. absurd (omega (arith, more, so.forward, same));
   }
 

@@ -1,8 +1,8 @@
 -- No more bytes go over an open stream than are written to it.
-use Rattle.std.proofs.Common.{◌≡◌, ◌⊎◌, inl, inr, ℕ, suc, ◌+◌, ◌-◌, ◌==◌, ◌&&◌, ◌≤◌, Bool, true, false, cond, Option, Some, None, Ok, Err, List, [], ◌∷◌, ◌++◌, length, drop, refl, sym, ◌∙◌, ap, subst, arith, length-append}
+use Rattle.std.proofs.Common.{◌≡◌, ◌⊎◌, inl, inr, ℕ, suc, ◌+◌, ◌-◌, ◌==◌, ◌&&◌, ◌≤◌, Bool, true, false, cond, Option, Some, None, Ok, List, [], ◌∷◌, ◌++◌, length, refl, sym, ◌∙◌, ap, subst, arith, length-append}
 use Rattle.std.proofs.lemmas.Bool.{cases_Bool, and_parts, eqb-true}
 use Rattle.std.proofs.lemmas.List.{length-drop}
-use Rattle.std.proofs.lemmas.Option.{none-some, same_Some}
+use Rattle.std.proofs.lemmas.Option.{none-some}
 use Rattle.std.specs.Option.{option_map_or}
 use Rattle.std.specs.List.{flat_map}
 use Rattle.rds_wire.specs.declared.frame.Frame.{Frame}
@@ -14,12 +14,12 @@ use Rattle.rds_model.specs.Streams.{written_bytes, pulled_frames}
 use Rattle.rds_script.specs.declared.script.Command.{Command}
 use Rattle.rds_script.specs.declared.script.Placed.{Placed}
 use Rattle.rds_history.specs.Events.{Event, Appended, Moved}
-use Rattle.rds_history.specs.Courses.{Course, appends, and_then}
+use Rattle.rds_history.specs.Courses.{appends}
 use Rattle.rds_history.specs.Journals.{journal, moved_count, written_to_open, in_flight}
-use Rattle.rds_history.specs.Open.{open_both, open_one, shut_if_open}
+use Rattle.rds_history.specs.Open.{open_one, shut_if_open}
 use Rattle.rds_history.specs.History.{after, history}
 use Rattle.rds_history.specs.Limits.{MovesOnlyWritten}
-use Rattle.rds_history.proofs.EventInvariants.{Holds, holds_then, holds_appends, IsKeptInFlight, IsQuiet, keeps_after_in_flight, keeps_history_in_flight}
+use Rattle.rds_history.proofs.EventInvariants.{Holds, holds_then, holds_appends, IsKeptInFlight, keeps_after_in_flight, keeps_history_in_flight}
 
 -- of one journal and the count of its moved bytes
 abbrev OnlyWritten : List Entry → ℕ → Type 0

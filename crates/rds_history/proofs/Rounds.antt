@@ -1,16 +1,15 @@
 -- A drain has enough rounds.
-use Rattle.std.proofs.Common.{◌≡◌, ◌⊎◌, inl, inr, ⊎_elim, ℕ, zero, suc, ◌+◌, ◌*◌, ◌<◌, ◌≤◌, false, Option, Some, None, Ok, Err, List, [], ◌∷◌, length, refl, sym, ◌∙◌, ap, subst, arith}
+use Rattle.std.proofs.Common.{◌≡◌, ◌⊎◌, inl, inr, ℕ, zero, suc, ◌+◌, ◌*◌, ◌<◌, ◌≤◌, false, None, Ok, List, [], ◌∷◌, length, refl, sym, ◌∙◌, ap, subst, arith}
 use Rattle.std.proofs.lemmas.Bool.{cases_lt, ltb-false}
 use Rattle.std.specs.Prelude.{nat_lt, min}
 use Rattle.rds_text.specs.declared.host.TheConstants.{MAX_HOSTS}
 use Rattle.rds_text.specs.Lines.{drained_line}
-use Rattle.rds_model.specs.Past.{open_stream}
 use Rattle.rds_history.specs.Events.{Event, Printed}
-use Rattle.rds_history.specs.Courses.{Course, and_then, each, again, prints}
+use Rattle.rds_history.specs.Courses.{and_then, each, again, prints}
 use Rattle.rds_history.specs.Journals.{journal, moved_in_all, in_flight}
 use Rattle.rds_history.specs.Move.{move_up_to}
 use Rattle.rds_history.specs.Drain.{Pair, pairs, open_if_closed, both_ways, round, rounds, drain}
-use Rattle.rds_history.specs.Limits.{MovesOnlyWritten, IsIdle}
+use Rattle.rds_history.specs.Limits.{MovesOnlyWritten}
 use Rattle.rds_history.proofs.EventInvariants.{Holds, holds_then, keeps_opening, keeps_round}
 use Rattle.rds_history.proofs.Again.{Ends, ends_from, ends_again, IsLast, last_step}
 use Rattle.rds_history.proofs.OnlyWritten.{only_written_is_kept}
@@ -107,18 +106,22 @@ module _ (limit : ℕ) where
       rises : moved_in_all past < moved_in_all later → (moved_in_all past < moved_in_all mid) ⊎ (moved_in_all mid ≤ moved_in_all past) →
           (2 ≤ limit) × (in_flight p.low p.high past ≡ [] → in_flight p.high p.low past ≡ [] → rank p past < rank p later)
       rises more (inl there) =
-          let one = first.rises there in
-          (one.0, λ out in_.
-          left_rises (min limit (length (journal p.low p.high past))) (min limit (length (journal p.low p.high mid))) (min limit (length (journal p.low p.high later)))
-          (min limit (length (journal p.high p.low past))) (min limit (length (journal p.high p.low mid))) (min limit (length (journal p.high p.low later)))
-          (one.1 out) (min_le limit _ _ (second.steady.longer p.low p.high)) (min_le limit _ _ (first.steady.longer p.high p.low)) (min_le limit _ _ (second.steady.longer p.high p.low)))
+          let one = first.rises there in (
+            one.0,
+            λ out in_.
+                left_rises (min limit (length (journal p.low p.high past))) (min limit (length (journal p.low p.high mid))) (min limit (length (journal p.low p.high later)))
+                (min limit (length (journal p.high p.low past))) (min limit (length (journal p.high p.low mid))) (min limit (length (journal p.high p.low later)))
+                (one.1 out) (min_le limit _ _ (second.steady.longer p.low p.high)) (min_le limit _ _ (first.steady.longer p.high p.low)) (min_le limit _ _ (second.steady.longer p.high p.low)),
+          )
       rises more (inr none) =
-          let two = second.rises (omega (arith, more, none)) in
-          (two.0, λ out in_.
-          right_rises (min limit (length (journal p.low p.high past))) (min limit (length (journal p.low p.high mid))) (min limit (length (journal p.low p.high later)))
-          (min limit (length (journal p.high p.low past))) (min limit (length (journal p.high p.low mid))) (min limit (length (journal p.high p.low later)))
-          (min_le limit _ _ (first.steady.longer p.low p.high)) (min_le limit _ _ (second.steady.longer p.low p.high)) (min_le limit _ _ (first.steady.longer p.high p.low))
-          (two.1 (first.steady.keeps p.high p.low in_)))
+          let two = second.rises (omega (arith, more, none)) in (
+            two.0,
+            λ out in_.
+                right_rises (min limit (length (journal p.low p.high past))) (min limit (length (journal p.low p.high mid))) (min limit (length (journal p.low p.high later)))
+                (min limit (length (journal p.high p.low past))) (min limit (length (journal p.high p.low mid))) (min limit (length (journal p.high p.low later)))
+                (min_le limit _ _ (first.steady.longer p.low p.high)) (min_le limit _ _ (second.steady.longer p.low p.high)) (min_le limit _ _ (first.steady.longer p.high p.low))
+                (two.1 (first.steady.keeps p.high p.low in_)),
+          )
 
   paired : (p : Pair) (past : List Event) → Holds (IsPaired p past) (both_ways limit p past)
   paired p past =
@@ -141,16 +144,20 @@ module _ (limit : ℕ) where
       rises : moved_in_all past < moved_in_all later → (moved_in_all past < moved_in_all mid) ⊎ (moved_in_all mid ≤ moved_in_all past) →
           (2 ≤ limit) × (NothingFlies (p ∷ ps) past → ranks (p ∷ ps) past < ranks (p ∷ ps) later)
       rises more (inl there) =
-          let one = first.rises there in
-          (one.0, λ none.
-          left_rises (rank p past) (rank p mid) (rank p later) (ranks ps past) (ranks ps mid) (ranks ps later) (one.1 none.0 none.1)
-          (rank_grows p mid later second.steady) (ranks_grow ps past mid first.steady) (ranks_grow ps mid later second.steady))
+          let one = first.rises there in (
+            one.0,
+            λ none.
+                left_rises (rank p past) (rank p mid) (rank p later) (ranks ps past) (ranks ps mid) (ranks ps later) (one.1 none.0 none.1)
+                (rank_grows p mid later second.steady) (ranks_grow ps past mid first.steady) (ranks_grow ps mid later second.steady),
+          )
       rises more (inr nor) =
-          let two = second.rises (omega (arith, more, nor)) in
-          (two.0, λ none.
-          right_rises (rank p past) (rank p mid) (rank p later) (ranks ps past) (ranks ps mid) (ranks ps later)
-          (rank_grows p past mid first.steady) (rank_grows p mid later second.steady) (ranks_grow ps past mid first.steady)
-          (two.1 (still_nothing_flies ps past mid first.steady none.2)))
+          let two = second.rises (omega (arith, more, nor)) in (
+            two.0,
+            λ none.
+                right_rises (rank p past) (rank p mid) (rank p later) (ranks ps past) (ranks ps mid) (ranks ps later)
+                (rank_grows p past mid first.steady) (rank_grows p mid later second.steady) (ranks_grow ps past mid first.steady)
+                (two.1 (still_nothing_flies ps past mid first.steady none.2)),
+          )
 
   pub swept : (ps : List Pair) (past : List Event) → Holds (IsSwept ps past) (each ps (both_ways limit) past)
   swept [] past = record {

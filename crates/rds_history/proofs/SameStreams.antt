@@ -1,5 +1,5 @@
 -- Both ends of a connection have the same stream open, or none.
-use Rattle.std.proofs.Common.{◌≡◌, ◌≢◌, ◌⊎◌, inl, inr, ⊎_elim, ℕ, suc, ◌==◌, ◌&&◌, Bool, true, false, cond, Option, Some, None, Ok, Err, List, [], ◌∷◌, refl, sym, ◌∙◌, ap, subst}
+use Rattle.std.proofs.Common.{◌≡◌, ◌⊎◌, inl, inr, ⊎_elim, ℕ, suc, ◌==◌, ◌&&◌, true, false, Option, Some, None, Ok, List, [], ◌∷◌, refl, sym, ◌∙◌, ap, subst}
 use Rattle.std.proofs.lemmas.Bool.{cases_Bool, cases_eq, cond-true, cond-false, cond_both, eqb-true, and_cases, and_left, and_right, and_parts, and_from, eq-eqb}
 use Rattle.std.proofs.lemmas.Option.{none-some}
 use Rattle.std.specs.Option.{option_map_or}
@@ -8,7 +8,7 @@ use Rattle.rds_model.specs.declared.entry.Entry.TheVariants.{Accept, Cancel, Ope
 use Rattle.rds_model.specs.Past.{open_stream, newest_stream}
 use Rattle.rds_script.specs.declared.script.Placed.{Placed}
 use Rattle.rds_history.specs.Events.{Event, Appended}
-use Rattle.rds_history.specs.Courses.{Course, and_then, appends}
+use Rattle.rds_history.specs.Courses.{appends}
 use Rattle.rds_history.specs.Journals.{journal}
 use Rattle.rds_history.specs.Open.{open_both, open_one, shut_if_open}
 use Rattle.rds_history.specs.History.{history}

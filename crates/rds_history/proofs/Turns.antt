@@ -1,25 +1,24 @@
 -- A move has enough turns.
-use Rattle.std.proofs.Common.{◌≡◌, ◌⊎◌, inl, inr, ⊎_elim, ℕ, zero, suc, ◌+◌, ◌-◌, ◌==◌, ◌&&◌, ◌<◌, ◌≤◌, Bool, true, false, cond, Option, Some, None, Ok, Err, List, [], ◌∷◌, length, drop, refl, sym, ◌∙◌, ap, subst, arith}
-use Rattle.std.proofs.lemmas.Bool.{eqb-true, eqb-false, ltb-true, ltb-false, cases_lt}
+use Rattle.std.proofs.Common.{◌≡◌, ◌⊎◌, inl, inr, ⊎_elim, ℕ, zero, suc, ◌+◌, ◌-◌, ◌==◌, ◌&&◌, ◌<◌, ◌≤◌, Bool, true, false, cond, Option, Some, None, Ok, Err, List, [], ◌∷◌, length, refl, sym, ◌∙◌, ap, subst, arith}
+use Rattle.std.proofs.lemmas.Bool.{eqb-true, eqb-false, ltb-false, cases_lt}
 use Rattle.std.proofs.lemmas.List.{drop_all, length-drop}
 use Rattle.std.proofs.lemmas.Option.{none-some, same_Some}
 use Rattle.std.specs.Prelude.{nat_lt, min}
-use Rattle.std.specs.Option.{option_map, option_map_or, option_and_then}
+use Rattle.std.specs.Option.{option_map_or, option_and_then}
 use Rattle.rds_wire.specs.declared.frame.Frame.{Frame}
-use Rattle.rds_model.specs.declared.entry.Entry.{Entry}
 use Rattle.rds_model.specs.declared.entry.Entry.TheVariants.{Pull}
 use Rattle.rds_model.specs.Owed.{owed_frame}
 use Rattle.rds_model.specs.Past.{open_stream}
 use Rattle.rds_model.specs.Streams.{written_bytes}
 use Rattle.rds_history.specs.Events.{Event, Appended}
-use Rattle.rds_history.specs.Courses.{Course, Full, and_then, if_room, again}
+use Rattle.rds_history.specs.Courses.{and_then, if_room, again}
 use Rattle.rds_history.specs.Journals.{journal, moved_count, moved_in_all, written_to_open, in_flight, own_map}
 use Rattle.rds_history.specs.PullAndRead.{pull, pull_on}
 use Rattle.rds_history.specs.Move.{move_piece, pull_if_idle, arrive, portion, turn, bytes_left, move_up_to}
 use Rattle.rds_history.specs.Limits.{MovesOnlyWritten, IsIdle, IsMoved, owed_to, turn_up_to}
 use Rattle.rds_history.proofs.EventInvariants.{Holds, holds_then, keeps_turn}
 use Rattle.rds_history.proofs.OnlyWritten.{only_written_is_kept}
-use Rattle.rds_history.proofs.Again.{Ends, EndsAfter, ends_from, ends_again, IsLast, last_step}
+use Rattle.rds_history.proofs.Again.{Ends, ends_from, ends_again, IsLast, last_step}
 use Rattle.rds_history.proofs.Pieces.{HasCome, come_piece, HasPulled, pulled_one}
 
 empty_of : {X : Type 0} (xs : List X) → (length xs == 0) ≡ true → xs ≡ []

@@ -1,4 +1,4 @@
-use Rattle.rds_history.proofs.Turns.{enough_turns, ended, HasEnded}
+use Rattle.rds_history.proofs.Turns.{enough_turns, ended}
 use Rattle.rds_history.proofs.laws.limits.turns_suffice.Goals as goal
 
 pub returns-clause-enough : goal.returns-clause-enough
