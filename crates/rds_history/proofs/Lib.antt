@@ -1,4 +1,14 @@
+mod Holding
+mod KeptMoves
 mod EventInvariants
+mod Drained
 mod EndsAgree
 mod InOrder
 mod OneMap
+mod Again
+mod Moves
+mod OnlyWritten
+mod Pieces
+mod Rounds
+mod SameStreams
+mod Turns
