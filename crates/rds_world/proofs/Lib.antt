@@ -2,4 +2,5 @@ pub mod Journaling
 pub mod Replacing
 pub mod Comings
 pub mod Ends
-pub mod Opening
+pub mod OpeningBoth
+pub mod BothReady

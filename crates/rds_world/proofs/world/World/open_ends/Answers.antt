@@ -2,7 +2,7 @@ use Rattle.std.proofs.Common.{◌≡◌, ◌∙◌}
 use Rattle.rds_joint.specs.Steps.{opened}
 use Rattle.rds_mesh.specs.Ends.{ChangesPair, end_at}
 use Rattle.rds_world.specs.Telling.{state}
-use Rattle.rds_world.proofs.Opening.{tells_opened, went_well}
+use Rattle.rds_world.proofs.OpeningBoth.{tells_opened, went_well}
 use Rattle.rds_world.proofs.world.World.open_ends.Goals as goal
 
 pub returns-clause-told : goal.returns-clause-told

@@ -1,6 +1,6 @@
 -- A world in which a stream was opened or shut at both ends.
-use Rattle.std.proofs.Common.{◌≡◌, ◌≢◌, ℕ, suc, ◌+◌, ◌<◌, ◌==◌, ◌&&◌, Bool, true, false, cond, Option, Some, None, Result, Ok, Err, List, ◌∷◌, ◌++◌, refl, sym, ◌∙◌, ap, subst, arith}
-use Rattle.std.specs.Prelude.{OnOk}
+use Rattle.std.proofs.Common.{◌≡◌, ◌≢◌, ℕ, suc, ◌+◌, ◌<◌, ◌==◌, ◌&&◌, Bool, true, false, cond, Option, Some, None, Result, Ok, Err, List, [], ◌∷◌, ◌++◌, refl, sym, ◌∙◌, ap, subst, arith}
+use Rattle.std.specs.Prelude.{IsSome, OnOk}
 use Rattle.rds_model.specs.declared.entry.Entry.{Entry}
 use Rattle.rds_model.specs.declared.entry.Entry.TheVariants.{Open, Shut}
 use Rattle.rds_model.specs.Legal.{IsLegal}
@@ -159,3 +159,107 @@ tells_opened limit hosts h k past s m t u (Ok x) told count h_in k_in apart clos
         last (Open n_two) there.past
         (ap (λ (v : State). (end_at k h v.mesh).past) t_is ∙ ap (λ (e : JointEnd). e.past) (changed.there_is ∙ there_opened)) tt
         ∙ ap (λ (v : State). record v { text = v.text ++ entry_line k h there.past (Open n_two) }) t_is
+
+shut_is : (e : JointEnd) (s : ℕ) → open_stream e.past ≡ Some s → stream_shut e ≡ record e { past = Shut s ∷ e.past; waiting = None; flying = [] }
+shut_is e s on = ap (λ o. shut_from o e) on
+
+-- both ends shut their stream
+pub tells_shut : {B F : Type 0} (limit hosts h k n : ℕ) (past : List Event) (s : State) (m : MeshView) (t u : State) (last : Result B F) →
+    Tells limit hosts past s → s.mesh.count ≡ hosts → h < s.count → k < s.count → k ≢ h → open_stream (journal h k past) ≡ Some n →
+    IsKnown (end_at h k s.mesh) (end_at k h s.mesh) →
+    ChangesPair h k (stream_shut (end_at h k s.mesh)) (stream_shut (end_at k h s.mesh)) s.mesh m →
+    ((e : Entry) (before : List Entry) → (end_at h k m).past ≡ e ∷ before →
+        PrintsAlone (accepted (e ∷ before)) before e → t ≡ record s { mesh = m; text = s.text ++ entry_line h k before e }) →
+    OnOk last ((e : Entry) (before : List Entry) → (end_at k h t.mesh).past ≡ e ∷ before →
+        PrintsAlone (accepted (e ∷ before)) before e → u ≡ record t { text = t.text ++ entry_line k h before e }) →
+    OnOk last (Tells limit hosts (shut_at_both h k n past) u)
+tells_shut limit hosts h k n past s m t u (Err why) told count h_in k_in apart on known changed printed last = tt
+tells_shut limit hosts h k n past s m t u (Ok x) told count h_in k_in apart on known changed printed last =
+    subst (Tells limit hosts later) (sym u_is) (record {
+      limit_is = told.limit_is;
+      count_is = told.count_is;
+      text_is = ap (λ (l : List ℕ). (l ++ line_one) ++ line_two) told.text_is;
+      hosts_are = λ a a_in y is. untouched a second first_past y (λ _. refl) (untouched a first_ past y (λ _. refl) (told.hosts_are a a_in y is));
+      ends_are = ends_changed limit hosts h k none_waits none_waits past later (stream_shut here) (stream_shut there) s.mesh m count apart told.ends_are changed
+          here_told there_told
+          (λ a b o. still_then a b past first_past later (appended_elsewhere h k a b (Shut n) past (λ e f. o.not_forth e f))
+          (appended_elsewhere k h a b (Shut n) first_past (λ e f. o.not_back e f)))
+          (λ a b o. refl);
+      peers_are = λ a b a_in b_in p is. peer_quiet k h a b (Shut n) first_past p (λ j. refl) (λ j. refl)
+          (peer_quiet h k a b (Shut n) past p (λ j. refl) (λ j. refl) (told.peers_are a b a_in b_in p is));
+    })
+  where
+    here : JointEnd
+    here = end_at h k s.mesh
+
+    there : JointEnd
+    there = end_at k h s.mesh
+
+    h_at : h < hosts
+    h_at = subst (λ n. h < n) told.count_is h_in
+
+    k_at : k < hosts
+    k_at = subst (λ n. k < n) told.count_is k_in
+
+    here_was : TellsEnd limit h k None past here
+    here_was = told.ends_are h k h_at k_at apart
+
+    there_was : TellsEnd limit k h None past there
+    there_was = told.ends_are k h k_at h_at (λ e. apart (sym e))
+
+    first_ : Event
+    first_ = Appended h k (Shut n)
+
+    first_past : List Event
+    first_past = first_ ∷ past
+
+    second : Event
+    second = Appended k h (Shut n)
+
+    later : List Event
+    later = second ∷ first_past
+
+    line_one : List ℕ
+    line_one = entry_line h k (journal h k past) (Shut n)
+
+    line_two : List ℕ
+    line_two = entry_line k h (journal k h first_past) (Shut n)
+
+    here_shut : stream_shut here ≡ record here { past = Shut n ∷ here.past; waiting = None; flying = [] }
+    here_shut = shut_is here n (ap open_stream here_was.journal_is ∙ on)
+
+    there_shut : stream_shut there ≡ record there { past = Shut n ∷ there.past; waiting = None; flying = [] }
+    there_shut = shut_is there n (sym known.streams ∙ ap open_stream here_was.journal_is ∙ on)
+
+    here_told : TellsEnd limit h k None later (stream_shut here)
+    here_told = end_still limit h k None first_past later (stream_shut here) (appended_elsewhere k h h k (Shut n) first_past (λ e f. apart f))
+        (end_shut limit h k n None past here (stream_shut here) here_was here_shut)
+
+    there_told : TellsEnd limit k h None later (stream_shut there)
+    there_told = end_shut limit k h n None first_past there (stream_shut there)
+        (end_still limit k h None past first_past there (appended_elsewhere h k k h (Shut n) past (λ e f. apart e)) there_was) there_shut
+
+    t_is : t ≡ record s { mesh = m; text = s.text ++ line_one }
+    t_is =
+        printed (Shut n) here.past (ap (λ (e : JointEnd). e.past) (changed.here_is ∙ here_shut)) tt
+        ∙ ap (λ (j : List Entry). record s { mesh = m; text = s.text ++ entry_line h k j (Shut n) }) here_was.journal_is
+
+    u_is : u ≡ record s { mesh = m; text = (s.text ++ line_one) ++ line_two }
+    u_is =
+        last (Shut n) there.past
+        (ap (λ (v : State). (end_at k h v.mesh).past) t_is ∙ ap (λ (e : JointEnd). e.past) (changed.there_is ∙ there_shut)) tt
+        ∙ ap (λ (v : State). record v { text = v.text ++ entry_line k h there.past (Shut n) }) t_is
+
+-- the peer has the same stream
+pub same_stream : (limit hosts h k n : ℕ) (past : List Event) (s : State) → Tells limit hosts past s → h < s.count → k < s.count → k ≢ h →
+    open_stream (journal h k past) ≡ Some n → IsKnown (end_at h k s.mesh) (end_at k h s.mesh) → open_stream (journal k h past) ≡ Some n
+same_stream limit hosts h k n past s told h_in k_in apart on known =
+    let h_at : h < hosts = subst (λ n. h < n) told.count_is h_in in
+    let k_at : k < hosts = subst (λ n. k < n) told.count_is k_in in
+    ap open_stream (sym (told.ends_are k h k_at h_at (λ e. apart (sym e))).journal_is) ∙ sym known.streams
+    ∙ ap open_stream (told.ends_are h k h_at k_at apart).journal_is ∙ on
+
+-- what an option has
+pub some_in : (o : Option ℕ) → IsSome o → (x : ℕ) × (o ≡ Some x)
+some_in None on = cc
+some_in (Some x) on = (x, refl)
