@@ -12,7 +12,7 @@ use Rattle.rds_mesh.specs.Ends.{AreNew, ChangesPair, IsNewMesh, MeshView, end_at
 use Rattle.rds_mesh.proofs.Places.{both_changed, bytes_went, facing_is, one_changed, opposite, there, within}
 
 -- inside a list an item is the same, whatever is meant by none
-at_inside : {X : Type 0} (xs : List X) (i : ℕ) (a b : X) → i < length xs → get_or xs i a ≡ get_or xs i b
+pub at_inside : {X : Type 0} (xs : List X) (i : ℕ) (a b : X) → i < length xs → get_or xs i a ≡ get_or xs i b
 at_inside [] i a b in_ = absurd (omega (arith, in_))
 at_inside (x ∷ xs) zero a b in_ = refl
 at_inside (x ∷ xs) (suc i) a b in_ = at_inside xs i a b (omega (arith, in_))
