@@ -1,5 +1,5 @@
 -- The journals of hosts, list by list.
-use Rattle.std.proofs.Common.{◌≡◌, ◌≢◌, ⊎_elim, ℕ, zero, suc, ◌+◌, ◌<◌, ◌≤◌, ◌==◌, Bool, true, false, cond, not, Vec, List, [], ◌∷◌, ◌++◌, filter, length, map, take, drop, get_or, set, refl, sym, ◌∙◌, ap, subst, arith}
+use Rattle.std.proofs.Common.{◌≡◌, ◌≢◌, ⊎_elim, ℕ, zero, suc, ◌+◌, ◌<◌, ◌≤◌, ◌==◌, cond, not, Vec, List, [], ◌∷◌, ◌++◌, filter, length, map, take, drop, get_or, set, refl, sym, ◌∙◌, ap, arith}
 use Rattle.std.specs.Prelude.{nat_lt}
 use Rattle.std.specs.Global.{Global}
 use Rattle.std.proofs.lemmas.Bool.{cases_lt, cases_eq, eq-eqb, ne_eqb, lt-ltb, le-ltb}
@@ -13,7 +13,7 @@ use Rattle.rds_report.specs.Hosts.{address_of}
 use Rattle.rds_report.specs.Views.{side_view}
 use Rattle.rds_pair.specs.declared.step.PairEnd.TheVariants.{First, Second}
 use Rattle.rds_joint.specs.Ends.{JointEnds, blank, of_end}
-use Rattle.rds_mesh.specs.Places.{end_of, place, triangle}
+use Rattle.rds_mesh.specs.Places.{triangle}
 use Rattle.rds_mesh.specs.Ends.{MeshView, end_at, joint_of}
 use Rattle.rds_mesh.specs.FinalJournals.{AreJointsOf, HoldJournals, journal_with, journals_below}
 use Rattle.rds_mesh.proofs.Places.{grows, symmetric}
@@ -98,12 +98,12 @@ pub halfway_end : (high : ℕ) (m : MeshView) (rows : List (Vec (ℕ × Log) Glo
     length rows ≡ high → map side_view row.items ≡ journals_below high high m → AreHalfway high high m rows → HoldJournals (suc high) m (rows ++ row ∷ [])
 halfway_end high m rows row size own half = λ h h_in r is. ⊎_elim
     (λ (e : h ≡ high).
-      ap (λ (v : Vec (ℕ × Log) Global). map side_view v.items) (is ∙ get_or_push rows row r h (omega (arith, size, e)))
-      ∙ own ∙ sym (own_same high m) ∙ ap (λ i. journals_below (suc high) i m) (sym e))
+    ap (λ (v : Vec (ℕ × Log) Global). map side_view v.items) (is ∙ get_or_push rows row r h (omega (arith, size, e)))
+    ∙ own ∙ sym (own_same high m) ∙ ap (λ i. journals_below (suc high) i m) (sym e))
     (λ (apart : h ≢ high).
-      let low : h < high = omega (arith, h_in, apart) in
-      half h low r (is ∙ in_front rows h r (omega (arith, low, size)))
-      ∙ ap (λ b. journals_below (cond b (suc high) high) h m) (lt-ltb h high low))
+    let low : h < high = omega (arith, h_in, apart) in
+    half h low r (is ∙ in_front rows h r (omega (arith, low, size)))
+    ∙ ap (λ b. journals_below (cond b (suc high) high) h m) (lt-ltb h high low))
     (cases_eq h high)
   where
     in_front : (xs : List (Vec (ℕ × Log) Global)) (i : ℕ) (d : Vec (ℕ × Log) Global) → i < length xs → get_or (xs ++ row ∷ []) i d ≡ get_or xs i d

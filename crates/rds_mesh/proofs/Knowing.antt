@@ -1,6 +1,5 @@
 -- What is known of both ends of a joint, seen from either.
-use Rattle.std.proofs.Common.{◌≡◌, ℕ, sym, subst}
-use Rattle.rds_model.specs.Honest.{IsHonest}
+use Rattle.std.proofs.Common.{◌≡◌, sym, subst}
 use Rattle.rds_pair.specs.declared.step.PairEnd.{PairEnd}
 use Rattle.rds_pair.specs.declared.step.PairEnd.TheVariants.{First, Second}
 use Rattle.rds_joint.specs.Ends.{JointEnd, JointEnds, of_end, other_end}

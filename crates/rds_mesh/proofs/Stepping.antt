@@ -6,7 +6,7 @@ use Rattle.rds_model.specs.declared.entry.TheConstants.{MAX_SLOTS}
 use Rattle.rds_pair.specs.declared.step.PairEnd.{PairEnd}
 use Rattle.rds_pair.specs.declared.step.PairEnd.TheVariants.{First, Second}
 use Rattle.rds_joint.specs.Ends.{HasFull, IsFull, JointEnd, JointEnds, at_both, blank, facing, of_end, other_end, with_end}
-use Rattle.rds_joint.specs.Steps.{came, fed, pulled, went}
+use Rattle.rds_joint.specs.Steps.{came, fed, went}
 use Rattle.rds_mesh.specs.Places.{end_of, place, triangle}
 use Rattle.rds_mesh.specs.Ends.{AreNew, ChangesPair, IsNewMesh, MeshView, end_at, joint_of, new_joint}
 use Rattle.rds_mesh.proofs.Places.{both_changed, bytes_went, facing_is, one_changed, opposite, there, within}

@@ -28,11 +28,7 @@ impl Mesh {
 }
 
 // The journals of so many hosts. The joints of each with those below it stand together, lower hosts first.
-fn rows(
-    alloc: Global,
-    count: u8,
-    joints: Vec<Joint>,
-) -> Result<Vec<Vec<(u32, Journal)>>, Memory>
+fn rows(alloc: Global, count: u8, joints: Vec<Joint>) -> Result<Vec<Vec<(u32, Journal)>>, Memory>
     requires few { count ≤ MAX_HOSTS }
     requires full { vec_len joints ≡ triangle count }
     ensures count { IfOk result (λ rows. vec_len rows ≡ count) }

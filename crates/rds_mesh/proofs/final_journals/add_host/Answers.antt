@@ -5,9 +5,8 @@ use Rattle.std.proofs.lemmas.Iterator.Adapters.{YieldsList-from_vec}
 use Rattle.std.proofs.lemmas.Iterator.Consumers.{YieldsList-end, YieldsList-turn}
 use Rattle.rds_model.specs.Log.{Log}
 use Rattle.rds_report.specs.FinalState.{FinalJournal}
-use Rattle.rds_report.specs.Hosts.{address_of}
 use Rattle.rds_report.specs.Views.{side_view}
-use Rattle.rds_mesh.specs.Ends.{MeshView, end_at}
+use Rattle.rds_mesh.specs.Ends.{end_at}
 use Rattle.rds_mesh.specs.FinalJournals.{HoldJournals, journal_with, journals_below}
 use Rattle.rds_mesh.proofs.FinalJournals.{AreHalfway, first_past, halfway_end, halfway_more, halfway_start, other_more, second_past, side_push}
 use Rattle.rds_mesh.proofs.final_journals.add_host.Goals as goal

@@ -1,6 +1,5 @@
-use Rattle.std.proofs.Common.{◌≡◌, suc, ◌+◌, ◌<◌, List, length, take, drop, refl, sym, ◌∙◌, ap, subst, arith}
+use Rattle.std.proofs.Common.{◌≡◌, suc, ◌+◌, take, drop, refl, sym, ◌∙◌, ap, subst, arith}
 use Rattle.std.proofs.lemmas.List.{drop-drop}
-use Rattle.rds_joint.specs.Ends.{JointEnds}
 use Rattle.rds_mesh.specs.Ends.{MeshView}
 use Rattle.rds_mesh.specs.FinalJournals.{AreJointsOf, HoldJournals}
 use Rattle.rds_mesh.specs.Places.{triangle}

@@ -1,4 +1,3 @@
-use Rattle.std.proofs.Common.{◌≡◌, sym, ◌∙◌}
 use Rattle.rds_mesh.proofs.mesh.Mesh.into_journals.Goals as goal
 
 pub returns-clause-count : goal.returns-clause-count

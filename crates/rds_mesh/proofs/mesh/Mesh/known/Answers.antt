@@ -1,4 +1,4 @@
-use Rattle.std.proofs.Common.{◌≡◌, sym, ◌∙◌, ap}
+use Rattle.std.proofs.Common.{sym, ◌∙◌, ap}
 use Rattle.rds_joint.specs.Ends.{of_end, other_end}
 use Rattle.rds_mesh.specs.Places.{end_of}
 use Rattle.rds_mesh.specs.Ends.{end_at}
