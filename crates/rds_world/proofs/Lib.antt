@@ -4,3 +4,4 @@ pub mod Comings
 pub mod Ends
 pub mod OpeningBoth
 pub mod BothReady
+pub mod Eaching
