@@ -2,3 +2,5 @@ mod EventInvariants
 mod EndsAgree
 mod InOrder
 mod OneMap
+mod JoinedEnds
+mod JoinedReads

@@ -16,3 +16,4 @@ pub mod History
 pub mod WorkedScripts
 pub mod EndsAgree
 pub mod InOrder
+pub mod Sound

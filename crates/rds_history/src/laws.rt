@@ -11,6 +11,8 @@ ghost use Rattle.rds_history.specs.InOrder.{HandsOutInOrder};
 ghost use Rattle.rds_history.specs.Journals.{is_marked, own_map};
 ghost use Rattle.rds_history.specs.WorkedScripts.{hello, text_of_hello, cut_cancel_ping_congestion, text_of_cut_cancel_ping_congestion};
 
+pub mod sound;
+
 /// Each socket hands out what was delivered to it, in order.
 pub fn in_order()
     ensures { (limit hosts : ℕ) (commands : List Placed) (past : List Event) (h slot : ℕ) →

@@ -1,0 +1,22 @@
+//! The headline over the history of a script.
+ghost use Rattle.std.specs.Prelude.{◌≡◌, ◌≤◌, ◌^◌, ℕ, Ok, List, []};
+ghost use Rattle.rds_script.specs.declared.script.Script.{Script};
+ghost use Rattle.rds_script.specs.Script.{IsScript};
+ghost use Rattle.rds_history.specs.Events.{Event};
+ghost use Rattle.rds_history.specs.History.{history};
+ghost use Rattle.rds_history.specs.Sound.{IsSound};
+
+use rds_model::laws::{headline_of_all, no_bad_of_all};
+
+/// Whatever a script in range does, once all its commands have been done every two hosts stand to each other as they
+/// should: both journals follow the rules, each host got a beginning of the bytes that the other wrote to each stream, and
+/// for each port pair the datagrams delivered are accepted ones, in order and each once, which the sockets hand out with
+/// their bytes in that order; each accepted one up to the last that arrived is accounted for. A journal may have so many
+/// entries that numbers of datagrams stay below 2^63.
+pub fn sound()
+    ensures { (script : Script) (limit : ℕ) (past : List Event) → IsScript script → limit ≤ 2 ^ 63 →
+        history limit script.hosts script.commands.items [] ≡ Ok past → IsSound script.hosts past }
+{
+    headline_of_all();
+    no_bad_of_all();
+}
