@@ -4,3 +4,4 @@ mod InOrder
 mod OneMap
 mod JoinedEnds
 mod JoinedReads
+mod PastEnds
