@@ -5,3 +5,4 @@ mod OneMap
 mod JoinedEnds
 mod JoinedReads
 mod PastEnds
+mod PastMoves

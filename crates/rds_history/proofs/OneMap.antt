@@ -55,7 +55,7 @@ length_if : (own : Bool) (changed map : List ℕ) → length changed ≡ 8192 �
 length_if true changed map a b = a
 length_if false changed map a b = b
 
-length-own_map : (h : ℕ) (past : List Event) → length (own_map h past) ≡ 8192
+pub length-own_map : (h : ℕ) (past : List Event) → length (own_map h past) ≡ 8192
 unfolding no_ports
 length-own_map h [] = length-replicate {A = ℕ} 8192 0
 length-own_map h (Marked host port true queued limit ∷ past) =
