@@ -6,3 +6,4 @@ mod JoinedEnds
 mod JoinedReads
 mod PastEnds
 mod PastMoves
+mod PastCommands

@@ -1,4 +1,4 @@
-use Rattle.rds_history.proofs.PastMoves.{keeps_move_up_to}
+use Rattle.rds_history.proofs.PastCommands.{keeps_history}
 use Rattle.rds_history.proofs.JoinedReads.{joined_pinged}
 use Rattle.rds_history.proofs.laws.sound.sound.Goals as goal
 
