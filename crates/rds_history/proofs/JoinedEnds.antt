@@ -1,29 +1,21 @@
 -- The two journals of a connection, and how many bytes went each way over the open stream: what they keep.
-use Rattle.std.proofs.Common.{◌≡◌, ◌≢◌, ◌⊎◌, inl, inr, ℕ, suc, ◌+◌, ◌<◌, ◌≤◌, ◌^◌, Option, Some, None, List, [], ◌∷◌, ◌++◌, length, refl, sym, ◌∙◌, ap, subst, arith, append_assoc, length-append}
+use Rattle.std.proofs.Common.{◌≡◌, ◌≢◌, ◌⊎◌, inl, inr, ℕ, suc, ◌+◌, ◌<◌, Option, Some, None, List, ◌∷◌, ◌++◌, length, refl, sym, ◌∙◌, ap, subst, arith, length-append}
 use Rattle.std.proofs.lemmas.Bool.{cases_eq}
-use Rattle.std.proofs.lemmas.List.{append-nil}
 use Rattle.rds_wire.specs.declared.frame.Frame.{Frame}
 use Rattle.rds_wire.specs.declared.kind.TheConstants.{MAP_LENGTH}
-use Rattle.rds_wire.specs.declared.kind.Malformed.{Malformed}
-use Rattle.rds_wire.specs.Bytes.{IsHeader, header_bytes, frame_bytes}
-use Rattle.rds_wire.specs.Kinds.{cause}
+use Rattle.rds_wire.specs.Bytes.{header_bytes, frame_bytes}
 use Rattle.rds_model.specs.declared.entry.Entry.{Entry}
-use Rattle.rds_model.specs.declared.entry.Entry.TheVariants.{Accept, Cancel, Open, Pull, Read, Shut, Bad}
-use Rattle.rds_model.specs.declared.entry.Outcome.{Outcome}
-use Rattle.rds_model.specs.declared.entry.Outcome.TheVariants as outcome
+use Rattle.rds_model.specs.declared.entry.Entry.TheVariants.{Accept, Cancel, Open, Pull, Shut}
 use Rattle.rds_model.specs.declared.entry.Target.{Target}
 use Rattle.rds_model.specs.declared.entry.TheConstants.{NO_SLOT}
-use Rattle.rds_model.specs.Past.{now, open_stream, newest_stream, accepted, highest_pulled}
+use Rattle.rds_model.specs.Past.{open_stream, newest_stream}
 use Rattle.rds_model.specs.Streams.{written_bytes, read_bytes}
 use Rattle.rds_model.specs.Sums.{last_pulled_frame}
 use Rattle.rds_model.specs.Owed.{owed_frame}
-use Rattle.rds_model.specs.Reading.{verdict_of, Obeys}
-use Rattle.rds_model.specs.Honest.{Begins, IsHonest}
-use Rattle.rds_model.specs.Legal.{IsLegal, IsWhole, IsLawful, IsLawfulAccept, IsLawfulRead, pong_to, pong_for}
-use Rattle.rds_model.specs.Fifo.{HasNoBad}
-use Rattle.rds_model.specs.LegalityLaws.{lawful_pull, open_is_newest}
+use Rattle.rds_model.specs.Honest.{Begins}
+use Rattle.rds_model.specs.Legal.{IsLegal, IsWhole, IsLawful, IsLawfulAccept, pong_to}
 use Rattle.rds_model.specs.OwingLaws.{owed_is_lawful, settled_continues}
-use Rattle.rds_model.specs.StreamLaws.{none_written, none_read, written_pull, written_pull_other, read_read, read_read_other, read_bad, read_bad_other}
+use Rattle.rds_model.specs.StreamLaws.{none_written, none_read, written_pull, written_pull_other}
 
 -- the journals of two hosts, and how many bytes went each way since the newest stream was opened
 pub record Ends : Type 0 where

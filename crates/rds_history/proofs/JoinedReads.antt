@@ -1,5 +1,5 @@
 -- The frame that was pulled last at one end is read at the other: the reading is lawful, and both ends stay joined.
-use Rattle.std.proofs.Common.{◌≡◌, ◌≢◌, inl, inr, ℕ, suc, ◌<◌, ◌^◌, Option, Some, None, MatchOption, List, [], ◌∷◌, ◌++◌, length, refl, sym, ◌∙◌, ap, subst, append_assoc}
+use Rattle.std.proofs.Common.{◌≡◌, inl, inr, ℕ, suc, ◌<◌, ◌^◌, Option, Some, None, List, [], ◌∷◌, ◌++◌, length, refl, sym, ◌∙◌, ap, subst, append_assoc}
 use Rattle.std.proofs.lemmas.Bool.{cases_eq}
 use Rattle.std.proofs.lemmas.List.{append-nil}
 use Rattle.rds_wire.specs.declared.frame.Frame.{Frame}
@@ -16,12 +16,12 @@ use Rattle.rds_model.specs.Streams.{written_bytes, read_bytes}
 use Rattle.rds_model.specs.Sums.{last_pulled_frame}
 use Rattle.rds_model.specs.Reading.{verdict_of, Obeys}
 use Rattle.rds_model.specs.Honest.{Begins, IsHonest}
-use Rattle.rds_model.specs.Legal.{IsLegal, IsWhole, IsLawful, IsLawfulRead, IsPong, pong_to, pong_for}
+use Rattle.rds_model.specs.Legal.{IsLegal, IsLawfulRead, pong_for}
 use Rattle.rds_model.specs.Fifo.{HasNoBad}
 use Rattle.rds_model.specs.LegalityLaws.{lawful_pull}
 use Rattle.rds_model.specs.OwingLaws.{settled_continues}
 use Rattle.rds_model.specs.StreamLaws.{read_read, read_read_other, read_bad, read_bad_other}
-use Rattle.rds_history.proofs.JoinedEnds.{Ends, AreJoined, Flows, IsOnItsWay, one_stream}
+use Rattle.rds_history.proofs.JoinedEnds.{Ends, AreJoined, IsOnItsWay, one_stream}
 
 -- a frame that was pulled has a header that fits, and as many bytes as that says
 pub record IsWholeFrame (f : Frame) : Type 0 where

@@ -7,3 +7,5 @@ mod JoinedReads
 mod PastEnds
 mod PastMoves
 mod PastCommands
+mod HandedOut
+mod SoundHistory

@@ -1,8 +1,8 @@
 -- Each command of a script in range keeps what a past keeps.
-use Rattle.std.proofs.Common.{◌≡◌, ◌≢◌, ℕ, suc, ◌+◌, ◌-◌, ◌<◌, ◌≤◌, ◌^◌, ◌==◌, ◌&&◌, not, Bool, true, false, cond, Option, Some, None, Ok, Err, List, [], ◌∷◌, length, map, refl, sym, ◌∙◌, ap, subst, arith}
-use Rattle.std.specs.Prelude.{nat_lt, nat_le, min, unwrap_or, codes, All, filter}
+use Rattle.std.proofs.Common.{◌≡◌, ◌≢◌, ℕ, suc, ◌+◌, ◌-◌, ◌<◌, ◌≤◌, ◌^◌, ◌==◌, ◌&&◌, not, Bool, true, false, cond, Option, Some, None, Ok, List, [], ◌∷◌, length, map, refl, sym, ◌∙◌, ap, subst, arith}
+use Rattle.std.specs.Prelude.{nat_lt, min, unwrap_or, codes, All, filter}
 use Rattle.std.specs.List.{flat_map}
-use Rattle.std.specs.Option.{option_map, option_map_or}
+use Rattle.std.specs.Option.{option_map_or}
 use Rattle.std.proofs.lemmas.Bool.{ltb-true, ltb-false, leb-false, eqb-false, not-true, eq-eqb, both_ways as never_both}
 use Rattle.std.proofs.lemmas.List.Elements.{All-head, All-tail, All-nil, All-append, All-map, All-weaker, filter_passes}
 use Rattle.rds_wire.specs.declared.kind.TheConstants.{MAX_LENGTH}
@@ -13,18 +13,17 @@ use Rattle.rds_model.specs.declared.entry.Target.TheVariants.{Port, All as Every
 use Rattle.rds_model.specs.declared.entry.TheConstants.{NO_SLOT, MAX_SLOTS}
 use Rattle.rds_model.specs.declared.order.Datagram.{Datagram}
 use Rattle.rds_model.specs.Past.{open_stream, newest_stream}
-use Rattle.rds_model.specs.Legal.{IsWhole}
 use Rattle.rds_script.specs.declared.script.Command.{Command}
 use Rattle.rds_script.specs.declared.script.Command.TheVariants as command
 use Rattle.rds_script.specs.declared.script.Placed.{Placed}
 use Rattle.rds_script.specs.Script.{IsCommand}
 use Rattle.rds_text.specs.Lines.{cut_line, drained_line, move_line, recv_none_line}
 use Rattle.rds_text.specs.Ports.{below}
-use Rattle.rds_text.specs.Refusals.{no_slot, no_route, is_down, is_open, no_socket, socket_refused_line, pair_refused_line, send_refused_line}
-use Rattle.rds_history.specs.Events.{Event, Appended, Bound, Closed, Received, Marked, Moved, Printed}
-use Rattle.rds_history.specs.Courses.{Course, and_then, if_room, appends, prints, or_refuses, with_socket, on_stream, each, again}
+use Rattle.rds_text.specs.Refusals.{is_down, is_open, no_socket, socket_refused_line, pair_refused_line, send_refused_line}
+use Rattle.rds_history.specs.Events.{Event, Appended, Bound, Closed, Received, Marked, Printed}
+use Rattle.rds_history.specs.Courses.{Course, and_then, appends, prints, or_refuses, with_socket, on_stream, each, again}
 use Rattle.rds_history.specs.Journals.{journal, moved_in_all, in_flight, is_marked, peers}
-use Rattle.rds_history.specs.Sockets.{next_slot, holder, queue, receive_buffer}
+use Rattle.rds_history.specs.Sockets.{next_slot, holder, queue, receive_buffer, send_buffer}
 use Rattle.rds_history.specs.Bind.{bind, bind_refusal, free_port}
 use Rattle.rds_history.specs.Send.{send, send_refusal}
 use Rattle.rds_history.specs.Recv.{recv, hand_out}
@@ -43,6 +42,9 @@ use Rattle.rds_history.proofs.PastMoves.{holds_room, few_accepted, keeps_update_
 none_of : (b : Bool) (why : List ℕ) (others : Option (List ℕ)) → cond b (Some why) others ≡ None → (b ≡ false) × (others ≡ None)
 none_of true why others is = cc
 none_of false why others is = (refl, is)
+
+min_right : (a b n : ℕ) → n ≤ min a b → n ≤ b
+min_right a b n within = omega (arith, within)
 
 apart_of : (h k : ℕ) → (h == k) ≡ false → h ≢ k
 apart_of h k is same = eqb-false h k is same
@@ -155,9 +157,11 @@ keeps_send limit hosts h port k dport payload past small from to keeps =
     (λ slot fits. keeps_or_refuses (send_refusal hosts h slot k dport (length payload) past) (send_refused_line h port k dport)
     (appends limit h k (Accept slot port dport payload)) past keeps
     (λ none.
-    let short = none_of _ _ _ none in
-    let route = none_of _ _ _ short.1 in
-    keeps_accepted limit h k slot past (apart_of h k route.0) fits keeps port dport payload small from to (omega (arith, ltb-false _ (length payload) short.0))))
+    let most : ℕ = min (send_buffer h slot past) MAX_LENGTH in
+    let short = none_of (nat_lt most (length payload)) _ _ none in
+    let route = none_of (h == k) _ _ short.1 in
+    let within : length payload ≤ most = ltb-false most (length payload) short.0 in
+    keeps_accepted limit h k slot past (apart_of h k route.0) fits keeps port dport payload small from to (min_right (send_buffer h slot past) MAX_LENGTH (length payload) within)))
 
 keeps_cancel : (limit h port k dport : ℕ) (past : List Event) → Keeps past → Holds Keeps (cancel limit h port k dport past)
 keeps_cancel limit h port k dport past keeps =

@@ -1,5 +1,5 @@
 -- The ends of each connection in a past of a script, and what an event changes of them.
-use Rattle.std.proofs.Common.{◌≡◌, ◌≢◌, ◌⊎◌, inl, inr, ⊎_elim, ℕ, ◌+◌, ◌<◌, ◌==◌, ◌&&◌, Bool, true, false, cond, Option, Some, None, List, [], ◌∷◌, refl, sym, ◌∙◌, ap, subst}
+use Rattle.std.proofs.Common.{◌≡◌, ◌≢◌, ◌⊎◌, inl, inr, ℕ, ◌+◌, ◌<◌, ◌==◌, ◌&&◌, Bool, true, false, cond, Some, List, ◌∷◌, refl, sym, ◌∙◌, ap, subst}
 use Rattle.std.proofs.lemmas.Bool.{cases_eq, cond-true, cond-false, eqb-true, and_parts, and_from, false_from_ne_true, eq-eqb}
 use Rattle.rds_model.specs.declared.entry.Entry.{Entry}
 use Rattle.rds_model.specs.declared.entry.Entry.TheVariants.{Accept, Cancel, Open, Pull, Read, Shut, Bad}
@@ -100,11 +100,11 @@ module _ (h k : ℕ) (e : Entry) (past : List Event) where
   pub still_appended : IsStill h k past (Appended h k e ∷ past)
   still_appended = record {
     others = λ x y a b i. record {
-        here = journal_other x y a i;
-        there = journal_other y x (λ both. b (both.1, both.0)) i;
-        forth = moved_other x y a i;
-        back = moved_other y x (λ both. b (both.1, both.0)) i;
-      };
+      here = journal_other x y a i;
+      there = journal_other y x (λ both. b (both.1, both.0)) i;
+      forth = moved_other x y a i;
+      back = moved_other y x (λ both. b (both.1, both.0)) i;
+    };
     sockets = λ x port. refl;
   }
 
@@ -127,11 +127,11 @@ module _ (h k count : ℕ) (past : List Event) where
   pub still_moved : IsStill h k past (Moved h k count ∷ past)
   still_moved = record {
     others = λ x y a b i. record {
-        here = journal x y past;
-        there = journal y x past;
-        forth = moved_other x y a i;
-        back = moved_other y x (λ both. b (both.1, both.0)) i;
-      };
+      here = journal x y past;
+      there = journal y x past;
+      forth = moved_other x y a i;
+      back = moved_other y x (λ both. b (both.1, both.0)) i;
+    };
     sockets = λ x port. refl;
   }
     where

@@ -1,12 +1,12 @@
 -- What a past keeps where bytes go from one host to another.
-use Rattle.std.proofs.Common.{◌≡◌, ◌≢◌, inl, inr, ℕ, zero, suc, ◌+◌, ◌-◌, ◌<◌, ◌≤◌, ◌^◌, ◌==◌, min, Bool, true, false, cond, Option, Some, None, Ok, Err, List, [], ◌∷◌, ◌++◌, length, refl, sym, ◌∙◌, ap, subst, arith, length-drop}
+use Rattle.std.proofs.Common.{◌≡◌, ◌≢◌, inl, inr, ℕ, zero, suc, ◌+◌, ◌-◌, ◌<◌, ◌≤◌, ◌^◌, ◌==◌, Bool, true, false, cond, Option, Some, None, Ok, Err, List, [], ◌∷◌, ◌++◌, length, refl, sym, ◌∙◌, ap, subst, arith, length-drop}
 use Rattle.std.specs.Prelude.{nat_lt}
 use Rattle.std.specs.Option.{option_map, option_map_or}
 use Rattle.std.proofs.lemmas.Bool.{ltb-false, eqb-true, eqb-false}
 use Rattle.rds_wire.specs.declared.frame.Frame.{Frame}
 use Rattle.rds_wire.specs.Bytes.{frame_bytes}
 use Rattle.rds_model.specs.declared.entry.Entry.{Entry}
-use Rattle.rds_model.specs.declared.entry.Entry.TheVariants.{Accept, Cancel, Open, Pull, Read, Shut, Bad}
+use Rattle.rds_model.specs.declared.entry.Entry.TheVariants.{Accept, Pull, Read}
 use Rattle.rds_model.specs.declared.entry.Outcome.{Outcome}
 use Rattle.rds_model.specs.declared.entry.Outcome.TheVariants as outcome
 use Rattle.rds_model.specs.declared.entry.Verdict.{Verdict}
@@ -20,7 +20,7 @@ use Rattle.rds_model.specs.Reading.{verdict_of, Obeys, IsDelivered}
 use Rattle.rds_model.specs.Legal.{pong_for}
 use Rattle.rds_cong.specs.Limit.{congested_after}
 use Rattle.rds_history.specs.Events.{Event, Appended, Marked, Moved}
-use Rattle.rds_history.specs.Courses.{Course, and_then, if_room, appends}
+use Rattle.rds_history.specs.Courses.{Course, and_then, if_room}
 use Rattle.rds_history.specs.Journals.{journal, moved_count, moved_in_all, written_to_open, in_flight, is_marked, own_map}
 use Rattle.rds_history.specs.Sockets.{holder, queued, receive_buffer}
 use Rattle.rds_history.specs.Mark.{update_mark, if_changed}

@@ -1,6 +1,5 @@
-use Rattle.rds_history.proofs.PastCommands.{keeps_history}
-use Rattle.rds_history.proofs.JoinedReads.{joined_pinged}
+use Rattle.rds_history.proofs.SoundHistory.{sound_history}
 use Rattle.rds_history.proofs.laws.sound.sound.Goals as goal
 
 pub returns : goal.returns
-returns c = ?
+returns c = sound_history c.headline_of_all.ensures c.no_bad_of_all.ensures

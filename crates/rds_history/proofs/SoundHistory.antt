@@ -1,0 +1,68 @@
+-- After all commands of a script in range every two hosts stand to each other as they should.
+use Rattle.std.proofs.Common.{◌≡◌, ◌≢◌, ℕ, ◌≤◌, ◌^◌, Some, Ok, List, [], map, refl, ◌∙◌, ap, subst}
+use Rattle.rds_model.specs.declared.entry.Entry.{Entry}
+use Rattle.rds_model.specs.declared.order.Datagram.{Datagram}
+use Rattle.rds_model.specs.Honest.{IsHonest}
+use Rattle.rds_model.specs.Legal.{IsLegal}
+use Rattle.rds_model.specs.Pairs.{IsDeliveredOnce}
+use Rattle.rds_script.specs.declared.script.Script.{Script}
+use Rattle.rds_script.specs.Script.{IsScript}
+use Rattle.rds_history.specs.Events.{Event}
+use Rattle.rds_history.specs.History.{history}
+use Rattle.rds_history.specs.InOrder.{HandsOutInOrder}
+use Rattle.rds_history.specs.Journals.{journal}
+use Rattle.rds_history.specs.Sound.{IsSoundBetween, IsSound, of_ports}
+use Rattle.rds_history.proofs.EventInvariants.{Holds}
+use Rattle.rds_history.proofs.InOrder.{in_order_history}
+use Rattle.rds_history.proofs.JoinedReads.{NeverRefuse}
+use Rattle.rds_history.proofs.JoinedEnds.{AreJoined}
+use Rattle.rds_history.proofs.PastEnds.{ends, Keeps}
+use Rattle.rds_history.proofs.PastCommands.{keeps_history}
+use Rattle.rds_history.proofs.HandedOut.{agrees_past}
+
+-- nothing has happened
+keeps_nothing : Keeps []
+keeps_nothing = record {
+  joined = λ h k apart. record {
+    whole_here = record { legal = tt; settled = refl };
+    whole_there = record { legal = tt; settled = refl };
+    streams = refl;
+    newest = refl;
+    forth = record { begins = λ s. ([], refl); way = λ s is. cc };
+    back = record { begins = λ s. ([], refl); way = λ s is. cc };
+  };
+  slots = λ h port slot is. cc;
+}
+
+-- the headline over two journals
+abbrev pub Headline : Type 0
+Headline = (a b : List Entry) → IsLegal a → IsLegal b → IsHonest a b → (sport dport : ℕ) → IsDeliveredOnce sport dport a b
+
+sound_between : Headline → (past : List Event) → Keeps past → ((k slot : ℕ) → HandsOutInOrder k slot past) → (h k : ℕ) → h ≢ k → IsSoundBetween h k past
+sound_between headline past keeps in_order h k apart = record {
+  legal_here = joined.whole_here;
+  legal_there = joined.whole_there;
+  honest = honest;
+  reliable = λ sport dport. record {
+    once = once sport dport;
+    handed_out = λ slot.
+        ap (λ (ds : List Datagram). map (λ (d : Datagram). Some d) (of_ports h sport dport ds)) (in_order k slot)
+        ∙ agrees_past h sport k dport slot (journal h k past) past (once sport dport).bytes;
+  };
+}
+  where
+    joined : AreJoined (ends h k past)
+    joined = keeps.joined h k apart
+
+    honest : IsHonest (journal h k past) (journal k h past)
+    honest = record { forth = joined.forth.begins; back = joined.back.begins }
+
+    once : (sport dport : ℕ) → IsDeliveredOnce sport dport (journal h k past) (journal k h past)
+    once = headline (journal h k past) (journal k h past) joined.whole_here.legal joined.whole_there.legal honest
+
+pub sound_history : Headline → NeverRefuse → (script : Script) (limit : ℕ) (past : List Event) → IsScript script → limit ≤ 2 ^ 63 →
+    history limit script.hosts script.commands.items [] ≡ Ok past → IsSound script.hosts past
+sound_history headline never script limit past is small came =
+    let keeps : Keeps past = subst (Holds Keeps) came (keeps_history never limit script.hosts small script.commands.items [] is.each keeps_nothing) in
+    λ h k known_h known_k apart.
+    sound_between headline past keeps (λ host slot. in_order_history limit script.hosts script.commands.items past host slot came) h k apart
