@@ -24,19 +24,28 @@ use Rattle.rds_history.specs.Sound.{as_sent, is_of_ports, of_ports}
 address_apart : (h k : ℕ) → h ≢ k → (address_of h == address_of k) ≡ false
 address_apart h k apart = ne_eqb (address_of h) (address_of k) (λ same. apart (omega (arith, same)))
 
+-- a datagram that host h accepted, by its number in the journal
+abbrev pub as_datagram : (h : ℕ) → List Entry → ℕ → Option Datagram
+as_datagram h a n = option_map (as_sent h) (datagram a n)
+
+-- what passed was accepted under its number
+abbrev pub AreAccepted : (a j : List Entry) → Type 0
+AreAccepted a j = (s : ℕ) (f : Frame) (o : Outcome) (q : List Entry) → Moment (Read s f o ∷ q) j → passes o ≡ true →
+    (d : Accepted) × (datagram a (number f) ≡ Some d) × Carries f d
+
+-- a frame from h that passed
+pub sent_is : (h : ℕ) (a : List Entry) (f : Frame) → (d : Accepted) × (datagram a (number f) ≡ Some d) × Carries f d →
+    Some (datagram_from (address_of h) f) ≡ as_datagram h a (number f)
+sent_is h a f accepted =
+    let carries = accepted.2 in
+    (λ i. Some (record { from = address_of h; sport = carries.sport i; dport = carries.dport i; payload = carries.payload i }))
+    ∙ sym (ap (option_map (as_sent h)) accepted.1)
+
 -- from port sport of host h, of which this is the journal, to port dport of host k
 module _ (h sport k dport slot : ℕ) (a : List Entry) where
-  abbrev as_datagram : ℕ → Option Datagram
-  as_datagram n = option_map (as_sent h) (datagram a n)
-
-  -- what passed was accepted under its number
-  abbrev AreAccepted : List Entry → Type 0
-  AreAccepted j = (s : ℕ) (f : Frame) (o : Outcome) (q : List Entry) → Moment (Read s f o ∷ q) j → passes o ≡ true →
-      (d : Accepted) × (datagram a (number f) ≡ Some d) × Carries f d
-
   -- these arrived, and those numbers were delivered
   abbrev Agrees : List Datagram → List ℕ → Type 0
-  Agrees datagrams numbers = map (λ (d : Datagram). Some d) (of_ports h sport dport datagrams) ≡ map as_datagram numbers
+  Agrees datagrams numbers = map (λ (d : Datagram). Some d) (of_ports h sport dport datagrams) ≡ map (as_datagram h a) numbers
 
   -- one more that is of the ports, or isn't
   shown_more : (ds : List Datagram) (d : Datagram) → is_of_ports h sport dport d ≡ true →
@@ -61,12 +70,6 @@ module _ (h sport k dport slot : ℕ) (a : List Entry) where
   not_of peer f apart = ap (λ (b : Bool). b && is_between sport dport f) (address_apart peer h apart)
 
   -- a frame from h is delivered
-  sent_is : (f : Frame) → (d : Accepted) × (datagram a (number f) ≡ Some d) × Carries f d → Some (datagram_from (address_of h) f) ≡ as_datagram (number f)
-  sent_is f accepted =
-      let carries = accepted.2 in
-      (λ i. Some (record { from = address_of h; sport = carries.sport i; dport = carries.dport i; payload = carries.payload i }))
-      ∙ sym (ap (option_map (as_sent h)) accepted.1)
-
   agrees_delivered : (ds : List Datagram) (numbers : List ℕ) (f : Frame) → Agrees ds numbers →
       (d : Accepted) × (datagram a (number f) ≡ Some d) × Carries f d → (to between : Bool) → is_between sport dport f ≡ between →
       Agrees (ds ++ cond to (datagram_from (address_of h) f ∷ []) []) (cond (to && between) (numbers ++ number f ∷ []) numbers)
@@ -75,14 +78,14 @@ module _ (h sport k dport slot : ℕ) (a : List Entry) where
       ap (map (λ (d : Datagram). Some d)) (shown_other ds (datagram_from (address_of h) f) (ports_of f ∙ isnt)) ∙ agrees
   agrees_delivered ds numbers f agrees accepted true true is =
       shown_more ds (datagram_from (address_of h) f) (ports_of f ∙ is)
-      ∙ (λ i. agrees i ++ sent_is f accepted i ∷ [])
-      ∙ sym (map_push as_datagram numbers (number f))
+      ∙ (λ i. agrees i ++ sent_is h a f accepted i ∷ [])
+      ∙ sym (map_push (as_datagram h a) numbers (number f))
 
   agrees_none : (ds : List Datagram) (numbers : List ℕ) → Agrees ds numbers → Agrees (ds ++ []) numbers
   agrees_none ds numbers agrees = ap (λ (l : List Datagram). map (λ (d : Datagram). Some d) (of_ports h sport dport l)) (append-nil ds) ∙ agrees
 
   agrees_read : (ds : List Datagram) (j : List Entry) (s : ℕ) (f : Frame) (o : Outcome) → Agrees ds (delivered_to slot sport dport j) →
-      AreAccepted (Read s f o ∷ j) → Agrees (ds ++ delivery slot h f o) (delivered_to slot sport dport (Read s f o ∷ j))
+      AreAccepted a (Read s f o ∷ j) → Agrees (ds ++ delivery slot h f o) (delivered_to slot sport dport (Read s f o ∷ j))
   agrees_read ds j s f (outcome.Slot to) agrees accepted =
       agrees_delivered ds (delivered_to slot sport dport j) f agrees (accepted s f (outcome.Slot to) j now refl) (to == slot) (is_between sport dport f) refl
   agrees_read ds j s f outcome.Old agrees accepted = agrees_none ds (delivered_to slot sport dport j) agrees
@@ -111,27 +114,27 @@ module _ (h sport k dport slot : ℕ) (a : List Entry) where
 
   -- an entry that delivers nothing
   agrees_silent : (e : Entry) (j : List Entry) (ds : List Datagram) → delivered_to slot sport dport (e ∷ j) ≡ delivered_to slot sport dport j →
-      (AreAccepted j → Agrees ds (delivered_to slot sport dport j)) → (b : Bool) → AreAccepted (cond b (e ∷ j) j) →
+      (AreAccepted a j → Agrees ds (delivered_to slot sport dport j)) → (b : Bool) → AreAccepted a (cond b (e ∷ j) j) →
       Agrees ds (delivered_to slot sport dport (cond b (e ∷ j) j))
   agrees_silent e j ds silent earlier true accepted =
-      earlier (λ s f o q m passed. accepted s f o q (before m) passed) ∙ ap (map as_datagram) (sym silent)
+      earlier (λ s f o q m passed. accepted s f o q (before m) passed) ∙ ap (map (as_datagram h a)) (sym silent)
   agrees_silent e j ds silent earlier false accepted = earlier accepted
 
   -- a frame is read at some host
   agrees_event : (host peer s : ℕ) (f : Frame) (o : Outcome) (j : List Entry) (ds : List Datagram) →
-      (AreAccepted j → Agrees ds (delivered_to slot sport dport j)) → (at : Bool) → AreAccepted (cond (at && (peer == h)) (Read s f o ∷ j) j) →
+      (AreAccepted a j → Agrees ds (delivered_to slot sport dport j)) → (at : Bool) → AreAccepted a (cond (at && (peer == h)) (Read s f o ∷ j) j) →
       Agrees (cond at (ds ++ delivery slot peer f o) ds) (delivered_to slot sport dport (cond (at && (peer == h)) (Read s f o ∷ j) j))
   agrees_event host peer s f o j ds earlier false accepted = earlier accepted
   agrees_event host peer s f o j ds earlier true accepted = by_peer (peer == h) refl accepted
     where
-      by_peer : (from : Bool) → (peer == h) ≡ from → AreAccepted (cond from (Read s f o ∷ j) j) →
+      by_peer : (from : Bool) → (peer == h) ≡ from → AreAccepted a (cond from (Read s f o ∷ j) j) →
           Agrees (ds ++ delivery slot peer f o) (delivered_to slot sport dport (cond from (Read s f o ∷ j) j))
       by_peer true is ok =
           subst (λ (i : ℕ). Agrees (ds ++ delivery slot i f o) (delivered_to slot sport dport (Read s f o ∷ j))) (sym (eqb-true peer h is))
           (agrees_read ds j s f o (earlier (λ s f o q m passed. ok s f o q (before m) passed)) ok)
       by_peer false is ok = agrees_other ds (delivered_to slot sport dport j) peer f o (λ same. eqb-false peer h is same) (earlier ok)
 
-  pub agrees_past : (past : List Event) → AreAccepted (journal k h past) →
+  pub agrees_past : (past : List Event) → AreAccepted a (journal k h past) →
       Agrees (arrived_datagrams k slot past) (delivered_to slot sport dport (journal k h past))
   agrees_past [] accepted = refl
   agrees_past (Appended host peer (Read s f o) ∷ past) accepted =

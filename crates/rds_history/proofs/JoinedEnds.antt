@@ -25,7 +25,7 @@ pub record Ends : Type 0 where
   pub back : ℕ
 
 -- all that was written to the open stream went, and was read
-pub record IsIdle (written read : List ℕ) (moved : ℕ) : Type 0 where
+pub record IsAllRead (written read : List ℕ) (moved : ℕ) : Type 0 where
   pub all : moved ≡ length written
   pub same : written ≡ read
 
@@ -37,7 +37,7 @@ pub record IsGoing (last : Option Frame) (written read : List ℕ) (moved : ℕ)
   pub bytes : written ≡ read ++ frame_bytes frame
 
 abbrev pub IsOnItsWay : Option Frame → (written read : List ℕ) → ℕ → Type 0
-IsOnItsWay last written read moved = IsIdle written read moved ⊎ IsGoing last written read moved
+IsOnItsWay last written read moved = IsAllRead written read moved ⊎ IsGoing last written read moved
 
 -- what flows from a writer's journal to a reader's
 pub record Flows (writer reader : List Entry) (moved : ℕ) : Type 0 where

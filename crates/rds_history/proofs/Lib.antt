@@ -9,3 +9,4 @@ mod PastMoves
 mod PastCommands
 mod HandedOut
 mod SoundHistory
+mod OnlySent

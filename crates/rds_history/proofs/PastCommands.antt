@@ -82,14 +82,14 @@ keeps_on_stream h k closed act past none done = go (open_stream (journal h k pas
 
 -- a socket is bound, or closed
 keeps_bound : (h port slot sndbuf rcvbuf : ℕ) (past : List Event) → slot < MAX_SLOTS → Keeps past → Keeps (Bound h port slot sndbuf rcvbuf ∷ past)
-keeps_bound h port slot sndbuf rcvbuf past fits keeps = record { joined = keeps.joined; slots = λ x p n is. go x p n (h == x && (port == p)) is }
+keeps_bound h port slot sndbuf rcvbuf past fits keeps = record { joined = keeps.joined; own = keeps.own; slots = λ x p n is. go x p n (h == x && (port == p)) is }
   where
     go : (x p n : ℕ) (b : Bool) → cond b (Some slot) (holder x p past) ≡ Some n → n < MAX_SLOTS
     go x p n true is = let same : slot ≡ n = cc in omega (arith, same, fits)
     go x p n false is = keeps.slots x p n is
 
 keeps_closed : (h port slot unread : ℕ) (past : List Event) → Keeps past → Keeps (Closed h port slot unread ∷ past)
-keeps_closed h port slot unread past keeps = record { joined = keeps.joined; slots = λ x p n is. go x p n (h == x && (port == p)) is }
+keeps_closed h port slot unread past keeps = record { joined = keeps.joined; own = keeps.own; slots = λ x p n is. go x p n (h == x && (port == p)) is }
   where
     go : (x p n : ℕ) (b : Bool) → cond b None (holder x p past) ≡ Some n → n < MAX_SLOTS
     go x p n true is = cc
@@ -105,7 +105,7 @@ keeps_bind h port sndbuf rcvbuf past keeps =
 keeps_hand_out : (ds : List Datagram) (h port slot : ℕ) (past : List Event) → Keeps past → Holds Keeps (hand_out ds h port slot past)
 keeps_hand_out [] h port slot past keeps = keeps_printed (recv_none_line h port) past keeps
 keeps_hand_out (d ∷ waiting) h port slot past keeps =
-    keeps_update_mark h port slot (Received h port slot d ∷ past) (record { joined = keeps.joined; slots = keeps.slots })
+    keeps_update_mark h port slot (Received h port slot d ∷ past) (record { joined = keeps.joined; own = keeps.own; slots = keeps.slots })
 
 keeps_recv : (h port : ℕ) (past : List Event) → Keeps past → Holds Keeps (recv h port past)
 keeps_recv h port past keeps =
@@ -127,7 +127,7 @@ module _ (limit h k slot : ℕ) (past : List Event) (apart : h ≢ k) (fits : sl
   keeps_entry : (e : Entry) → (length (journal h k past) + 2 ≤ limit → AreJoined (ends h k (Appended h k e ∷ past))) → Holds Keeps (appends limit h k e past)
   keeps_entry e joined =
       holds_room Keeps limit h k past (λ (before : List Event). Ok (Appended h k e ∷ before))
-      (λ room. keeps_later h k past (Appended h k e ∷ past) apart keeps (still_appended h k e past) (joined room))
+      (λ room. keeps_later h k past (Appended h k e ∷ past) apart keeps (still_appended h k e past apart) (joined room))
 
   keeps_accepted : (port dport : ℕ) (payload : List ℕ) → limit ≤ 2 ^ 63 → port ≤ 65535 → dport ≤ 65535 → length payload ≤ MAX_LENGTH →
       Holds Keeps (appends limit h k (Accept slot port dport payload) past)
@@ -198,7 +198,7 @@ module _ (limit h k : ℕ) (apart : h ≢ k) where
   keeps_both e f past keeps joined =
       let mid : List Event = Appended h k e ∷ past in
       keeps_later h k past (Appended k h f ∷ mid) apart keeps
-      (still_then h k past mid (Appended k h f ∷ mid) (still_appended h k e past) (still_turned k h mid (Appended k h f ∷ mid) (still_appended k h f mid)))
+      (still_then h k past mid (Appended k h f ∷ mid) (still_appended h k e past apart) (still_turned k h mid (Appended k h f ∷ mid) (still_appended k h f mid back_apart)))
       joined
 
   keeps_opened : (past : List Event) → Keeps past → open_stream (journal h k past) ≡ None →

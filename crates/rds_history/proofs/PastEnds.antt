@@ -1,5 +1,5 @@
 -- The ends of each connection in a past of a script, and what an event changes of them.
-use Rattle.std.proofs.Common.{◌≡◌, ◌≢◌, ◌⊎◌, inl, inr, ℕ, ◌+◌, ◌<◌, ◌==◌, ◌&&◌, Bool, true, false, cond, Some, List, ◌∷◌, refl, sym, ◌∙◌, ap, subst}
+use Rattle.std.proofs.Common.{◌≡◌, ◌≢◌, ◌⊎◌, inl, inr, ℕ, ◌+◌, ◌<◌, ◌==◌, ◌&&◌, Bool, true, false, cond, Some, List, [], ◌∷◌, refl, sym, ◌∙◌, ap, subst}
 use Rattle.std.proofs.lemmas.Bool.{cases_eq, cond-true, cond-false, eqb-true, and_parts, and_from, false_from_ne_true, eq-eqb}
 use Rattle.rds_model.specs.declared.entry.Entry.{Entry}
 use Rattle.rds_model.specs.declared.entry.Entry.TheVariants.{Accept, Cancel, Open, Pull, Read, Shut, Bad}
@@ -14,29 +14,34 @@ abbrev pub ends : (h k : ℕ) → List Event → Ends
 ends h k past =
     record { here = journal h k past; there = journal k h past; forth = moved_count h k past; back = moved_count k h past }
 
--- what each past of a script keeps: each two hosts are joined, and each socket has a slot
+-- what each past of a script keeps: each two hosts are joined, no host has a journal with itself, and each socket has a slot
 pub record Keeps (past : List Event) : Type 0 where
   pub joined : (h k : ℕ) → h ≢ k → AreJoined (ends h k past)
+  pub own : (h : ℕ) → journal h h past ≡ []
   pub slots : (h port slot : ℕ) → holder h port past ≡ Some slot → slot < MAX_SLOTS
 
 -- between all others everything is as before, and so are all sockets
 pub record IsStill (h k : ℕ) (past later : List Event) : Type 0 where
   pub others : (x y : ℕ) → ((x ≡ h) × (y ≡ k) → ⊥) → ((x ≡ k) × (y ≡ h) → ⊥) → ends x y later ≡ ends x y past
+  pub own : (x : ℕ) → journal x x later ≡ journal x x past
   pub sockets : (x port : ℕ) → holder x port later ≡ holder x port past
 
 pub still_then : (h k : ℕ) (past mid later : List Event) → IsStill h k past mid → IsStill h k mid later → IsStill h k past later
 still_then h k past mid later first second = record {
   others = λ x y a b. second.others x y a b ∙ first.others x y a b;
+  own = λ x. second.own x ∙ first.own x;
   sockets = λ x port. second.sockets x port ∙ first.sockets x port;
 }
 
 pub still_turned : (h k : ℕ) (past later : List Event) → IsStill h k past later → IsStill k h past later
-still_turned h k past later still = record { others = λ x y a b. still.others x y b a; sockets = still.sockets }
+still_turned h k past later still =
+    record { others = λ x y a b. still.others x y b a; own = still.own; sockets = still.sockets }
 
 -- where the two hosts stay joined, all is kept
 pub keeps_later : (h k : ℕ) (past later : List Event) → h ≢ k → Keeps past → IsStill h k past later → AreJoined (ends h k later) → Keeps later
 keeps_later h k past later apart keeps still joined = record {
   joined = λ x y other. go x y other (cases_eq x h) (cases_eq y k) (cases_eq x k) (cases_eq y h);
+  own = λ x. still.own x ∙ keeps.own x;
   slots = λ x port slot is. keeps.slots x port slot (sym (still.sockets x port) ∙ is);
 }
   where
@@ -97,14 +102,15 @@ module _ (h k : ℕ) (e : Entry) (past : List Event) where
       moved_appended h k x y e past
       ∙ cond-false (h == x && (k == y)) (counted e (moved_count x y past)) (moved_count x y past) (other_pair h k x y other)
 
-  pub still_appended : IsStill h k past (Appended h k e ∷ past)
-  still_appended = record {
+  pub still_appended : h ≢ k → IsStill h k past (Appended h k e ∷ past)
+  still_appended apart = record {
     others = λ x y a b i. record {
       here = journal_other x y a i;
       there = journal_other y x (λ both. b (both.1, both.0)) i;
       forth = moved_other x y a i;
       back = moved_other y x (λ both. b (both.1, both.0)) i;
     };
+    own = λ x. journal_other x x (λ both. apart (sym both.0 ∙ both.1));
     sockets = λ x port. refl;
   }
 
@@ -132,6 +138,7 @@ module _ (h k count : ℕ) (past : List Event) where
       forth = moved_other x y a i;
       back = moved_other y x (λ both. b (both.1, both.0)) i;
     };
+    own = λ x. refl;
     sockets = λ x port. refl;
   }
     where
@@ -149,7 +156,7 @@ module _ (h k count : ℕ) (past : List Event) where
 
 -- a mark, and a text line
 pub keeps_marked : (h port : ℕ) (set : Bool) (queued most : ℕ) (past : List Event) → Keeps past → Keeps (Marked h port set queued most ∷ past)
-keeps_marked h port set queued most past keeps = record { joined = keeps.joined; slots = keeps.slots }
+keeps_marked h port set queued most past keeps = record { joined = keeps.joined; own = keeps.own; slots = keeps.slots }
 
 pub keeps_printed : (text : List ℕ) (past : List Event) → Keeps past → Keeps (Printed text ∷ past)
-keeps_printed text past keeps = record { joined = keeps.joined; slots = keeps.slots }
+keeps_printed text past keeps = record { joined = keeps.joined; own = keeps.own; slots = keeps.slots }

@@ -102,7 +102,7 @@ keeps_pull h k past apart keeps none = go (open_stream (journal h k past)) refl
     by_owed s on (Some f) is =
         let joined = keeps.joined h k apart in
         let within = went_within _ _ _ _ (joined.forth.way s on) in
-        keeps_later h k past (Appended h k (Pull s f) ∷ past) apart keeps (still_appended h k (Pull s f) past)
+        keeps_later h k past (Appended h k (Pull s f) ∷ past) apart keeps (still_appended h k (Pull s f) past apart)
         (subst AreJoined (sym (appended_here h k (Pull s f) past apart))
         (joined_pulled (ends h k past) s (own_map h past) f joined on (omega (arith, within, none, flying h k s past on)) (length-own_map h past) is))
 
@@ -128,7 +128,7 @@ module _ (never : NeverRefuse) (limit h k count s : ℕ) (f : Frame) (past : Lis
   still_read : (o : Outcome) → IsStill h k past (behind_read o)
   still_read o =
       still_then h k past went (behind_read o) (still_moved h k count past)
-      (still_turned k h went (behind_read o) (still_appended k h (Read s f o) went))
+      (still_turned k h went (behind_read o) (still_appended k h (Read s f o) went back_apart))
 
   ends_read : (o : Outcome) →
       ends h k (behind_read o) ≡ record (ends h k past) { there = Read s f o ∷ journal k h past; forth = moved_count h k past + count }
@@ -148,7 +148,7 @@ module _ (never : NeverRefuse) (limit h k count s : ℕ) (f : Frame) (past : Lis
       let pong : Entry = Accept NO_SLOT 0 f.header.sport [] in
       let ping = behind_read outcome.Ping in
       keeps_later h k past (Appended k h pong ∷ ping) apart keeps
-      (still_then h k past ping (Appended k h pong ∷ ping) (still_read outcome.Ping) (still_turned k h ping (Appended k h pong ∷ ping) (still_appended k h pong ping)))
+      (still_then h k past ping (Appended k h pong ∷ ping) (still_read outcome.Ping) (still_turned k h ping (Appended k h pong ∷ ping) (still_appended k h pong ping back_apart)))
       (subst AreJoined
       (sym (appended_there k h pong ping back_apart ∙ ap (λ (e : Ends). record e { there = pong ∷ e.there }) (ends_read outcome.Ping)))
       (joined_pinged never (ends h k past) s f (keeps.joined h k apart) on newest bytes (moved_count h k past + count) all obeys

@@ -1,7 +1,7 @@
 -- What every script keeps between each two hosts: both journals follow the rules, each host gets a beginning of what the
 -- other wrote, and for each port pair a socket hands out what was sent to it, in order and each once. Sources: rds(7) for
 -- reliable and in order; the words are this project's own.
-use Rattle.std.specs.Prelude.{◌≡◌, ◌≢◌, ℕ, ◌<◌, ◌==◌, ◌&&◌, Bool, Option, Some, List, ◌++◌, filter, map}
+use Rattle.std.specs.Prelude.{◌≡◌, ◌≢◌, ℕ, ◌<◌, ◌==◌, ◌&&◌, Bool, Option, Some, List, ◌++◌, filter, map, All}
 use Rattle.std.specs.Option.{option_map}
 use Rattle.rds_model.specs.declared.order.Datagram.{Datagram}
 use Rattle.rds_model.specs.Past.{Accepted, datagram}
@@ -49,6 +49,11 @@ pub record IsSoundBetween (h k : ℕ) (past : List Event) : Type 0 where
   pub honest : IsHonest (journal h k past) (journal k h past)
   pub reliable : (sport dport : ℕ) → IsReliable h sport k dport past
 
--- between each two hosts
-abbrev pub IsSound : (hosts : ℕ) → List Event → Type 0
-IsSound hosts past = (h k : ℕ) → h < hosts → k < hosts → h ≢ k → IsSoundBetween h k past
+-- another host sent the datagram to host k, under some number
+abbrev pub WasSentTo : (k : ℕ) → List Event → Datagram → Type 0
+WasSentTo k past d = (h : ℕ) × (n : ℕ) × (h ≢ k) × (sent h k past n ≡ Some d)
+
+-- So it is between each two hosts; and the sockets of a host hand out nothing that no other host sent.
+pub record IsSound (hosts : ℕ) (past : List Event) : Type 0 where
+  pub between : (h k : ℕ) → h < hosts → k < hosts → h ≢ k → IsSoundBetween h k past
+  pub all_sent : (k slot : ℕ) → All (WasSentTo k past) (handed_out k slot past ++ queue k slot past)
