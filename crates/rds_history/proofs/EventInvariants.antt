@@ -1,5 +1,5 @@
 -- What each event of a command keeps, each command keeps.
-use Rattle.std.proofs.Common.{◌≡◌, ℕ, zero, suc, ◌+◌, ◌-◌, ◌==◌, Bool, true, false, cond, Option, Some, None, Ok, Err, List, [], ◌∷◌, length, refl}
+use Rattle.std.proofs.Common.{◌≡◌, ℕ, zero, suc, ◌+◌, ◌-◌, ◌==◌, ◌≤◌, Bool, true, false, cond, Option, Some, None, Ok, Err, List, [], ◌∷◌, length, refl, sym, subst, arith}
 use Rattle.std.specs.Prelude.{nat_lt, unwrap_or, codes}
 use Rattle.std.specs.Option.{option_map, option_map_or}
 use Rattle.rds_wire.specs.declared.frame.Frame.{Frame}
@@ -91,7 +91,37 @@ pub record IsKept (P : List Event → Type 0) : Type 0 where
   pub opened : (limit h k : ℕ) (past : List Event) → P past → Holds P (open_both limit h k past)
   pub shut : (limit h k : ℕ) (past : List Event) → P past → Holds P (and_then (shut_if_open limit h k past) (shut_if_open limit k h))
 
-module _ (P : List Event → Type 0) (kept : IsKept P) where
+-- the same, where no more bytes go than are in flight
+pub record IsKeptInFlight (P : List Event → Type 0) : Type 0 where
+  pub printed : (text : List ℕ) (past : List Event) → P past → P (Printed text ∷ past)
+  pub bound : (h port slot sndbuf rcvbuf : ℕ) (past : List Event) → P past → P (Bound h port slot sndbuf rcvbuf ∷ past)
+  pub closed : (h port slot unread : ℕ) (past : List Event) → P past → P (Closed h port slot unread ∷ past)
+  pub marked : (h port : ℕ) (set : Bool) (bytes most : ℕ) (past : List Event) → P past → P (Marked h port set bytes most ∷ past)
+  pub moved : (h k count : ℕ) (past : List Event) → count ≤ length (in_flight h k past) → P past → P (Moved h k count ∷ past)
+  pub received : (h port slot : ℕ) (d : Datagram) (waiting : List Datagram) (past : List Event) → queue h slot past ≡ d ∷ waiting → P past →
+      P (Received h port slot d ∷ past)
+  pub appended : (h k : ℕ) (e : Entry) (past : List Event) → IsQuiet e → P past → P (Appended h k e ∷ past)
+  pub opened : (limit h k : ℕ) (past : List Event) → P past → Holds P (open_both limit h k past)
+  pub shut : (limit h k : ℕ) (past : List Event) → P past → Holds P (and_then (shut_if_open limit h k past) (shut_if_open limit k h))
+
+in_flight_too : (P : List Event → Type 0) → IsKept P → IsKeptInFlight P
+in_flight_too P kept = record {
+  printed = kept.printed;
+  bound = kept.bound;
+  closed = kept.closed;
+  marked = kept.marked;
+  moved = λ h k count past within p. kept.moved h k count past p;
+  received = kept.received;
+  appended = kept.appended;
+  opened = kept.opened;
+  shut = kept.shut;
+}
+
+within_portion : (left : Option ℕ) (count : ℕ) → portion left count ≤ count
+within_portion None count = omega arith
+within_portion (Some most) count = omega arith
+
+module _ (P : List Event → Type 0) (kept : IsKeptInFlight P) where
   keeps_appends : (limit h k : ℕ) (e : Entry) (past : List Event) → IsQuiet e → P past → Holds P (appends limit h k e past)
   keeps_appends limit h k e past quiet p = holds_appends P P limit h k e past p (λ before there. kept.appended h k e before quiet there)
 
@@ -211,11 +241,11 @@ module _ (P : List Event → Type 0) (kept : IsKept P) where
       go (Some stream) None = p
       go (Some stream) (Some f) = keeps_read_on k h stream f past p
 
-  keeps_move_piece : (h k count : ℕ) (past : List Event) → P past → P (move_piece h k count past)
-  keeps_move_piece h k count past p = go (length (in_flight h k (Moved h k count ∷ past)) == 0)
+  keeps_move_piece : (h k count : ℕ) (past : List Event) → count ≤ length (in_flight h k past) → P past → P (move_piece h k count past)
+  keeps_move_piece h k count past within p = go (length (in_flight h k (Moved h k count ∷ past)) == 0)
     where
       q : P (Moved h k count ∷ past)
-      q = kept.moved h k count past p
+      q = kept.moved h k count past within p
 
       go : (whole : Bool) → P (cond whole (read k h (Moved h k count ∷ past)) (Moved h k count ∷ past))
       go true = keeps_read k h (Moved h k count ∷ past) q
@@ -235,14 +265,18 @@ module _ (P : List Event → Type 0) (kept : IsKept P) where
       go : (idle : Bool) → Holds P (cond idle (Ok past)
           (and_then (if_room limit k h past) (λ (before : List Event). Ok (move_piece h k (portion left (length (in_flight h k past))) before))))
       go true = p
-      go false = holds_then P P (if_room limit k h past) (λ (before : List Event). Ok (move_piece h k (portion left (length (in_flight h k past))) before))
-          (holds_if_room P limit k h past p) (λ before there. keeps_move_piece h k (portion left (length (in_flight h k past))) before there)
+      go false = holds_then (λ before. (before ≡ past) × P before) P (if_room limit k h past)
+          (λ (before : List Event). Ok (move_piece h k (portion left (length (in_flight h k past))) before))
+          (holds_if_room (λ before. (before ≡ past) × P before) limit k h past (refl, p))
+          (λ before there. keeps_move_piece h k (portion left (length (in_flight h k past))) before
+          (subst (λ (l : List Event). portion left (length (in_flight h k past)) ≤ length (in_flight h k l)) (sym there.0)
+          (within_portion left (length (in_flight h k past)))) there.1)
 
   keeps_turned : (limit h k : ℕ) (left : Option ℕ) (past : List Event) → P past → Holds P (and_then (pull_if_idle limit h k past) (arrive limit h k left))
   keeps_turned limit h k left past p =
       holds_then P P (pull_if_idle limit h k past) (arrive limit h k left) (keeps_pull_if_idle limit h k past p) (λ loaded there. keeps_arrive limit h k left loaded there)
 
-  keeps_turn : (limit h k : ℕ) (left : Option ℕ) (past : List Event) → P past → Holds P (turn limit h k left past)
+  pub keeps_turn : (limit h k : ℕ) (left : Option ℕ) (past : List Event) → P past → Holds P (turn limit h k left past)
   keeps_turn limit h k None past p = keeps_turned limit h k None past p
   keeps_turn limit h k (Some zero) past p = p
   keeps_turn limit h k (Some (suc n)) past p = keeps_turned limit h k (Some (suc n)) past p
@@ -279,34 +313,50 @@ module _ (P : List Event → Type 0) (kept : IsKept P) where
       keeps_on_stream pair.low pair.high (open_both limit pair.low pair.high) (λ stream before. Ok before) past
       (kept.opened limit pair.low pair.high past p) (λ stream. p)
 
+  pub keeps_opening : (limit hosts : ℕ) (past : List Event) → P past → Holds P (each (pairs hosts) (open_if_closed limit) past)
+  keeps_opening limit hosts past p =
+      holds_each P (pairs hosts) (open_if_closed limit) past p (λ pair before there. keeps_open_if_closed limit pair before there)
+
+  pub keeps_round : (limit hosts : ℕ) (past : List Event) → P past → Holds P (round limit hosts past)
+  keeps_round limit hosts past p =
+      holds_each P (pairs hosts) (both_ways limit) past p
+      (λ pair then_ q. holds_then P P (move_up_to limit pair.low pair.high None then_) (move_up_to limit pair.high pair.low None)
+      (keeps_move_up_to limit pair.low pair.high None then_ q) (λ later r. keeps_move_up_to limit pair.high pair.low None later r))
+
   keeps_drain : (limit hosts : ℕ) (past : List Event) → P past → Holds P (drain limit hosts past)
   keeps_drain limit hosts past p =
       holds_then P P (each (pairs hosts) (open_if_closed limit) past)
       (λ opened. and_then (again (rounds limit) (round limit hosts) opened) (prints drained_line))
-      (holds_each P (pairs hosts) (open_if_closed limit) past p (λ pair before there. keeps_open_if_closed limit pair before there))
+      (keeps_opening limit hosts past p)
       (λ opened there. holds_then P P (again (rounds limit) (round limit hosts) opened) (prints drained_line)
-      (holds_again P (rounds limit) (round limit hosts) opened there
-      (λ before now. holds_each P (pairs hosts) (both_ways limit) before now
-      (λ pair then_ q. holds_then P P (move_up_to limit pair.low pair.high None then_) (move_up_to limit pair.high pair.low None)
-      (keeps_move_up_to limit pair.low pair.high None then_ q) (λ later r. keeps_move_up_to limit pair.high pair.low None later r))))
+      (holds_again P (rounds limit) (round limit hosts) opened there (keeps_round limit hosts))
       (λ later q. kept.printed drained_line later q))
 
   -- each command keeps it
-  pub keeps_after : (limit hosts : ℕ) (c : Command) (past : List Event) → P past → Holds P (after limit hosts c past)
-  keeps_after limit hosts (command.Bind host port sndbuf rcvbuf) past p = keeps_bind host port sndbuf rcvbuf past p
-  keeps_after limit hosts (command.BindAny host port sndbuf rcvbuf) past p = keeps_bind host (unwrap_or (free_port host port past) port) sndbuf rcvbuf past p
-  keeps_after limit hosts (command.Send host port to dport payload) past p = keeps_send limit hosts host port to dport payload past p
-  keeps_after limit hosts (command.Recv host port) past p = keeps_recv host port past p
-  keeps_after limit hosts (command.Cancel host port to dport) past p = keeps_cancel limit host port to dport past p
-  keeps_after limit hosts (command.Close host port) past p = keeps_close limit hosts host port past p
-  keeps_after limit hosts (command.Open host to) past p = keeps_open limit host to past p
-  keeps_after limit hosts (command.Move host to bytes) past p = keeps_move limit host to bytes past p
-  keeps_after limit hosts (command.Cut host to) past p = keeps_cut limit host to past p
-  keeps_after limit hosts command.Drain past p = keeps_drain limit hosts past p
+  pub keeps_after_in_flight : (limit hosts : ℕ) (c : Command) (past : List Event) → P past → Holds P (after limit hosts c past)
+  keeps_after_in_flight limit hosts (command.Bind host port sndbuf rcvbuf) past p = keeps_bind host port sndbuf rcvbuf past p
+  keeps_after_in_flight limit hosts (command.BindAny host port sndbuf rcvbuf) past p = keeps_bind host (unwrap_or (free_port host port past) port) sndbuf rcvbuf past p
+  keeps_after_in_flight limit hosts (command.Send host port to dport payload) past p = keeps_send limit hosts host port to dport payload past p
+  keeps_after_in_flight limit hosts (command.Recv host port) past p = keeps_recv host port past p
+  keeps_after_in_flight limit hosts (command.Cancel host port to dport) past p = keeps_cancel limit host port to dport past p
+  keeps_after_in_flight limit hosts (command.Close host port) past p = keeps_close limit hosts host port past p
+  keeps_after_in_flight limit hosts (command.Open host to) past p = keeps_open limit host to past p
+  keeps_after_in_flight limit hosts (command.Move host to bytes) past p = keeps_move limit host to bytes past p
+  keeps_after_in_flight limit hosts (command.Cut host to) past p = keeps_cut limit host to past p
+  keeps_after_in_flight limit hosts command.Drain past p = keeps_drain limit hosts past p
 
   -- and so do all commands of a script
-  pub keeps_history : (limit hosts : ℕ) (commands : List Placed) (past : List Event) → P past → Holds P (history limit hosts commands past)
-  keeps_history limit hosts [] past p = p
-  keeps_history limit hosts (placed ∷ commands) past p =
-      holds_then P P (after limit hosts placed.command past) (history limit hosts commands) (keeps_after limit hosts placed.command past p)
-      (λ later q. keeps_history limit hosts commands later q)
+  pub keeps_history_in_flight : (limit hosts : ℕ) (commands : List Placed) (past : List Event) → P past → Holds P (history limit hosts commands past)
+  keeps_history_in_flight limit hosts [] past p = p
+  keeps_history_in_flight limit hosts (placed ∷ commands) past p =
+      holds_then P P (after limit hosts placed.command past) (history limit hosts commands) (keeps_after_in_flight limit hosts placed.command past p)
+      (λ later q. keeps_history_in_flight limit hosts commands later q)
+
+-- the same of what all counts of bytes keep
+pub keeps_after : (P : List Event → Type 0) → IsKept P → (limit hosts : ℕ) (c : Command) (past : List Event) → P past →
+    Holds P (after limit hosts c past)
+keeps_after P kept = keeps_after_in_flight P (in_flight_too P kept)
+
+pub keeps_history : (P : List Event → Type 0) → IsKept P → (limit hosts : ℕ) (commands : List Placed) (past : List Event) → P past →
+    Holds P (history limit hosts commands past)
+keeps_history P kept = keeps_history_in_flight P (in_flight_too P kept)

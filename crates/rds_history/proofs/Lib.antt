@@ -1,4 +1,5 @@
 mod EventInvariants
+mod Drained
 mod EndsAgree
 mod InOrder
 mod OneMap
@@ -10,3 +11,10 @@ mod PastCommands
 mod HandedOut
 mod SoundHistory
 mod OnlySent
+mod Again
+mod Moves
+mod OnlyWritten
+mod Pieces
+mod Rounds
+mod SameStreams
+mod Turns

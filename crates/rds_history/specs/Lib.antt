@@ -17,3 +17,4 @@ pub mod WorkedScripts
 pub mod EndsAgree
 pub mod InOrder
 pub mod Sound
+pub mod Limits

@@ -12,6 +12,9 @@ ghost use Rattle.rds_history.specs.Journals.{is_marked, own_map};
 ghost use Rattle.rds_history.specs.WorkedScripts.{hello, text_of_hello, cut_cancel_ping_congestion, text_of_cut_cancel_ping_congestion};
 
 pub mod sound;
+mod limits;
+
+pub use limits::{drained_is_quiet, moved_was_written, rounds_suffice, turns_suffice};
 
 /// Each socket hands out what was delivered to it, in order.
 pub fn in_order()
