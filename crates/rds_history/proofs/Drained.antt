@@ -19,8 +19,7 @@ use Rattle.rds_history.specs.Open.{open_both, open_one}
 use Rattle.rds_history.specs.Drain.{Pair, pairs, open_if_closed, round, rounds, drain}
 use Rattle.rds_history.specs.History.{history}
 use Rattle.rds_history.specs.Limits.{IsDrained, IsIdle}
-use Rattle.rds_history.proofs.EventInvariants.{Holds, holds_then, holds_appends, holds_each, holds_again, keeps_after}
-use Rattle.rds_history.proofs.Moves.{holds_weaker}
+use Rattle.rds_history.proofs.EventInvariants.{Holds, holds_weaker, holds_then, holds_appends, holds_each, holds_again, keeps_after}
 use Rattle.rds_history.proofs.OnlyWritten.{only_history}
 use Rattle.rds_history.proofs.Rounds.{AllResting, IsSwept, swept, resting_drained}
 use Rattle.rds_history.proofs.SameStreams.{SameStreams, same_history, same_streams_are_kept, journal_own, here}

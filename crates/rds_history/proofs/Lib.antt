@@ -1,3 +1,5 @@
+mod Holding
+mod KeptMoves
 mod EventInvariants
 mod Drained
 mod EndsAgree

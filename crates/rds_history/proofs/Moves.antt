@@ -13,13 +13,9 @@ use Rattle.rds_history.specs.Journals.{journal, moved_in_all, in_flight, own_map
 use Rattle.rds_history.specs.PullAndRead.{pull, pull_on}
 use Rattle.rds_history.specs.Move.{pull_if_idle, arrive, move_up_to, portion, move_piece}
 use Rattle.rds_history.specs.Limits.{MovesOnlyWritten, owed_to, turn_up_to}
-use Rattle.rds_history.proofs.EventInvariants.{Holds, holds_then, holds_again}
+use Rattle.rds_history.proofs.EventInvariants.{Holds, holds_then, holds_again, holds_weaker}
 use Rattle.rds_history.proofs.Again.{IsLast, last_step}
 use Rattle.rds_history.proofs.Turns.{IsResting, HasStopped, HasMoved, IsOnward, IsTurned, turned, ends_move}
-
-pub holds_weaker : (P Q : List Event → Type 0) (c : Course) → Holds P c → ((past : List Event) → P past → Q past) → Holds Q c
-holds_weaker P Q (Ok past) here step = step past here
-holds_weaker P Q (Err full) here step = tt
 
 -- no stream changed, no journal is shorter, and nothing new is in flight
 pub record IsSteady (past later : List Event) : Type 0 where

@@ -10,11 +10,11 @@ use Rattle.rds_history.specs.Journals.{journal, moved_in_all, in_flight}
 use Rattle.rds_history.specs.Move.{move_up_to}
 use Rattle.rds_history.specs.Drain.{Pair, pairs, open_if_closed, both_ways, round, rounds, drain}
 use Rattle.rds_history.specs.Limits.{MovesOnlyWritten}
-use Rattle.rds_history.proofs.EventInvariants.{Holds, holds_then, keeps_opening, keeps_round}
+use Rattle.rds_history.proofs.EventInvariants.{Holds, holds_weaker, holds_then, keeps_opening, keeps_round}
 use Rattle.rds_history.proofs.Again.{Ends, ends_from, ends_again, IsLast, last_step}
 use Rattle.rds_history.proofs.OnlyWritten.{only_written_is_kept}
 use Rattle.rds_history.proofs.Turns.{IsResting}
-use Rattle.rds_history.proofs.Moves.{holds_weaker, IsSteady, steady_here, steady_then, IsCarried, carried, resting_move}
+use Rattle.rds_history.proofs.Moves.{IsSteady, steady_here, steady_then, IsCarried, carried, resting_move}
 
 min_le : (limit a b : ℕ) → a ≤ b → min limit a ≤ min limit b
 min_le limit a b less = omega (arith, less)

@@ -12,8 +12,7 @@ use Rattle.rds_history.specs.Courses.{appends}
 use Rattle.rds_history.specs.Journals.{journal}
 use Rattle.rds_history.specs.Open.{open_both, open_one, shut_if_open}
 use Rattle.rds_history.specs.History.{history}
-use Rattle.rds_history.proofs.EventInvariants.{Holds, holds_then, holds_appends, IsKept, IsQuiet, keeps_history}
-use Rattle.rds_history.proofs.Moves.{holds_weaker}
+use Rattle.rds_history.proofs.EventInvariants.{Holds, holds_weaker, holds_then, holds_appends, IsKept, IsQuiet, keeps_history}
 
 -- two journals of one connection have the same streams
 pub record HaveSame (a b : List Entry) : Type 0 where
