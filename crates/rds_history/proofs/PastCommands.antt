@@ -34,7 +34,7 @@ use Rattle.rds_history.specs.Drain.{Pair, pairs, open_if_closed, both_ways, roun
 use Rattle.rds_history.specs.History.{after, history}
 use Rattle.rds_history.proofs.EventInvariants.{Holds, holds_then, holds_again}
 use Rattle.rds_history.proofs.JoinedEnds.{Ends, AreJoined, joined_accepted, joined_cancelled, joined_opened, joined_shut}
-use Rattle.rds_history.proofs.JoinedReads.{NeverRefuse}
+use Rattle.rds_history.proofs.JoinedReads.{HonestLaws}
 use Rattle.rds_history.proofs.PastEnds.{ends, Keeps, still_then, still_turned, keeps_later, still_appended, appended_here, appended_there, keeps_marked, keeps_printed}
 use Rattle.rds_history.proofs.PastMoves.{holds_room, few_accepted, keeps_update_mark, keeps_move_up_to}
 
@@ -261,13 +261,13 @@ module _ (limit h k : ℕ) (apart : h ≢ k) where
       (λ closed. keeps_printed (pair_refused_line (codes "cut") h k is_down) past keeps)
       (λ s on. keeps_shut_both (Printed text ∷ past) s (keeps_printed text past keeps) on)
 
-  keeps_move : NeverRefuse → limit ≤ 2 ^ 63 → (count : ℕ) (past : List Event) → Keeps past → Holds Keeps (move limit h k count past)
-  keeps_move never small count past keeps =
+  keeps_move : HonestLaws → limit ≤ 2 ^ 63 → (count : ℕ) (past : List Event) → Keeps past → Holds Keeps (move limit h k count past)
+  keeps_move laws small count past keeps =
       keeps_on_stream h k (prints (pair_refused_line (codes "move") h k is_down)) (λ stream. move_and_tell limit h k count) past
       (λ closed. keeps_printed (pair_refused_line (codes "move") h k is_down) past keeps)
       (λ s on. holds_then Keeps Keeps (move_up_to limit h k (Some (moved_in_all past + count)) past)
       (λ later. prints (move_line h k (moved_in_all later - moved_in_all past)) later)
-      (keeps_move_up_to never limit h k small apart (Some (moved_in_all past + count)) past keeps)
+      (keeps_move_up_to laws limit h k small apart (Some (moved_in_all past + count)) past keeps)
       (λ later there. keeps_printed (move_line h k (moved_in_all later - moved_in_all past)) later there))
 
 -- the two hosts of each pair are others
@@ -286,12 +286,12 @@ pairs_apart_from [] hosts = All-nil IsApart
 pairs_apart_from (low ∷ lows) hosts = All-append IsApart _ _ (pairs_of low hosts) (pairs_apart_from lows hosts)
 
 -- the script's commands
-module _ (never : NeverRefuse) (limit hosts : ℕ) (small : limit ≤ 2 ^ 63) where
+module _ (laws : HonestLaws) (limit hosts : ℕ) (small : limit ≤ 2 ^ 63) where
   keeps_both_ways : (pair : Pair) → IsApart pair → (past : List Event) → Keeps past → Holds Keeps (both_ways limit pair past)
   keeps_both_ways pair apart past keeps =
       holds_then Keeps Keeps (move_up_to limit pair.low pair.high None past) (move_up_to limit pair.high pair.low None)
-      (keeps_move_up_to never limit pair.low pair.high small apart None past keeps)
-      (λ later there. keeps_move_up_to never limit pair.high pair.low small (λ same. apart (sym same)) None later there)
+      (keeps_move_up_to laws limit pair.low pair.high small apart None past keeps)
+      (λ later there. keeps_move_up_to laws limit pair.high pair.low small (λ same. apart (sym same)) None later there)
 
   keeps_drain : (past : List Event) → Keeps past → Holds Keeps (drain limit hosts past)
   keeps_drain past keeps =
@@ -314,7 +314,7 @@ module _ (never : NeverRefuse) (limit hosts : ℕ) (small : limit ≤ 2 ^ 63) wh
   keeps_after (command.Cancel host port to dport) past is keeps = keeps_cancel limit host port to dport past keeps
   keeps_after (command.Close host port) past is keeps = keeps_close limit hosts host port past keeps
   keeps_after (command.Open host to) past is keeps = keeps_open limit host to (λ same. is.apart (sym same)) past keeps
-  keeps_after (command.Move host to bytes) past is keeps = keeps_move limit host to (λ same. is.0.apart (sym same)) never small bytes past keeps
+  keeps_after (command.Move host to bytes) past is keeps = keeps_move limit host to (λ same. is.0.apart (sym same)) laws small bytes past keeps
   keeps_after (command.Cut host to) past is keeps = keeps_cut limit host to (λ same. is.apart (sym same)) past keeps
   keeps_after command.Drain past is keeps = keeps_drain past keeps
 

@@ -12,7 +12,7 @@ use Rattle.rds_model.specs.declared.entry.Outcome.TheVariants as outcome
 use Rattle.rds_model.specs.declared.entry.Verdict.{Verdict}
 use Rattle.rds_model.specs.declared.entry.Verdict.TheVariants as verdict
 use Rattle.rds_model.specs.declared.entry.TheConstants.{NO_SLOT, MAX_SLOTS}
-use Rattle.rds_model.specs.Past.{open_stream, accepted}
+use Rattle.rds_model.specs.Past.{open_stream, accepted, last_passed}
 use Rattle.rds_model.specs.Streams.{written_bytes, read_bytes}
 use Rattle.rds_model.specs.Sums.{last_pulled_frame}
 use Rattle.rds_model.specs.Owed.{owed_frame}
@@ -29,7 +29,7 @@ use Rattle.rds_history.specs.Move.{move_piece, pull_if_idle, arrive, turn, move_
 use Rattle.rds_history.proofs.EventInvariants.{Holds, holds_then, holds_again}
 use Rattle.rds_history.proofs.OneMap.{length-own_map}
 use Rattle.rds_history.proofs.JoinedEnds.{Ends, AreJoined, IsOnItsWay, IsGoing, going_of, joined_pulled, joined_moved}
-use Rattle.rds_history.proofs.JoinedReads.{NeverRefuse, joined_read, joined_pinged}
+use Rattle.rds_history.proofs.JoinedReads.{HonestLaws, joined_read, joined_pinged}
 use Rattle.rds_history.proofs.PastEnds.{ends, Keeps, IsStill, still_then, still_turned, keeps_later, still_appended, appended_here, appended_there, still_moved, moved_here, keeps_marked}
 
 -- what holds where a journal has room for two more entries holds where the course goes on
@@ -73,9 +73,9 @@ none_flies h k past closed =
     ∙ omega arith
 
 -- no more went than was written
-went_within : (last : Option Frame) (written read : List ℕ) (moved : ℕ) → IsOnItsWay last written read moved → moved ≤ length written
-went_within last written read moved (inl idle) = omega (arith, idle.all)
-went_within last written read moved (inr going) = omega (arith, going.some_fly)
+went_within : (s : ℕ) (w r : List Entry) (moved : ℕ) → IsOnItsWay s w r moved → moved ≤ length (written_bytes s w)
+went_within s w r moved (inl idle) = omega (arith, idle.all)
+went_within s w r moved (inr going) = omega (arith, going.some_fly)
 
 -- the outcome at a host is what the verdict says
 obeys_at : (k : ℕ) (v : Verdict) (past : List Event) → ((port slot : ℕ) → holder k port past ≡ Some slot → slot < MAX_SLOTS) →
@@ -101,7 +101,7 @@ keeps_pull h k past apart keeps none = go (open_stream (journal h k past)) refl
     by_owed s on None is = keeps
     by_owed s on (Some f) is =
         let joined = keeps.joined h k apart in
-        let within = went_within _ _ _ _ (joined.forth.way s on) in
+        let within = went_within s (journal h k past) (journal k h past) (moved_count h k past) (joined.forth.way s on) in
         keeps_later h k past (Appended h k (Pull s f) ∷ past) apart keeps (still_appended h k (Pull s f) past apart)
         (subst AreJoined (sym (appended_here h k (Pull s f) past apart))
         (joined_pulled (ends h k past) s (own_map h past) f joined on (omega (arith, within, none, flying h k s past on)) (length-own_map h past) is))
@@ -111,9 +111,10 @@ keeps_pull h k past apart keeps none = go (open_stream (journal h k past)) refl
     go (Some s) on = by_owed s on (owed_frame s (journal h k past) (own_map h past)) refl
 
 -- the last bytes of a frame come, and it is read
-module _ (never : NeverRefuse) (limit h k count s : ℕ) (f : Frame) (past : List Event) (small : limit ≤ 2 ^ 63) (apart : h ≢ k) (keeps : Keeps past)
+module _ (laws : HonestLaws) (limit h k count s : ℕ) (f : Frame) (past : List Event) (small : limit ≤ 2 ^ 63) (apart : h ≢ k) (keeps : Keeps past)
     (on : open_stream (journal h k past) ≡ Some s) (newest : last_pulled_frame (journal h k past) ≡ Some f)
     (bytes : written_bytes s (journal h k past) ≡ read_bytes s (journal k h past) ++ frame_bytes f)
+    (ack : f.header.ack ≤ last_passed (journal h k past))
     (all : moved_count h k past + count ≡ length (written_bytes s (journal h k past)))
     (room : length (journal k h past) + 2 ≤ limit) where
   back_apart : k ≢ h
@@ -140,7 +141,7 @@ module _ (never : NeverRefuse) (limit h k count s : ℕ) (f : Frame) (past : Lis
   keeps_plain o obeys settled =
       keeps_later h k past (behind_read o) apart keeps (still_read o)
       (subst AreJoined (sym (ends_read o))
-      (joined_read never (ends h k past) s f (keeps.joined h k apart) on newest bytes o (moved_count h k past + count) all obeys settled))
+      (joined_read laws (ends h k past) s f (keeps.joined h k apart) on newest bytes ack o (moved_count h k past + count) all obeys settled))
 
   keeps_pinged : Obeys (verdict_of (journal k h past) f.header) outcome.Ping →
       Keeps (Appended k h (Accept NO_SLOT 0 f.header.sport []) ∷ behind_read outcome.Ping)
@@ -151,7 +152,7 @@ module _ (never : NeverRefuse) (limit h k count s : ℕ) (f : Frame) (past : Lis
       (still_then h k past ping (Appended k h pong ∷ ping) (still_read outcome.Ping) (still_turned k h ping (Appended k h pong ∷ ping) (still_appended k h pong ping back_apart)))
       (subst AreJoined
       (sym (appended_there k h pong ping back_apart ∙ ap (λ (e : Ends). record e { there = pong ∷ e.there }) (ends_read outcome.Ping)))
-      (joined_pinged never (ends h k past) s f (keeps.joined h k apart) on newest bytes (moved_count h k past + count) all obeys
+      (joined_pinged laws (ends h k past) s f (keeps.joined h k apart) on newest bytes ack (moved_count h k past + count) all obeys
       (omega (arith, room, small, few_accepted (journal k h past)))))
 
   keeps_answered : (o : Outcome) → Obeys (verdict_of (journal k h past) f.header) o → Keeps (answer k h f o (behind_read o))
@@ -173,7 +174,7 @@ module _ (never : NeverRefuse) (limit h k count s : ℕ) (f : Frame) (past : Lis
       (keeps_answered (outcome_at k (verdict_of (journal k h past) f.header) went) (obeys_at k (verdict_of (journal k h past) f.header) went (keeps.slots k)))
 
 -- some of the bytes in flight go
-module _ (never : NeverRefuse) (limit h k count s : ℕ) (past : List Event) (small : limit ≤ 2 ^ 63) (apart : h ≢ k) (keeps : Keeps past)
+module _ (laws : HonestLaws) (limit h k count s : ℕ) (past : List Event) (small : limit ≤ 2 ^ 63) (apart : h ≢ k) (keeps : Keeps past)
     (some : 0 < length (in_flight h k past)) (within : count ≤ length (in_flight h k past)) (room : length (journal k h past) + 2 ≤ limit)
     (on : open_stream (journal h k past) ≡ Some s) where
   joined : AreJoined (ends h k past)
@@ -182,8 +183,8 @@ module _ (never : NeverRefuse) (limit h k count s : ℕ) (past : List Event) (sm
   abbrev written : List ℕ
   written = written_bytes s (journal h k past)
 
-  going : IsGoing (last_pulled_frame (journal h k past)) written (read_bytes s (journal k h past)) (moved_count h k past)
-  going = going_of (last_pulled_frame (journal h k past)) written (read_bytes s (journal k h past)) (moved_count h k past)
+  going : IsGoing (last_pulled_frame (journal h k past)) written (read_bytes s (journal k h past)) (moved_count h k past) (last_passed (journal h k past))
+  going = going_of s (journal h k past) (journal k h past) (moved_count h k past)
       (omega (arith, some, flying h k s past on)) (joined.forth.way s on)
 
   left : length (in_flight h k (Moved h k count ∷ past)) ≡ length written - (moved_count h k past + count)
@@ -192,7 +193,7 @@ module _ (never : NeverRefuse) (limit h k count s : ℕ) (past : List Event) (sm
   by_left : (b : Bool) → (length (in_flight h k (Moved h k count ∷ past)) == 0) ≡ b →
       Keeps (cond b (read k h (Moved h k count ∷ past)) (Moved h k count ∷ past))
   by_left true is =
-      keeps_read never limit h k count s going.frame past small apart keeps on going.newest going.bytes
+      keeps_read laws limit h k count s going.frame past small apart keeps on going.newest going.bytes going.ack
       (omega (arith, left, eqb-true _ 0 is, within, flying h k s past on, going.some_fly)) room
   by_left false is =
       let some_left = eqb-false _ 0 is in
@@ -202,14 +203,14 @@ module _ (never : NeverRefuse) (limit h k count s : ℕ) (past : List Event) (sm
   keeps_piece_on : Keeps (move_piece h k count past)
   keeps_piece_on = by_left (length (in_flight h k (Moved h k count ∷ past)) == 0) refl
 
-module _ (never : NeverRefuse) (limit h k : ℕ) (small : limit ≤ 2 ^ 63) (apart : h ≢ k) where
+module _ (laws : HonestLaws) (limit h k : ℕ) (small : limit ≤ 2 ^ 63) (apart : h ≢ k) where
   keeps_piece : (count : ℕ) (past : List Event) → Keeps past → 0 < length (in_flight h k past) → count ≤ length (in_flight h k past) →
       length (journal k h past) + 2 ≤ limit → Keeps (move_piece h k count past)
   keeps_piece count past keeps some within room = by_stream (open_stream (journal h k past)) refl
     where
       by_stream : (o : Option ℕ) → open_stream (journal h k past) ≡ o → Keeps (move_piece h k count past)
       by_stream None closed = absurd (omega (arith, some, none_flies h k past closed))
-      by_stream (Some s) on = keeps_piece_on never limit h k count s past small apart keeps some within room on
+      by_stream (Some s) on = keeps_piece_on laws limit h k count s past small apart keeps some within room on
 
   portion_within : (left : Option ℕ) (count : ℕ) → portion left count ≤ count
   portion_within None count = omega arith

@@ -1,5 +1,5 @@
 -- After all commands of a script in range every two hosts stand to each other as they should.
-use Rattle.std.proofs.Common.{◌≡◌, ◌≢◌, ℕ, ◌≤◌, ◌^◌, Some, Ok, List, [], map, refl, ◌∙◌, ap, sym, ◌++◌, subst}
+use Rattle.std.proofs.Common.{arith, ◌≡◌, ◌≢◌, ℕ, ◌≤◌, ◌^◌, Some, Ok, List, [], map, refl, ◌∙◌, ap, sym, ◌++◌, subst}
 use Rattle.std.specs.Prelude.{All}
 use Rattle.rds_model.specs.declared.entry.Entry.{Entry}
 use Rattle.rds_model.specs.declared.order.Datagram.{Datagram}
@@ -16,7 +16,7 @@ use Rattle.rds_history.specs.Sockets.{handed_out, queue}
 use Rattle.rds_history.specs.Sound.{IsSoundBetween, IsSound, WasSentTo, of_ports}
 use Rattle.rds_history.proofs.EventInvariants.{Holds}
 use Rattle.rds_history.proofs.InOrder.{in_order_history}
-use Rattle.rds_history.proofs.JoinedReads.{NeverRefuse}
+use Rattle.rds_history.proofs.JoinedReads.{HonestLaws}
 use Rattle.rds_history.proofs.PastEnds.{Keeps}
 use Rattle.rds_history.proofs.PastCommands.{keeps_history}
 use Rattle.rds_history.proofs.HandedOut.{agrees_past}
@@ -30,8 +30,8 @@ keeps_nothing = record {
     whole_there = record { legal = tt; settled = refl };
     streams = refl;
     newest = refl;
-    forth = record { begins = λ s. ([], refl); way = λ s is. cc };
-    back = record { begins = λ s. ([], refl); way = λ s is. cc };
+    forth = record { begins = λ s. ([], refl); way = λ s is. cc; acked = omega arith };
+    back = record { begins = λ s. ([], refl); way = λ s is. cc; acked = omega arith };
   };
   own = λ h. refl;
   slots = λ h port slot is. cc;
@@ -71,10 +71,10 @@ module _ (headline : Headline) (past : List Event) (keeps : Keeps past) (in_orde
       subst (All (WasSentTo k past)) (sym (in_order k slot))
       (all_sent k slot past past (record { others = λ h apart. (once h k apart 0 0).bytes; own = keeps.own k }))
 
-pub sound_history : Headline → NeverRefuse → (script : Script) (limit : ℕ) (past : List Event) → IsScript script → limit ≤ 2 ^ 63 →
+pub sound_history : Headline → HonestLaws → (script : Script) (limit : ℕ) (past : List Event) → IsScript script → limit ≤ 2 ^ 63 →
     history limit script.hosts script.commands.items [] ≡ Ok past → IsSound script.hosts past
-sound_history headline never script limit past is small came =
-    let keeps : Keeps past = subst (Holds Keeps) came (keeps_history never limit script.hosts small script.commands.items [] is.each keeps_nothing) in
+sound_history headline laws script limit past is small came =
+    let keeps : Keeps past = subst (Holds Keeps) came (keeps_history laws limit script.hosts small script.commands.items [] is.each keeps_nothing) in
     let in_order : (host slot : ℕ) → HandsOutInOrder host slot past = λ host slot. in_order_history limit script.hosts script.commands.items past host slot came in
     record {
       between = λ h k known_h known_k apart. sound_between headline past keeps in_order h k apart;
