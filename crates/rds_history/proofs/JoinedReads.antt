@@ -11,7 +11,7 @@ use Rattle.rds_model.specs.declared.entry.Entry.TheVariants.{Accept, Cancel, Ope
 use Rattle.rds_model.specs.declared.entry.Outcome.{Outcome}
 use Rattle.rds_model.specs.declared.entry.Outcome.TheVariants as outcome
 use Rattle.rds_model.specs.declared.entry.TheConstants.{NO_SLOT}
-use Rattle.rds_model.specs.Past.{now, open_stream, accepted, highest_pulled, highest_ack, last_passed, number, passes}
+use Rattle.rds_model.specs.Past.{now, open_stream, accepted, highest_pulled, last_passed, number, passes}
 use Rattle.rds_model.specs.Streams.{written_bytes, read_bytes}
 use Rattle.rds_model.specs.Sums.{last_pulled_frame}
 use Rattle.rds_model.specs.Reading.{verdict_of, Obeys}

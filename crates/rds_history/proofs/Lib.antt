@@ -20,3 +20,4 @@ mod Pieces
 mod Rounds
 mod SameStreams
 mod Turns
+mod SettledHistory

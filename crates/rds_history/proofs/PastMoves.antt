@@ -60,7 +60,7 @@ keeps_update_mark h port slot past keeps =
     go false false event marked = keeps
 
 -- how many bytes are in flight
-flying : (h k s : ℕ) (past : List Event) → open_stream (journal h k past) ≡ Some s →
+pub flying : (h k s : ℕ) (past : List Event) → open_stream (journal h k past) ≡ Some s →
     length (in_flight h k past) ≡ length (written_bytes s (journal h k past)) - moved_count h k past
 flying h k s past on =
     length-drop (moved_count h k past) (written_to_open (journal h k past))
@@ -73,7 +73,7 @@ none_flies h k past closed =
     ∙ omega arith
 
 -- no more went than was written
-went_within : (s : ℕ) (w r : List Entry) (moved : ℕ) → IsOnItsWay s w r moved → moved ≤ length (written_bytes s w)
+pub went_within : (s : ℕ) (w r : List Entry) (moved : ℕ) → IsOnItsWay s w r moved → moved ≤ length (written_bytes s w)
 went_within s w r moved (inl idle) = omega (arith, idle.all)
 went_within s w r moved (inr going) = omega (arith, going.some_fly)
 

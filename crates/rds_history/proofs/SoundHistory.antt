@@ -23,7 +23,7 @@ use Rattle.rds_history.proofs.HandedOut.{agrees_past}
 use Rattle.rds_history.proofs.OnlySent.{all_sent}
 
 -- nothing has happened
-keeps_nothing : Keeps []
+pub keeps_nothing : Keeps []
 keeps_nothing = record {
   joined = λ h k apart. record {
     whole_here = record { legal = tt; settled = refl };
@@ -41,27 +41,28 @@ keeps_nothing = record {
 abbrev pub Headline : Type 0
 Headline = (a b : List Entry) → IsLegal a → IsLegal b → IsHonest a b → (sport dport : ℕ) → IsDeliveredOnce sport dport a b
 
-module _ (headline : Headline) (past : List Event) (keeps : Keeps past) (in_order : (k slot : ℕ) → HandsOutInOrder k slot past) where
-  honest : (h k : ℕ) → h ≢ k → IsHonest (journal h k past) (journal k h past)
+module _ (headline : Headline) (past : List Event) (keeps : Keeps past) where
+  pub honest : (h k : ℕ) → h ≢ k → IsHonest (journal h k past) (journal k h past)
   honest h k apart =
       let joined = keeps.joined h k apart in
       record { forth = joined.forth.begins; back = joined.back.begins }
 
-  once : (h k : ℕ) → h ≢ k → (sport dport : ℕ) → IsDeliveredOnce sport dport (journal h k past) (journal k h past)
+  pub once : (h k : ℕ) → h ≢ k → (sport dport : ℕ) → IsDeliveredOnce sport dport (journal h k past) (journal k h past)
   once h k apart =
       let joined = keeps.joined h k apart in
       headline (journal h k past) (journal k h past) joined.whole_here.legal joined.whole_there.legal (honest h k apart)
 
+module _ (headline : Headline) (past : List Event) (keeps : Keeps past) (in_order : (k slot : ℕ) → HandsOutInOrder k slot past) where
   sound_between : (h k : ℕ) → h ≢ k → IsSoundBetween h k past
   sound_between h k apart = record {
     legal_here = (keeps.joined h k apart).whole_here;
     legal_there = (keeps.joined h k apart).whole_there;
-    honest = honest h k apart;
+    honest = honest headline past keeps h k apart;
     reliable = λ sport dport. record {
-      once = once h k apart sport dport;
+      once = once headline past keeps h k apart sport dport;
       handed_out = λ slot.
           ap (λ (ds : List Datagram). map (λ (d : Datagram). Some d) (of_ports h sport dport ds)) (in_order k slot)
-          ∙ agrees_past h sport k dport slot (journal h k past) past (once h k apart sport dport).bytes;
+          ∙ agrees_past h sport k dport slot (journal h k past) past (once headline past keeps h k apart sport dport).bytes;
     };
   }
 
@@ -69,7 +70,7 @@ module _ (headline : Headline) (past : List Event) (keeps : Keeps past) (in_orde
   handed_out_was_sent : (k slot : ℕ) → All (WasSentTo k past) (handed_out k slot past ++ queue k slot past)
   handed_out_was_sent k slot =
       subst (All (WasSentTo k past)) (sym (in_order k slot))
-      (all_sent k slot past past (record { others = λ h apart. (once h k apart 0 0).bytes; own = keeps.own k }))
+      (all_sent k slot past past (record { others = λ h apart. (once headline past keeps h k apart 0 0).bytes; own = keeps.own k }))
 
 pub sound_history : Headline → HonestLaws → (script : Script) (limit : ℕ) (past : List Event) → IsScript script → limit ≤ 2 ^ 63 →
     history limit script.hosts script.commands.items [] ≡ Ok past → IsSound script.hosts past

@@ -18,3 +18,4 @@ pub mod EndsAgree
 pub mod InOrder
 pub mod Sound
 pub mod Limits
+pub mod Settled

@@ -11,8 +11,8 @@ ghost use Rattle.rds_history.specs.InOrder.{HandsOutInOrder};
 ghost use Rattle.rds_history.specs.Journals.{is_marked, own_map};
 ghost use Rattle.rds_history.specs.WorkedScripts.{hello, text_of_hello, cut_cancel_ping_congestion, text_of_cut_cancel_ping_congestion};
 
-pub mod sound;
 mod limits;
+pub mod sound;
 
 pub use limits::{drained_is_quiet, moved_was_written, rounds_suffice, turns_suffice};
 

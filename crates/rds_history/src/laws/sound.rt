@@ -3,10 +3,12 @@ ghost use Rattle.std.specs.Prelude.{◌≡◌, ◌≤◌, ◌^◌, ℕ, Ok, List
 ghost use Rattle.rds_script.specs.declared.script.Script.{Script};
 ghost use Rattle.rds_script.specs.Script.{IsScript};
 ghost use Rattle.rds_history.specs.Events.{Event};
+ghost use Rattle.rds_history.specs.Drain.{drain};
 ghost use Rattle.rds_history.specs.History.{history};
+ghost use Rattle.rds_history.specs.Settled.{IsSettled};
 ghost use Rattle.rds_history.specs.Sound.{IsSound};
 
-use rds_model::laws::{fifo_of_all, headline_of_all, no_bad_of_all};
+use rds_model::laws::{drained_of_all, fifo_of_all, headline_of_all, no_bad_of_all};
 
 /// Whatever a script in range does, once its commands are done every two hosts stand to each other as they should. Both
 /// journals follow the rules, and each host got a beginning of the bytes that the other wrote to each stream. For each port
@@ -21,4 +23,19 @@ pub fn sound()
     headline_of_all();
     no_bad_of_all();
     fifo_of_all();
+}
+
+/// After a drain of a script's history, if it found room in each journal, every two hosts are done with each other: on the
+/// open stream nothing is in flight and nothing is owed, no datagram is left to deliver, each host has read the other's
+/// last congestion map, and each datagram that was accepted was delivered to a socket, dropped where no socket held its
+/// port, taken by port 0, or taken back.
+pub fn settled_after_drain()
+    ensures { (script : Script) (limit : ℕ) (past later : List Event) → IsScript script → limit ≤ 2 ^ 63 →
+        history limit script.hosts script.commands.items [] ≡ Ok past → drain limit script.hosts past ≡ Ok later →
+        IsSettled script.hosts later }
+{
+    headline_of_all();
+    no_bad_of_all();
+    fifo_of_all();
+    drained_of_all();
 }
