@@ -79,9 +79,9 @@ abbrev pub SettledLaw : Type 0
 SettledLaw = (a b : List Entry) → IsLegal a → IsLegal b → IsHonest a b → (s : ℕ) → IsQuiet s a b → IsSettledBetween s a b
 
 -- nothing is in flight, so all was read
-all_read : (h k s : ℕ) (past : List Event) → Keeps past → h ≢ k → open_stream (journal h k past) ≡ Some s → in_flight h k past ≡ [] →
+all_read : (hosts h k s : ℕ) (past : List Event) → Keeps hosts past → h ≢ k → open_stream (journal h k past) ≡ Some s → in_flight h k past ≡ [] →
     read_bytes s (journal k h past) ≡ written_bytes s (journal h k past)
-all_read h k s past keeps apart on none =
+all_read hosts h k s past keeps apart on none =
     let way = (keeps.joined h k apart).forth.way s on in
     let within = went_within s (journal h k past) (journal k h past) (moved_count h k past) way in
     sym (idle_of s (journal h k past) (journal k h past) (moved_count h k past) (omega (arith, within, ap length none, flying h k s past on)) way)
@@ -90,7 +90,7 @@ all_read h k s past keeps apart on none =
 owes_nothing : (s : ℕ) (past : List Entry) (map : List ℕ) → owed_frame s past map ≡ None → OwesNothing s past
 owes_nothing s past map none = record { map = map; pulled = (idle s past map none).last; nothing = none }
 
-module _ (headline : Headline) (settles : SettledLaw) (past : List Event) (keeps : Keeps past) (h k : ℕ) (apart : h ≢ k) (drained : IsDrained h k past) where
+module _ (headline : Headline) (settles : SettledLaw) (hosts : ℕ) (past : List Event) (keeps : Keeps hosts past) (h k : ℕ) (apart : h ≢ k) (drained : IsDrained h k past) where
   joined : AreJoined (ends h k past)
   joined = keeps.joined h k apart
 
@@ -98,15 +98,15 @@ module _ (headline : Headline) (settles : SettledLaw) (past : List Event) (keeps
   quiet = record {
     open_a = drained.open_here;
     open_b = drained.open_there;
-    forth = all_read h k drained.stream past keeps apart drained.open_here drained.nothing_flies;
-    back = all_read k h drained.stream past keeps (λ same. apart (sym same)) drained.open_there drained.nothing_flies_back;
+    forth = all_read hosts h k drained.stream past keeps apart drained.open_here drained.nothing_flies;
+    back = all_read hosts k h drained.stream past keeps (λ same. apart (sym same)) drained.open_there drained.nothing_flies_back;
     idle_a = owes_nothing drained.stream (journal h k past) (own_map h past) drained.nothing_owed;
     idle_b = owes_nothing drained.stream (journal k h past) (own_map k past) drained.nothing_owed_back;
   }
 
   settled : IsSettledBetween drained.stream (journal h k past) (journal k h past)
   settled =
-      settles (journal h k past) (journal k h past) joined.whole_here.legal joined.whole_there.legal (honest headline past keeps h k apart)
+      settles (journal h k past) (journal k h past) joined.whole_here.legal joined.whole_there.legal (honest headline hosts past keeps h k apart)
       drained.stream quiet
 
   settled_from : IsSettledFrom h k past
@@ -114,7 +114,7 @@ module _ (headline : Headline) (settles : SettledLaw) (past : List Event) (keeps
     stream = drained.stream;
     quiet = quiet;
     settled = settled;
-    accounted = λ sport dport. accounted_for sport dport (journal h k past) (journal k h past) (once headline past keeps h k apart sport dport)
+    accounted = λ sport dport. accounted_for sport dport (journal h k past) (journal k h past) (once headline hosts past keeps h k apart sport dport)
         settled.none_alive_a joined.back.acked;
   }
 
@@ -122,7 +122,8 @@ module _ (headline : Headline) (settles : SettledLaw) (past : List Event) (keeps
 pub settled_history : Headline → HonestLaws → SettledLaw → (script : Script) (limit : ℕ) (past later : List Event) → IsScript script → limit ≤ 2 ^ 63 →
     history limit script.hosts script.commands.items [] ≡ Ok past → drain limit script.hosts past ≡ Ok later → IsSettled script.hosts later
 settled_history headline laws settles script limit past later is small came drained h k known_h known_k apart =
-    let before : Keeps past = subst (Holds Keeps) came (keeps_history laws limit script.hosts small script.commands.items [] is.each keeps_nothing) in
-    let keeps : Keeps later = subst (Holds Keeps) drained (keeps_after laws limit script.hosts small command.Drain past tt before) in
-    settled_from headline settles later keeps h k apart
+    let before : Keeps script.hosts past =
+    subst (Holds (Keeps script.hosts)) came (keeps_history script.hosts laws limit small script.commands.items [] is.each (keeps_nothing script.hosts)) in
+    let keeps : Keeps script.hosts later = subst (Holds (Keeps script.hosts)) drained (keeps_after script.hosts laws limit small command.Drain past tt before) in
+    settled_from headline settles script.hosts later keeps h k apart
     (quiet_after limit script.hosts (omega (arith, is.hosts_high)) script.commands.items past later came drained h k known_h known_k apart)
