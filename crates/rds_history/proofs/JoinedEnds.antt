@@ -1,5 +1,5 @@
 -- The two journals of a connection, and how many bytes went each way over the open stream: what they keep.
-use Rattle.std.proofs.Common.{◌≡◌, ◌≢◌, ◌⊎◌, inl, inr, ℕ, suc, ◌+◌, ◌<◌, Option, Some, None, List, ◌∷◌, ◌++◌, length, refl, sym, ◌∙◌, ap, subst, arith, length-append}
+use Rattle.std.proofs.Common.{◌≡◌, ◌≢◌, ◌⊎◌, inl, inr, ℕ, suc, ◌+◌, ◌<◌, ◌≤◌, Option, Some, None, List, ◌∷◌, ◌++◌, length, refl, sym, ◌∙◌, ap, subst, arith, length-append}
 use Rattle.std.proofs.lemmas.Bool.{cases_eq}
 use Rattle.rds_wire.specs.declared.frame.Frame.{Frame}
 use Rattle.rds_wire.specs.declared.kind.TheConstants.{MAP_LENGTH}
@@ -8,12 +8,13 @@ use Rattle.rds_model.specs.declared.entry.Entry.{Entry}
 use Rattle.rds_model.specs.declared.entry.Entry.TheVariants.{Accept, Cancel, Open, Pull, Shut}
 use Rattle.rds_model.specs.declared.entry.Target.{Target}
 use Rattle.rds_model.specs.declared.entry.TheConstants.{NO_SLOT}
-use Rattle.rds_model.specs.Past.{open_stream, newest_stream}
+use Rattle.rds_model.specs.Past.{open_stream, newest_stream, last_passed, highest_ack}
 use Rattle.rds_model.specs.Streams.{written_bytes, read_bytes}
 use Rattle.rds_model.specs.Sums.{last_pulled_frame}
 use Rattle.rds_model.specs.Owed.{owed_frame}
 use Rattle.rds_model.specs.Honest.{Begins}
-use Rattle.rds_model.specs.Legal.{IsLegal, IsWhole, IsLawful, IsLawfulAccept, pong_to}
+use Rattle.rds_model.specs.Legal.{IsLegal, IsWhole, IsLawful, IsLawfulAccept, IsLawfulPull, pong_to}
+use Rattle.rds_model.specs.FrameLaws.{pull_acknowledges}
 use Rattle.rds_model.specs.OwingLaws.{owed_is_lawful, settled_continues}
 use Rattle.rds_model.specs.StreamLaws.{none_written, none_read, written_pull, written_pull_other}
 
@@ -30,19 +31,24 @@ pub record IsAllRead (written read : List ℕ) (moved : ℕ) : Type 0 where
   pub same : written ≡ read
 
 -- the frame that was pulled last is on its way, and all before it was read
-pub record IsGoing (last : Option Frame) (written read : List ℕ) (moved : ℕ) : Type 0 where
+pub record IsGoing (last : Option Frame) (written read : List ℕ) (moved passed : ℕ) : Type 0 where
   pub frame : Frame
   pub newest : last ≡ Some frame
   pub some_fly : moved < length written
   pub bytes : written ≡ read ++ frame_bytes frame
+  pub ack : frame.header.ack ≤ passed
 
-abbrev pub IsOnItsWay : Option Frame → (written read : List ℕ) → ℕ → Type 0
-IsOnItsWay last written read moved = IsAllRead written read moved ⊎ IsGoing last written read moved
+-- what is on its way over stream s
+abbrev pub IsOnItsWay : (s : ℕ) → (writer reader : List Entry) → (moved : ℕ) → Type 0
+IsOnItsWay s writer reader moved =
+    IsAllRead (written_bytes s writer) (read_bytes s reader) moved
+    ⊎ IsGoing (last_pulled_frame writer) (written_bytes s writer) (read_bytes s reader) moved (last_passed writer)
 
 -- what flows from a writer's journal to a reader's
 pub record Flows (writer reader : List Entry) (moved : ℕ) : Type 0 where
   pub begins : (s : ℕ) → Begins (read_bytes s reader) (written_bytes s writer)
-  pub way : (s : ℕ) → open_stream writer ≡ Some s → IsOnItsWay (last_pulled_frame writer) (written_bytes s writer) (read_bytes s reader) moved
+  pub way : (s : ℕ) → open_stream writer ≡ Some s → IsOnItsWay s writer reader moved
+  pub acked : highest_ack reader ≤ last_passed writer
 
 pub record AreJoined (e : Ends) : Type 0 where
   pub whole_here : IsWhole e.here
@@ -78,8 +84,8 @@ joined_accepted e slot sport dport payload j lawful = record {
   whole_there = j.whole_there;
   streams = j.streams;
   newest = j.newest;
-  forth = record { begins = j.forth.begins; way = j.forth.way };
-  back = record { begins = j.back.begins; way = j.back.way };
+  forth = record { begins = j.forth.begins; way = j.forth.way; acked = j.forth.acked };
+  back = record { begins = j.back.begins; way = j.back.way; acked = j.back.acked };
 }
 
 pub joined_cancelled : (e : Ends) (slot : ℕ) (target : Target) → AreJoined e → slot ≢ NO_SLOT →
@@ -89,8 +95,8 @@ joined_cancelled e slot target j lawful = record {
   whole_there = j.whole_there;
   streams = j.streams;
   newest = j.newest;
-  forth = record { begins = j.forth.begins; way = j.forth.way };
-  back = record { begins = j.back.begins; way = j.back.way };
+  forth = record { begins = j.forth.begins; way = j.forth.way; acked = j.forth.acked };
+  back = record { begins = j.back.begins; way = j.back.way; acked = j.back.acked };
 }
 
 -- two streams that are open are one
@@ -103,34 +109,34 @@ unfolding header_bytes
 frame_has_bytes f = simp length-append (omega arith)
 
 -- all went, so nothing is on its way
-pub idle_of : (last : Option Frame) (written read : List ℕ) (moved : ℕ) → moved ≡ length written → IsOnItsWay last written read moved → written ≡ read
-idle_of last written read moved all (inl idle) = idle.same
-idle_of last written read moved all (inr going) = absurd (omega (arith, all, going.some_fly))
+pub idle_of : (s : ℕ) (w r : List Entry) (moved : ℕ) → moved ≡ length (written_bytes s w) → IsOnItsWay s w r moved → written_bytes s w ≡ read_bytes s r
+idle_of s w r moved all (inl idle) = idle.same
+idle_of s w r moved all (inr going) = absurd (omega (arith, all, going.some_fly))
 
 -- not all went, so a frame is on its way
-pub going_of : (last : Option Frame) (written read : List ℕ) (moved : ℕ) → moved < length written → IsOnItsWay last written read moved →
-    IsGoing last written read moved
-going_of last written read moved some (inl idle) = absurd (omega (arith, some, idle.all))
-going_of last written read moved some (inr going) = going
+pub going_of : (s : ℕ) (w r : List Entry) (moved : ℕ) → moved < length (written_bytes s w) → IsOnItsWay s w r moved →
+    IsGoing (last_pulled_frame w) (written_bytes s w) (read_bytes s r) moved (last_passed w)
+going_of s w r moved some (inl idle) = absurd (omega (arith, some, idle.all))
+going_of s w r moved some (inr going) = going
 
 -- what is owed is pulled, where all went before
 pub joined_pulled : (e : Ends) (s : ℕ) (map : List ℕ) (f : Frame) → AreJoined e → open_stream e.here ≡ Some s →
     e.forth ≡ length (written_bytes s e.here) → length map ≡ MAP_LENGTH → owed_frame s e.here map ≡ Some f →
     AreJoined (record e { here = Pull s f ∷ e.here })
 joined_pulled e s map f j on all long owed = record {
-  whole_here = next_whole e.here (Pull s f) j.whole_here (owed_is_lawful s e.here map f j.whole_here.legal on long owed) refl;
+  whole_here = next_whole e.here (Pull s f) j.whole_here lawful refl;
   whole_there = j.whole_there;
   streams = j.streams;
   newest = j.newest;
-  forth = record { begins = begins; way = way };
-  back = record { begins = j.back.begins; way = j.back.way };
+  forth = record { begins = begins; way = way; acked = j.forth.acked };
+  back = record { begins = j.back.begins; way = j.back.way; acked = j.back.acked };
 }
   where
     grown : written_bytes s (Pull s f ∷ e.here) ≡ written_bytes s e.here ++ frame_bytes f
     grown = written_pull s f e.here
 
     same : written_bytes s e.here ≡ read_bytes s e.there
-    same = idle_of (last_pulled_frame e.here) (written_bytes s e.here) (read_bytes s e.there) e.forth all (j.forth.way s on)
+    same = idle_of s e.here e.there e.forth all (j.forth.way s on)
 
     begins : (t : ℕ) → Begins (read_bytes t e.there) (written_bytes t (Pull s f ∷ e.here))
     begins t =
@@ -141,16 +147,19 @@ joined_pulled e s map f j on all long owed = record {
           | inr other ↦ let before = j.forth.begins t in (before.0, written_pull_other t s f e.here other ∙ before.1)
         ]
 
-    way : (t : ℕ) → open_stream e.here ≡ Some t →
-        IsOnItsWay (Some f) (written_bytes t (Pull s f ∷ e.here)) (read_bytes t e.there) e.forth
+    lawful : IsLawfulPull s e.here f
+    lawful = owed_is_lawful s e.here map f j.whole_here.legal on long owed
+
+    way : (t : ℕ) → open_stream e.here ≡ Some t → IsOnItsWay t (Pull s f ∷ e.here) e.there e.forth
     way t there =
-        subst (λ (n : ℕ). IsOnItsWay (Some f) (written_bytes n (Pull s f ∷ e.here)) (read_bytes n e.there) e.forth)
+        subst (λ (n : ℕ). IsOnItsWay n (Pull s f ∷ e.here) e.there e.forth)
         (one_stream s t (open_stream e.here) on there)
         (inr (record {
           frame = f;
           newest = refl;
           some_fly = omega (arith, all, ap length grown, length-append (written_bytes s e.here) (frame_bytes f), frame_has_bytes f);
           bytes = grown ∙ ap (λ (bytes : List ℕ). bytes ++ frame_bytes f) same;
+          ack = omega (arith, pull_acknowledges s e.here f lawful);
         }))
 
 -- bytes go, and some are left
@@ -161,19 +170,18 @@ joined_moved e s count j on left = record {
   whole_there = j.whole_there;
   streams = j.streams;
   newest = j.newest;
-  forth = record { begins = j.forth.begins; way = way };
+  forth = record { begins = j.forth.begins; way = way; acked = j.forth.acked };
   back = j.back;
 }
   where
-    going : IsGoing (last_pulled_frame e.here) (written_bytes s e.here) (read_bytes s e.there) e.forth
-    going = going_of (last_pulled_frame e.here) (written_bytes s e.here) (read_bytes s e.there) e.forth (omega (arith, left)) (j.forth.way s on)
+    going : IsGoing (last_pulled_frame e.here) (written_bytes s e.here) (read_bytes s e.there) e.forth (last_passed e.here)
+    going = going_of s e.here e.there e.forth (omega (arith, left)) (j.forth.way s on)
 
-    way : (t : ℕ) → open_stream e.here ≡ Some t →
-        IsOnItsWay (last_pulled_frame e.here) (written_bytes t e.here) (read_bytes t e.there) (e.forth + count)
+    way : (t : ℕ) → open_stream e.here ≡ Some t → IsOnItsWay t e.here e.there (e.forth + count)
     way t there =
-        subst (λ (n : ℕ). IsOnItsWay (last_pulled_frame e.here) (written_bytes n e.here) (read_bytes n e.there) (e.forth + count))
+        subst (λ (n : ℕ). IsOnItsWay n e.here e.there (e.forth + count))
         (one_stream s t (open_stream e.here) on there)
-        (inr (record { frame = going.frame; newest = going.newest; some_fly = left; bytes = going.bytes }))
+        (inr (record { frame = going.frame; newest = going.newest; some_fly = left; bytes = going.bytes; ack = going.ack }))
 
 -- the next stream is opened at both
 pub joined_opened : (e : Ends) (s t : ℕ) → AreJoined e → open_stream e.here ≡ None → s ≡ suc (newest_stream e.here) →
@@ -184,19 +192,19 @@ joined_opened e s t j closed s_is t_is = record {
   whole_there = next_whole e.there (Open t) j.whole_there (sym j.streams ∙ closed, omega (arith, t_is)) refl;
   streams = ap (λ (n : ℕ). Some n) same;
   newest = same;
-  forth = record { begins = j.forth.begins; way = way e.here e.there s j.whole_here.legal j.whole_there.legal (omega (arith, s_is)) (omega (arith, same, t_is)) };
-  back = record { begins = j.back.begins; way = way e.there e.here t j.whole_there.legal j.whole_here.legal (omega (arith, t_is)) (omega (arith, same, s_is)) };
+  forth = record { begins = j.forth.begins; way = way e.here e.there s j.whole_here.legal j.whole_there.legal (omega (arith, s_is)) (omega (arith, same, t_is)); acked = j.forth.acked };
+  back = record { begins = j.back.begins; way = way e.there e.here t j.whole_there.legal j.whole_here.legal (omega (arith, t_is)) (omega (arith, same, s_is)); acked = j.back.acked };
 }
   where
     same : s ≡ t
     same = omega (arith, s_is, t_is, j.newest)
 
     way : (w r : List Entry) (s : ℕ) → IsLegal w → IsLegal r → newest_stream w < s → newest_stream r < s → (n : ℕ) → Some s ≡ Some n →
-        IsOnItsWay (last_pulled_frame w) (written_bytes n w) (read_bytes n r) 0
+        IsOnItsWay n w r 0
     way w r s legal_w legal_r newer_w newer_r n is =
         let nothing_written = none_written s w legal_w newer_w in
         let is_n : s ≡ n = cc in
-        subst (λ (n : ℕ). IsOnItsWay (last_pulled_frame w) (written_bytes n w) (read_bytes n r) 0) is_n
+        subst (λ (n : ℕ). IsOnItsWay n w r 0) is_n
         (inl (record {
           all = sym (ap length nothing_written);
           same = nothing_written ∙ sym (none_read s r legal_r newer_r);
@@ -210,6 +218,6 @@ joined_shut e s j on = record {
   whole_there = next_whole e.there (Shut s) j.whole_there (sym j.streams ∙ on) refl;
   streams = refl;
   newest = j.newest;
-  forth = record { begins = j.forth.begins; way = λ t none. cc };
-  back = record { begins = j.back.begins; way = λ t none. cc };
+  forth = record { begins = j.forth.begins; way = λ t none. cc; acked = j.forth.acked };
+  back = record { begins = j.back.begins; way = λ t none. cc; acked = j.back.acked };
 }

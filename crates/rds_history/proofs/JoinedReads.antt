@@ -1,6 +1,6 @@
 -- The frame that was pulled last at one end is read at the other: the reading is lawful, and both ends stay joined.
-use Rattle.std.proofs.Common.{◌≡◌, inl, inr, ℕ, suc, ◌<◌, ◌^◌, Option, Some, None, List, [], ◌∷◌, ◌++◌, length, refl, sym, ◌∙◌, ap, subst, append_assoc}
-use Rattle.std.proofs.lemmas.Bool.{cases_eq}
+use Rattle.std.proofs.Common.{◌≡◌, inl, inr, ℕ, suc, ◌<◌, ◌≤◌, ◌^◌, Option, Some, None, List, [], ◌∷◌, ◌++◌, length, refl, sym, ◌∙◌, ap, subst, append_assoc, arith}
+use Rattle.std.proofs.lemmas.Bool.{cases_eq, cond_both}
 use Rattle.std.proofs.lemmas.List.{append-nil}
 use Rattle.rds_wire.specs.declared.frame.Frame.{Frame}
 use Rattle.rds_wire.specs.declared.kind.Malformed.{Malformed}
@@ -11,17 +11,17 @@ use Rattle.rds_model.specs.declared.entry.Entry.TheVariants.{Accept, Cancel, Ope
 use Rattle.rds_model.specs.declared.entry.Outcome.{Outcome}
 use Rattle.rds_model.specs.declared.entry.Outcome.TheVariants as outcome
 use Rattle.rds_model.specs.declared.entry.TheConstants.{NO_SLOT}
-use Rattle.rds_model.specs.Past.{now, open_stream, accepted, highest_pulled}
+use Rattle.rds_model.specs.Past.{now, open_stream, accepted, highest_pulled, last_passed, number, passes}
 use Rattle.rds_model.specs.Streams.{written_bytes, read_bytes}
 use Rattle.rds_model.specs.Sums.{last_pulled_frame}
 use Rattle.rds_model.specs.Reading.{verdict_of, Obeys}
 use Rattle.rds_model.specs.Honest.{Begins, IsHonest}
 use Rattle.rds_model.specs.Legal.{IsLegal, IsLawfulRead, pong_for}
-use Rattle.rds_model.specs.Fifo.{HasNoBad}
+use Rattle.rds_model.specs.Fifo.{HasNoBad, IsFifo}
 use Rattle.rds_model.specs.LegalityLaws.{lawful_pull}
 use Rattle.rds_model.specs.OwingLaws.{settled_continues}
 use Rattle.rds_model.specs.StreamLaws.{read_read, read_read_other, read_bad, read_bad_other}
-use Rattle.rds_history.proofs.JoinedEnds.{Ends, AreJoined, IsOnItsWay, one_stream}
+use Rattle.rds_history.proofs.JoinedEnds.{Ends, AreJoined, Flows, IsOnItsWay, one_stream}
 
 -- a frame that was pulled has a header that fits, and as many bytes as that says
 pub record IsWholeFrame (f : Frame) : Type 0 where
@@ -41,12 +41,24 @@ newest_is_whole (Read stream frame outcome ∷ past) f legal is = newest_is_whol
 newest_is_whole (Shut stream ∷ past) f legal is = newest_is_whole past f legal.1 is
 newest_is_whole (Bad stream header cause ∷ past) f legal is = newest_is_whole past f legal.1 is
 
--- no two honest journals refuse a header
-abbrev pub NeverRefuse : Type 0
-NeverRefuse = (a b : List Entry) → IsLegal a → IsLegal b → IsHonest a b → (HasNoBad a × HasNoBad b)
+-- what is known of two legal and honest journals: neither refuses a header, and each gets datagrams first in, first out
+abbrev pub HonestLaws : Type 0
+HonestLaws = (a b : List Entry) → IsLegal a → IsLegal b → IsHonest a b → (HasNoBad a × HasNoBad b) × (IsFifo a b × IsFifo b a)
 
-module _ (never : NeverRefuse) (e : Ends) (s : ℕ) (f : Frame) (j : AreJoined e) (on : open_stream e.here ≡ Some s)
-    (newest : last_pulled_frame e.here ≡ Some f) (bytes : written_bytes s e.here ≡ read_bytes s e.there ++ frame_bytes f) where
+-- what is on its way stays so where the writer passes more
+way_rises : (s : ℕ) (w later r : List Entry) (moved : ℕ) → last_passed w ≤ last_passed later → last_pulled_frame later ≡ last_pulled_frame w →
+    written_bytes s later ≡ written_bytes s w → IsOnItsWay s w r moved → IsOnItsWay s later r moved
+way_rises s w later r moved more last written (inl idle) = inl (record { all = idle.all ∙ sym (ap length written); same = written ∙ idle.same })
+way_rises s w later r moved more last written (inr going) = inr (record {
+  frame = going.frame;
+  newest = last ∙ going.newest;
+  some_fly = omega (arith, going.some_fly, ap length written);
+  bytes = written ∙ going.bytes;
+  ack = omega (arith, going.ack, more);
+})
+
+module _ (laws : HonestLaws) (e : Ends) (s : ℕ) (f : Frame) (j : AreJoined e) (on : open_stream e.here ≡ Some s)
+    (newest : last_pulled_frame e.here ≡ Some f) (bytes : written_bytes s e.here ≡ read_bytes s e.there ++ frame_bytes f) (ack : f.header.ack ≤ last_passed e.here) where
   on_there : open_stream e.there ≡ Some s
   on_there = sym j.streams ∙ on
 
@@ -74,7 +86,7 @@ module _ (never : NeverRefuse) (e : Ends) (s : ℕ) (f : Frame) (j : AreJoined e
   refused_never found is =
       let legal : IsLegal (Bad s f.header found ∷ e.there) =
       (settled_continues e.there (Bad s f.header found) j.whole_there.settled (record { on = on_there; header = whole.header; malformed = is }), j.whole_there.legal) in
-      (never e.here (Bad s f.header found ∷ e.there) j.whole_here.legal legal (record { forth = begins_refused found; back = j.back.begins })).1
+      (laws e.here (Bad s f.header found ∷ e.there) j.whole_here.legal legal (record { forth = begins_refused found; back = j.back.begins })).0.1
       s f.header found e.there now
 
   sound : cause f.header (highest_pulled e.there) ≡ None
@@ -115,11 +127,29 @@ module _ (never : NeverRefuse) (e : Ends) (s : ℕ) (f : Frame) (j : AreJoined e
       ]
 
   way_read : (o : Outcome) (moved : ℕ) → moved ≡ length (written_bytes s e.here) → (t : ℕ) → open_stream e.here ≡ Some t →
-      IsOnItsWay (last_pulled_frame e.here) (written_bytes t e.here) (read_bytes t (Read s f o ∷ e.there)) moved
+      IsOnItsWay t e.here (Read s f o ∷ e.there) moved
   way_read o moved all t there =
-      subst (λ (n : ℕ). IsOnItsWay (last_pulled_frame e.here) (written_bytes n e.here) (read_bytes n (Read s f o ∷ e.there)) moved)
-      (one_stream s t (open_stream e.here) on there)
+      subst (λ (n : ℕ). IsOnItsWay n e.here (Read s f o ∷ e.there) moved) (one_stream s t (open_stream e.here) on there)
       (inl (record { all = all; same = grown o }))
+
+  -- no number is passed that isn't above the last one
+  risen : (o : Outcome) → Obeys (verdict_of e.there f.header) o → last_passed e.there ≤ last_passed (Read s f o ∷ e.there)
+  risen o obeys =
+      let fifo =
+      (laws e.here (Read s f o ∷ e.there) j.whole_here.legal (legal_reading o obeys) (record { forth = begins_read o; back = j.back.begins })).1.0 in
+      cond_both (passes o) (number f) (last_passed e.there) (λ x. last_passed e.there ≤ x)
+      (λ passed. omega (arith, fifo.rise s f o e.there now passed)) (λ _. omega arith)
+
+  flows_forth : (o : Outcome) (moved : ℕ) → moved ≡ length (written_bytes s e.here) → Flows e.here (Read s f o ∷ e.there) moved
+  flows_forth o moved all =
+      record { begins = begins_read o; way = way_read o moved all; acked = omega (arith, ack, j.forth.acked) }
+
+  flows_back : (o : Outcome) → Obeys (verdict_of e.there f.header) o → Flows (Read s f o ∷ e.there) e.here e.back
+  flows_back o obeys = record {
+    begins = j.back.begins;
+    way = λ t there. way_rises t e.there (Read s f o ∷ e.there) e.here e.back (risen o obeys) refl refl (j.back.way t there);
+    acked = omega (arith, j.back.acked, risen o obeys);
+  }
 
   -- a frame is read that is no ping
   pub joined_read : (o : Outcome) (moved : ℕ) → moved ≡ length (written_bytes s e.here) → Obeys (verdict_of e.there f.header) o →
@@ -129,8 +159,8 @@ module _ (never : NeverRefuse) (e : Ends) (s : ℕ) (f : Frame) (j : AreJoined e
     whole_there = record { legal = legal_reading o obeys; settled = settled };
     streams = j.streams;
     newest = j.newest;
-    forth = record { begins = begins_read o; way = way_read o moved all };
-    back = record { begins = j.back.begins; way = j.back.way };
+    forth = flows_forth o moved all;
+    back = flows_back o obeys;
   }
 
   -- a ping is read, and its pong is accepted
@@ -142,6 +172,10 @@ module _ (never : NeverRefuse) (e : Ends) (s : ℕ) (f : Frame) (j : AreJoined e
     whole_there = record { legal = (record { is = refl; number_fits = fits }, legal_reading outcome.Ping obeys); settled = refl };
     streams = j.streams;
     newest = j.newest;
-    forth = record { begins = begins_read outcome.Ping; way = way_read outcome.Ping moved all };
-    back = record { begins = j.back.begins; way = j.back.way };
+    forth =
+        let flows = flows_forth outcome.Ping moved all in
+        record { begins = flows.begins; way = flows.way; acked = flows.acked };
+    back =
+        let flows = flows_back outcome.Ping obeys in
+        record { begins = flows.begins; way = flows.way; acked = flows.acked };
   }

@@ -1,7 +1,7 @@
 -- Nothing arrives at a slot that no other host sent.
-use Rattle.std.proofs.Common.{◌≡◌, ◌≢◌, ℕ, ◌==◌, ◌&&◌, Bool, true, false, cond, List, [], ◌∷◌, ◌++◌, refl, sym, ◌∙◌, ap, subst}
+use Rattle.std.proofs.Common.{◌≡◌, ◌≢◌, inl, inr, ℕ, ◌<◌, ◌≤◌, ◌==◌, ◌&&◌, Bool, true, false, cond, Some, None, List, [], ◌∷◌, ◌++◌, refl, sym, ◌∙◌, ap, subst}
 use Rattle.std.specs.Prelude.{All}
-use Rattle.std.proofs.lemmas.Bool.{cond-true, eq-eqb, eqb-true, and_from}
+use Rattle.std.proofs.lemmas.Bool.{cond-true, cases_lt, eq-eqb, eqb-true, and_from}
 use Rattle.std.proofs.lemmas.List.{append-nil}
 use Rattle.std.proofs.lemmas.List.Elements.{All-nil, All-push}
 use Rattle.rds_wire.specs.declared.frame.Frame.{Frame}
@@ -10,7 +10,8 @@ use Rattle.rds_model.specs.declared.entry.Entry.TheVariants.{Accept, Cancel, Ope
 use Rattle.rds_model.specs.declared.entry.Outcome.{Outcome}
 use Rattle.rds_model.specs.declared.entry.Outcome.TheVariants as outcome
 use Rattle.rds_model.specs.declared.order.Datagram.{Datagram}
-use Rattle.rds_model.specs.Past.{Moment, now, before, number, passes}
+use Rattle.rds_model.specs.Past.{Moment, now, before, Accepted, datagram, number, passes}
+use Rattle.rds_model.specs.Fifo.{Carries}
 use Rattle.rds_model.specs.Deliveries.{datagram_from}
 use Rattle.rds_report.specs.Hosts.{address_of}
 use Rattle.rds_history.specs.Events.{Event, Appended}
@@ -24,9 +25,9 @@ pub record CameFrom (k : ℕ) (final past : List Event) : Type 0 where
   pub others : (h : ℕ) → h ≢ k → AreAccepted (journal h k final) (journal k h past)
   pub own : journal k k past ≡ []
 
-module _ (k slot : ℕ) (final : List Event) where
+module _ (hosts k slot : ℕ) (final : List Event) (beyond : (h : ℕ) → hosts ≤ h → journal h k final ≡ []) where
   abbrev AllSent : List Datagram → Type 0
-  AllSent ds = All (WasSentTo k final) ds
+  AllSent ds = All (WasSentTo hosts k final) ds
 
   -- the journal before an event
   accepted_before : (a j : List Entry) (e : Entry) (b : Bool) → AreAccepted a (cond b (e ∷ j) j) → AreAccepted a j
@@ -46,12 +47,12 @@ module _ (k slot : ℕ) (final : List Event) where
   none_sent : (ds : List Datagram) → AllSent ds → AllSent (ds ++ [])
   none_sent ds sent = subst AllSent (sym (append-nil ds)) sent
 
-  more_sent : (ds : List Datagram) (peer : ℕ) (f : Frame) (o : Outcome) → AllSent ds → (passes o ≡ true → WasSentTo k final (datagram_from (address_of peer) f)) →
+  more_sent : (ds : List Datagram) (peer : ℕ) (f : Frame) (o : Outcome) → AllSent ds → (passes o ≡ true → WasSentTo hosts k final (datagram_from (address_of peer) f)) →
       AllSent (ds ++ delivery slot peer f o)
   more_sent ds peer f (outcome.Slot to) sent this = go (to == slot)
     where
       go : (b : Bool) → AllSent (ds ++ cond b (datagram_from (address_of peer) f ∷ []) [])
-      go true = All-push (WasSentTo k final) ds (datagram_from (address_of peer) f) sent (this refl)
+      go true = All-push (WasSentTo hosts k final) ds (datagram_from (address_of peer) f) sent (this refl)
       go false = none_sent ds sent
   more_sent ds peer f outcome.Old sent this = none_sent ds sent
   more_sent ds peer f outcome.NoSocket sent this = none_sent ds sent
@@ -63,9 +64,9 @@ module _ (k slot : ℕ) (final : List Event) where
 
   -- what host k reads was sent to it
   read_was_sent : (peer s : ℕ) (f : Frame) (o : Outcome) (past : List Event) → CameFrom k final (Appended k peer (Read s f o) ∷ past) →
-      passes o ≡ true → WasSentTo k final (datagram_from (address_of peer) f)
+      passes o ≡ true → WasSentTo hosts k final (datagram_from (address_of peer) f)
   read_was_sent peer s f o past came passed =
-      (peer, number f, apart, sym (sent_is peer (journal peer k final) f (came.others peer apart s f o (journal k peer past) at passed)))
+      (peer, number f, known, apart, sym (sent_is peer (journal peer k final) f sent))
     where
       here : journal k peer (Appended k peer (Read s f o) ∷ past) ≡ Read s f o ∷ journal k peer past
       here = cond-true (k == k && (peer == peer)) (Read s f o ∷ journal k peer past) (journal k peer past)
@@ -80,8 +81,21 @@ module _ (k slot : ℕ) (final : List Event) where
       at : Moment (Read s f o ∷ journal k peer past) (journal k peer (Appended k peer (Read s f o) ∷ past))
       at = subst (λ (j : List Entry). Moment (Read s f o ∷ journal k peer past) j) (sym here) now
 
+      sent : (d : Accepted) × (datagram (journal peer k final) (number f) ≡ Some d) × Carries f d
+      sent = came.others peer apart s f o (journal k peer past) at passed
+
+      known : peer < hosts
+      known =
+          elim (cases_lt peer hosts) [
+            | inl less ↦ less
+            | inr far ↦
+                let none : datagram (journal peer k final) (number f) ≡ None = ap (λ (j : List Entry). datagram j (number f)) (beyond peer far) in
+                let some : Some sent.0 ≡ None = sym sent.1 ∙ none in
+                cc
+          ]
+
   pub all_sent : (past : List Event) → CameFrom k final past → AllSent (arrived_datagrams k slot past)
-  all_sent [] came = All-nil (WasSentTo k final)
+  all_sent [] came = All-nil (WasSentTo hosts k final)
   all_sent (Appended host peer (Read s f o) ∷ past) came = go (host == k) refl (all_sent past (came_before host peer (Read s f o) past came))
     where
       go : (here : Bool) → (host == k) ≡ here → AllSent (arrived_datagrams k slot past) →

@@ -1,5 +1,5 @@
 -- The ends of each connection in a past of a script, and what an event changes of them.
-use Rattle.std.proofs.Common.{◌≡◌, ◌≢◌, ◌⊎◌, inl, inr, ℕ, ◌+◌, ◌<◌, ◌==◌, ◌&&◌, Bool, true, false, cond, Some, List, [], ◌∷◌, refl, sym, ◌∙◌, ap, subst}
+use Rattle.std.proofs.Common.{◌≡◌, ◌≢◌, ◌⊎◌, inl, inr, ℕ, ◌+◌, ◌<◌, ◌≤◌, ◌==◌, ◌&&◌, Bool, true, false, cond, Some, List, [], ◌∷◌, refl, sym, ◌∙◌, ap, subst, arith}
 use Rattle.std.proofs.lemmas.Bool.{cases_eq, cond-true, cond-false, eqb-true, and_parts, and_from, false_from_ne_true, eq-eqb}
 use Rattle.rds_model.specs.declared.entry.Entry.{Entry}
 use Rattle.rds_model.specs.declared.entry.Entry.TheVariants.{Accept, Cancel, Open, Pull, Read, Shut, Bad}
@@ -14,10 +14,21 @@ abbrev pub ends : (h k : ℕ) → List Event → Ends
 ends h k past =
     record { here = journal h k past; there = journal k h past; forth = moved_count h k past; back = moved_count k h past }
 
--- what each past of a script keeps: each two hosts are joined, no host has a journal with itself, and each socket has a slot
-pub record Keeps (past : List Event) : Type 0 where
+-- two of so many hosts
+pub record AreTwo (hosts h k : ℕ) : Type 0 where
+  pub first : h < hosts
+  pub second : k < hosts
+  pub apart : h ≢ k
+
+pub two_turned : (hosts h k : ℕ) → AreTwo hosts h k → AreTwo hosts k h
+two_turned hosts h k two = record { first = two.second; second = two.first; apart = λ same. two.apart (sym same) }
+
+-- What each past of a script keeps: each two hosts are joined, no host has a journal with itself, nor has one that isn't of
+-- the script, and each socket has a slot.
+pub record Keeps (hosts : ℕ) (past : List Event) : Type 0 where
   pub joined : (h k : ℕ) → h ≢ k → AreJoined (ends h k past)
   pub own : (h : ℕ) → journal h h past ≡ []
+  pub beyond : (h k : ℕ) → hosts ≤ h → journal h k past ≡ []
   pub slots : (h port slot : ℕ) → holder h port past ≡ Some slot → slot < MAX_SLOTS
 
 -- between all others everything is as before, and so are all sockets
@@ -38,10 +49,14 @@ still_turned h k past later still =
     record { others = λ x y a b. still.others x y b a; own = still.own; sockets = still.sockets }
 
 -- where the two hosts stay joined, all is kept
-pub keeps_later : (h k : ℕ) (past later : List Event) → h ≢ k → Keeps past → IsStill h k past later → AreJoined (ends h k later) → Keeps later
-keeps_later h k past later apart keeps still joined = record {
+pub keeps_later : (hosts h k : ℕ) (past later : List Event) → AreTwo hosts h k → Keeps hosts past → IsStill h k past later → AreJoined (ends h k later) →
+    Keeps hosts later
+keeps_later hosts h k past later two keeps still joined = record {
   joined = λ x y other. go x y other (cases_eq x h) (cases_eq y k) (cases_eq x k) (cases_eq y h);
   own = λ x. still.own x ∙ keeps.own x;
+  beyond = λ x y far.
+      ap (λ (e : Ends). e.here) (still.others x y (λ both. omega (arith, far, both.0, two.first)) (λ both. omega (arith, far, both.0, two.second)))
+      ∙ keeps.beyond x y far;
   slots = λ x port slot is. keeps.slots x port slot (sym (still.sockets x port) ∙ is);
 }
   where
@@ -155,8 +170,10 @@ module _ (h k count : ℕ) (past : List Event) where
   }
 
 -- a mark, and a text line
-pub keeps_marked : (h port : ℕ) (set : Bool) (queued most : ℕ) (past : List Event) → Keeps past → Keeps (Marked h port set queued most ∷ past)
-keeps_marked h port set queued most past keeps = record { joined = keeps.joined; own = keeps.own; slots = keeps.slots }
+pub keeps_marked : (hosts h port : ℕ) (set : Bool) (queued most : ℕ) (past : List Event) → Keeps hosts past → Keeps hosts (Marked h port set queued most ∷ past)
+keeps_marked hosts h port set queued most past keeps =
+    record { joined = keeps.joined; own = keeps.own; beyond = keeps.beyond; slots = keeps.slots }
 
-pub keeps_printed : (text : List ℕ) (past : List Event) → Keeps past → Keeps (Printed text ∷ past)
-keeps_printed text past keeps = record { joined = keeps.joined; own = keeps.own; slots = keeps.slots }
+pub keeps_printed : (hosts : ℕ) (text : List ℕ) (past : List Event) → Keeps hosts past → Keeps hosts (Printed text ∷ past)
+keeps_printed hosts text past keeps =
+    record { joined = keeps.joined; own = keeps.own; beyond = keeps.beyond; slots = keeps.slots }

@@ -12,7 +12,7 @@ use Rattle.rds_model.specs.declared.entry.Outcome.TheVariants as outcome
 use Rattle.rds_model.specs.declared.entry.Verdict.{Verdict}
 use Rattle.rds_model.specs.declared.entry.Verdict.TheVariants as verdict
 use Rattle.rds_model.specs.declared.entry.TheConstants.{NO_SLOT, MAX_SLOTS}
-use Rattle.rds_model.specs.Past.{open_stream, accepted}
+use Rattle.rds_model.specs.Past.{open_stream, accepted, last_passed}
 use Rattle.rds_model.specs.Streams.{written_bytes, read_bytes}
 use Rattle.rds_model.specs.Sums.{last_pulled_frame}
 use Rattle.rds_model.specs.Owed.{owed_frame}
@@ -29,8 +29,8 @@ use Rattle.rds_history.specs.Move.{move_piece, pull_if_idle, arrive, turn, move_
 use Rattle.rds_history.proofs.EventInvariants.{Holds, holds_then, holds_again}
 use Rattle.rds_history.proofs.OneMap.{length-own_map}
 use Rattle.rds_history.proofs.JoinedEnds.{Ends, AreJoined, IsOnItsWay, IsGoing, going_of, joined_pulled, joined_moved}
-use Rattle.rds_history.proofs.JoinedReads.{NeverRefuse, joined_read, joined_pinged}
-use Rattle.rds_history.proofs.PastEnds.{ends, Keeps, IsStill, still_then, still_turned, keeps_later, still_appended, appended_here, appended_there, still_moved, moved_here, keeps_marked}
+use Rattle.rds_history.proofs.JoinedReads.{HonestLaws, joined_read, joined_pinged}
+use Rattle.rds_history.proofs.PastEnds.{ends, AreTwo, Keeps, IsStill, still_then, still_turned, keeps_later, still_appended, appended_here, appended_there, still_moved, moved_here, keeps_marked}
 
 -- what holds where a journal has room for two more entries holds where the course goes on
 pub holds_room : (P : List Event → Type 0) (limit h k : ℕ) (past : List Event) (next : List Event → Course) →
@@ -47,20 +47,20 @@ few_accepted [] = omega arith
 few_accepted (Accept slot sport dport payload ∷ past) = omega (arith, few_accepted past)
 few_accepted (_ ∷ past) = omega (arith, few_accepted past)
 
-pub keeps_update_mark : (h port slot : ℕ) (past : List Event) → Keeps past → Keeps (update_mark h port slot past)
-keeps_update_mark h port slot past keeps =
+pub keeps_update_mark : (hosts h port slot : ℕ) (past : List Event) → Keeps hosts past → Keeps hosts (update_mark h port slot past)
+keeps_update_mark hosts h port slot past keeps =
     go (is_marked h port past) (congested_after (is_marked h port past) (queued h slot past) (receive_buffer h slot past))
     (Marked h port (congested_after (is_marked h port past) (queued h slot past) (receive_buffer h slot past)) (queued h slot past) (receive_buffer h slot past))
-    (keeps_marked h port (congested_after (is_marked h port past) (queued h slot past) (receive_buffer h slot past)) (queued h slot past) (receive_buffer h slot past) past keeps)
+    (keeps_marked hosts h port (congested_after (is_marked h port past) (queued h slot past) (receive_buffer h slot past)) (queued h slot past) (receive_buffer h slot past) past keeps)
   where
-    go : (was is : Bool) (event : Event) → Keeps (event ∷ past) → Keeps (if_changed was is event past)
+    go : (was is : Bool) (event : Event) → Keeps hosts (event ∷ past) → Keeps hosts (if_changed was is event past)
     go true true event marked = keeps
     go true false event marked = marked
     go false true event marked = marked
     go false false event marked = keeps
 
 -- how many bytes are in flight
-flying : (h k s : ℕ) (past : List Event) → open_stream (journal h k past) ≡ Some s →
+pub flying : (h k s : ℕ) (past : List Event) → open_stream (journal h k past) ≡ Some s →
     length (in_flight h k past) ≡ length (written_bytes s (journal h k past)) - moved_count h k past
 flying h k s past on =
     length-drop (moved_count h k past) (written_to_open (journal h k past))
@@ -73,9 +73,9 @@ none_flies h k past closed =
     ∙ omega arith
 
 -- no more went than was written
-went_within : (last : Option Frame) (written read : List ℕ) (moved : ℕ) → IsOnItsWay last written read moved → moved ≤ length written
-went_within last written read moved (inl idle) = omega (arith, idle.all)
-went_within last written read moved (inr going) = omega (arith, going.some_fly)
+pub went_within : (s : ℕ) (w r : List Entry) (moved : ℕ) → IsOnItsWay s w r moved → moved ≤ length (written_bytes s w)
+went_within s w r moved (inl idle) = omega (arith, idle.all)
+went_within s w r moved (inr going) = omega (arith, going.some_fly)
 
 -- the outcome at a host is what the verdict says
 obeys_at : (k : ℕ) (v : Verdict) (past : List Event) → ((port slot : ℕ) → holder k port past ≡ Some slot → slot < MAX_SLOTS) →
@@ -93,29 +93,36 @@ obeys_at k verdict.Map past slots = refl
 obeys_at k verdict.OddMap past slots = refl
 
 -- what is owed is pulled, where nothing is in flight
-keeps_pull : (h k : ℕ) (past : List Event) → h ≢ k → Keeps past → length (in_flight h k past) ≡ 0 → Keeps (pull h k past)
-keeps_pull h k past apart keeps none = go (open_stream (journal h k past)) refl
+keeps_pull : (hosts h k : ℕ) (past : List Event) → AreTwo hosts h k → Keeps hosts past → length (in_flight h k past) ≡ 0 → Keeps hosts (pull h k past)
+keeps_pull hosts h k past two keeps none = go (open_stream (journal h k past)) refl
   where
+    apart : h ≢ k
+    apart = two.apart
+
     by_owed : (s : ℕ) → open_stream (journal h k past) ≡ Some s → (o : Option Frame) → owed_frame s (journal h k past) (own_map h past) ≡ o →
-        Keeps (option_map_or (λ f. Appended h k (Pull s f) ∷ past) o past)
+        Keeps hosts (option_map_or (λ f. Appended h k (Pull s f) ∷ past) o past)
     by_owed s on None is = keeps
     by_owed s on (Some f) is =
         let joined = keeps.joined h k apart in
-        let within = went_within _ _ _ _ (joined.forth.way s on) in
-        keeps_later h k past (Appended h k (Pull s f) ∷ past) apart keeps (still_appended h k (Pull s f) past apart)
+        let within = went_within s (journal h k past) (journal k h past) (moved_count h k past) (joined.forth.way s on) in
+        keeps_later hosts h k past (Appended h k (Pull s f) ∷ past) two keeps (still_appended h k (Pull s f) past apart)
         (subst AreJoined (sym (appended_here h k (Pull s f) past apart))
         (joined_pulled (ends h k past) s (own_map h past) f joined on (omega (arith, within, none, flying h k s past on)) (length-own_map h past) is))
 
-    go : (o : Option ℕ) → open_stream (journal h k past) ≡ o → Keeps (option_map_or (λ stream. pull_on h k stream past) o past)
+    go : (o : Option ℕ) → open_stream (journal h k past) ≡ o → Keeps hosts (option_map_or (λ stream. pull_on h k stream past) o past)
     go None closed = keeps
     go (Some s) on = by_owed s on (owed_frame s (journal h k past) (own_map h past)) refl
 
 -- the last bytes of a frame come, and it is read
-module _ (never : NeverRefuse) (limit h k count s : ℕ) (f : Frame) (past : List Event) (small : limit ≤ 2 ^ 63) (apart : h ≢ k) (keeps : Keeps past)
+module _ (laws : HonestLaws) (hosts limit h k count s : ℕ) (f : Frame) (past : List Event) (small : limit ≤ 2 ^ 63) (two : AreTwo hosts h k) (keeps : Keeps hosts past)
     (on : open_stream (journal h k past) ≡ Some s) (newest : last_pulled_frame (journal h k past) ≡ Some f)
     (bytes : written_bytes s (journal h k past) ≡ read_bytes s (journal k h past) ++ frame_bytes f)
+    (ack : f.header.ack ≤ last_passed (journal h k past))
     (all : moved_count h k past + count ≡ length (written_bytes s (journal h k past)))
     (room : length (journal k h past) + 2 ≤ limit) where
+  apart : h ≢ k
+  apart = two.apart
+
   back_apart : k ≢ h
   back_apart = λ same. apart (sym same)
 
@@ -136,27 +143,27 @@ module _ (never : NeverRefuse) (limit h k count s : ℕ) (f : Frame) (past : Lis
       appended_there k h (Read s f o) went back_apart
       ∙ ap (λ (e : Ends). record e { there = Read s f o ∷ journal k h past }) (moved_here h k count past apart)
 
-  keeps_plain : (o : Outcome) → Obeys (verdict_of (journal k h past) f.header) o → pong_for o f.header.sport ≡ None → Keeps (behind_read o)
+  keeps_plain : (o : Outcome) → Obeys (verdict_of (journal k h past) f.header) o → pong_for o f.header.sport ≡ None → Keeps hosts (behind_read o)
   keeps_plain o obeys settled =
-      keeps_later h k past (behind_read o) apart keeps (still_read o)
+      keeps_later hosts h k past (behind_read o) two keeps (still_read o)
       (subst AreJoined (sym (ends_read o))
-      (joined_read never (ends h k past) s f (keeps.joined h k apart) on newest bytes o (moved_count h k past + count) all obeys settled))
+      (joined_read laws (ends h k past) s f (keeps.joined h k apart) on newest bytes ack o (moved_count h k past + count) all obeys settled))
 
   keeps_pinged : Obeys (verdict_of (journal k h past) f.header) outcome.Ping →
-      Keeps (Appended k h (Accept NO_SLOT 0 f.header.sport []) ∷ behind_read outcome.Ping)
+      Keeps hosts (Appended k h (Accept NO_SLOT 0 f.header.sport []) ∷ behind_read outcome.Ping)
   keeps_pinged obeys =
       let pong : Entry = Accept NO_SLOT 0 f.header.sport [] in
       let ping = behind_read outcome.Ping in
-      keeps_later h k past (Appended k h pong ∷ ping) apart keeps
+      keeps_later hosts h k past (Appended k h pong ∷ ping) two keeps
       (still_then h k past ping (Appended k h pong ∷ ping) (still_read outcome.Ping) (still_turned k h ping (Appended k h pong ∷ ping) (still_appended k h pong ping back_apart)))
       (subst AreJoined
       (sym (appended_there k h pong ping back_apart ∙ ap (λ (e : Ends). record e { there = pong ∷ e.there }) (ends_read outcome.Ping)))
-      (joined_pinged never (ends h k past) s f (keeps.joined h k apart) on newest bytes (moved_count h k past + count) all obeys
+      (joined_pinged laws (ends h k past) s f (keeps.joined h k apart) on newest bytes ack (moved_count h k past + count) all obeys
       (omega (arith, room, small, few_accepted (journal k h past)))))
 
-  keeps_answered : (o : Outcome) → Obeys (verdict_of (journal k h past) f.header) o → Keeps (answer k h f o (behind_read o))
+  keeps_answered : (o : Outcome) → Obeys (verdict_of (journal k h past) f.header) o → Keeps hosts (answer k h f o (behind_read o))
   keeps_answered outcome.Ping obeys = keeps_pinged obeys
-  keeps_answered (outcome.Slot slot) obeys = keeps_update_mark k f.header.dport slot (behind_read (outcome.Slot slot)) (keeps_plain (outcome.Slot slot) obeys refl)
+  keeps_answered (outcome.Slot slot) obeys = keeps_update_mark hosts k f.header.dport slot (behind_read (outcome.Slot slot)) (keeps_plain (outcome.Slot slot) obeys refl)
   keeps_answered outcome.Old obeys = keeps_plain outcome.Old obeys refl
   keeps_answered outcome.NoSocket obeys = keeps_plain outcome.NoSocket obeys refl
   keeps_answered outcome.Void obeys = keeps_plain outcome.Void obeys refl
@@ -164,88 +171,88 @@ module _ (never : NeverRefuse) (limit h k count s : ℕ) (f : Frame) (past : Lis
   keeps_answered outcome.Map obeys = keeps_plain outcome.Map obeys refl
   keeps_answered outcome.OddMap obeys = keeps_plain outcome.OddMap obeys refl
 
-  pub keeps_read : Keeps (read k h went)
+  pub keeps_read : Keeps hosts (read k h went)
   keeps_read =
       let on_there : open_stream (journal k h past) ≡ Some s = sym (keeps.joined h k apart).streams ∙ on in
       let is : read k h went ≡ read_on k h s f went =
       λ i. option_map_or (λ stream. option_map_or (λ f. read_on k h stream f went) (newest i) went) (on_there i) went in
-      subst Keeps (sym is)
+      subst (Keeps hosts) (sym is)
       (keeps_answered (outcome_at k (verdict_of (journal k h past) f.header) went) (obeys_at k (verdict_of (journal k h past) f.header) went (keeps.slots k)))
 
 -- some of the bytes in flight go
-module _ (never : NeverRefuse) (limit h k count s : ℕ) (past : List Event) (small : limit ≤ 2 ^ 63) (apart : h ≢ k) (keeps : Keeps past)
+module _ (laws : HonestLaws) (hosts limit h k count s : ℕ) (past : List Event) (small : limit ≤ 2 ^ 63) (two : AreTwo hosts h k) (keeps : Keeps hosts past)
     (some : 0 < length (in_flight h k past)) (within : count ≤ length (in_flight h k past)) (room : length (journal k h past) + 2 ≤ limit)
     (on : open_stream (journal h k past) ≡ Some s) where
   joined : AreJoined (ends h k past)
-  joined = keeps.joined h k apart
+  joined = keeps.joined h k two.apart
 
   abbrev written : List ℕ
   written = written_bytes s (journal h k past)
 
-  going : IsGoing (last_pulled_frame (journal h k past)) written (read_bytes s (journal k h past)) (moved_count h k past)
-  going = going_of (last_pulled_frame (journal h k past)) written (read_bytes s (journal k h past)) (moved_count h k past)
+  going : IsGoing (last_pulled_frame (journal h k past)) written (read_bytes s (journal k h past)) (moved_count h k past) (last_passed (journal h k past))
+  going = going_of s (journal h k past) (journal k h past) (moved_count h k past)
       (omega (arith, some, flying h k s past on)) (joined.forth.way s on)
 
   left : length (in_flight h k (Moved h k count ∷ past)) ≡ length written - (moved_count h k past + count)
-  left = flying h k s (Moved h k count ∷ past) on ∙ ap (λ (e : Ends). length written - e.forth) (moved_here h k count past apart)
+  left = flying h k s (Moved h k count ∷ past) on ∙ ap (λ (e : Ends). length written - e.forth) (moved_here h k count past two.apart)
 
   by_left : (b : Bool) → (length (in_flight h k (Moved h k count ∷ past)) == 0) ≡ b →
-      Keeps (cond b (read k h (Moved h k count ∷ past)) (Moved h k count ∷ past))
+      Keeps hosts (cond b (read k h (Moved h k count ∷ past)) (Moved h k count ∷ past))
   by_left true is =
-      keeps_read never limit h k count s going.frame past small apart keeps on going.newest going.bytes
+      keeps_read laws hosts limit h k count s going.frame past small two keeps on going.newest going.bytes going.ack
       (omega (arith, left, eqb-true _ 0 is, within, flying h k s past on, going.some_fly)) room
   by_left false is =
       let some_left = eqb-false _ 0 is in
-      keeps_later h k past (Moved h k count ∷ past) apart keeps (still_moved h k count past)
-      (subst AreJoined (sym (moved_here h k count past apart)) (joined_moved (ends h k past) s count joined on (omega (arith, some_left, left))))
+      keeps_later hosts h k past (Moved h k count ∷ past) two keeps (still_moved h k count past)
+      (subst AreJoined (sym (moved_here h k count past two.apart)) (joined_moved (ends h k past) s count joined on (omega (arith, some_left, left))))
 
-  keeps_piece_on : Keeps (move_piece h k count past)
+  keeps_piece_on : Keeps hosts (move_piece h k count past)
   keeps_piece_on = by_left (length (in_flight h k (Moved h k count ∷ past)) == 0) refl
 
-module _ (never : NeverRefuse) (limit h k : ℕ) (small : limit ≤ 2 ^ 63) (apart : h ≢ k) where
-  keeps_piece : (count : ℕ) (past : List Event) → Keeps past → 0 < length (in_flight h k past) → count ≤ length (in_flight h k past) →
-      length (journal k h past) + 2 ≤ limit → Keeps (move_piece h k count past)
+module _ (laws : HonestLaws) (hosts limit h k : ℕ) (small : limit ≤ 2 ^ 63) (two : AreTwo hosts h k) where
+  keeps_piece : (count : ℕ) (past : List Event) → Keeps hosts past → 0 < length (in_flight h k past) → count ≤ length (in_flight h k past) →
+      length (journal k h past) + 2 ≤ limit → Keeps hosts (move_piece h k count past)
   keeps_piece count past keeps some within room = by_stream (open_stream (journal h k past)) refl
     where
-      by_stream : (o : Option ℕ) → open_stream (journal h k past) ≡ o → Keeps (move_piece h k count past)
+      by_stream : (o : Option ℕ) → open_stream (journal h k past) ≡ o → Keeps hosts (move_piece h k count past)
       by_stream None closed = absurd (omega (arith, some, none_flies h k past closed))
-      by_stream (Some s) on = keeps_piece_on never limit h k count s past small apart keeps some within room on
+      by_stream (Some s) on = keeps_piece_on laws hosts limit h k count s past small two keeps some within room on
 
   portion_within : (left : Option ℕ) (count : ℕ) → portion left count ≤ count
   portion_within None count = omega arith
   portion_within (Some most) count = omega arith
 
-  keeps_pull_if_idle : (past : List Event) → Keeps past → Holds Keeps (pull_if_idle limit h k past)
+  keeps_pull_if_idle : (past : List Event) → Keeps hosts past → Holds (Keeps hosts) (pull_if_idle limit h k past)
   keeps_pull_if_idle past keeps = go (length (in_flight h k past) == 0) refl
     where
       go : (idle : Bool) → (length (in_flight h k past) == 0) ≡ idle →
-          Holds Keeps (cond idle (and_then (if_room limit h k past) (λ (before : List Event). Ok (pull h k before))) (Ok past))
-      go true is = holds_room Keeps limit h k past (λ (before : List Event). Ok (pull h k before)) (λ room. keeps_pull h k past apart keeps (eqb-true _ 0 is))
+          Holds (Keeps hosts) (cond idle (and_then (if_room limit h k past) (λ (before : List Event). Ok (pull h k before))) (Ok past))
+      go true is = holds_room (Keeps hosts) limit h k past (λ (before : List Event). Ok (pull h k before)) (λ room. keeps_pull hosts h k past two keeps (eqb-true _ 0 is))
       go false is = keeps
 
-  keeps_arrive : (left : Option ℕ) (past : List Event) → Keeps past → Holds Keeps (arrive limit h k left past)
+  keeps_arrive : (left : Option ℕ) (past : List Event) → Keeps hosts past → Holds (Keeps hosts) (arrive limit h k left past)
   keeps_arrive left past keeps = go (length (in_flight h k past) == 0) refl
     where
       go : (idle : Bool) → (length (in_flight h k past) == 0) ≡ idle →
-          Holds Keeps (cond idle (Ok past)
+          Holds (Keeps hosts) (cond idle (Ok past)
           (and_then (if_room limit k h past) (λ (before : List Event). Ok (move_piece h k (portion left (length (in_flight h k past))) before))))
       go true is = keeps
       go false is =
           let some = eqb-false _ 0 is in
-          holds_room Keeps limit k h past (λ (before : List Event). Ok (move_piece h k (portion left (length (in_flight h k past))) before))
+          holds_room (Keeps hosts) limit k h past (λ (before : List Event). Ok (move_piece h k (portion left (length (in_flight h k past))) before))
           (λ room. keeps_piece (portion left (length (in_flight h k past))) past keeps (omega (arith, some)) (portion_within left (length (in_flight h k past))) room)
 
-  keeps_turned : (left : Option ℕ) (past : List Event) → Keeps past → Holds Keeps (and_then (pull_if_idle limit h k past) (arrive limit h k left))
+  keeps_turned : (left : Option ℕ) (past : List Event) → Keeps hosts past → Holds (Keeps hosts) (and_then (pull_if_idle limit h k past) (arrive limit h k left))
   keeps_turned left past keeps =
-      holds_then Keeps Keeps (pull_if_idle limit h k past) (arrive limit h k left) (keeps_pull_if_idle past keeps)
+      holds_then (Keeps hosts) (Keeps hosts) (pull_if_idle limit h k past) (arrive limit h k left) (keeps_pull_if_idle past keeps)
       (λ loaded there. keeps_arrive left loaded there)
 
-  keeps_turn : (left : Option ℕ) (past : List Event) → Keeps past → Holds Keeps (turn limit h k left past)
+  keeps_turn : (left : Option ℕ) (past : List Event) → Keeps hosts past → Holds (Keeps hosts) (turn limit h k left past)
   keeps_turn None past keeps = keeps_turned None past keeps
   keeps_turn (Some zero) past keeps = keeps
   keeps_turn (Some (suc n)) past keeps = keeps_turned (Some (suc n)) past keeps
 
-  pub keeps_move_up_to : (most : Option ℕ) (past : List Event) → Keeps past → Holds Keeps (move_up_to limit h k most past)
+  pub keeps_move_up_to : (most : Option ℕ) (past : List Event) → Keeps hosts past → Holds (Keeps hosts) (move_up_to limit h k most past)
   keeps_move_up_to most past keeps =
-      holds_again Keeps (limit + 1) (λ before. turn limit h k (option_map (λ n. n - moved_in_all before) most) before) past keeps
+      holds_again (Keeps hosts) (limit + 1) (λ before. turn limit h k (option_map (λ n. n - moved_in_all before) most) before) past keeps
       (λ before there. keeps_turn (option_map (λ n. n - moved_in_all before) most) before there)
