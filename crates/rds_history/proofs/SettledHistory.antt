@@ -114,6 +114,7 @@ module _ (headline : Headline) (settles : SettledLaw) (hosts : ℕ) (past : List
     stream = drained.stream;
     quiet = quiet;
     settled = settled;
+    map_known = settled.map_b ∙ drained.map_sent;
     accounted = λ sport dport. accounted_for sport dport (journal h k past) (journal k h past) (once headline hosts past keeps h k apart sport dport)
         settled.none_alive_a joined.back.acked;
   }
