@@ -1,11 +1,15 @@
 -- After a drain there is nothing left to do between any two hosts.
-use Rattle.std.proofs.Common.{◌≡◌, ◌≢◌, ◌⊎◌, inl, inr, ⊎_elim, ℕ, zero, suc, ◌==◌, ◌&&◌, ◌<◌, ◌≤◌, Bool, true, Option, Some, None, Ok, Err, List, [], ◌∷◌, ◌++◌, map, refl, sym, ◌∙◌, ap, subst, arith}
+use Rattle.std.proofs.Common.{◌≡◌, ◌≢◌, ◌⊎◌, inl, inr, ⊎_elim, ℕ, zero, suc, ◌==◌, ◌&&◌, ◌<◌, ◌≤◌, Bool, true, false, cond, Option, Some, None, Ok, Err, List, [], ◌∷◌, ◌++◌, map, refl, sym, ◌∙◌, ap, subst, arith}
 use Rattle.std.proofs.lemmas.Bool.{cond_both, cases_eq, cases_order, cond-true, lt-ltb}
+use Rattle.std.proofs.lemmas.Option.{none-some}
 use Rattle.std.specs.Prelude.{nat_lt, filter}
 use Rattle.std.specs.Option.{option_map_or, option_and_then}
+use Rattle.std.specs.Cmp.Lexicographic.{same_text}
 use Rattle.std.specs.List.{flat_map}
+use Rattle.rds_model.specs.declared.entry.Entry.{Entry}
 use Rattle.rds_model.specs.declared.entry.Entry.TheVariants.{Open}
-use Rattle.rds_model.specs.Owed.{owed_frame}
+use Rattle.rds_model.specs.Alive.{due_numbers}
+use Rattle.rds_model.specs.Owed.{last_map, is_last_map, map_frame, owed_after_map, owed_frame}
 use Rattle.rds_model.specs.Past.{open_stream, newest_stream}
 use Rattle.rds_script.specs.declared.script.Command.TheVariants as command
 use Rattle.rds_script.specs.declared.script.Placed.{Placed}
@@ -163,6 +167,18 @@ nothing_owed : (h k stream : ℕ) (past : List Event) → open_stream (journal h
 nothing_owed h k stream past is idle =
     sym (ap (option_and_then (λ s. owed_frame s (journal h k past) (own_map h past))) is) ∙ idle.nothing_owed
 
+-- where nothing is owed, the map was sent
+map_sent : (stream : ℕ) (past : List Entry) (map : List ℕ) → owed_frame stream past map ≡ None → last_map stream past ≡ Some map
+map_sent stream past map none = go (last_map stream past) none
+  where
+    on : (b : Bool) → cond b (owed_after_map stream past (due_numbers stream past)) (Some (map_frame past map)) ≡ None → b ≡ true
+    on true none = refl
+    on false none = absurd (none-some (map_frame past map) (sym none))
+
+    go : (o : Option (List ℕ)) → cond (is_last_map o map) (owed_after_map stream past (due_numbers stream past)) (Some (map_frame past map)) ≡ None → o ≡ Some map
+    go None none = absurd (none-some (map_frame past map) (sym none))
+    go (Some last) none = ap (λ (m : List ℕ). Some m) (same_text last map (sym (on (is_last_map (Some last) map) none)))
+
 quiet : (limit h k : ℕ) (later : List Event) → Opens h k later → SameStreams later → IsResting limit h k later → IsResting limit k h later → IsDrained h k later
 quiet limit h k later is same there back =
     let open_back : open_stream (journal k h later) ≡ Some is.0 = sym (same h k).now ∙ is.1 in
@@ -174,6 +190,8 @@ quiet limit h k later is same there back =
       nothing_flies_back = back.idle.nothing_flies;
       nothing_owed = nothing_owed h k is.0 later is.1 there.idle;
       nothing_owed_back = nothing_owed k h is.0 later open_back back.idle;
+      map_sent = map_sent is.0 (journal h k later) (own_map h later) (nothing_owed h k is.0 later is.1 there.idle);
+      map_sent_back = map_sent is.0 (journal k h later) (own_map k later) (nothing_owed k h is.0 later open_back back.idle);
     }
 
 turned_round : (h k : ℕ) (past : List Event) → IsDrained h k past → IsDrained k h past
@@ -185,6 +203,8 @@ turned_round h k past is = record {
   nothing_flies_back = is.nothing_flies;
   nothing_owed = is.nothing_owed_back;
   nothing_owed_back = is.nothing_owed;
+  map_sent = is.map_sent_back;
+  map_sent_back = is.map_sent;
 }
 
 module _ (limit hosts : ℕ) (few : hosts ≤ MAX_HOSTS) (commands : List Placed) (past later : List Event) (so : history limit hosts commands [] ≡ Ok past)

@@ -4,7 +4,7 @@ use Rattle.std.specs.Option.{option_and_then}
 use Rattle.rds_wire.specs.declared.frame.Frame.{Frame}
 use Rattle.rds_model.specs.Past.{open_stream}
 use Rattle.rds_model.specs.Streams.{written_bytes}
-use Rattle.rds_model.specs.Owed.{owed_frame}
+use Rattle.rds_model.specs.Owed.{last_map, owed_frame}
 use Rattle.rds_history.specs.Events.{Event}
 use Rattle.rds_history.specs.Journals.{journal, moved_count, in_flight, own_map}
 use Rattle.rds_history.specs.Courses.{Course}
@@ -33,8 +33,8 @@ pub record IsIdle (h k : ℕ) (past : List Event) : Type 0 where
 abbrev pub IsMoved : (h k : ℕ) → (most : Option ℕ) → List Event → Type 0
 IsMoved h k most past = (bytes_left most past ≡ Some 0) ⊎ IsIdle h k past
 
--- what a drain leaves between hosts h and k: one stream is open at both ends, nothing is in flight either way, and neither
--- owes a frame for its own map
+-- What a drain leaves between hosts h and k: one stream is open at both ends, nothing is in flight either way, neither owes
+-- a frame for its own map, and this was the last map that it sent.
 pub record IsDrained (h k : ℕ) (past : List Event) : Type 0 where
   pub stream : ℕ
   pub open_here : open_stream (journal h k past) ≡ Some stream
@@ -43,3 +43,5 @@ pub record IsDrained (h k : ℕ) (past : List Event) : Type 0 where
   pub nothing_flies_back : in_flight k h past ≡ []
   pub nothing_owed : owed_frame stream (journal h k past) (own_map h past) ≡ None
   pub nothing_owed_back : owed_frame stream (journal k h past) (own_map k past) ≡ None
+  pub map_sent : last_map stream (journal h k past) ≡ Some (own_map h past)
+  pub map_sent_back : last_map stream (journal k h past) ≡ Some (own_map k past)
