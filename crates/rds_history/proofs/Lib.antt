@@ -9,6 +9,9 @@ mod JoinedEnds
 mod JoinedReads
 mod PastEnds
 mod PastMoves
+mod ScriptHosts
+mod PastSockets
+mod PastStreams
 mod PastCommands
 mod HandedOut
 mod SoundHistory

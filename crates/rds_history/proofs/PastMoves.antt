@@ -42,11 +42,13 @@ holds_room P limit h k past next step = go (nat_lt limit (length (journal h k pa
     go true is = tt
     go false is = step (ltb-false limit (length (journal h k past) + 2) is)
 
-pub few_accepted : (past : List Entry) → accepted past ≤ length past
-few_accepted [] = omega arith
-few_accepted (Accept slot sport dport payload ∷ past) = omega (arith, few_accepted past)
-few_accepted (_ ∷ past) = omega (arith, few_accepted past)
+-- no more datagrams were accepted than there are entries
+pub accepted_within : (past : List Entry) → accepted past ≤ length past
+accepted_within [] = omega arith
+accepted_within (Accept slot sport dport payload ∷ past) = omega (arith, accepted_within past)
+accepted_within (_ ∷ past) = omega (arith, accepted_within past)
 
+-- a port may become congested or free
 pub keeps_update_mark : (hosts h port slot : ℕ) (past : List Event) → Keeps hosts past → Keeps hosts (update_mark h port slot past)
 keeps_update_mark hosts h port slot past keeps =
     go (is_marked h port past) (congested_after (is_marked h port past) (queued h slot past) (receive_buffer h slot past))
@@ -159,7 +161,7 @@ module _ (laws : HonestLaws) (hosts limit h k count s : ℕ) (f : Frame) (past :
       (subst AreJoined
       (sym (appended_there k h pong ping back_apart ∙ ap (λ (e : Ends). record e { there = pong ∷ e.there }) (ends_read outcome.Ping)))
       (joined_pinged laws (ends h k past) s f (keeps.joined h k apart) on newest bytes ack (moved_count h k past + count) all obeys
-      (omega (arith, room, small, few_accepted (journal k h past)))))
+      (omega (arith, room, small, accepted_within (journal k h past)))))
 
   keeps_answered : (o : Outcome) → Obeys (verdict_of (journal k h past) f.header) o → Keeps hosts (answer k h f o (behind_read o))
   keeps_answered outcome.Ping obeys = keeps_pinged obeys
@@ -209,6 +211,7 @@ module _ (laws : HonestLaws) (hosts limit h k count s : ℕ) (past : List Event)
   keeps_piece_on : Keeps hosts (move_piece h k count past)
   keeps_piece_on = by_left (length (in_flight h k (Moved h k count ∷ past)) == 0) refl
 
+-- a move
 module _ (laws : HonestLaws) (hosts limit h k : ℕ) (small : limit ≤ 2 ^ 63) (two : AreTwo hosts h k) where
   keeps_piece : (count : ℕ) (past : List Event) → Keeps hosts past → 0 < length (in_flight h k past) → count ≤ length (in_flight h k past) →
       length (journal k h past) + 2 ≤ limit → Keeps hosts (move_piece h k count past)
