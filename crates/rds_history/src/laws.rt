@@ -1,5 +1,5 @@
-//! Laws of the history of a script: what holds of it whatever its commands are. Their bodies are empty; each clause is a
-//! theorem.
+//! Laws of the history of a script: what holds of it whatever its commands are. Their bodies are empty or cite other laws;
+//! each clause is a theorem.
 ghost use Rattle.std.specs.Prelude.{◌≡◌, ◌<◌, ℕ, Ok, List, []};
 ghost use Rattle.rds_cong.specs.Map.{has_port};
 ghost use Rattle.rds_script.specs.declared.script.Command.{Command};
