@@ -21,11 +21,16 @@ journals_below n h m = map (λ k. journal_with h k m) (filter (λ k. not (k == h
 abbrev pub journals_of : (h : ℕ) → MeshView → List FinalJournal
 journals_of h m = journals_below m.count h m
 
--- for each of the first n hosts a list of its journals with the others of them
+-- a list for each host, of its journals with all others
+abbrev pub AreJournals : MeshView → List (Vec (ℕ × Log) Global) → Type 0
+AreJournals m rows = (h : ℕ) → h < m.count → (row : Vec (ℕ × Log) Global) → row ≡ get_or rows h row →
+    map side_view row.items ≡ journals_of h m
+
+-- Private: needed by the proofs only. So it is for the first n hosts, where no others are counted.
 abbrev pub HoldJournals : (n : ℕ) → MeshView → List (Vec (ℕ × Log) Global) → Type 0
 HoldJournals n m rows = (h : ℕ) → h < n → (row : Vec (ℕ × Log) Global) → row ≡ get_or rows h row →
     map side_view row.items ≡ journals_below n h m
 
--- the joints of host `high` with those below it
+-- Private likewise: the joints of host `high` with those below it
 abbrev pub AreJointsOf : (high : ℕ) → MeshView → List JointEnds → Type 0
 AreJointsOf high m joints = (low : ℕ) → low < high → (j : JointEnds) → j ≡ get_or joints low j → j ≡ joint_of low high m

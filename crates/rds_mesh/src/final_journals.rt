@@ -1,7 +1,7 @@
 ghost use Rattle.std.specs.Prelude.{◌≡◌, ◌<◌, ◌≤◌, ◌+◌, IfOk, OnOk, vec_len};
 ghost use Rattle.rds_text.specs.declared.host.TheConstants.{MAX_HOSTS};
 ghost use Rattle.rds_mesh.specs.Ends.{MeshView};
-ghost use Rattle.rds_mesh.specs.FinalJournals.{AreJointsOf, HoldJournals};
+ghost use Rattle.rds_mesh.specs.FinalJournals.{AreJointsOf, AreJournals, HoldJournals};
 ghost use Rattle.rds_mesh.specs.Places.{triangle};
 
 use crate::mesh::Mesh;
@@ -20,7 +20,7 @@ impl Mesh {
     /// Where there is no memory for the lists.
     pub fn into_journals(self, alloc: Global) -> Result<Vec<Vec<(u32, Journal)>>, Memory>
         ensures count { IfOk result (λ rows. vec_len rows ≡ self.count) }
-        ensures journals { IfOk result (λ rows. HoldJournals self.count self rows.items) }
+        ensures journals { IfOk result (λ rows. AreJournals self rows.items) }
     {
         let Mesh { count, joints } = self;
         rows(alloc, count, joints)

@@ -13,10 +13,18 @@ use std::sync::ledger::{Blank, Ledger};
 use std::test::Fail;
 
 // A datagram that hosts send, and the congestion map of each.
-#[derive(Drop)]
 struct Sent {
     order: Order,
     map: PortMap,
+}
+
+impl Drop for Sent {
+    fn drop(self) {
+        let Self {
+            order: _order,
+            map: _map,
+        } = self;
+    }
 }
 
 // A socket at port 4000 sends `hello` to port 4001.
