@@ -5,3 +5,4 @@ pub mod Ends
 pub mod Sending
 pub mod Sums
 pub mod SendRefusals
+pub mod TakingBack

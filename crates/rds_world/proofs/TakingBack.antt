@@ -24,18 +24,21 @@ use Rattle.rds_world.proofs.Sending.{cancel_quiet, tells_ordered}
 agreeing_within : (t c p q : ℕ → Bool) → ((n : ℕ) → t n ≡ true → p n ≡ q n) → (xs : List ℕ) →
     filter p (filter c (filter t xs)) ≡ filter q (filter c (filter t xs))
 agreeing_within t c p q same [] = refl
-agreeing_within t c p q same (x ∷ xs) = go (t x) refl
+agreeing_within t c p q same (x ∷ xs) = go (agreeing_within t c p q same xs) (t x) refl
   where
-    rest : filter p (filter c (filter t xs)) ≡ filter q (filter c (filter t xs))
-    rest = agreeing_within t c p q same xs
+    kept : List ℕ
+    kept = filter t xs
 
-    chosen : (b : Bool) → p x ≡ q x → filter p (cond b (x ∷ filter c (filter t xs)) (filter c (filter t xs))) ≡ filter q (cond b (x ∷ filter c (filter t xs)) (filter c (filter t xs)))
-    chosen true is = ap (λ b. cond b (x ∷ filter p (filter c (filter t xs))) (filter p (filter c (filter t xs)))) is ∙ ap (λ (l : List ℕ). cond (q x) (x ∷ l) l) rest
-    chosen false is = rest
+    chosen : filter p (filter c kept) ≡ filter q (filter c kept) → (b : Bool) → p x ≡ q x →
+        filter p (cond b (x ∷ filter c kept) (filter c kept)) ≡ filter q (cond b (x ∷ filter c kept) (filter c kept))
+    chosen rest true is =
+        ap (λ b. cond b (x ∷ filter p (filter c kept)) (filter p (filter c kept))) is ∙ ap (λ (l : List ℕ). cond (q x) (x ∷ l) l) rest
+    chosen rest false is = rest
 
-    go : (b : Bool) → t x ≡ b → filter p (filter c (cond b (x ∷ filter t xs) (filter t xs))) ≡ filter q (filter c (cond b (x ∷ filter t xs) (filter t xs)))
-    go true is = chosen (c x) (same x is)
-    go false is = rest
+    go : filter p (filter c kept) ≡ filter q (filter c kept) → (b : Bool) → t x ≡ b →
+        filter p (filter c (cond b (x ∷ kept) kept)) ≡ filter q (filter c (cond b (x ∷ kept) kept))
+    go rest true is = chosen rest (c x) (same x is)
+    go rest false is = rest
 
 not_le : (n m : ℕ) → nat_lt m n ≡ not (nat_le n m)
 not_le n m = go (nat_le n m) refl
