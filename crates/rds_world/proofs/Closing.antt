@@ -94,27 +94,27 @@ comes_early limit hosts (suc m) n step past why t within comes =
     below_it n m within ne = omega arith
 
 -- taking back binds no socket
-course_slots : (h : ℕ) (past : List Event) → Course → Type 0
-course_slots h past (Ok later) = next_slot h later ≡ next_slot h past
-course_slots h past (Err full) = Unit {0}
+abbrev KeepsSlots : (h : ℕ) (past : List Event) → Course → Type 0
+KeepsSlots h past (Ok later) = next_slot h later ≡ next_slot h past
+KeepsSlots h past (Err full) = Unit {0}
 
-slots_then : (h : ℕ) (past : List Event) (c : Course) (f : List Event → Course) → course_slots h past c → ((p : List Event) → course_slots h p (f p)) →
-    course_slots h past (and_then c f)
+slots_then : (h : ℕ) (past : List Event) (c : Course) (f : List Event → Course) → KeepsSlots h past c → ((p : List Event) → KeepsSlots h p (f p)) →
+    KeepsSlots h past (and_then c f)
 slots_then h past (Err full) f same next = tt
 slots_then h past (Ok p) f same next = go (f p) (next p)
   where
-    go : (d : Course) → course_slots h p d → course_slots h past d
+    go : (d : Course) → KeepsSlots h p d → KeepsSlots h past d
     go (Ok later) is = is ∙ same
     go (Err full) is = tt
 
-slots_appended : (a limit h k slot : ℕ) (past : List Event) → course_slots a past (appends limit h k (Cancel slot All) past)
+slots_appended : (a limit h k slot : ℕ) (past : List Event) → KeepsSlots a past (appends limit h k (Cancel slot All) past)
 slots_appended a limit h k slot past =
     slots_then a past (if_room limit h k past) (λ before. Ok (Appended h k (Cancel slot All) ∷ before))
     (cond_both (nat_lt limit (length (journal h k past) + 2)) (Err (record { host = h; peer = k; entries = length (journal h k past) })) (Ok past)
-    (λ (c : Course). course_slots a past c) (λ _. tt) (λ _. refl))
+    (λ (c : Course). KeepsSlots a past c) (λ _. tt) (λ _. refl))
     (λ p. refl)
 
-slots_each : (a limit h slot : ℕ) (xs : List ℕ) (past : List Event) → course_slots a past (each xs (λ k. appends limit h k (Cancel slot All)) past)
+slots_each : (a limit h slot : ℕ) (xs : List ℕ) (past : List Event) → KeepsSlots a past (each xs (λ k. appends limit h k (Cancel slot All)) past)
 slots_each a limit h slot [] past = refl
 slots_each a limit h slot (x ∷ xs) past =
     slots_then a past (appends limit h x (Cancel slot All) past) (each xs (λ k. appends limit h k (Cancel slot All)))
@@ -122,7 +122,7 @@ slots_each a limit h slot (x ∷ xs) past =
 
 pub same_slots : (a limit h slot : ℕ) (xs : List ℕ) (past later : List Event) → each xs (λ k. appends limit h k (Cancel slot All)) past ≡ Ok later →
     next_slot a later ≡ next_slot a past
-same_slots a limit h slot xs past later is = subst (λ (c : Course). course_slots a past c) is (slots_each a limit h slot xs past)
+same_slots a limit h slot xs past later is = subst (λ (c : Course). KeepsSlots a past c) is (slots_each a limit h slot xs past)
 
 -- nor does freeing a port touch a connection
 unbound_still : (a b h port slot : ℕ) (past : List Event) → IsStill a b past (unbind h port slot past)

@@ -6,3 +6,4 @@ pub mod Sending
 pub mod Sums
 pub mod SendRefusals
 pub mod TakingBack
+pub mod Closing
