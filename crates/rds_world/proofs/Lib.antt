@@ -5,3 +5,8 @@ pub mod Ends
 pub mod OpeningBoth
 pub mod BothReady
 pub mod Eaching
+pub mod Sending
+pub mod Sums
+pub mod SendRefusals
+pub mod TakingBack
+pub mod Closing
