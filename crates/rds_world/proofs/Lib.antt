@@ -2,3 +2,4 @@ pub mod Journaling
 pub mod Replacing
 pub mod Comings
 pub mod Ends
+pub mod OneHost
