@@ -3,3 +3,4 @@ pub mod Replacing
 pub mod Comings
 pub mod Ends
 pub mod OneHost
+pub mod Receiving
