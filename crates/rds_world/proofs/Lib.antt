@@ -4,3 +4,4 @@ pub mod Comings
 pub mod Ends
 pub mod OneHost
 pub mod Receiving
+pub mod Beginning
