@@ -5,3 +5,5 @@ pub mod Ends
 pub mod OneHost
 pub mod Receiving
 pub mod Beginning
+pub mod OpeningBoth
+pub mod BothReady
