@@ -4,6 +4,7 @@ ghost use Rattle.rds_history.specs.Courses.{prints};
 ghost use Rattle.rds_history.specs.Events.{Event, Bound};
 ghost use Rattle.rds_history.specs.Sockets.{next_slot};
 ghost use Rattle.rds_text.specs.Refusals.{refusal_text, socket_refused_line as line_of_refused};
+ghost use Rattle.rds_model.specs.declared.entry.TheConstants.{MAX_SLOTS};
 ghost use Rattle.rds_hosts.specs.declared.host.ScriptHost.{ScriptHost};
 ghost use Rattle.rds_world.specs.Coming.{Comes};
 ghost use Rattle.rds_world.specs.Readiness.{LacksMemory};
@@ -32,7 +33,7 @@ impl World {
     fn add_socket(&mut self, host: u8, port: u16, sndbuf: u32, rcvbuf: u32) -> Result<(), Stop>
         requires host { host < self.old.count }
         requires roomy { 2 ≤ rcvbuf }
-        requires room { (x : ScriptHost) → x ≡ get_or self.old.hosts.items host x → vec_len x.sockets < 1024 }
+        requires room { (x : ScriptHost) → x ≡ get_or self.old.hosts.items host x → vec_len x.sockets < MAX_SLOTS }
         ensures count { self.new.count ≡ self.old.count }
         ensures bound { (limit hosts : ℕ) (past : List Event) → Tells limit hosts past (state self.old) → OnOk result
             (Tells limit hosts (Bound host port (next_slot host past) sndbuf rcvbuf ∷ past) (state self.new)) }
