@@ -7,3 +7,5 @@ pub mod Receiving
 pub mod Beginning
 pub mod OpeningBoth
 pub mod BothReady
+pub mod FinalLists
+pub mod Addressed
