@@ -2,6 +2,9 @@ pub mod Journaling
 pub mod Replacing
 pub mod Comings
 pub mod Ends
+pub mod OneHost
+pub mod Receiving
+pub mod Beginning
 pub mod OpeningBoth
 pub mod BothReady
 pub mod Eaching
@@ -10,3 +13,5 @@ pub mod Sums
 pub mod SendRefusals
 pub mod TakingBack
 pub mod Closing
+pub mod FinalLists
+pub mod Addressed
