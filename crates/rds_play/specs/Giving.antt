@@ -1,15 +1,9 @@
--- What the playing of a script comes to. Source: this project's own.
-use Rattle.std.specs.Prelude.{ℕ, Result, Ok, Err, List, []}
-use Rattle.rds_script.specs.declared.script.Script.{Script}
+-- What the playing of a script makes of its course. Source: this project's own.
+use Rattle.std.specs.Prelude.{◌≡◌, ℕ, Result, Ok, Err, List}
 use Rattle.rds_history.specs.Courses.{Course}
 use Rattle.rds_history.specs.Events.{Event}
-use Rattle.rds_history.specs.History.{history}
-use Rattle.rds_play.specs.declared.stop.Stop.{Stop}
-use Rattle.rds_play.specs.Readiness.{IsMemory, IsStopAt}
-
--- the one course of a script
-abbrev pub course : Script → (limit : ℕ) → Course
-course script limit = history limit script.hosts script.commands.items []
+use Rattle.rds_world.specs.declared.stop.Stop.{Stop}
+use Rattle.rds_world.specs.Readiness.{IsMemory, IsStopAt}
 
 -- what is made is right for the past that the course leads to, or the stop is that of the first full journal; there may
 -- always be no memory
