@@ -1,16 +1,18 @@
 -- A step that is taken for each of a list, and how far a loop over it has come.
 use Rattle.std.proofs.Common.{◌≡◌, ◌⊎◌, ⊎_elim, ℕ, zero, suc, ◌+◌, ◌-◌, ◌<◌, ◌≤◌, Bool, true, false, cond, Result, Ok, Err, List, [], ◌∷◌, ◌++◌, map, refl, sym, ◌∙◌, ap, subst, arith}
-use Rattle.std.specs.Prelude.{nat_lt}
+use Rattle.std.specs.Prelude.{nat_lt, min, ◌||◌}
 use Rattle.std.specs.List.{filter, flat_map, range_with_len}
-use Rattle.std.proofs.lemmas.Bool.{cases_lt, cond-true, cond-false, lt-ltb, le-ltb}
+use Rattle.std.proofs.lemmas.Bool.{cases_lt, cond-true, cond-false, lt-ltb, le-ltb, ltb-true, ltb-false}
 use Rattle.std.proofs.lemmas.List.Elements.{filter-append}
 use Rattle.rds_text.specs.Ports.{below}
-use Rattle.rds_history.specs.Courses.{Course, and_then, each}
+use Rattle.rds_history.specs.Courses.{Course, again, and_then, each}
 use Rattle.rds_history.specs.Drain.{Pair, pairs}
 use Rattle.rds_history.specs.Events.{Event}
+use Rattle.rds_history.specs.Journals.{moved_in_all}
 use Rattle.rds_world.specs.declared.stop.Stop.{Stop}
+use Rattle.rds_world.specs.declared.stop.Stop.TheVariants as stop
 use Rattle.rds_world.specs.Coming.{Comes, ComesRight, ComesWaiting}
-use Rattle.rds_world.specs.Draining.{pairs_above}
+use Rattle.rds_world.specs.Draining.{SaysMoved, pairs_above}
 use Rattle.rds_world.specs.Readiness.{IsMemory, IsStopAt}
 use Rattle.rds_world.specs.Telling.{State, Tells, none_waits}
 use Rattle.rds_world.proofs.Comings.{comes_lacking}
@@ -148,3 +150,103 @@ pub each_pair : (hosts : ℕ) (act : Pair → List Event → Course) (past : Lis
 each_pair hosts act past =
     each_flat_map (λ low. pairs_above low hosts) (below hosts) act past
     ∙ ap (λ (l : List ℕ). each l (λ low. each (pairs_above low hosts) act) past) (below_range hosts)
+
+-- what an answer says, of one course behind another
+pub right_then : {A C : Type 0} (R : List Event → A → Type 0) (Q : List Event → C → Type 0) (limit hosts : ℕ) (first : Course) (next : List Event → Course)
+    (x : A) (result : Result C Stop) (s t : State) → ComesRight R none_waits limit hosts first (Ok x) s →
+    ((later : List Event) → first ≡ Ok later → Tells limit hosts later s → R later x → ComesRight Q none_waits limit hosts (next later) result t) →
+    ComesRight Q none_waits limit hosts (and_then first next) result t
+right_then R Q limit hosts (Ok later) next x result s t comes step = step later refl comes.0 comes.1
+right_then R Q limit hosts (Err full) next x result s t comes step = absurd comes
+
+pub right_lacks : {C : Type 0} (Q : List Event → C → Type 0) (limit hosts : ℕ) (c : Course) (why : Stop) (t : State) → IsMemory why →
+    ComesRight Q none_waits limit hosts c (Err why) t
+right_lacks Q limit hosts (Ok past) why t lacks = lacks
+right_lacks Q limit hosts (Err full) stop.Memory t lacks = tt
+right_lacks Q limit hosts (Err full) (stop.Spent f) t lacks = absurd lacks
+
+pub right_stopped : {A C : Type 0} (R : List Event → A → Type 0) (Q : List Event → C → Type 0) (limit hosts : ℕ) (first : Course) (next : List Event → Course)
+    (why : Stop) (s t : State) → ComesRight R none_waits limit hosts first (Err why) s → ComesRight Q none_waits limit hosts (and_then first next) (Err why) t
+right_stopped R Q limit hosts (Ok later) next why s t comes = right_lacks Q limit hosts (next later) why t comes
+right_stopped R Q limit hosts (Err full) next why s t comes = comes
+
+pub right_map : {A C : Type 0} (R : List Event → A → Type 0) (Q : List Event → C → Type 0) (limit hosts : ℕ) (c : Course) (a : A) (b : C) (t : State) →
+    ComesRight R none_waits limit hosts c (Ok a) t → ((later : List Event) → c ≡ Ok later → R later a → Q later b) → ComesRight Q none_waits limit hosts c (Ok b) t
+right_map R Q limit hosts (Ok later) a b t comes step = (comes.0, step later refl comes.1)
+right_map R Q limit hosts (Err full) a b t comes step = absurd comes
+
+-- a stop is a stop, whatever the answer would have said
+pub right_same_stop : {A C : Type 0} (R : List Event → A → Type 0) (Q : List Event → C → Type 0) (limit hosts : ℕ) (c : Course) (why : Stop) (s t : State) →
+    ComesRight R none_waits limit hosts c (Err why) s → ComesRight Q none_waits limit hosts c (Err why) t
+right_same_stop R Q limit hosts (Ok past) why s t comes = comes
+right_same_stop R Q limit hosts (Err full) why s t comes = comes
+
+-- whether a byte moved, over two courses
+pub moved_then : (a b c : ℕ) (x y : Bool) → a ≤ b → b ≤ c → x ≡ nat_lt a b → y ≡ nat_lt b c → (x || y) ≡ nat_lt a c
+moved_then a b c true y ab bc x_is y_is =
+    let less = ltb-true a b (sym x_is) in sym (lt-ltb a c (omega (arith, less, bc)))
+moved_then a b c false y ab bc x_is y_is =
+    let same : a ≡ b = (let more = ltb-false a b (sym x_is) in omega (arith, more, ab)) in
+    y_is ∙ ap (λ n. nat_lt n c) (sym same)
+
+pub moved_by : (a b n : ℕ) → a ≤ b → n ≡ min 18446744073709551615 (b - a) → nat_lt 0 n ≡ nat_lt a b
+moved_by a b n ab is = ⊎_elim
+    (λ (less : a < b). lt-ltb 0 n (omega (arith, is, less)) ∙ sym (lt-ltb a b less))
+    (λ (more : b ≤ a). le-ltb 0 n (omega (arith, is, more)) ∙ sym (le-ltb a b more))
+    (cases_lt a b)
+
+-- a step of a loop was stopped, and so the whole
+pub right_reached : {X A C : Type 0} (R : List Event → Type 0) (S : List Event → A → Type 0) (Q : List Event → C → Type 0) (limit hosts : ℕ) (whole : Course)
+    (x : X) (rest : List X) (act : X → List Event → Course) (why : Stop) (s t u : State) → (p : Reaches R limit hosts whole (x ∷ rest) act s) →
+    ComesRight S none_waits limit hosts (act x p.mid) (Err why) t → ComesRight Q none_waits limit hosts whole (Err why) u
+right_reached {X} {A} {C} R S Q limit hosts whole x rest act why s t u p comes =
+    subst (λ (c : Course). ComesRight Q none_waits limit hosts c (Err why) u) (sym p.same)
+    (right_stopped S Q limit hosts (act x p.mid) (each rest act) why t u comes)
+
+-- a step that is taken again has been taken so often: what is left leads to where the whole leads
+pub record RunsOn (limit hosts : ℕ) (whole : Course) (times : ℕ) (step : List Event → Course) (s : State) : Type 0 where
+  pub mid : List Event
+  pub same : whole ≡ again times step mid
+  pub told : Tells limit hosts mid s
+
+-- the step moved a byte
+pub runs_more : (limit hosts : ℕ) (whole : Course) (n : ℕ) (step : List Event → Course) (s t : State) → (p : RunsOn limit hosts whole (suc n) step s) →
+    ComesRight (SaysMoved p.mid) none_waits limit hosts (step p.mid) (Ok true) t → RunsOn limit hosts whole n step t
+runs_more limit hosts whole n step s t p comes = go (step p.mid) refl comes
+  where
+    go : (c : Course) → step p.mid ≡ c → ComesRight (SaysMoved p.mid) none_waits limit hosts c (Ok true) t → RunsOn limit hosts whole n step t
+    go (Ok later) is so = record {
+      mid = later;
+      same = p.same ∙ ap (λ (c : Course). and_then c (λ after_. cond (nat_lt (moved_in_all p.mid) (moved_in_all after_)) (again n step after_) (Ok after_))) is
+          ∙ cond-true (nat_lt (moved_in_all p.mid) (moved_in_all later)) (again n step later) (Ok later) (sym so.1.says);
+      told = so.0;
+    }
+    go (Err full) is so = absurd so
+
+-- it moved none
+pub runs_out : {A : Type 0} (limit hosts : ℕ) (whole : Course) (n : ℕ) (step : List Event → Course) (a : A) (s t : State) → (p : RunsOn limit hosts whole (suc n) step s) →
+    ComesRight (SaysMoved p.mid) none_waits limit hosts (step p.mid) (Ok false) t → Comes limit hosts whole (Ok a) t
+runs_out {A} limit hosts whole n step a s t p comes = go (step p.mid) refl comes
+  where
+    go : (c : Course) → step p.mid ≡ c → ComesRight (SaysMoved p.mid) none_waits limit hosts c (Ok false) t → Comes {A = A} limit hosts whole (Ok a) t
+    go (Ok later) is so =
+        subst (λ (c : Course). Comes {A = A} limit hosts c (Ok a) t)
+        (sym (p.same ∙ ap (λ (c : Course). and_then c (λ after_. cond (nat_lt (moved_in_all p.mid) (moved_in_all after_)) (again n step after_) (Ok after_))) is
+        ∙ cond-false (nat_lt (moved_in_all p.mid) (moved_in_all later)) (again n step later) (Ok later) (sym so.1.says)))
+        so.0
+    go (Err full) is so = absurd so
+
+-- it was stopped
+pub runs_stopped : {B : Type 0} (A : Type 0) (S : List Event → B → Type 0) (limit hosts : ℕ) (whole : Course) (n : ℕ) (step : List Event → Course) (why : Stop) (s t : State) →
+    (p : RunsOn limit hosts whole (suc n) step s) → ComesRight S none_waits limit hosts (step p.mid) (Err why) t → Comes {A = A} limit hosts whole (Err why) t
+runs_stopped {B} A S limit hosts whole n step why s t p comes = go (step p.mid) refl comes
+  where
+    go : (c : Course) → step p.mid ≡ c → ComesRight S none_waits limit hosts c (Err why) t → Comes {A = A} limit hosts whole (Err why) t
+    go (Ok later) is lacks = comes_lacking A none_waits limit hosts whole why t lacks
+    go (Err full) is stops =
+        subst (λ (c : Course). Comes {A = A} limit hosts c (Err why) t)
+        (sym (p.same ∙ ap (λ (c : Course). and_then c (λ after_. cond (nat_lt (moved_in_all p.mid) (moved_in_all after_)) (again n step after_) (Ok after_))) is)) stops
+
+pub runs_end : {A : Type 0} (limit hosts : ℕ) (whole : Course) (step : List Event → Course) (a : A) (s : State) → RunsOn limit hosts whole 0 step s →
+    Comes limit hosts whole (Ok a) s
+runs_end {A} limit hosts whole step a s p = subst (λ (c : Course). Comes {A = A} limit hosts c (Ok a) s) (sym p.same) p.told

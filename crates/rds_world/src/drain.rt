@@ -1,4 +1,4 @@
-ghost use Rattle.std.specs.Prelude.{◌≡◌, ◌<◌, ℕ, List};
+ghost use Rattle.std.specs.Prelude.{◌≡◌, ◌<◌, ◌||◌, ℕ, List};
 ghost use Rattle.rds_history.specs.Courses.{again, each};
 ghost use Rattle.rds_history.specs.Drain.{both_ways, drain, open_if_closed, pairs, round, rounds};
 ghost use Rattle.rds_history.specs.Events.{Event};
@@ -8,6 +8,7 @@ ghost use Rattle.rds_world.specs.Telling.{Tells, none_waits, state};
 
 use crate::stop::Stop;
 use crate::world::World;
+use rds_history::laws::moves_go_forward;
 use rds_msgs::Steps;
 use rds_text::{MAX_HOSTS, drained_line};
 use std::sync::ledger::Ledger;
@@ -71,7 +72,8 @@ impl World {
             Comes limit hosts (again (rounds limit) (round limit hosts) past) result (state self.new) }
     {
         for _ in 0..rounds(self.limit) {
-            if !self.round(steps)? {
+            let moved = self.round(steps)?;
+            if !moved {
                 return Ok(());
             }
         }
@@ -87,7 +89,7 @@ impl World {
         let mut moved = false;
         for low in 0..self.count {
             let more = self.round_above(low, steps)?;
-            moved = moved || more;
+            moved = either(moved, more);
         }
         Ok(moved)
     }
@@ -102,7 +104,7 @@ impl World {
         let mut moved = false;
         for high in low + 1..self.count {
             let more = self.both_ways(low, high, steps)?;
-            moved = moved || more;
+            moved = either(moved, more);
         }
         Ok(moved)
     }
@@ -120,9 +122,10 @@ impl World {
         ensures course { (limit hosts : ℕ) (past : List Event) → Tells limit hosts past (state self.old) →
             ComesRight (SaysMoved past) none_waits limit hosts (both_ways limit (record { low = low; high = high }) past) result (state self.new) }
     {
+        moves_go_forward();
         let forth = self.move_up_to(low, high, None, steps)?;
         let back = self.move_up_to(high, low, None, steps)?;
-        Ok(forth > 0 || back > 0)
+        Ok(either(forth > 0, back > 0))
     }
 }
 
@@ -131,4 +134,11 @@ fn rounds(limit: u32) -> u64
     ensures { result ≡ rounds limit }
 {
     u64::from(MAX_HOSTS) * u64::from(MAX_HOSTS) * u64::from(limit) + 1
+}
+
+// Whether one of both holds.
+fn either(one: bool, other: bool) -> bool
+    ensures { result ≡ (one || other) }
+{
+    one || other
 }

@@ -13,12 +13,15 @@ use Rattle.rds_world.proofs.Eaching.{Reaches, each_above, each_pair, range_done,
 use Rattle.rds_world.proofs.world.World.open_above.Goals as goal
 
 pub loop-high-init : goal.loop-high-init
-loop-high-init c = (refl, λ limit hosts past told. record {
-  mid = past;
-  same = each_above c.args.low hosts (open_if_closed limit) past;
-  right = tt;
-  told = told;
-})
+loop-high-init c = (
+  refl,
+  λ limit hosts past told. record {
+    mid = past;
+    same = each_above c.args.low hosts (open_if_closed limit) past;
+    right = tt;
+    told = told;
+  },
+)
 
 pub loop-high-preserved : goal.loop-high-preserved
 loop-high-preserved c = (

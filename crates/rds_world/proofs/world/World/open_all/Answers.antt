@@ -13,12 +13,15 @@ use Rattle.rds_world.proofs.Eaching.{Reaches, each_above, each_pair, range_done,
 use Rattle.rds_world.proofs.world.World.open_all.Goals as goal
 
 pub loop-low-init : goal.loop-low-init
-loop-low-init c = (refl, λ limit hosts past told. let zero : hosts ≡ hosts - 0 = omega arith in record {
-  mid = past;
-  same = each_pair hosts (open_if_closed limit) past ∙ ap (λ n. each (range_with_len 0 n) (λ low. each (pairs_above low hosts) (open_if_closed limit)) past) zero;
-  right = tt;
-  told = told;
-})
+loop-low-init c = (
+  refl,
+  λ limit hosts past told. let zero : hosts ≡ hosts - 0 = omega arith in record {
+    mid = past;
+    same = each_pair hosts (open_if_closed limit) past ∙ ap (λ n. each (range_with_len 0 n) (λ low. each (pairs_above low hosts) (open_if_closed limit)) past) zero;
+    right = tt;
+    told = told;
+  },
+)
 
 pub loop-low-preserved : goal.loop-low-preserved
 loop-low-preserved c = (
