@@ -76,7 +76,8 @@ pub record IsAt {X Y : Type 0} (xs : List X) (ys : List Y) (n : ℕ) (x : X) (y 
 pub zipped_at : {X Y : Type 0} (xs : List X) (ys : List Y) (n : ℕ) (x : X) (y : Y) → n < length (zip xs ys) → (x, y) ≡ get_or (zip xs ys) n (x, y) → IsAt xs ys n x y
 zipped_at [] ys n x y n_in is = absurd (omega (arith, n_in))
 zipped_at (a ∷ xs) [] n x y n_in is = absurd (omega (arith, n_in))
-zipped_at (a ∷ xs) (b ∷ ys) zero x y n_in is = record { first_in = omega arith; first_is = cc; second_is = cc }
+zipped_at {X} {Y} (a ∷ xs) (b ∷ ys) zero x y n_in is =
+    record { first_in = omega arith; first_is = ap (λ (p : X × Y). p.0) is; second_is = ap (λ (p : X × Y). p.1) is }
 zipped_at (a ∷ xs) (b ∷ ys) (suc n) x y n_in is =
     let later = zipped_at xs ys n x y (omega (arith, n_in)) is in
     let in_rest = later.first_in in
