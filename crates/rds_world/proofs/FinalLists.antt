@@ -1,5 +1,5 @@
 -- What hosts and journals tell in the end, in lists.
-use Rattle.std.proofs.Common.{◌≡◌, ℕ, zero, suc, ◌+◌, ◌<◌, ◌≤◌, ◌==◌, Bool, true, false, cond, not, List, [], ◌∷◌, ◌++◌, Vec, Global, length, map, get_or, refl, sym, ◌∙◌, ap, subst, arith}
+use Rattle.std.proofs.Common.{◌≡◌, ℕ, zero, suc, ◌<◌, ◌≤◌, ◌==◌, Bool, true, false, cond, not, List, [], ◌∷◌, ◌++◌, Vec, Global, length, map, get_or, refl, sym, ◌∙◌, ap, subst, arith}
 use Rattle.std.specs.List.{All, filter, zip}
 use Rattle.std.proofs.lemmas.Bool.{eq-eqb, both_ways}
 use Rattle.std.proofs.lemmas.List.{map-append}
@@ -10,7 +10,7 @@ use Rattle.rds_model.specs.Log.{Log}
 use Rattle.rds_report.specs.declared.final_state.HostEnd.{HostEnd}
 use Rattle.rds_report.specs.FinalState.{FinalHost, FinalJournal, Socket}
 use Rattle.rds_report.specs.Hosts.{address_of}
-use Rattle.rds_report.specs.Views.{host_views, host_view, side_view}
+use Rattle.rds_report.specs.Views.{host_views, host_view}
 use Rattle.rds_mesh.specs.Ends.{MeshView}
 use Rattle.rds_mesh.specs.FinalJournals.{HoldJournals, journal_with}
 use Rattle.rds_history.specs.Events.{Event}
