@@ -1,5 +1,5 @@
 -- What hosts and journals tell in the end, in lists.
-use Rattle.std.proofs.Common.{◌≡◌, ℕ, zero, suc, ◌+◌, ◌<◌, ◌≤◌, ◌==◌, Bool, true, false, cond, not, List, [], ◌∷◌, ◌++◌, Vec, Global, length, map, get_or, refl, sym, ◌∙◌, ap, subst, arith}
+use Rattle.std.proofs.Common.{◌≡◌, ℕ, zero, suc, ◌<◌, ◌≤◌, ◌==◌, Bool, true, false, cond, not, List, [], ◌∷◌, ◌++◌, Vec, Global, length, map, get_or, refl, sym, ◌∙◌, ap, subst, arith}
 use Rattle.std.specs.List.{All, filter, zip}
 use Rattle.std.proofs.lemmas.Bool.{eq-eqb, both_ways}
 use Rattle.std.proofs.lemmas.List.{map-append}
@@ -10,7 +10,7 @@ use Rattle.rds_model.specs.Log.{Log}
 use Rattle.rds_report.specs.declared.final_state.HostEnd.{HostEnd}
 use Rattle.rds_report.specs.FinalState.{FinalHost, FinalJournal, Socket}
 use Rattle.rds_report.specs.Hosts.{address_of}
-use Rattle.rds_report.specs.Views.{host_views, host_view, side_view}
+use Rattle.rds_report.specs.Views.{host_views, host_view}
 use Rattle.rds_mesh.specs.Ends.{MeshView}
 use Rattle.rds_mesh.specs.FinalJournals.{HoldJournals, journal_with}
 use Rattle.rds_history.specs.Events.{Event}
@@ -76,7 +76,8 @@ pub record IsAt {X Y : Type 0} (xs : List X) (ys : List Y) (n : ℕ) (x : X) (y 
 pub zipped_at : {X Y : Type 0} (xs : List X) (ys : List Y) (n : ℕ) (x : X) (y : Y) → n < length (zip xs ys) → (x, y) ≡ get_or (zip xs ys) n (x, y) → IsAt xs ys n x y
 zipped_at [] ys n x y n_in is = absurd (omega (arith, n_in))
 zipped_at (a ∷ xs) [] n x y n_in is = absurd (omega (arith, n_in))
-zipped_at (a ∷ xs) (b ∷ ys) zero x y n_in is = record { first_in = omega arith; first_is = cc; second_is = cc }
+zipped_at {X} {Y} (a ∷ xs) (b ∷ ys) zero x y n_in is =
+    record { first_in = omega arith; first_is = ap (λ (p : X × Y). p.0) is; second_is = ap (λ (p : X × Y). p.1) is }
 zipped_at (a ∷ xs) (b ∷ ys) (suc n) x y n_in is =
     let later = zipped_at xs ys n x y (omega (arith, n_in)) is in
     let in_rest = later.first_in in

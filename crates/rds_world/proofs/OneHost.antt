@@ -1,11 +1,11 @@
 -- A world tells a longer past after something happened to the sockets of one host.
-use Rattle.std.proofs.Common.{◌≡◌, ◌≢◌, ℕ, ◌<◌, Bool, List, ◌∷◌, length, set, refl, sym, ◌∙◌, ap, subst}
+use Rattle.std.proofs.Common.{◌≡◌, ◌≢◌, ℕ, ◌<◌, List, ◌∷◌, length, set, refl, sym, ◌∙◌, ap, subst}
 use Rattle.rds_model.specs.declared.order.Datagram.{Datagram}
 use Rattle.rds_model.specs.declared.entry.Entry.{Entry}
 use Rattle.rds_model.specs.Drained.{last_map_read}
 use Rattle.rds_cong.specs.Limit.{congested_after}
 use Rattle.rds_history.specs.Events.{Event, Bound, Received, Marked}
-use Rattle.rds_history.specs.Journals.{journal, is_marked, maps_read}
+use Rattle.rds_history.specs.Journals.{is_marked, maps_read}
 use Rattle.rds_history.specs.Mark.{update_mark}
 use Rattle.rds_history.specs.Sockets.{queued, receive_buffer}
 use Rattle.rds_history.specs.Transcript.{lines}

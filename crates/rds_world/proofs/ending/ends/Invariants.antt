@@ -1,4 +1,4 @@
-use Rattle.std.proofs.Common.{◌≡◌, ℕ, List, length, map, vec_len}
+use Rattle.std.proofs.Common.{◌≡◌, List, length, map, vec_len}
 use Rattle.rds_text.specs.Ports.{below}
 use Rattle.rds_history.specs.Events.{Event}
 use Rattle.rds_history.specs.History.{final_host}
