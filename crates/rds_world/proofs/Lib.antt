@@ -7,3 +7,10 @@ pub mod Sums
 pub mod SendRefusals
 pub mod TakingBack
 pub mod Closing
+pub mod OneHost
+pub mod Receiving
+pub mod Beginning
+pub mod OpeningBoth
+pub mod BothReady
+pub mod FinalLists
+pub mod Addressed

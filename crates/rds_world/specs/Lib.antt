@@ -1,4 +1,6 @@
 pub mod Coming
+pub mod Ending
+pub mod Fresh
 pub mod Happening
 pub mod Printing
 pub mod Readiness
