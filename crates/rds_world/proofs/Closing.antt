@@ -1,16 +1,16 @@
 -- What a world tells after all datagrams of a socket were taken back, and after its port was freed.
-use Rattle.std.proofs.Common.{◌≡◌, ◌≢◌, ⊎_elim, ℕ, zero, suc, ◌+◌, ◌==◌, ◌<◌, ◌≤◌, nat_lt, not, Bool, true, false, cond, Result, Ok, Err, List, [], ◌∷◌, ◌++◌, length, filter, set, refl, sym, ◌∙◌, ap, subst, add-one, arith}
+use Rattle.std.proofs.Common.{◌≡◌, ⊎_elim, ℕ, zero, suc, ◌+◌, ◌==◌, ◌<◌, nat_lt, not, Bool, true, false, cond, Result, Ok, Err, List, [], ◌∷◌, ◌++◌, length, filter, set, refl, sym, ◌∙◌, ap, subst, arith}
 use Rattle.std.proofs.lemmas.Bool.{cases_eq, cond_both}
 use Rattle.rds_model.specs.declared.entry.Entry.{Entry}
 use Rattle.rds_model.specs.declared.entry.Entry.TheVariants.{Cancel}
 use Rattle.rds_model.specs.declared.entry.Target.TheVariants.{All}
 use Rattle.rds_model.specs.Drained.{last_map_read}
 use Rattle.rds_text.specs.Ports.{below}
-use Rattle.rds_history.specs.Cancel.{unbind, unmark}
+use Rattle.rds_history.specs.Cancel.{unbind}
 use Rattle.rds_history.specs.Courses.{Course, and_then, appends, each, if_room}
-use Rattle.rds_history.specs.Events.{Event, Appended, Closed, Marked}
+use Rattle.rds_history.specs.Events.{Event, Appended, Marked}
 use Rattle.rds_history.specs.Journals.{is_marked, journal, maps_read, moved_count, peers}
-use Rattle.rds_history.specs.Sockets.{next_slot, queue, receive_buffer}
+use Rattle.rds_history.specs.Sockets.{next_slot, receive_buffer}
 use Rattle.rds_history.specs.Transcript.{lines}
 use Rattle.rds_hosts.specs.declared.host.ScriptHost.{ScriptHost}
 use Rattle.rds_hosts.specs.HostLaws.{untouched_by_unbind}

@@ -1,5 +1,5 @@
 -- What a world tells after an entry that moves no byte and brings none.
-use Rattle.std.proofs.Common.{◌≡◌, ◌≢◌, ⊎_elim, ℕ, zero, suc, ◌+◌, ◌<◌, ◌≤◌, ◌==◌, ◌&&◌, nat_lt, nat_le, Bool, true, false, cond, Option, Some, None, Result, Ok, Err, List, [], ◌∷◌, ◌++◌, length, refl, sym, ◌∙◌, ap, subst, arith}
+use Rattle.std.proofs.Common.{◌≡◌, ◌≢◌, ℕ, ◌<◌, ◌≤◌, ◌==◌, ◌&&◌, nat_lt, nat_le, Bool, true, false, cond, None, Result, Ok, Err, List, [], ◌∷◌, ◌++◌, length, refl, sym, ◌∙◌, ap, subst}
 use Rattle.std.specs.Prelude.{OnOk}
 use Rattle.std.proofs.lemmas.Bool.{and_from, cond-true, le-leb, lt-ltb}
 use Rattle.rds_wire.specs.declared.kind.TheConstants.{MAX_LENGTH}
@@ -16,8 +16,8 @@ use Rattle.rds_pair.specs.declared.error.PairError.{PairError}
 use Rattle.rds_pair.specs.Changes.{entries_of, is_allowed}
 use Rattle.rds_joint.specs.Ends.{JointEnd}
 use Rattle.rds_joint.specs.Steps.{ordered}
-use Rattle.rds_mesh.specs.Ends.{ChangesPair, IsOtherPair, MeshView, end_at}
-use Rattle.rds_history.specs.Courses.{Course, and_then, appends, if_room}
+use Rattle.rds_mesh.specs.Ends.{ChangesPair, MeshView, end_at}
+use Rattle.rds_history.specs.Courses.{appends, if_room}
 use Rattle.rds_history.specs.Events.{Event, Appended}
 use Rattle.rds_history.specs.Journals.{journal, maps_read, moved_count}
 use Rattle.rds_history.specs.Transcript.{entry_line}
@@ -148,7 +148,7 @@ pub tells_accepted : {B F : Type 0} (limit hosts h k slot sport dport : ℕ) (pa
     o ≡ orders.Send slot sport dport payload → is_allowed MAX_SLOTS o ≡ true → Tells limit hosts past s →
     ChangesPair h k (ordered o (end_at h k s.mesh)) (end_at k h s.mesh) s.mesh m →
     OnOk last ((e : Entry) (before : List Entry) → (end_at h k m).past ≡ e ∷ before → PrintsAlone (accepted (e ∷ before)) before e →
-        t ≡ record s { mesh = m; text = s.text ++ entry_line h k before e }) →
+    t ≡ record s { mesh = m; text = s.text ++ entry_line h k before e }) →
     OnOk last (Tells limit hosts (Appended h k (Accept slot sport dport payload) ∷ past) t)
 tells_accepted limit hosts h k slot sport dport payload o past s m t (Err why) count h_in k_in apart is allowed told changed line = tt
 tells_accepted limit hosts h k slot sport dport payload o past s m t (Ok x) count h_in k_in apart is allowed told changed line =
@@ -159,9 +159,9 @@ tells_accepted limit hosts h k slot sport dport payload o past s m t (Ok x) coun
     let here_told = told.ends_are h k h_there k_there apart in
     let entries : entries_of o ≡ e ∷ [] = ap entries_of is in
     let grown : (end_at h k m).past ≡ e ∷ here.past =
-        ap (λ (x : JointEnd). x.past) (changed.here_is ∙ taken o e here here_told.slots_are allowed entries) in
+    ap (λ (x : JointEnd). x.past) (changed.here_is ∙ taken o e here here_told.slots_are allowed entries) in
     let printed : t ≡ record s { mesh = m; text = s.text ++ entry_line h k (journal h k past) e } =
-        line e here.past grown refl ∙ ap (λ (j : List Entry). record s { mesh = m; text = s.text ++ entry_line h k j e }) here_told.journal_is in
+    line e here.past grown refl ∙ ap (λ (j : List Entry). record s { mesh = m; text = s.text ++ entry_line h k j e }) here_told.journal_is in
     subst (λ (u : State). Tells limit hosts (Appended h k e ∷ past) u) (sym printed)
     (tells_ordered limit hosts h k o e past s m count h_in k_in apart (accept_quiet slot sport dport payload) allowed entries told changed)
 

@@ -1,5 +1,5 @@
 -- What a world tells after datagrams were taken back.
-use Rattle.std.proofs.Common.{◌≡◌, ◌≢◌, ℕ, ◌<◌, ◌≤◌, not, nat_le, nat_lt, Bool, true, false, cond, Result, Ok, Err, List, [], ◌∷◌, ◌++◌, filter, refl, sym, ◌∙◌, ap, subst}
+use Rattle.std.proofs.Common.{◌≡◌, ◌≢◌, ℕ, ◌<◌, not, nat_le, nat_lt, Bool, true, false, cond, Result, Ok, Err, List, [], ◌∷◌, ◌++◌, filter, refl, sym, ◌∙◌, ap, subst}
 use Rattle.std.specs.Prelude.{IfOk}
 use Rattle.std.proofs.lemmas.Bool.{leb-true, leb-false, le-ltb, lt-ltb}
 use Rattle.rds_model.specs.declared.entry.Entry.{Entry}
@@ -78,8 +78,8 @@ tells_cancelled limit hosts h k slot target o past s m text begun unbegun count 
     let here = end_at h k s.mesh in
     let here_told = told.ends_are h k (subst (λ n. h < n) told.count_is h_in) (subst (λ n. k < n) told.count_is k_in) apart in
     let line : text ≡ s.text ++ entry_line h k (journal h k past) (Cancel slot target) =
-        printed ∙ ap (λ (b : List ℕ). s.text ++ cancel_line h k slot target b unbegun) begun_is
-        ∙ ap (λ (u : List ℕ). s.text ++ cancel_line h k slot target (filter (was_pulled here.past) (covered slot target here.past)) u) unbegun_is
-        ∙ ap (λ (j : List Entry). s.text ++ entry_line h k j (Cancel slot target)) here_told.journal_is in
+    printed ∙ ap (λ (b : List ℕ). s.text ++ cancel_line h k slot target b unbegun) begun_is
+    ∙ ap (λ (u : List ℕ). s.text ++ cancel_line h k slot target (filter (was_pulled here.past) (covered slot target here.past)) u) unbegun_is
+    ∙ ap (λ (j : List Entry). s.text ++ entry_line h k j (Cancel slot target)) here_told.journal_is in
     subst (λ (t : List ℕ). Tells limit hosts (Appended h k (Cancel slot target) ∷ past) (record s { mesh = m; text = t })) (sym line)
     (tells_ordered limit hosts h k o (Cancel slot target) past s m count h_in k_in apart (cancel_quiet slot target) (allowed ∙ lt-ltb slot MAX_SLOTS slot_in) entries told changed)

@@ -114,7 +114,7 @@ impl World {
         ensures count { self.new.count ≡ self.old.count }
         ensures course { (limit hosts : ℕ) (past : List Event) → Tells limit hosts past (state self.old) →
             Comes limit hosts (or_refuses (cancel_refusal host to) (line_of_refused (codes "cancel") host port)
-                (appends limit host to (Cancel slot (Port dport))) past) result (state self.new) }
+            (appends limit host to (Cancel slot (Port dport))) past) result (state self.new) }
     {
         if host == to {
             return self.refuse_socket("cancel", host, port, Refusal::NoRoute);
@@ -162,7 +162,10 @@ impl World {
         ensures stop { LacksMemory result }
     {
         let covered = self.covered(host, peer, slot, target)?;
-        or_memory(self.mesh.order(host, peer, &cancellation(slot, target), steps))?;
+        or_memory(
+            self.mesh
+                .order(host, peer, &cancellation(slot, target), steps),
+        )?;
         cancel_line(
             &mut self.text,
             host,
@@ -186,8 +189,7 @@ impl World {
             filter (λ n. not (was_pulled (end_at host peer self.now.mesh).past n)) (covered slot target (end_at host peer self.now.mesh).past)) }
     {
         let mut numbers = Vec::new(self.alloc);
-        self.mesh
-            .covered(host, peer, slot, &target, &mut numbers)?;
+        self.mesh.covered(host, peer, slot, &target, &mut numbers)?;
         parted(self.alloc, &numbers, self.mesh.highest(host, peer))
     }
 }

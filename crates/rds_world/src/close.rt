@@ -1,4 +1,4 @@
-ghost use Rattle.std.specs.Prelude.{◌≡◌, ◌≢◌, ◌<◌, ◌==◌, ℕ, if◌then◌else◌, List, Ok, OnOk};
+ghost use Rattle.std.specs.Prelude.{◌≡◌, ◌<◌, ◌==◌, ℕ, if◌then◌else◌, List, Ok, OnOk};
 ghost use Rattle.rds_model.specs.declared.entry.Entry.TheVariants.{Cancel};
 ghost use Rattle.rds_model.specs.declared.entry.Target.TheVariants.{All};
 ghost use Rattle.rds_model.specs.declared.entry.TheConstants.{MAX_SLOTS};
@@ -50,7 +50,7 @@ impl World {
         ensures count { self.new.count ≡ self.old.count }
         ensures course { (limit hosts : ℕ) (past : List Event) → Tells limit hosts past (state self.old) → slot < next_slot host past →
             Comes limit hosts (and_then (each (peers hosts host) (λ k. appends limit host k (Cancel slot All)) past)
-                (λ later. Ok (unbind host port slot later))) result (state self.new) }
+            (λ later. Ok (unbind host port slot later))) result (state self.new) }
     {
         self.take_all_back(host, slot, steps)?;
         self.free(host, port, slot)

@@ -109,7 +109,7 @@ impl World {
         ensures count { self.new.count ≡ self.old.count }
         ensures course { (limit hosts : ℕ) (past : List Event) → Tells limit hosts past (state self.old) → slot < next_slot host past →
             Comes limit hosts (or_refuses (send_refusal hosts host slot to dport (length payload.now) past)
-                (line_of_refused host port to dport) (appends limit host to (Accept slot port dport payload.now)) past)
+            (line_of_refused host port to dport) (appends limit host to (Accept slot port dport payload.now)) past)
             result (state self.new) }
     {
         match self.send_refusal(host, slot, to, dport, payload.len()) {
@@ -214,64 +214,16 @@ impl World {
         ensures short { IfNone result (len ≤ MAX_LENGTH) }
     {
         let buffer = self.hosts[usize::from(host)].sndbuf(slot);
-        match too_long(len, buffer) {
-            Some(why) => Some(why),
-            None => self.way_refusal(host, slot, to, dport, len, buffer),
+        if let Some(why) = too_long(len, buffer) {
+            return Some(why);
         }
-    }
-
-    // The same of a datagram that isn't too long for the send buffer.
-    fn way_refusal(
-        &self,
-        host: u8,
-        slot: u16,
-        to: u8,
-        dport: u16,
-        len: u32,
-        buffer: u32,
-    ) -> Option<Refusal>
-        requires host { host < self.now.count }
-        requires peer { to < self.now.count }
-        requires slot { slot < MAX_SLOTS }
-        requires slots { HasSlots self.now.mesh }
-        ensures why { (limit hosts : ℕ) (past : List Event) → Tells limit hosts past (state self.now) →
-            option_map refusal_text result ≡ (if host == to then Some text_of_no_route
-                else (if option_map_or (λ map. has_port map dport) (last_map_read (journal host to past)) false
-                then Some (text_of_congested (maps_read (journal host to past)))
-                else (if nat_lt buffer (unacknowledged hosts host slot past + len)
-                then Some (text_of_full (unacknowledged hosts host slot past) len buffer) else None))) }
-        ensures apart { IfNone result (to ≢ host) }
-    {
-        match no_route(host, to) {
-            Some(why) => Some(why),
-            None => self.room_refusal(host, slot, to, dport, len, buffer),
+        if let Some(why) = no_route(host, to) {
+            return Some(why);
         }
-    }
-
-    // The same of a datagram to another host.
-    fn room_refusal(
-        &self,
-        host: u8,
-        slot: u16,
-        to: u8,
-        dport: u16,
-        len: u32,
-        buffer: u32,
-    ) -> Option<Refusal>
-        requires host { host < self.now.count }
-        requires peer { to < self.now.count }
-        requires slot { slot < MAX_SLOTS }
-        requires slots { HasSlots self.now.mesh }
-        ensures { (limit hosts : ℕ) (past : List Event) → Tells limit hosts past (state self.now) →
-            option_map refusal_text result ≡ (if option_map_or (λ map. has_port map dport) (last_map_read (journal host to past)) false
-                then Some (text_of_congested (maps_read (journal host to past)))
-                else (if nat_lt buffer (unacknowledged hosts host slot past + len)
-                then Some (text_of_full (unacknowledged hosts host slot past) len buffer) else None)) }
-    {
-        match self.congested(host, to, dport) {
-            Some(why) => Some(why),
-            None => self.full(host, slot, len, buffer),
+        if let Some(why) = self.congested(host, to, dport) {
+            return Some(why);
         }
+        self.full(host, slot, len, buffer)
     }
 
     // Why a port of a peer takes nothing, if it doesn't.
@@ -280,7 +232,7 @@ impl World {
         requires peer { to < self.now.count }
         ensures { (limit hosts : ℕ) (past : List Event) → Tells limit hosts past (state self.now) →
             option_map refusal_text result ≡ (if option_map_or (λ map. has_port map dport) (last_map_read (journal host to past)) false
-                then Some (text_of_congested (maps_read (journal host to past))) else None) }
+            then Some (text_of_congested (maps_read (journal host to past))) else None) }
     {
         let peer = &self.peers[place(host, to)];
         if peer.has(dport) {
@@ -298,7 +250,7 @@ impl World {
         requires slots { HasSlots self.now.mesh }
         ensures { (limit hosts : ℕ) (past : List Event) → Tells limit hosts past (state self.now) →
             option_map refusal_text result ≡ (if nat_lt buffer (unacknowledged hosts host slot past + len)
-                then Some (text_of_full (unacknowledged hosts host slot past) len buffer) else None) }
+            then Some (text_of_full (unacknowledged hosts host slot past) len buffer) else None) }
     {
         let queued = self.unacknowledged(host, slot);
         let len = u64::from(len);

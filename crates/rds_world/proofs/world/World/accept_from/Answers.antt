@@ -1,4 +1,4 @@
-use Rattle.std.proofs.Common.{◌≡◌, ◌<◌, ◌≤◌, ◌&&◌, nat_lt, nat_le, true, Err, List, length, sym, subst, arith}
+use Rattle.std.proofs.Common.{◌≡◌, Err, sym, subst, arith}
 use Rattle.std.specs.Prelude.{Result}
 use Rattle.std.proofs.lemmas.Grind.{common_steps}
 use Rattle.rds_model.specs.declared.entry.Entry.TheVariants.{Accept}
