@@ -2,3 +2,8 @@ pub mod Journaling
 pub mod Replacing
 pub mod Comings
 pub mod Ends
+pub mod Changing
+pub mod Pulling
+pub mod Passing
+pub mod Arriving
+pub mod Turns
