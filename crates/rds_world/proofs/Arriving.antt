@@ -68,7 +68,7 @@ went_is limit h k count past old stream on most t = record {
 }
 
 -- which frame waits then
-waits_after : (h k : ℕ) → List Event → Option Frame
+abbrev waits_after : (h k : ℕ) → List Event → Option Frame
 waits_after h k past = if length (in_flight h k past) == 0 then last_pulled_frame (journal h k past) else None
 
 -- the end to which they went
@@ -137,7 +137,7 @@ tells_fed limit hosts h k count past s t apart count_is h_in k_in told some most
         none_at false = refl
 
     still : (a b : ℕ) → (a ≡ h → b ≡ k → ⊥) → IsStill a b past (Moved h k count ∷ past)
-    still a b no = record { journal_same = refl; moved_same = moved_elsewhere h k a b count past no }
+    still a b never = record { journal_same = refl; moved_same = moved_elsewhere h k a b count past never }
 
     there_waits : came count (end_at h k s.mesh) (end_at k h s.mesh) ≡ record (end_at k h s.mesh) { waiting = waits_after h k (Moved h k count ∷ past) }
     there_waits =

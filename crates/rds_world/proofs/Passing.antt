@@ -1,7 +1,7 @@
 -- A world after a frame that waits was read.
-use Rattle.std.proofs.Common.{◌≡◌, ◌≢◌, ℕ, suc, ◌+◌, ◌*◌, ◌<◌, ◌≤◌, ◌==◌, ◌&&◌, Bool, true, false, cond, Option, Some, None, Result, Ok, Err, List, [], ◌∷◌, ◌++◌, length, set, take, refl, sym, ◌∙◌, ap, subst, arith}
+use Rattle.std.proofs.Common.{◌≡◌, ◌≢◌, ◌⊎◌, inl, inr, ℕ, suc, ◌+◌, ◌*◌, ◌<◌, ◌≤◌, ◌==◌, ◌&&◌, Bool, true, false, cond, Option, Some, None, Result, Ok, Err, List, [], ◌∷◌, ◌++◌, length, set, take, refl, sym, ◌∙◌, ap, subst, arith}
 use Rattle.std.specs.Prelude.{OnOk, nat_lt}
-use Rattle.std.specs.Option.{option_map_or}
+use Rattle.std.specs.Option.{option_map, option_map_or}
 use Rattle.std.proofs.lemmas.Bool.{cond-true, eqb-true, lt-ltb}
 use Rattle.std.proofs.lemmas.List.{take_all}
 use Rattle.rds_wire.specs.declared.frame.Frame.{Frame}
@@ -411,3 +411,26 @@ read_after result k h stream slot f o mid s t same is waits on came =
 -- a frame that was read and answered by a ping's pong
 pub ping_is : (slot : Option ℕ) (e : JointEnd) (j : List Entry) (f : Frame) → e.past ≡ j → verdict_of j f.header ≡ verdict.Ping → outcome_here slot e f ≡ outcome.Ping
 ping_is slot e j f past_is is = outcome_here_is slot e j f verdict.Ping past_is is
+
+-- the verdict on the frame that waits
+pub verdict_waits : (e : JointEnd) (j : List Entry) (f : Frame) (v : Verdict) (r : Option Verdict) → r ≡ option_map (λ (g : Frame). verdict_of e.past g.header) e.waiting →
+    r ≡ Some v → e.waiting ≡ Some f → e.past ≡ j → verdict_of j f.header ≡ v
+verdict_waits e j f v r is at waits past_is =
+    some_same (verdict_of j f.header) v
+    (ap (λ (l : List Entry). Some (verdict_of l f.header)) (sym past_is) ∙ ap (λ (w : Option Frame). option_map (λ (g : Frame). verdict_of e.past g.header) w) (sym waits)
+    ∙ sym is ∙ at)
+
+-- a frame that goes nowhere was read
+pub read_unanswered : {A : Type 0} (limit hosts k h stream : ℕ) (f : Frame) (past : List Event) (s t : State) (result : Result A Stop) (v : Verdict) →
+    (v ≡ verdict.Old) ⊎ ((v ≡ verdict.Void) ⊎ ((v ≡ verdict.AckOnly) ⊎ (v ≡ verdict.OddMap))) →
+    h ≢ k → k < hosts → h < hosts → FrameWaits limit hosts k h stream f past s → verdict_of (journal k h past) f.header ≡ v →
+    (IsPlain (outcome_here None (end_at k h s.mesh) f) → OnOk result (Tells limit hosts (Appended k h (Read stream f (outcome_here None (end_at k h s.mesh) f)) ∷ past) t)) →
+    OnOk result (Tells limit hosts (read k h past) t)
+read_unanswered limit hosts k h stream f past s t result v which apart k_in h_in w is told =
+    subst (λ (p : List Event). OnOk result (Tells limit hosts p t)) (read_is limit hosts k h stream f past s w) (go which)
+  where
+    go : (v ≡ verdict.Old) ⊎ ((v ≡ verdict.Void) ⊎ ((v ≡ verdict.AckOnly) ⊎ (v ≡ verdict.OddMap))) → OnOk result (Tells limit hosts (read_on k h stream f past) t)
+    go (inl e) = read_plainly limit hosts k h stream f past s t result verdict.Old outcome.Old apart k_in h_in w (is ∙ e) refl refl tt told
+    go (inr (inl e)) = read_plainly limit hosts k h stream f past s t result verdict.Void outcome.Void apart k_in h_in w (is ∙ e) refl refl tt told
+    go (inr (inr (inl e))) = read_plainly limit hosts k h stream f past s t result verdict.AckOnly outcome.AckOnly apart k_in h_in w (is ∙ e) refl refl tt told
+    go (inr (inr (inr e))) = read_plainly limit hosts k h stream f past s t result verdict.OddMap outcome.OddMap apart k_in h_in w (is ∙ e) refl refl tt told

@@ -1,7 +1,7 @@
 -- The turns of a move.
 use Rattle.std.proofs.Common.{◌≡◌, ◌≢◌, ⊎_elim, ℕ, zero, suc, ◌+◌, ◌-◌, ◌<◌, ◌≤◌, ◌==◌, Bool, true, false, cond, Option, Some, None, Result, Ok, Err, List, [], ◌∷◌, ◌++◌, length, refl, sym, ◌∙◌, ap, subst, arith}
-use Rattle.std.specs.Prelude.{◌↔◌, is_none, min, nat_lt}
-use Rattle.std.specs.Option.{option_map, option_map_or}
+use Rattle.std.specs.Prelude.{is_none, min, nat_eq, nat_lt}
+use Rattle.std.specs.Option.{option_eq, option_map, option_map_or}
 use Rattle.std.proofs.lemmas.Bool.{cases_eq, cond-true, cond-false, eq-eqb, eqb-false, eqb-true, ne_eqb, le-ltb, lt-ltb}
 use Rattle.rds_wire.specs.declared.frame.Frame.{Frame}
 use Rattle.rds_model.specs.declared.entry.Entry.TheVariants.{Pull, Read}
@@ -226,11 +226,14 @@ turn_goes limit h k None past some = refl
 turn_goes limit h k (Some zero) past some = absurd (some refl)
 turn_goes limit h k (Some (suc n)) past some = refl
 
-pub left_none : (left : Option ℕ) (b : Bool) → (b ≡ true) ↔ (left ≡ Some 0) → b ≡ true → left ≡ Some 0
-left_none left b is yes_ = is.0 yes_
+pub left_none : (left : Option ℕ) (b : Bool) → b ≡ option_eq nat_eq left (Some 0) → b ≡ true → left ≡ Some 0
+left_none None b is yes_ = let odd = sym yes_ ∙ is in cc
+left_none (Some n) b is yes_ = ap (λ (x : ℕ). Some x) (eqb-true n 0 (sym is ∙ yes_))
 
-pub left_some : (left : Option ℕ) (b : Bool) → (b ≡ true) ↔ (left ≡ Some 0) → b ≡ false → left ≡ Some 0 → ⊥
-left_some left b is no_ zero_left = let yes_ = is.1 zero_left in let odd = sym no_ ∙ yes_ in cc
+pub left_some : (left : Option ℕ) (b : Bool) → b ≡ option_eq nat_eq left (Some 0) → b ≡ false → left ≡ Some 0 → ⊥
+left_some left b is no_ zero_left =
+    let yes_ : option_eq nat_eq left (Some 0) ≡ true = ap (λ (o : Option ℕ). option_eq nat_eq o (Some 0)) zero_left in
+    let odd = sym no_ ∙ is ∙ yes_ in cc
 
 pub turn_stays : (limit h k : ℕ) (left : Option ℕ) (past : List Event) → left ≡ Some 0 → Ok past ≡ turn limit h k left past
 turn_stays limit h k left past none = sym (ap (λ (o : Option ℕ). turn limit h k o past) none)

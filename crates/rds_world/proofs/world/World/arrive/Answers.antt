@@ -19,8 +19,8 @@ returns-then-flight-eq0-clause-course g c = λ limit hosts past told.
     let h_in : h < hosts = subst (λ n. h < n) told.count_is c.requires.from in
     let k_in : k < hosts = subst (λ n. k < n) told.count_is c.requires.to in
     let flies = ap (λ (l : List ℕ). length l) (told.ends_are h k h_in k_in c.requires.apart).flying_is in
-    let seen = ap (λ (l : List ℕ). length l) c.in_flight.ensures in
-    let none : length (in_flight h k past) ≡ 0 = omega (arith, flies, seen, c.len-flight.ensures, c.if-flight-eq0.true) in
+    let seen = ap (λ (l : List ℕ). length l) c.in_flight-flight.ensures in
+    let none : length (in_flight h k past) ≡ 0 = omega (arith, flies, seen, c.if-flight-eq0.true) in
     subst (λ (course : Course). ComesRight (IsMore past) none_waits limit hosts course (Ok 0) s) (none_arrives limit h k c.args.left past none) (told, omega arith)
 
 pub returns-in_err-ready-clause-course : goal.returns-in_err-ready-clause-course
@@ -31,8 +31,8 @@ returns-in_err-ready-clause-course g c = λ limit hosts past told.
     let h_in : h < hosts = subst (λ n. h < n) told.count_is c.requires.from in
     let k_in : k < hosts = subst (λ n. k < n) told.count_is c.requires.to in
     let flies = ap (λ (l : List ℕ). length l) (told.ends_are h k h_in k_in c.requires.apart).flying_is in
-    let seen = ap (λ (l : List ℕ). length l) c.in_flight.ensures in
-    let some : 0 < length (in_flight h k past) = some_flies (length (in_flight h k past)) c.len-flight.result (omega (arith, flies, seen, c.len-flight.ensures)) c.if-flight-eq0.false in
+    let seen = ap (λ (l : List ℕ). length l) c.in_flight-flight.ensures in
+    let some : 0 < length (in_flight h k past) = some_flies (length (in_flight h k past)) (length c.in_flight-flight.result.now) (omega (arith, flies, seen)) c.if-flight-eq0.false in
     let same : c.from_residual-in_err-ready.result ≡ Err c.in_err-ready.field-0.0 = grind (arith, common_steps) in
     let why = c.in_err-ready.field-0.0 in
     let t = state c.ready.new.self in
@@ -57,9 +57,9 @@ returns-clause-course g c = λ limit hosts past told.
     let h_in : h < hosts = subst (λ n. h < n) told.count_is c.requires.from in
     let k_in : k < hosts = subst (λ n. k < n) told.count_is c.requires.to in
     let flies = ap (λ (l : List ℕ). length l) (told.ends_are h k h_in k_in c.requires.apart).flying_is in
-    let seen = ap (λ (l : List ℕ). length l) c.in_flight.ensures in
-    let long : length (in_flight h k past) ≡ c.len-flight.result = omega (arith, flies, seen, c.len-flight.ensures) in
-    let some : 0 < length (in_flight h k past) = some_flies (length (in_flight h k past)) c.len-flight.result long c.if-flight-eq0.false in
+    let seen = ap (λ (l : List ℕ). length l) c.in_flight-flight.ensures in
+    let long : length (in_flight h k past) ≡ (length c.in_flight-flight.result.now) = omega (arith, flies, seen) in
+    let some : 0 < length (in_flight h k past) = some_flies (length (in_flight h k past)) (length c.in_flight-flight.result.now) long c.if-flight-eq0.false in
     let t = state c.move_piece.new.self in
     let count = c.portion-count.result in
     let count_is : count ≡ portion c.args.left (length (in_flight h k past)) = c.portion-count.ensures ∙ ap (portion c.args.left) (sym long) in
@@ -69,4 +69,4 @@ returns-clause-course g c = λ limit hosts past told.
     (λ later is told_later. arrived limit hosts h k count c.args.left past later t is count_is some (c.in_ok-move_piece.ensures.told limit hosts later told_later)))
 
 pub returns-clause-within : goal.returns-clause-within
-returns-clause-within g c = λ n is. let w = portion_within c.args.left c.len-flight.result n is in omega (arith, w, c.portion-count.ensures)
+returns-clause-within g c = λ n is. let w = portion_within c.args.left (length c.in_flight-flight.result.now) n is in omega (arith, w, c.portion-count.ensures)

@@ -35,7 +35,7 @@ returns-in-Some-first_chunk-clause-kept c = λ limit hosts stream f past waits v
     (let count = ap (λ (j : List Entry). length j) c.journal.ensures in omega (arith, count, c.len-entries.ensures.len, c.len-entries.ensures.most, c.len-entries.ensures.limit)) in
     ok_both c.keep.result (q.map ≡ Some c.in-Some-first_chunk.bytes.now) (q.version ≡ p.version + 1) _
     (λ map version. kept_here limit hosts k h stream c.place.result f past s p q (omega (arith, waits.tells.count_is, c.args.self.now.few)) k_in h_in
-    (c.args.self.now.known) c.place.ensures.is waits tells (map ∙ ap (λ (l : List ℕ). Some l) bytes) version)
+    (omega (arith, c.args.self.now.known, c.args.self.now.peers.ok.0)) c.place.ensures.is waits tells (map ∙ ap (λ (l : List ℕ). Some l) bytes) version)
     c.keep.ensures.map (c.keep.ensures.version few)
 
 pub returns-in-None-clause-kept : goal.returns-in-None-clause-kept
