@@ -29,7 +29,8 @@ fn portion(left: Option<u64>, count: usize) -> usize
 
 // How many bytes are left of `most`, where so many were moved; `None` is no limit.
 fn left_of(most: Option<u64>, moved: u64) -> Option<u64>
-    ensures { result ≡ option_map (λ n. n - moved) most }
+    ensures left { result ≡ option_map (λ n. n - moved) most }
+    ensures fits { (n : ℕ) → most ≡ Some n → n ≤ 18446744073709551615 }
 {
     match most {
         Some(most) => Some(most.saturating_sub(moved)),

@@ -33,7 +33,7 @@ returns-in_err-ready-clause-course g c = λ limit hosts past told.
     let flies = ap (λ (l : List ℕ). length l) (told.ends_are h k h_in k_in c.requires.apart).flying_is in
     let seen = ap (λ (l : List ℕ). length l) c.in_flight-flight.ensures in
     let some : 0 < length (in_flight h k past) = some_flies (length (in_flight h k past)) (length c.in_flight-flight.result.now) (omega (arith, flies, seen)) c.if-flight-eq0.false in
-    let same : c.from_residual-in_err-ready.result ≡ Err c.in_err-ready.field-0.0 = grind (arith, common_steps) in
+    let same : c.from_residual.result ≡ Err c.in_err-ready.field-0.0 = grind (arith, common_steps) in
     let why = c.in_err-ready.field-0.0 in
     let t = state c.ready.new.self in
     subst (λ (r : Result ℕ Stop). ComesRight (IsMore past) none_waits limit hosts (arrive limit h k c.args.left past) r t) (sym same)
