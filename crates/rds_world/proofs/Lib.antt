@@ -15,3 +15,8 @@ pub mod BothReady
 pub mod Eaching
 pub mod FinalLists
 pub mod Addressed
+pub mod Changing
+pub mod Pulling
+pub mod Passing
+pub mod Arriving
+pub mod Turns

@@ -1,4 +1,4 @@
-ghost use Rattle.std.specs.Prelude.{◌≡◌, false, None, OnOk, length};
+ghost use Rattle.std.specs.Prelude.{◌≡◌, ◌+◌, ◌-◌, ◌<◌, ◌^◌, false, None, Some, OnOk};
 ghost use Rattle.std.specs.Option.{option_map_or};
 ghost use Rattle.rds_cong.specs.Map.{has_port};
 
@@ -36,7 +36,14 @@ impl PeerMap {
     }
 
     /// Keeps a map that was read.
-    pub fn keep(&mut self, alloc: Global, bytes: &[u8; 8192]) -> Result<(), Memory> {
+    ///
+    /// # Errors
+    ///
+    /// Where there is no memory for it.
+    pub fn keep(&mut self, alloc: Global, bytes: &[u8; 8192]) -> Result<(), Memory>
+        ensures map { OnOk result (self.new.map ≡ Some bytes.now) }
+        ensures version { self.old.version < 2 ^ 64 - 1 → OnOk result (self.new.version ≡ self.old.version + 1) }
+    {
         let mut map = PortMap::new(alloc)?;
         map.of_bytes(bytes);
         self.map = Some(map);

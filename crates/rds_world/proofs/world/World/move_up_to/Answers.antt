@@ -1,0 +1,6 @@
+use Rattle.std.proofs.Common.{◌≡◌, ◌+◌, ◌∙◌, ap, subst, arith}
+use Rattle.rds_world.specs.Telling.{state}
+use Rattle.rds_world.proofs.world.World.move_up_to.Goals as goal
+
+pub returns-clause-course : goal.returns-clause-course
+returns-clause-course g c = λ limit hosts past told. c.take_turns.ensures.course limit hosts past told (let is = told.limit_is in omega (arith, is))
