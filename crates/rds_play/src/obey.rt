@@ -3,7 +3,7 @@ ghost use Rattle.rds_script.specs.Script.{IsCommand};
 ghost use Rattle.rds_history.specs.Events.{Event};
 ghost use Rattle.rds_history.specs.History.{after};
 ghost use Rattle.rds_world.specs.Coming.{Comes};
-ghost use Rattle.rds_world.specs.Telling.{Tells, state};
+ghost use Rattle.rds_world.specs.Telling.{IsTelling, Tells, state};
 
 use rds_msgs::Steps;
 use rds_script::Command;
@@ -16,7 +16,8 @@ pub fn obey<L: Ledger>(
     command: &Command,
     steps: &mut Steps<L>,
 ) -> Result<(), Stop>
-    requires { IsCommand world.old.count command.now }
+    requires command { IsCommand world.old.count command.now }
+    requires telling { IsTelling (state world.old) }
     ensures count { world.new.count ≡ world.old.count }
     ensures course { (limit hosts : ℕ) (past : List Event) → Tells limit hosts past (state world.old) →
         Comes limit hosts (after limit hosts command.now past) result (state world.new) }

@@ -1,17 +1,18 @@
-ghost use Rattle.std.specs.Prelude.{◌≡◌, ◌≢◌, ◌≤◌, ◌×◌, ℕ, Ok, Err, List, [], IsOk};
+ghost use Rattle.std.specs.Prelude.{◌≡◌, ◌⊎◌, ◌≤◌, ℕ, Err, IsOk, IfOk, string_bytes};
 ghost use Rattle.rds_link.specs.Streaming.{HasRisen, SinkGained, SinkGainedFront};
 ghost use Rattle.rds_script.specs.Script.{IsScript};
 ghost use Rattle.rds_script.specs.Grammar.{meaning};
 ghost use Rattle.rds_model.specs.declared.journal.TheConstants.{MIN_ENTRIES, MAX_ENTRIES};
 ghost use Rattle.rds_history.specs.History.{course, text};
 ghost use Rattle.rds_text.specs.Lines.{spent_line as line_of_spent};
-ghost use Rattle.rds_play.specs.Giving.{IsFull};
+ghost use Rattle.rds_play.specs.Ends.{end_of};
 ghost use Rattle.rds_play.specs.declared.playing.PlayEnd.TheVariants as ended;
 
 use crate::texting::text_of;
 use rds_link::{Sink, write_all};
 use rds_script::Script;
 use rds_text::spent_line;
+use rds_wire::Memory;
 use rds_world::{Full, Stop};
 use std::alloc::Global;
 
@@ -46,10 +47,9 @@ pub fn play<K: Sink>(alloc: Global, script: &Script, limit: u32, sink: &mut K) -
     ensures memory { result ≡ ended.Memory → K.held sink.new ≡ K.held sink.old }
     ensures counts { K.faults sink.old ≤ K.faults sink.new }
 {
-    match text_of(alloc, script, limit) {
-        Ok(text) => write(sink, text.as_str(), PlayEnd::Ok),
-        Err(Stop::Spent(full)) => write_spent(alloc, full, sink),
-        Err(Stop::Memory) => PlayEnd::Memory,
+    match answer_to(alloc, script, limit) {
+        Ok(answer) => write(sink, answer.text.as_str(), answer.end),
+        Err(Memory) => PlayEnd::Memory,
     }
 }
 
@@ -57,6 +57,7 @@ pub fn play<K: Sink>(alloc: Global, script: &Script, limit: u32, sink: &mut K) -
 fn write<K: Sink>(sink: &mut K, text: &str, end: PlayEnd) -> PlayEnd
     ensures written { (result ≡ end × SinkGained (K.held sink.old) (K.held sink.new) text.now)
         ⊎ (result ≡ ended.WriteFault × HasRisen (K.faults sink.old) (K.faults sink.new)) }
+    ensures front { SinkGainedFront (K.held sink.old) (K.held sink.new) text.now }
     ensures counts { K.faults sink.old ≤ K.faults sink.new }
 {
     match write_all(sink, text.as_bytes()) {
@@ -65,13 +66,35 @@ fn write<K: Sink>(sink: &mut K, text: &str, end: PlayEnd) -> PlayEnd
     }
 }
 
-// Writes the line of a full journal.
-fn write_spent<K: Sink>(alloc: Global, full: Full, sink: &mut K) -> PlayEnd
-    ensures ok { result ≢ ended.Ok }
-    ensures spent { (host peer entries : ℕ) → result ≡ ended.Spent host peer entries →
-        IsFull host peer entries full × SinkGained (K.held sink.old) (K.held sink.new) (line_of_spent host peer entries) }
-    ensures fault { result ≡ ended.WriteFault → HasRisen (K.faults sink.old) (K.faults sink.new) }
-    ensures counts { K.faults sink.old ≤ K.faults sink.new }
+// What the sink is to take, and how the call ends once it did.
+#[derive(Drop)]
+struct Answer {
+    text: String,
+    end: PlayEnd,
+}
+
+// What a script is answered with.
+fn answer_to(alloc: Global, script: &Script, limit: u32) -> Result<Answer, Memory>
+    requires script { IsScript script.now }
+    requires least { MIN_ENTRIES ≤ limit }
+    requires most { limit ≤ MAX_ENTRIES }
+    ensures text { IfOk result (λ answer. string_bytes answer.text ≡ text (meaning script.now) limit) }
+    ensures end { IfOk result (λ answer. answer.end ≡ end_of (course (meaning script.now) limit)) }
+{
+    match text_of(alloc, script, limit) {
+        Ok(text) => Ok(Answer {
+            text,
+            end: PlayEnd::Ok,
+        }),
+        Err(Stop::Spent(full)) => spent_answer(alloc, full),
+        Err(Stop::Memory) => Err(Memory),
+    }
+}
+
+// The answer of a script for which a journal is full.
+fn spent_answer(alloc: Global, full: Full) -> Result<Answer, Memory>
+    ensures text { IfOk result (λ answer. string_bytes answer.text ≡ line_of_spent full.host full.peer full.entries) }
+    ensures end { IfOk result (λ answer. answer.end ≡ ended.Spent full.host full.peer full.entries) }
 {
     let Full {
         host,
@@ -79,16 +102,13 @@ fn write_spent<K: Sink>(alloc: Global, full: Full, sink: &mut K) -> PlayEnd
         entries,
     } = full;
     let mut text = String::new(alloc);
-    match spent_line(&mut text, host, peer, entries) {
-        Ok(()) => write(
-            sink,
-            text.as_str(),
-            PlayEnd::Spent {
-                host,
-                peer,
-                entries,
-            },
-        ),
-        Err(_) => PlayEnd::Memory,
-    }
+    spent_line(&mut text, host, peer, entries)?;
+    Ok(Answer {
+        text,
+        end: PlayEnd::Spent {
+            host,
+            peer,
+            entries,
+        },
+    })
 }

@@ -92,12 +92,16 @@ pub tells_fed : (limit hosts h k count : ℕ) (past : List Event) (s t : State) 
     t ≡ record s { mesh = t.mesh } → IsFed limit hosts h k (Moved h k count ∷ past) t
 tells_fed limit hosts h k count past s t apart count_is h_in k_in told some most known changed rest = record {
   flying = ap (λ (e : JointEnd). e.flying) changed.here_is ∙ here_after.flying_is;
-  whole = λ none. (under.stream, under.frame, record {
-    tells = tells_same_waiting (one_waits k h (waits_after h k later)) (one_waits k h (Some under.frame)) limit hosts later t
-        (λ a b. ap (λ (f : Option Frame). one_waits k h f a b) (sym (whole_is none))) tells;
-    newest = newest;
-    on = ap open_stream (sym there.journal_is) ∙ sym known.streams ∙ under.on;
-  });
+  whole = λ none. (
+    under.stream,
+    under.frame,
+    record {
+      tells = tells_same_waiting (one_waits k h (waits_after h k later)) (one_waits k h (Some under.frame)) limit hosts later t
+          (λ a b. ap (λ (f : Option Frame). one_waits k h f a b) (sym (whole_is none))) tells;
+      newest = newest;
+      on = ap open_stream (sym there.journal_is) ∙ sym known.streams ∙ under.on;
+    },
+  );
   part = λ left. tells_same_waiting (one_waits k h (waits_after h k later)) none_waits limit hosts later t (λ a b. sym (part_is left a b)) tells;
 }
   where

@@ -61,9 +61,9 @@ pub tells_opened : {B F : Type 0} (limit hosts h k : ℕ) (past : List Event) (s
     IsKnown (end_at h k s.mesh) (end_at k h s.mesh) →
     ChangesPair h k (opened (end_at h k s.mesh)) (opened (end_at k h s.mesh)) s.mesh m →
     ((e : Entry) (before : List Entry) → (end_at h k m).past ≡ e ∷ before →
-        PrintsAlone (accepted (e ∷ before)) before e → t ≡ record s { mesh = m; text = s.text ++ entry_line h k before e }) →
+    PrintsAlone (accepted (e ∷ before)) before e → t ≡ record s { mesh = m; text = s.text ++ entry_line h k before e }) →
     OnOk last ((e : Entry) (before : List Entry) → (end_at k h t.mesh).past ≡ e ∷ before →
-        PrintsAlone (accepted (e ∷ before)) before e → u ≡ record t { text = t.text ++ entry_line k h before e }) →
+    PrintsAlone (accepted (e ∷ before)) before e → u ≡ record t { text = t.text ++ entry_line k h before e }) →
     OnOk last (Tells limit hosts (opened_at_both h k past) u)
 tells_opened limit hosts h k past s m t u (Err why) told count h_in k_in apart closed known changed printed last = tt
 tells_opened limit hosts h k past s m t u (Ok x) told count h_in k_in apart closed known changed printed last =
@@ -169,9 +169,9 @@ pub tells_shut : {B F : Type 0} (limit hosts h k n : ℕ) (past : List Event) (s
     IsKnown (end_at h k s.mesh) (end_at k h s.mesh) →
     ChangesPair h k (stream_shut (end_at h k s.mesh)) (stream_shut (end_at k h s.mesh)) s.mesh m →
     ((e : Entry) (before : List Entry) → (end_at h k m).past ≡ e ∷ before →
-        PrintsAlone (accepted (e ∷ before)) before e → t ≡ record s { mesh = m; text = s.text ++ entry_line h k before e }) →
+    PrintsAlone (accepted (e ∷ before)) before e → t ≡ record s { mesh = m; text = s.text ++ entry_line h k before e }) →
     OnOk last ((e : Entry) (before : List Entry) → (end_at k h t.mesh).past ≡ e ∷ before →
-        PrintsAlone (accepted (e ∷ before)) before e → u ≡ record t { text = t.text ++ entry_line k h before e }) →
+    PrintsAlone (accepted (e ∷ before)) before e → u ≡ record t { text = t.text ++ entry_line k h before e }) →
     OnOk last (Tells limit hosts (shut_at_both h k n past) u)
 tells_shut limit hosts h k n past s m t u (Err why) told count h_in k_in apart on known changed printed last = tt
 tells_shut limit hosts h k n past s m t u (Ok x) told count h_in k_in apart on known changed printed last =

@@ -85,7 +85,7 @@ pub tells_pulled : (limit hosts h k at : ℕ) (map : List ℕ) (past : List Even
     ChangesPair h k (pulled map (end_at k h s.mesh).waiting (end_at h k s.mesh)) (end_at k h s.mesh) s.mesh t.mesh →
     at ≡ length (end_at h k s.mesh).past →
     ((e : Entry) (before after : List Entry) → (end_at h k t.mesh).past ≡ after ++ e ∷ before → at ≡ length before →
-        PrintsAlone (accepted (end_at h k t.mesh).past) before e → t.text ≡ s.text ++ entry_line h k before e) →
+    PrintsAlone (accepted (end_at h k t.mesh).past) before e → t.text ≡ s.text ++ entry_line h k before e) →
     (length (end_at h k t.mesh).past ≤ at → t.text ≡ s.text) →
     t ≡ record s { mesh = t.mesh; text = t.text } → Tells limit hosts (pull h k past) t
 tells_pulled limit hosts h k at map past s t apart count h_in k_in told idle own changed at_is printed none rest =

@@ -89,3 +89,7 @@ Tells limit hosts past s = TellsWaiting none_waits limit hosts past s
 -- the slots that an end may have are those that a host may have
 abbrev pub HasSlots : MeshView → Type 0
 HasSlots m = (h k : ℕ) → h < m.count → k < m.count → k ≢ h → (end_at h k m).slots ≡ MAX_SLOTS
+
+-- a world tells some past, as each does that began empty and did commands
+abbrev pub IsTelling : State → Type 0
+IsTelling s = (limit : ℕ) × (hosts : ℕ) × (past : List Event) × Tells limit hosts past s

@@ -16,7 +16,7 @@ ghost use Rattle.rds_history.specs.Send.{send, send_refusal};
 ghost use Rattle.rds_history.specs.Sockets.{next_slot, unacknowledged};
 ghost use Rattle.rds_world.specs.Coming.{Comes};
 ghost use Rattle.rds_world.specs.Readiness.{LacksMemory};
-ghost use Rattle.rds_world.specs.Telling.{HasSlots, Tells, state};
+ghost use Rattle.rds_world.specs.Telling.{HasSlots, IsTelling, Tells, state};
 
 use crate::opening::or_memory;
 use crate::stop::Stop;
@@ -80,7 +80,7 @@ impl World {
     ) -> Result<(), Stop>
         requires host { host < self.old.count }
         requires peer { to < self.old.count }
-        requires slots { HasSlots self.old.mesh }
+        requires telling { IsTelling (state self.old) }
         ensures count { self.new.count ≡ self.old.count }
         ensures course { (limit hosts : ℕ) (past : List Event) → Tells limit hosts past (state self.old) →
             Comes limit hosts (send limit hosts host port to dport payload.now past) result (state self.new) }

@@ -1,4 +1,4 @@
-use Rattle.std.proofs.Common.{◌≡◌, ℕ, ◌<◌, Option, Some, None, length, get_or, subst}
+use Rattle.std.proofs.Common.{◌≡◌, ℕ, ◌<◌, ◌∙◌, Option, Some, None, length, get_or, subst}
 use Rattle.std.specs.Option.{option_map_or}
 use Rattle.rds_model.specs.declared.entry.Entry.TheVariants.{Accept}
 use Rattle.rds_text.specs.Refusals.{no_socket, send_refused_line}
@@ -7,7 +7,13 @@ use Rattle.rds_history.specs.Send.{send_refusal}
 use Rattle.rds_history.specs.Sockets.{holder}
 use Rattle.rds_world.specs.Coming.{Comes}
 use Rattle.rds_world.specs.Telling.{state}
+use Rattle.rds_world.proofs.Sending.{has_slots}
 use Rattle.rds_world.proofs.world.World.send.Goals as goal
+
+pub send_from-requires-clause-slots : goal.send_from-requires-clause-slots
+send_from-requires-clause-slots g c =
+    let t = c.requires.telling in
+    has_slots t.0 t.1 t.2 (state c.args.self.now) (c.args.self.now.meshed ∙ t.3.count_is) t.3
 
 pub returns-in-Some-clause-course : goal.returns-in-Some-clause-course
 returns-in-Some-clause-course g c = λ limit hosts past told.
