@@ -1,6 +1,6 @@
 -- The turns of a move.
 use Rattle.std.proofs.Common.{◌≡◌, ◌≢◌, ⊎_elim, ℕ, zero, suc, ◌+◌, ◌-◌, ◌<◌, ◌≤◌, ◌==◌, Bool, true, false, cond, Option, Some, None, Result, Ok, Err, List, [], ◌∷◌, ◌++◌, length, refl, sym, ◌∙◌, ap, subst, arith}
-use Rattle.std.specs.Prelude.{is_none, min, nat_eq, nat_lt}
+use Rattle.std.specs.Prelude.{is_some, min, nat_eq, nat_lt, not}
 use Rattle.std.specs.Option.{option_eq, option_map, option_map_or}
 use Rattle.std.proofs.lemmas.Bool.{cases_eq, cond-true, cond-false, eq-eqb, eqb-false, eqb-true, ne_eqb, le-ltb, lt-ltb}
 use Rattle.rds_wire.specs.declared.frame.Frame.{Frame}
@@ -366,5 +366,8 @@ pub told_stopped : {A : Type 0} (B : Type 0) (IsRight : List Event → A → Typ
 told_stopped B IsRight limit hosts (Ok past) next why s t comes = comes_lacking B none_waits limit hosts (next past) why t comes
 told_stopped B IsRight limit hosts (Err full) next why s t comes = comes
 
-pub some_stream : (o : Option ℕ) (b : Bool) → b ≡ is_none o → b ≡ false → o ≡ None → ⊥
-some_stream o b is no_ none = let yes_ : is_none o ≡ true = ap (λ (x : Option ℕ). is_none x) none in let odd = sym no_ ∙ is ∙ yes_ in cc
+pub some_stream : (o : Option ℕ) (b : Bool) → is_some o ≡ not b → b ≡ false → o ≡ None → ⊥
+some_stream o b is no_ none =
+    let some : is_some o ≡ true = is ∙ ap (λ (x : Bool). not x) no_ in
+    let odd : is_some o ≡ false = ap (λ (x : Option ℕ). is_some x) none in
+    let both = sym odd ∙ some in cc
