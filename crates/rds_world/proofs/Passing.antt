@@ -24,7 +24,6 @@ use Rattle.rds_model.specs.Legal.{IsLegal, pong_for}
 use Rattle.rds_model.specs.LegalityLaws.{lawful_pull}
 use Rattle.rds_model.specs.Reading.{is_old, verdict_of, verdict_of_kind, verdict_of_ports}
 use Rattle.rds_model.specs.Sums.{last_pulled_frame}
-use Rattle.rds_conn.specs.declared.conn.Found.{Found}
 use Rattle.rds_conn.specs.declared.conn.Found.TheVariants as found
 use Rattle.rds_conn.specs.Passing.{delivery_of, outcome_of}
 use Rattle.rds_pair.specs.Changes.{found_for, pong_entries}
@@ -36,7 +35,7 @@ use Rattle.rds_history.specs.Events.{Event, Appended, Marked}
 use Rattle.rds_history.specs.Journals.{is_map_outcome, is_marked, journal, maps_read}
 use Rattle.rds_history.specs.Mark.{update_mark}
 use Rattle.rds_history.specs.PullAndRead.{answer, outcome_at, read, read_on}
-use Rattle.rds_history.specs.Sockets.{holder, queued, receive_buffer}
+use Rattle.rds_history.specs.Sockets.{queued, receive_buffer}
 use Rattle.rds_history.specs.Transcript.{entry_line, lines}
 use Rattle.rds_hosts.specs.declared.host.ScriptHost.{ScriptHost}
 use Rattle.rds_hosts.specs.Elsewhere.{delivers}
@@ -46,7 +45,7 @@ use Rattle.rds_world.specs.declared.peer_map.PeerMap.{PeerMap}
 use Rattle.rds_world.specs.declared.stop.Stop.{Stop}
 use Rattle.rds_world.specs.Happening.{FrameWaits, IsPlain, IsRead, outcome_here}
 use Rattle.rds_world.specs.Printing.{PrintsAlone}
-use Rattle.rds_world.specs.Telling.{HostsTell, PeersTell, State, Tells, TellsEnd, TellsPeer, TellsWaiting, none_waits, one_waits}
+use Rattle.rds_world.specs.Telling.{HostsTell, PeersTell, State, Tells, TellsEnd, TellsPeer, none_waits, one_waits}
 use Rattle.rds_world.proofs.Journaling.{journal_here, journal_there}
 use Rattle.rds_world.proofs.Replacing.{hosts_replaced, peers_replaced}
 use Rattle.rds_world.proofs.Ends.{IsStill, appended_elsewhere, end_quiet, end_still, still_then}
@@ -151,7 +150,7 @@ pub passed_read : (h k stream first : ℕ) (slot : Option ℕ) (f : Frame) (s : 
     (end_at h k s.mesh).waiting ≡ Some f → open_stream (end_at h k s.mesh).past ≡ Some stream →
     ChangesPair h k (passed slot (end_at h k s.mesh)) (end_at k h s.mesh) s.mesh m → first ≡ length (end_at h k s.mesh).past →
     ((e : Entry) (before after : List Entry) → (end_at h k m).past ≡ after ++ e ∷ before → first ≡ length before →
-        PrintsAlone (accepted (end_at h k m).past) before e → text ≡ s.text ++ entry_line h k before e) →
+    PrintsAlone (accepted (end_at h k m).past) before e → text ≡ s.text ++ entry_line h k before e) →
     IsRead h k stream f (outcome_here slot (end_at h k s.mesh) f) s (record s { mesh = m; text = text })
 passed_read h k stream first slot f s m text waits on changed first_is printed =
     let e = end_at h k s.mesh in
@@ -266,7 +265,7 @@ read_plainly limit hosts k h stream f past s t result v o apart k_in h_in w is h
 pub tells_ping : (limit hosts k h stream : ℕ) (f : Frame) (past : List Event) (s t u : State) →
     h ≢ k → s.mesh.count ≡ hosts → k < hosts → h < hosts → FrameWaits limit hosts k h stream f past s → IsRead k h stream f outcome.Ping s t →
     ((e : Entry) (before : List Entry) → (end_at k h t.mesh).past ≡ e ∷ before → PrintsAlone (accepted (e ∷ before)) before e →
-        u ≡ record t { text = t.text ++ entry_line k h before e }) →
+    u ≡ record t { text = t.text ++ entry_line k h before e }) →
     Tells limit hosts (Appended k h (Accept NO_SLOT 0 f.header.sport []) ∷ Appended k h (Read stream f outcome.Ping) ∷ past) u
 tells_ping limit hosts k h stream f past s t u apart count k_in h_in w came printed =
     subst (Tells limit hosts (Appended k h pong ∷ Appended k h ping ∷ past)) (sym u_is)
@@ -401,12 +400,12 @@ few_versions k h past p e t is small =
 pub read_after : {A : Type 0} (result : Result A Stop) (k h stream : ℕ) (slot : Option ℕ) (f : Frame) (o : Outcome) (mid s t : State) → mid ≡ s →
     outcome_here slot (end_at k h s.mesh) f ≡ o → (end_at k h s.mesh).waiting ≡ Some f → open_stream (end_at k h s.mesh).past ≡ Some stream →
     ((end_at k h mid.mesh).waiting ≡ Some f → open_stream (end_at k h mid.mesh).past ≡ Some stream →
-        OnOk result (IsRead k h stream f (outcome_here slot (end_at k h mid.mesh) f) mid t)) →
+    OnOk result (IsRead k h stream f (outcome_here slot (end_at k h mid.mesh) f) mid t)) →
     OnOk result (IsRead k h stream f o s t)
 read_after result k h stream slot f o mid s t same is waits on came =
     subst (λ (x : Outcome). OnOk result (IsRead k h stream f x s t)) is
     ((subst (λ (m : State). (end_at k h m.mesh).waiting ≡ Some f → open_stream (end_at k h m.mesh).past ≡ Some stream →
-        OnOk result (IsRead k h stream f (outcome_here slot (end_at k h m.mesh) f) m t)) same came) waits on)
+    OnOk result (IsRead k h stream f (outcome_here slot (end_at k h m.mesh) f) m t)) same came) waits on)
 
 -- a frame that was read and answered by a ping's pong
 pub ping_is : (slot : Option ℕ) (e : JointEnd) (j : List Entry) (f : Frame) → e.past ≡ j → verdict_of j f.header ≡ verdict.Ping → outcome_here slot e f ≡ outcome.Ping

@@ -1,5 +1,5 @@
 -- The turns of a move.
-use Rattle.std.proofs.Common.{◌≡◌, ◌≢◌, ⊎_elim, ℕ, zero, suc, ◌+◌, ◌-◌, ◌<◌, ◌≤◌, ◌==◌, Bool, true, false, cond, Option, Some, None, Result, Ok, Err, List, [], ◌∷◌, ◌++◌, length, refl, sym, ◌∙◌, ap, subst, arith}
+use Rattle.std.proofs.Common.{◌≡◌, ⊎_elim, ℕ, zero, suc, ◌+◌, ◌-◌, ◌<◌, ◌≤◌, ◌==◌, Bool, true, false, cond, Option, Some, None, Result, Ok, Err, List, [], ◌∷◌, ◌++◌, length, refl, sym, ◌∙◌, ap, subst, arith}
 use Rattle.std.specs.Prelude.{is_some, min, nat_eq, nat_lt, not}
 use Rattle.std.specs.Option.{option_eq, option_map, option_map_or}
 use Rattle.std.proofs.lemmas.Bool.{cases_eq, cond-true, cond-false, eq-eqb, eqb-false, eqb-true, ne_eqb, le-ltb, lt-ltb}
@@ -14,16 +14,16 @@ use Rattle.rds_model.specs.Sums.{last_pulled_frame}
 use Rattle.rds_cong.specs.Limit.{congested_after}
 use Rattle.rds_text.specs.Lines.{move_line}
 use Rattle.rds_history.specs.Events.{Event, Appended, Marked, Moved}
-use Rattle.rds_history.specs.Courses.{Course, Full, again, and_then, if_room, prints}
+use Rattle.rds_history.specs.Courses.{Course, again, and_then, if_room, prints}
 use Rattle.rds_history.specs.Journals.{in_flight, is_marked, journal, moved_in_all, own_map}
 use Rattle.rds_history.specs.Mark.{if_changed, update_mark}
-use Rattle.rds_history.specs.Move.{arrive, bytes_left, move_and_tell, move_piece, move_up_to, portion, pull_if_idle, read_if_complete, turn}
+use Rattle.rds_history.specs.Move.{arrive, bytes_left, move_and_tell, move_piece, move_up_to, portion, pull_if_idle, turn}
 use Rattle.rds_history.specs.PullAndRead.{answer, outcome_at, pull, pull_on, read, read_on}
 use Rattle.rds_history.specs.Sockets.{queued, receive_buffer}
 use Rattle.rds_world.specs.declared.stop.Stop.{Stop}
 use Rattle.rds_world.specs.declared.stop.Stop.TheVariants as stop
 use Rattle.rds_world.specs.Coming.{Comes, ComesRight, ComesWaiting}
-use Rattle.rds_world.specs.Readiness.{IsMemory, LacksMemory}
+use Rattle.rds_world.specs.Readiness.{IsMemory}
 use Rattle.rds_world.specs.Telling.{State, Tells, TellsWaiting, Waiting, none_waits}
 use Rattle.rds_world.proofs.Comings.{comes_lacking, comes_printed}
 

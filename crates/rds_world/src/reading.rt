@@ -147,12 +147,7 @@ impl World {
     }
 
     // Reads a ping, and answers it at once.
-    fn read_ping<L: Ledger>(
-        &mut self,
-        host: u8,
-        peer: u8,
-        steps: &mut Steps<L>,
-    ) -> Result<(), Stop>
+    fn read_ping<L: Ledger>(&mut self, host: u8, peer: u8, steps: &mut Steps<L>) -> Result<(), Stop>
         requires host { host < self.old.count }
         requires peer { peer < self.old.count }
         requires apart { peer ≢ host }
@@ -167,12 +162,7 @@ impl World {
     }
 
     // Reads the congestion map of a peer, and keeps it.
-    fn read_map<L: Ledger>(
-        &mut self,
-        host: u8,
-        peer: u8,
-        steps: &mut Steps<L>,
-    ) -> Result<(), Stop>
+    fn read_map<L: Ledger>(&mut self, host: u8, peer: u8, steps: &mut Steps<L>) -> Result<(), Stop>
         requires host { host < self.old.count }
         requires peer { peer < self.old.count }
         requires apart { peer ≢ host }

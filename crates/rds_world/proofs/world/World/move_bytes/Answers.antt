@@ -1,14 +1,12 @@
-use Rattle.std.proofs.Common.{◌≡◌, ℕ, ◌+◌, ◌-◌, ◌<◌, Option, Some, None, Result, Ok, Err, List, refl, sym, ◌∙◌, ap, subst, arith, rules}
+use Rattle.std.proofs.Common.{◌≡◌, ℕ, ◌+◌, ◌-◌, ◌<◌, Some, Result, Ok, Err, List, refl, sym, ◌∙◌, ap, subst, arith}
 use Rattle.std.specs.Prelude.{codes, string_bytes}
 use Rattle.std.proofs.lemmas.Grind.{common_steps}
-use Rattle.rds_model.specs.declared.entry.Entry.{Entry}
 use Rattle.rds_model.specs.Past.{open_stream}
 use Rattle.rds_text.specs.Lines.{move_line}
 use Rattle.rds_text.specs.Refusals.{is_down, pair_refused_line}
 use Rattle.rds_history.specs.Courses.{Course, prints}
 use Rattle.rds_history.specs.Journals.{journal, moved_in_all}
-use Rattle.rds_history.specs.Move.{move, move_and_tell, move_up_to}
-use Rattle.rds_mesh.specs.Ends.{end_at}
+use Rattle.rds_history.specs.Move.{move, move_up_to}
 use Rattle.rds_world.specs.declared.stop.Stop.{Stop}
 use Rattle.rds_world.specs.Coming.{Comes}
 use Rattle.rds_world.specs.Telling.{state}
