@@ -5,6 +5,17 @@ mod Drained
 mod EndsAgree
 mod InOrder
 mod OneMap
+mod JoinedEnds
+mod JoinedReads
+mod PastEnds
+mod PastMoves
+mod ScriptHosts
+mod PastSockets
+mod PastStreams
+mod PastCommands
+mod HandedOut
+mod SoundHistory
+mod OnlySent
 mod Again
 mod Moves
 mod OnlyWritten
@@ -12,3 +23,4 @@ mod Pieces
 mod Rounds
 mod SameStreams
 mod Turns
+mod SettledHistory

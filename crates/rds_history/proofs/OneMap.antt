@@ -1,5 +1,5 @@
 -- The congestion map of a host has the ports that its marks say.
-use Rattle.std.proofs.Common.{◌≡◌, ◌≢◌, ◌==◌, ◌&&◌, ◌||◌, not, ℕ, ◌/◌, ◌%◌, ◌<◌, ◌≤◌, ◌^◌, ◌-◌, Bool, true, false, cond, List, [], ◌∷◌, length, slice_index, slice_set, bit_or, bit_and, refl, sym, ap, ◌∙◌, subst, arith, ⊎_elim}
+use Rattle.std.proofs.Common.{◌≡◌, ◌≢◌, ◌==◌, ◌&&◌, ℕ, ◌/◌, ◌%◌, ◌<◌, ◌≤◌, ◌^◌, ◌-◌, Bool, true, false, cond, List, [], ◌∷◌, length, slice_index, slice_set, bit_or, bit_and, refl, sym, ap, ◌∙◌, subst, arith, ⊎_elim}
 use Rattle.std.proofs.lemmas.Bool.{cases_eq, cases_lt, eq-eqb, ne_eqb}
 use Rattle.std.proofs.lemmas.List.{get_or-set_other, length-set, length-replicate, get_or-replicate}
 use Rattle.std.proofs.lemmas.Nat.Bits.{bit_at-zero}
@@ -55,7 +55,7 @@ length_if : (own : Bool) (changed map : List ℕ) → length changed ≡ 8192 �
 length_if true changed map a b = a
 length_if false changed map a b = b
 
-length-own_map : (h : ℕ) (past : List Event) → length (own_map h past) ≡ 8192
+pub length-own_map : (h : ℕ) (past : List Event) → length (own_map h past) ≡ 8192
 unfolding no_ports
 length-own_map h [] = length-replicate {A = ℕ} 8192 0
 length-own_map h (Marked host port true queued limit ∷ past) =

@@ -1,6 +1,6 @@
 -- The one history of a script, and the text that is printed of it. Source: this project's own.
 use Rattle.std.specs.Prelude.{ℕ, Ok, Err, List, [], ◌∷◌, ◌++◌, map}
-use Rattle.rds_script.specs.declared.script.Script.{Script}
+use Rattle.rds_script.specs.Grammar.{Meaning}
 use Rattle.rds_script.specs.declared.script.Placed.{Placed}
 use Rattle.rds_script.specs.declared.script.Command.{Command}
 use Rattle.rds_script.specs.declared.script.Command.TheVariants as command
@@ -66,6 +66,10 @@ abbrev pub text_of : ℕ → Course → List ℕ
 text_of hosts (Ok past) = lines past ++ report (final_hosts hosts past)
 text_of hosts (Err full) = spent_line full.host full.peer full.entries
 
--- the text of a script, where no journal may have more than `limit` entries
-abbrev pub text : Script → ℕ → List ℕ
-text script limit = text_of script.hosts (history limit script.hosts script.commands.items [])
+-- the one course of a script, where no journal may have more than `limit` entries
+abbrev pub course : Meaning → (limit : ℕ) → Course
+course script limit = history limit script.hosts script.commands []
+
+-- the text of a script
+abbrev pub text : Meaning → (limit : ℕ) → List ℕ
+text script limit = text_of script.hosts (course script limit)

@@ -16,4 +16,6 @@ pub mod History
 pub mod WorkedScripts
 pub mod EndsAgree
 pub mod InOrder
+pub mod Sound
 pub mod Limits
+pub mod Settled

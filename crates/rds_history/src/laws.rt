@@ -1,5 +1,5 @@
-//! Laws of the history of a script: what holds of it whatever its commands are. Their bodies are empty; each clause is a
-//! theorem.
+//! Laws of the history of a script: what holds of it whatever its commands are. Their bodies are empty or cite other laws;
+//! each clause is a theorem.
 ghost use Rattle.std.specs.Prelude.{◌≡◌, ◌<◌, ℕ, Ok, List, []};
 ghost use Rattle.rds_cong.specs.Map.{has_port};
 ghost use Rattle.rds_script.specs.declared.script.Command.{Command};
@@ -12,8 +12,11 @@ ghost use Rattle.rds_history.specs.Journals.{is_marked, own_map};
 ghost use Rattle.rds_history.specs.WorkedScripts.{hello, text_of_hello, cut_cancel_ping_congestion, text_of_cut_cancel_ping_congestion};
 
 mod limits;
+pub mod sound;
 
-pub use limits::{drained_is_quiet, moved_was_written, rounds_suffice, turns_suffice};
+pub use limits::{
+    drained_is_quiet, moved_was_written, moves_go_forward, rounds_suffice, turns_suffice,
+};
 
 /// Each socket hands out what was delivered to it, in order.
 pub fn in_order()

@@ -1,12 +1,11 @@
 -- A datagram that was queued.
-use Rattle.std.proofs.Common.{◌≡◌, ℕ, Result, Ok, Err, ◌+◌, ◌<◌, ◌≤◌, ◌==◌, List, [], ◌∷◌, ◌++◌, length, map, drop, get_or, set, refl, sym, ◌∙◌, ap, subst, arith}
+use Rattle.std.proofs.Common.{◌≡◌, ℕ, Result, Ok, Err, ◌+◌, ◌<◌, ◌==◌, List, [], ◌∷◌, ◌++◌, length, drop, get_or, set, refl, sym, ◌∙◌, ap, arith}
 use Rattle.std.specs.Prelude.{OnOk, sum_by}
 use Rattle.std.proofs.lemmas.Bool.{cond-true, cond-false, eq-eqb, ne_eqb}
 use Rattle.std.proofs.lemmas.List.{append-nil, drop-append-le, length_push}
 use Rattle.std.proofs.lemmas.List.Sums.{sum_by_push}
 use Rattle.rds_wire.specs.declared.frame.Frame.{Frame}
 use Rattle.rds_wire.specs.declared.memory.Memory.{Memory}
-use Rattle.rds_model.specs.declared.entry.Entry.{Entry}
 use Rattle.rds_model.specs.declared.entry.Entry.TheVariants.{Read}
 use Rattle.rds_model.specs.declared.entry.Outcome.TheVariants as outcome
 use Rattle.rds_model.specs.declared.order.Datagram.{Datagram}
@@ -14,7 +13,6 @@ use Rattle.rds_model.specs.Deliveries.{datagram_from}
 use Rattle.rds_report.specs.Hosts.{address_of}
 use Rattle.rds_history.specs.Events.{Event, Appended}
 use Rattle.rds_history.specs.Sockets.{next_slot, delivery, arrived_datagrams, handed_out, queue, queued}
-use Rattle.rds_hosts.specs.declared.host.Arrived.{Arrived}
 use Rattle.rds_hosts.specs.declared.host.ScriptHost.{ScriptHost}
 use Rattle.rds_hosts.specs.declared.host.ScriptSocket.{ScriptSocket}
 use Rattle.rds_hosts.specs.Receiving.{TakesIn}

@@ -7,7 +7,8 @@ ghost use Rattle.rds_history.specs.Sockets.{next_slot};
 ghost use Rattle.rds_text.specs.Refusals.{refusal_text};
 ghost use Rattle.rds_hosts.specs.Telling.{TellsHost};
 
-use crate::host::{SLOTS, ScriptHost, ScriptSocket};
+use crate::host::{ScriptHost, ScriptSocket};
+use rds_model::MAX_SLOTS;
 use rds_text::Refusal;
 use rds_wire::Memory;
 use std::alloc::Global;
@@ -20,7 +21,7 @@ impl ScriptHost {
     ///
     /// Where there is no memory for it.
     pub fn add(&mut self, alloc: Global, port: u16, sndbuf: u32, rcvbuf: u32) -> Result<u16, Memory>
-        requires room { vec_len self.old.sockets < 1024 }
+        requires room { vec_len self.old.sockets < MAX_SLOTS }
         requires roomy { 2 ≤ rcvbuf }
         ensures told { (h : ℕ) (past : List Event) → TellsHost h past self.old → OnOk result
             (TellsHost h (Bound h port (next_slot h past) sndbuf rcvbuf ∷ past) self.new) }
@@ -42,11 +43,11 @@ impl ScriptHost {
 
     /// Why a port can't be bound, if it can't. Where it can, there is room for one more socket.
     pub fn bind_refusal(&self, port: u16) -> Option<Refusal>
-        ensures room { IfNone result (vec_len self.now.sockets < 1024) }
+        ensures room { IfNone result (vec_len self.now.sockets < MAX_SLOTS) }
         ensures why { (h : ℕ) (past : List Event) → TellsHost h past self.now →
             option_map refusal_text result ≡ bind_refusal h port past }
     {
-        if self.sockets.len() >= usize::from(SLOTS) {
+        if self.sockets.len() >= usize::from(MAX_SLOTS) {
             return Some(Refusal::NoSlot);
         }
         if port < 2 {
@@ -64,7 +65,7 @@ impl ScriptHost {
     pub fn free_port(&self, start: u16) -> Option<u16>
         ensures { (h : ℕ) (past : List Event) → TellsHost h past self.now → result ≡ free_port h start past }
     {
-        if self.sockets.len() >= usize::from(SLOTS) {
+        if self.sockets.len() >= usize::from(MAX_SLOTS) {
             return None;
         }
         match self.free_within(u32::from(start), 65536) {

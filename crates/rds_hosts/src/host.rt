@@ -2,6 +2,7 @@ ghost use Rattle.std.specs.Prelude.{◌≡◌, ℕ, ◌≤◌, ◌<◌, vec_len,
 ghost use Rattle.std.specs.BTreeMap as tree;
 ghost use Rattle.std.specs.Ordering.{nat_cmp};
 ghost use Rattle.rds_text.specs.declared.host.TheConstants.{MAX_HOSTS};
+ghost use Rattle.rds_model.specs.declared.entry.TheConstants.{MAX_SLOTS};
 ghost use Rattle.rds_report.specs.Hosts.{address_of};
 
 use rds_cong::PortMap;
@@ -9,9 +10,6 @@ use rds_model::Datagram;
 use rds_wire::Memory;
 use std::alloc::Global;
 use std::collections::{BTreeMap, VecDeque};
-
-/// How many sockets a host may bind.
-pub const SLOTS: u16 = 1024;
 
 /// A datagram in a socket's queue, and the host that sent it.
 #[derive(Drop)]
@@ -44,13 +42,12 @@ pub struct ScriptHost {
     pub sockets: Vec<ScriptSocket>,
     pub holders: BTreeMap<u16, u16>,
     pub map: PortMap,
-    ghost few: { vec_len sockets ≤ 1024 },
+    ghost few: { vec_len sockets ≤ MAX_SLOTS },
     ghost held: { (port slot : ℕ) → tree.get nat_cmp holders port ≡ Some slot → slot < vec_len sockets },
 }
 
 impl ScriptHost {
     ghost use Rattle.std.specs.Prelude.{[], IfOk, IfSome, List};
-    ghost use Rattle.rds_model.specs.declared.entry.TheConstants.{MAX_SLOTS};
     ghost use Rattle.rds_history.specs.Events.{Event};
     ghost use Rattle.rds_history.specs.Journals.{own_map};
     ghost use Rattle.rds_history.specs.Sockets.{holder, next_slot, send_buffer};

@@ -13,4 +13,4 @@ pub mod laws;
 mod recv;
 mod take_in;
 
-pub use host::{Arrived, SLOTS, ScriptHost, ScriptSocket};
+pub use host::{Arrived, ScriptHost, ScriptSocket};

@@ -1,12 +1,12 @@
--- What is known of a joint, seen from either of its hosts.
-use Rattle.std.proofs.Common.{sym}
+-- What is known of both ends of a joint, seen from either.
+use Rattle.std.proofs.Common.{◌≡◌, sym, subst}
 use Rattle.rds_pair.specs.declared.step.PairEnd.{PairEnd}
 use Rattle.rds_pair.specs.declared.step.PairEnd.TheVariants.{First, Second}
 use Rattle.rds_joint.specs.Ends.{JointEnd, JointEnds, of_end, other_end}
 use Rattle.rds_mesh.specs.Known.{IsKnown}
 
-swapped : (a b : JointEnd) → IsKnown a b → IsKnown b a
-swapped a b k = record {
+turned : (a b : JointEnd) → IsKnown a b → IsKnown b a
+turned a b k = record {
   streams = sym k.streams;
   newest = sym k.newest;
   one_forth = k.one_back;
@@ -21,6 +21,11 @@ swapped a b k = record {
   none_refused = (k.none_refused.1, k.none_refused.0);
 }
 
-pub known_from : (x : PairEnd) (q : JointEnds) → IsKnown q.first q.second → IsKnown (of_end x q) (of_end (other_end x) q)
-known_from First q k = k
-known_from Second q k = swapped q.first q.second k
+pub known_of : (x : PairEnd) (q : JointEnds) (here there : JointEnd) → of_end x q ≡ here → of_end (other_end x) q ≡ there →
+    IsKnown q.first q.second → IsKnown here there
+known_of x q here there here_is there_is known =
+    subst (λ e. IsKnown e there) here_is (subst (λ e. IsKnown (of_end x q) e) there_is (seen x))
+  where
+    seen : (x : PairEnd) → IsKnown (of_end x q) (of_end (other_end x) q)
+    seen First = known
+    seen Second = turned q.first q.second known

@@ -6,13 +6,13 @@ use Rattle.rds_model.specs.declared.entry.TheConstants.{MAX_SLOTS}
 use Rattle.rds_pair.specs.declared.step.PairEnd.{PairEnd}
 use Rattle.rds_pair.specs.declared.step.PairEnd.TheVariants.{First, Second}
 use Rattle.rds_joint.specs.Ends.{HasFull, IsFull, JointEnd, JointEnds, at_both, blank, facing, of_end, other_end, with_end}
-use Rattle.rds_joint.specs.Steps.{came, fed, pulled, went}
+use Rattle.rds_joint.specs.Steps.{came, fed, went}
 use Rattle.rds_mesh.specs.Places.{end_of, place, triangle}
 use Rattle.rds_mesh.specs.Ends.{AreNew, ChangesPair, IsNewMesh, MeshView, end_at, joint_of, new_joint}
 use Rattle.rds_mesh.proofs.Places.{both_changed, bytes_went, facing_is, one_changed, opposite, there, within}
 
 -- inside a list an item is the same, whatever is meant by none
-at_inside : {X : Type 0} (xs : List X) (i : ℕ) (a b : X) → i < length xs → get_or xs i a ≡ get_or xs i b
+pub at_inside : {X : Type 0} (xs : List X) (i : ℕ) (a b : X) → i < length xs → get_or xs i a ≡ get_or xs i b
 at_inside [] i a b in_ = absurd (omega (arith, in_))
 at_inside (x ∷ xs) zero a b in_ = refl
 at_inside (x ∷ xs) (suc i) a b in_ = at_inside xs i a b (omega (arith, in_))

@@ -1,5 +1,5 @@
 -- How contracts see the fields of a mesh.
-use Rattle.std.specs.Prelude.{◌≡◌, ℕ, ◌≤◌, length}
+use Rattle.std.specs.Prelude.{◌≡◌, ◌≤◌, length}
 use Rattle.rds_text.specs.declared.host.TheConstants.{MAX_HOSTS}
 use Rattle.rds_mesh.specs.declared.mesh.Mesh.TheInside.{Inside}
 use Rattle.rds_mesh.specs.Places.{triangle}

@@ -1,4 +1,5 @@
 pub mod Places
 pub mod Ends
 pub mod Known
+pub mod FinalJournals
 pub mod Inside

@@ -1,6 +1,7 @@
 //! The connections between up to eight hosts: a joint for each two of them, found by the two hosts.
 #![tactic(auto)]
 
+mod final_journals;
 mod mesh;
 mod place;
 mod steps;

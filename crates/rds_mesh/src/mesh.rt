@@ -14,7 +14,7 @@ use std::marker::Model;
 /// The connections between hosts, which are counted from 0: a joint for each two of them. Contracts see both ends of each.
 #[derive(Drop)]
 pub struct Mesh {
-    count: u8,
+    pub(crate) count: u8,
     pub(crate) joints: Vec<Joint>,
 }
 

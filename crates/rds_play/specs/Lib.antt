@@ -1,13 +1,1 @@
-pub mod Coming
-pub mod Counting
-pub mod Ending
-pub mod Entering
-pub mod Fresh
-pub mod Growth
-pub mod Playable
-pub mod Playing
-pub mod Printing
-pub mod Readiness
-pub mod Receiving
-pub mod Telling
-pub mod Told
+pub mod Giving

@@ -85,3 +85,7 @@ pub record TellsWaiting (waiting : Waiting) (limit hosts : ℕ) (past : List Eve
 -- the same, where none waits, as it is between any two commands
 abbrev pub Tells : (limit hosts : ℕ) (past : List Event) (s : State) → Type 0
 Tells limit hosts past s = TellsWaiting none_waits limit hosts past s
+
+-- the slots that an end may have are those that a host may have
+abbrev pub HasSlots : MeshView → Type 0
+HasSlots m = (h k : ℕ) → h < m.count → k < m.count → k ≢ h → (end_at h k m).slots ≡ MAX_SLOTS

@@ -119,6 +119,7 @@ impl World {
             IsSome (open_stream (journal host peer past)) →
             Comes limit hosts (shut_both limit host peer past) result (state self.new) }
     {
+        self.mesh.known(host, peer);
         self.ready(host, peer)?;
         self.ready(peer, host)?;
         self.shut_ends(host, peer)
@@ -132,7 +133,7 @@ impl World {
         ensures count { self.new.count ≡ self.old.count }
         ensures told { (limit hosts : ℕ) (past : List Event) (stream : ℕ) → Tells limit hosts past (state self.old) →
             open_stream (journal host peer past) ≡ Some stream →
-            (open_stream (journal peer host past) ≡ Some stream) × OnOk result (Tells limit hosts (shut_at_both host peer stream past) (state self.new)) }
+            OnOk result (Tells limit hosts (shut_at_both host peer stream past) (state self.new)) }
         ensures stop { LacksMemory result }
     {
         self.mesh.known(host, peer);

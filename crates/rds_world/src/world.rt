@@ -1,4 +1,6 @@
 ghost use Rattle.std.specs.Prelude.{◌≡◌, ◌≤◌, ◌<◌, ◌*◌, ◌+◌, IfOk, vec_len};
+ghost use Rattle.std.specs.List.{All};
+ghost use Rattle.rds_world.specs.Fresh.{IsNewHost, IsUnread};
 ghost use Rattle.rds_text.specs.declared.host.TheConstants.{MAX_HOSTS};
 ghost use Rattle.rds_model.specs.declared.journal.TheConstants.{MIN_ENTRIES, MAX_ENTRIES};
 
@@ -39,6 +41,7 @@ pub fn place(host: u8, peer: u8) -> usize
 // So many hosts, of which nothing has happened.
 fn hosts(alloc: Global, count: u8) -> Result<Vec<ScriptHost>, Memory>
     ensures count { IfOk result (λ hosts. vec_len hosts ≡ count) }
+    ensures new { IfOk result (λ hosts. All IsNewHost hosts.items) }
 {
     let mut hosts = Vec::new(alloc);
     for _ in 0..count {
@@ -50,6 +53,7 @@ fn hosts(alloc: Global, count: u8) -> Result<Vec<ScriptHost>, Memory>
 // No host has read a map.
 fn peers(alloc: Global) -> Result<Vec<PeerMap>, Memory>
     ensures count { IfOk result (λ peers. vec_len peers ≡ MAX_HOSTS * MAX_HOSTS) }
+    ensures new { IfOk result (λ peers. All IsUnread peers.items) }
 {
     let mut peers = Vec::new(alloc);
     for _ in 0..MAX_HOSTS * MAX_HOSTS {
@@ -59,6 +63,9 @@ fn peers(alloc: Global) -> Result<Vec<PeerMap>, Memory>
 }
 
 impl World {
+    ghost use Rattle.std.specs.Prelude.{[]};
+    ghost use Rattle.rds_world.specs.Telling.{Tells, state};
+
     /// So many hosts, of which nothing has happened. Each journal may have `limit` entries.
     ///
     /// # Errors
@@ -69,6 +76,7 @@ impl World {
         requires least { MIN_ENTRIES ≤ limit }
         requires most { limit ≤ MAX_ENTRIES }
         ensures count { IfOk result (λ world. world.count ≡ count) }
+        ensures told { IfOk result (λ world. Tells limit count [] (state world)) }
     {
         Ok(World {
             alloc,

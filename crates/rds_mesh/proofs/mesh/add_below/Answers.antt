@@ -1,6 +1,5 @@
-use Rattle.std.proofs.Common.{◌≡◌, [], ◌∷◌, ◌++◌, List, sym, ◌∙◌, subst, arith}
+use Rattle.std.proofs.Common.{◌≡◌, [], ◌∷◌, sym, subst, arith}
 use Rattle.std.proofs.lemmas.List.Elements.{All-append, All-cons, All-nil}
-use Rattle.rds_joint.specs.Ends.{JointEnds}
 use Rattle.rds_mesh.specs.Ends.{AreNew, new_joint}
 use Rattle.rds_mesh.proofs.mesh.add_below.Goals as goal
 

@@ -1,14 +1,5 @@
-use Rattle.std.proofs.Common.{◌≡◌, ℕ, ◌<◌, true, false, List, [], ◌∷◌, get_or, length, set, refl, sym, ◌∙◌, ap, subst}
+use Rattle.std.proofs.Common.{refl}
 use Rattle.std.specs.Prelude.{string_bytes}
-use Rattle.rds_model.specs.declared.order.Datagram.{Datagram}
-use Rattle.rds_history.specs.Events.{Event, Received}
-use Rattle.rds_history.specs.Sockets.{next_slot, queue}
-use Rattle.rds_history.specs.Transcript.{lines}
-use Rattle.rds_hosts.specs.declared.host.Arrived.{Arrived}
-use Rattle.rds_hosts.specs.declared.host.ScriptHost.{ScriptHost}
-use Rattle.rds_hosts.specs.declared.host.ScriptSocket.{ScriptSocket}
-use Rattle.rds_hosts.specs.Receiving.{HandsOut, KeepsAll}
-use Rattle.rds_hosts.specs.Telling.{TellsHost}
 use Rattle.rds_hosts.proofs.Receiving.{looked, handed, handed_text}
 use Rattle.rds_hosts.proofs.host.ScriptHost.hand_out.Goals as goal
 

@@ -1,8 +1,8 @@
-use Rattle.std.proofs.Common.{◌≡◌, ◌≢◌, ◌<◌, length, refl, sym, ◌∙◌, ap, subst, arith}
-use Rattle.rds_mesh.specs.Ends.{MeshView, end_at}
+use Rattle.std.proofs.Common.{◌≡◌, ◌<◌, length, refl, sym, ◌∙◌, ap, subst, arith}
+use Rattle.rds_mesh.specs.Ends.{MeshView}
 use Rattle.rds_mesh.specs.Inside.{mesh_view}
 use Rattle.rds_mesh.specs.Places.{end_of}
-use Rattle.rds_joint.specs.Ends.{IsFull, JointEnd, JointEnds, facing, of_end}
+use Rattle.rds_joint.specs.Ends.{IsFull, facing, of_end}
 use Rattle.rds_joint.specs.Steps.{fed}
 use Rattle.std.specs.Prelude.{IfOk, min}
 use Rattle.rds_mesh.proofs.Stepping.{Found, inside, facing_at, fed_ok, fed_used}

@@ -1,4 +1,4 @@
-use Rattle.std.proofs.Common.{◌≡◌, ◌<◌, length, refl, sym, ◌∙◌, ap, subst, arith}
+use Rattle.std.proofs.Common.{◌<◌, refl, sym, ◌∙◌, ap, subst, arith}
 use Rattle.rds_mesh.specs.Ends.{MeshView, joint_of}
 use Rattle.rds_mesh.specs.Inside.{mesh_view}
 use Rattle.rds_mesh.specs.Places.{end_of}

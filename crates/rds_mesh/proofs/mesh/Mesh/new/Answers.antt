@@ -1,4 +1,4 @@
-use Rattle.std.proofs.Common.{◌≡◌, length, ◌∙◌, subst, arith}
+use Rattle.std.proofs.Common.{◌≡◌, length, arith}
 use Rattle.rds_mesh.specs.Places.{triangle}
 use Rattle.rds_mesh.proofs.Stepping.{all_new}
 use Rattle.rds_mesh.proofs.mesh.Mesh.new.Goals as goal

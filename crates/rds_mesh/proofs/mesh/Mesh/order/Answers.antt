@@ -1,7 +1,6 @@
-use Rattle.std.proofs.Common.{◌≡◌, ◌≢◌, ◌<◌, length, refl, sym, ◌∙◌, ap, subst, arith}
-use Rattle.rds_mesh.specs.Ends.{MeshView, end_at}
+use Rattle.std.proofs.Common.{◌<◌, refl, sym, subst, arith}
+use Rattle.rds_mesh.specs.Ends.{MeshView}
 use Rattle.rds_mesh.specs.Inside.{mesh_view}
-use Rattle.rds_mesh.specs.Places.{end_of}
 use Rattle.rds_joint.specs.Steps.{ordered}
 use Rattle.rds_joint.specs.Ends.{IsFull}
 use Rattle.rds_mesh.proofs.Stepping.{Found, inside, one_ok, here_is}

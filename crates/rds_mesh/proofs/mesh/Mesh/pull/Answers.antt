@@ -1,7 +1,6 @@
-use Rattle.std.proofs.Common.{◌≡◌, ◌≢◌, ◌<◌, length, refl, sym, ◌∙◌, ap, subst, arith}
+use Rattle.std.proofs.Common.{◌<◌, sym, ap, subst, arith}
 use Rattle.rds_mesh.specs.Ends.{MeshView, end_at}
 use Rattle.rds_mesh.specs.Inside.{mesh_view}
-use Rattle.rds_mesh.specs.Places.{end_of}
 use Rattle.rds_joint.specs.Ends.{JointEnd, facing}
 use Rattle.rds_joint.specs.Steps.{pulled}
 use Rattle.rds_joint.specs.Ends.{IsFull}

@@ -1,9 +1,0 @@
-use Rattle.std.proofs.Common.{drop}
-use Rattle.rds_play.specs.Telling.{state}
-use Rattle.rds_play.specs.Told.{AreTold}
-use Rattle.rds_play.proofs.Givings.{Plays}
-use Rattle.rds_play.proofs.playing.played.Given as goal
-
-abbrev pub invariant-loop-placed : goal.invariant-loop-placed
-invariant-loop-placed g l =
-    AreTold l.fn.script → Plays l.fn.limit l.fn.script.hosts l.fn.script.commands.items (drop l.placed-index l.fn.script.commands.items) (state l.world)

@@ -1,0 +1,14 @@
+-- What the playing of a script makes of its course. Source: this project's own.
+use Rattle.std.specs.Prelude.{◌≡◌, ℕ, Result, Ok, Err, List}
+use Rattle.rds_history.specs.Courses.{Course}
+use Rattle.rds_history.specs.Events.{Event}
+use Rattle.rds_world.specs.declared.stop.Stop.{Stop}
+use Rattle.rds_world.specs.Readiness.{IsMemory, IsStopAt}
+
+-- what is made is right for the past that the course leads to, or the stop is that of the first full journal; there may
+-- always be no memory
+abbrev pub Gives : {A : Type 0} → (List Event → A → Type 0) → Course → Result A Stop → Type 0
+Gives IsRight (Ok past) (Ok x) = IsRight past x
+Gives IsRight (Ok past) (Err why) = IsMemory why
+Gives IsRight (Err full) (Ok _) = ⊥
+Gives IsRight (Err full) (Err why) = IsStopAt full.host full.peer full.entries why

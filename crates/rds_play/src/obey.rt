@@ -1,0 +1,57 @@
+ghost use Rattle.std.specs.Prelude.{◌≡◌, ℕ, List};
+ghost use Rattle.rds_script.specs.Script.{IsCommand};
+ghost use Rattle.rds_history.specs.Events.{Event};
+ghost use Rattle.rds_history.specs.History.{after};
+ghost use Rattle.rds_world.specs.Coming.{Comes};
+ghost use Rattle.rds_world.specs.Telling.{Tells, state};
+
+use rds_msgs::Steps;
+use rds_script::Command;
+use rds_world::{Stop, World};
+use std::sync::ledger::Ledger;
+
+/// Does one command.
+pub fn obey<L: Ledger>(
+    world: &mut World,
+    command: &Command,
+    steps: &mut Steps<L>,
+) -> Result<(), Stop>
+    requires { IsCommand world.old.count command.now }
+    ensures count { world.new.count ≡ world.old.count }
+    ensures course { (limit hosts : ℕ) (past : List Event) → Tells limit hosts past (state world.old) →
+        Comes limit hosts (after limit hosts command.now past) result (state world.new) }
+{
+    match command {
+        Command::Bind {
+            host,
+            port,
+            sndbuf,
+            rcvbuf,
+        } => world.bind(*host, *port, *sndbuf, *rcvbuf),
+        Command::BindAny {
+            host,
+            port,
+            sndbuf,
+            rcvbuf,
+        } => world.bind_any(*host, *port, *sndbuf, *rcvbuf),
+        Command::Send {
+            host,
+            port,
+            to,
+            dport,
+            payload,
+        } => world.send(*host, *port, *to, *dport, payload, steps),
+        Command::Recv { host, port } => world.recv(*host, *port),
+        Command::Cancel {
+            host,
+            port,
+            to,
+            dport,
+        } => world.cancel(*host, *port, *to, *dport, steps),
+        Command::Close { host, port } => world.close(*host, *port, steps),
+        Command::Open { host, to } => world.open(*host, *to),
+        Command::Move { host, to, bytes } => world.move_bytes(*host, *to, *bytes, steps),
+        Command::Cut { host, to } => world.cut(*host, *to),
+        Command::Drain => world.drain(steps),
+    }
+}

@@ -1,0 +1,58 @@
+ghost use Rattle.std.specs.Prelude.{◌≡◌, ◌≤◌, ◌<◌, ◌++◌, ℕ, List, IfOk, string_bytes};
+ghost use Rattle.rds_script.specs.Script.{IsScript};
+ghost use Rattle.rds_script.specs.Grammar.{meaning};
+ghost use Rattle.rds_model.specs.declared.journal.TheConstants.{MIN_ENTRIES, MAX_ENTRIES};
+ghost use Rattle.rds_history.specs.Events.{Event};
+ghost use Rattle.rds_history.specs.History.{course, final_hosts};
+ghost use Rattle.rds_history.specs.Transcript.{lines};
+ghost use Rattle.rds_text.specs.Lines.{end_line};
+ghost use Rattle.rds_report.specs.Report.{report as text_of_report};
+ghost use Rattle.rds_play.specs.Giving.{Gives};
+ghost use Rattle.rds_world.specs.Telling.{Tells, state};
+
+use crate::obey::obey;
+use rds_msgs::Steps;
+use rds_report::report;
+use rds_script::Script;
+use rds_world::{Stop, World};
+use std::alloc::Global;
+use std::marker::Brand;
+use std::sync::ledger::{Blank, Ledger};
+
+/// The transcript and the report of a script.
+pub fn text_of(alloc: Global, script: &Script, limit: u32) -> Result<String, Stop>
+    requires script { IsScript script.now }
+    requires least { MIN_ENTRIES ≤ limit }
+    requires most { limit ≤ MAX_ENTRIES }
+    ensures end { IfOk result (λ text. (lines : List ℕ) × (string_bytes text ≡ lines ++ end_line)) }
+    ensures exact { Gives (λ past made. string_bytes made ≡ lines past ++ text_of_report (final_hosts script.now.hosts past))
+        (course (meaning script.now) limit) result }
+{
+    let world = played::<Brand>(alloc, script, limit, Blank::new(1))?;
+    let (ends, mut text) = world.end()?;
+    report(alloc, &mut text, &ends)?;
+    Ok(text)
+}
+
+// What the commands of a script make.
+fn played<L: Ledger>(
+    alloc: Global,
+    script: &Script,
+    limit: u32,
+    blank: Blank,
+) -> Result<World, Stop>
+    requires script { IsScript script.now }
+    requires least { MIN_ENTRIES ≤ limit }
+    requires most { limit ≤ MAX_ENTRIES }
+    requires name { blank.name ≡ L.name }
+    requires parts { blank.parts ≡ L.parts }
+    requires whole { 0 < L.parts }
+    ensures { Gives (λ past world. Tells limit script.now.hosts past (state world)) (course (meaning script.now) limit) result }
+{
+    let mut steps: Steps<L> = Steps::new(blank);
+    let mut world = World::new(alloc, script.hosts, limit)?;
+    for placed in &script.commands {
+        obey(&mut world, &placed.command, &mut steps)?;
+    }
+    Ok(world)
+}
