@@ -1,32 +1,28 @@
 -- A world after bytes in flight went.
-use Rattle.std.proofs.Common.{◌≡◌, ◌≢◌, ◌⊎◌, inl, inr, ⊎_elim, ℕ, zero, suc, ◌+◌, ◌-◌, ◌<◌, ◌≤◌, ◌==◌, ◌&&◌, Bool, true, false, cond, Option, Some, None, Result, Ok, Err, List, [], ◌∷◌, ◌++◌, length, drop, refl, sym, ◌∙◌, ap, subst, arith}
+use Rattle.std.proofs.Common.{◌≡◌, ◌≢◌, inl, inr, ℕ, ◌-◌, ◌<◌, ◌≤◌, ◌==◌, ◌&&◌, Bool, true, false, cond, Option, Some, None, Result, Ok, Err, List, [], ◌∷◌, length, drop, refl, sym, ◌∙◌, ap, subst, arith}
 use Rattle.std.specs.Prelude.{IfOk, IsSome, if◌then◌else◌, min}
 use Rattle.std.specs.Option.{option_map_or}
-use Rattle.std.proofs.lemmas.Bool.{cond-true, cond-false, eq-eqb, ne_eqb, cases_Bool}
+use Rattle.std.proofs.lemmas.Bool.{cond-true, cond-false, eq-eqb, ne_eqb}
 use Rattle.std.proofs.lemmas.List.{drop-drop, length-drop}
 use Rattle.rds_wire.specs.declared.frame.Frame.{Frame}
 use Rattle.rds_model.specs.declared.entry.Entry.{Entry}
-use Rattle.rds_model.specs.declared.entry.Entry.TheVariants.{Accept, Read}
-use Rattle.rds_model.specs.declared.entry.Outcome.{Outcome}
-use Rattle.rds_model.specs.declared.entry.Outcome.TheVariants as outcome
 use Rattle.rds_model.specs.Past.{open_stream}
 use Rattle.rds_model.specs.Streams.{written_bytes}
 use Rattle.rds_model.specs.Sums.{last_pulled_frame}
 use Rattle.rds_joint.specs.Ends.{JointEnd}
-use Rattle.rds_joint.specs.OnTheWay.{HasAtMostOne, HasCome, IsGoing, IsIdle}
+use Rattle.rds_joint.specs.OnTheWay.{HasAtMostOne}
 use Rattle.rds_joint.specs.Steps.{came, came_from, went}
 use Rattle.rds_pair.specs.declared.error.PairError.{PairError}
-use Rattle.rds_mesh.specs.Ends.{ChangesPair, IsOtherPair, MeshView, end_at}
+use Rattle.rds_mesh.specs.Ends.{ChangesPair, MeshView, end_at}
 use Rattle.rds_mesh.specs.Known.{IsKnown}
 use Rattle.rds_history.specs.Events.{Event, Moved}
 use Rattle.rds_history.specs.Journals.{journal, moved_count, in_flight, written_to_open}
-use Rattle.rds_history.specs.Move.{move_piece, read_if_complete}
+use Rattle.rds_history.specs.Move.{move_piece}
 use Rattle.rds_history.specs.PullAndRead.{read}
-use Rattle.rds_hosts.specs.HostLaws.{untouched}
 use Rattle.rds_world.specs.declared.stop.Stop.{Stop}
-use Rattle.rds_world.specs.Happening.{FrameWaits, IsFed}
+use Rattle.rds_world.specs.Happening.{IsFed}
 use Rattle.rds_world.specs.Readiness.{or_memory}
-use Rattle.rds_world.specs.Telling.{PeersTell, State, Tells, TellsEnd, TellsWaiting, none_waits, one_waits}
+use Rattle.rds_world.specs.Telling.{State, Tells, TellsEnd, TellsWaiting, none_waits, one_waits}
 use Rattle.rds_world.proofs.Journaling.{moved_elsewhere, moved_here}
 use Rattle.rds_world.proofs.Ends.{IsStill, end_still}
 use Rattle.rds_world.proofs.Changing.{hosts_untouched, tells_changed, tells_same_waiting, waits_back, waits_elsewhere, waits_here}

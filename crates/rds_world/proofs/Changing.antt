@@ -1,5 +1,5 @@
 -- What a world tells after a change of two ends.
-use Rattle.std.proofs.Common.{◌≡◌, ◌≢◌, ℕ, ◌+◌, ◌<◌, ◌==◌, ◌&&◌, Bool, true, false, cond, Option, Some, None, Result, Ok, Err, List, ◌∷◌, ◌++◌, refl, sym, ◌∙◌, ap, subst}
+use Rattle.std.proofs.Common.{◌≡◌, ◌≢◌, ℕ, ◌==◌, ◌&&◌, Bool, true, false, cond, Option, None, Result, Ok, Err, List, ◌∷◌, refl, sym, ◌∙◌, subst}
 use Rattle.std.specs.Prelude.{OnOk}
 use Rattle.std.proofs.lemmas.Bool.{and_left, and_right, cond-false, ne_eqb, and_from, eq-eqb, eqb-true, cond-true}
 use Rattle.rds_wire.specs.declared.frame.Frame.{Frame}
@@ -17,7 +17,7 @@ use Rattle.rds_hosts.specs.HostLaws.{untouched}
 use Rattle.rds_world.specs.declared.peer_map.PeerMap.{PeerMap}
 use Rattle.rds_world.specs.declared.stop.Stop.{Stop}
 use Rattle.rds_world.specs.Readiness.{or_memory}
-use Rattle.rds_world.specs.Telling.{HostsTell, PeersTell, State, TellsEnd, TellsPeer, TellsWaiting, Waiting, none_waits, one_waits}
+use Rattle.rds_world.specs.Telling.{HostsTell, PeersTell, State, TellsEnd, TellsPeer, TellsWaiting, Waiting, one_waits}
 use Rattle.rds_world.proofs.Ends.{IsStill, ends_changed}
 
 -- a step that went well did what it says

@@ -24,7 +24,6 @@ use Rattle.rds_model.specs.Legal.{IsLegal, pong_for}
 use Rattle.rds_model.specs.LegalityLaws.{lawful_pull}
 use Rattle.rds_model.specs.Reading.{is_old, verdict_of, verdict_of_kind, verdict_of_ports}
 use Rattle.rds_model.specs.Sums.{last_pulled_frame}
-use Rattle.rds_conn.specs.declared.conn.Found.{Found}
 use Rattle.rds_conn.specs.declared.conn.Found.TheVariants as found
 use Rattle.rds_conn.specs.Passing.{delivery_of, outcome_of}
 use Rattle.rds_pair.specs.Changes.{found_for, pong_entries}
@@ -36,7 +35,7 @@ use Rattle.rds_history.specs.Events.{Event, Appended, Marked}
 use Rattle.rds_history.specs.Journals.{is_map_outcome, is_marked, journal, maps_read}
 use Rattle.rds_history.specs.Mark.{update_mark}
 use Rattle.rds_history.specs.PullAndRead.{answer, outcome_at, read, read_on}
-use Rattle.rds_history.specs.Sockets.{holder, queued, receive_buffer}
+use Rattle.rds_history.specs.Sockets.{queued, receive_buffer}
 use Rattle.rds_history.specs.Transcript.{entry_line, lines}
 use Rattle.rds_hosts.specs.declared.host.ScriptHost.{ScriptHost}
 use Rattle.rds_hosts.specs.Elsewhere.{delivers}
@@ -46,7 +45,7 @@ use Rattle.rds_world.specs.declared.peer_map.PeerMap.{PeerMap}
 use Rattle.rds_world.specs.declared.stop.Stop.{Stop}
 use Rattle.rds_world.specs.Happening.{FrameWaits, IsPlain, IsRead, outcome_here}
 use Rattle.rds_world.specs.Printing.{PrintsAlone}
-use Rattle.rds_world.specs.Telling.{HostsTell, PeersTell, State, Tells, TellsEnd, TellsPeer, TellsWaiting, none_waits, one_waits}
+use Rattle.rds_world.specs.Telling.{HostsTell, PeersTell, State, Tells, TellsEnd, TellsPeer, none_waits, one_waits}
 use Rattle.rds_world.proofs.Journaling.{journal_here, journal_there}
 use Rattle.rds_world.proofs.Replacing.{hosts_replaced, peers_replaced}
 use Rattle.rds_world.proofs.Ends.{IsStill, appended_elsewhere, end_quiet, end_still, still_then}

@@ -1,5 +1,5 @@
 -- A world after the frame that is owed was pulled.
-use Rattle.std.proofs.Common.{◌≡◌, ◌≢◌, ℕ, ◌+◌, ◌-◌, ◌<◌, ◌≤◌, ◌==◌, Option, Some, None, List, [], ◌∷◌, ◌++◌, length, drop, refl, sym, ◌∙◌, ap, subst, arith}
+use Rattle.std.proofs.Common.{◌≡◌, ◌≢◌, ℕ, ◌<◌, ◌≤◌, ◌==◌, Option, Some, None, List, [], ◌∷◌, ◌++◌, length, drop, refl, sym, ◌∙◌, ap, subst, arith}
 use Rattle.std.specs.Option.{option_map_or}
 use Rattle.std.specs.List.{flat_map}
 use Rattle.std.proofs.lemmas.Bool.{cond-true, eq-eqb}
@@ -14,7 +14,7 @@ use Rattle.rds_model.specs.Past.{accepted, open_stream}
 use Rattle.rds_model.specs.Streams.{pulled_frames, written_bytes}
 use Rattle.rds_joint.specs.Ends.{JointEnd}
 use Rattle.rds_joint.specs.Steps.{pulled, pulled_from, with_pull}
-use Rattle.rds_mesh.specs.Ends.{ChangesPair, IsOtherPair, end_at}
+use Rattle.rds_mesh.specs.Ends.{ChangesPair, end_at}
 use Rattle.rds_history.specs.Events.{Event, Appended}
 use Rattle.rds_history.specs.Journals.{journal, moved_count, in_flight, own_map, written_to_open}
 use Rattle.rds_history.specs.PullAndRead.{pull, pull_on}
@@ -22,7 +22,7 @@ use Rattle.rds_history.specs.Transcript.{entry_line, lines}
 use Rattle.rds_world.specs.Printing.{PrintsAlone}
 use Rattle.rds_world.specs.Telling.{State, Tells, TellsEnd, none_waits}
 use Rattle.rds_world.proofs.Journaling.{journal_here}
-use Rattle.rds_world.proofs.Ends.{IsStill, appended_elsewhere, end_still}
+use Rattle.rds_world.proofs.Ends.{appended_elsewhere, end_still}
 use Rattle.rds_world.proofs.Changing.{hosts_untouched, peers_no_map, tells_changed}
 
 -- what is written to a stream with one frame more

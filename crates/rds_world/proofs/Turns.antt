@@ -1,6 +1,6 @@
 -- The turns of a move.
-use Rattle.std.proofs.Common.{◌≡◌, ◌≢◌, ⊎_elim, ℕ, zero, suc, ◌+◌, ◌-◌, ◌<◌, ◌≤◌, ◌==◌, Bool, true, false, cond, Option, Some, None, Result, Ok, Err, List, [], ◌∷◌, ◌++◌, length, refl, sym, ◌∙◌, ap, subst, arith}
-use Rattle.std.specs.Prelude.{is_none, min, nat_eq, nat_lt}
+use Rattle.std.proofs.Common.{◌≡◌, ⊎_elim, ℕ, zero, suc, ◌+◌, ◌-◌, ◌<◌, ◌≤◌, ◌==◌, Bool, true, false, cond, Option, Some, None, Result, Ok, Err, List, [], ◌∷◌, ◌++◌, length, refl, sym, ◌∙◌, ap, subst, arith}
+use Rattle.std.specs.Prelude.{is_some, min, nat_eq, nat_lt, not}
 use Rattle.std.specs.Option.{option_eq, option_map, option_map_or}
 use Rattle.std.proofs.lemmas.Bool.{cases_eq, cond-true, cond-false, eq-eqb, eqb-false, eqb-true, ne_eqb, le-ltb, lt-ltb}
 use Rattle.rds_wire.specs.declared.frame.Frame.{Frame}
@@ -14,16 +14,16 @@ use Rattle.rds_model.specs.Sums.{last_pulled_frame}
 use Rattle.rds_cong.specs.Limit.{congested_after}
 use Rattle.rds_text.specs.Lines.{move_line}
 use Rattle.rds_history.specs.Events.{Event, Appended, Marked, Moved}
-use Rattle.rds_history.specs.Courses.{Course, Full, again, and_then, if_room, prints}
+use Rattle.rds_history.specs.Courses.{Course, again, and_then, if_room, prints}
 use Rattle.rds_history.specs.Journals.{in_flight, is_marked, journal, moved_in_all, own_map}
 use Rattle.rds_history.specs.Mark.{if_changed, update_mark}
-use Rattle.rds_history.specs.Move.{arrive, bytes_left, move_and_tell, move_piece, move_up_to, portion, pull_if_idle, read_if_complete, turn}
+use Rattle.rds_history.specs.Move.{arrive, bytes_left, move_and_tell, move_piece, move_up_to, portion, pull_if_idle, turn}
 use Rattle.rds_history.specs.PullAndRead.{answer, outcome_at, pull, pull_on, read, read_on}
 use Rattle.rds_history.specs.Sockets.{queued, receive_buffer}
 use Rattle.rds_world.specs.declared.stop.Stop.{Stop}
 use Rattle.rds_world.specs.declared.stop.Stop.TheVariants as stop
 use Rattle.rds_world.specs.Coming.{Comes, ComesRight, ComesWaiting}
-use Rattle.rds_world.specs.Readiness.{IsMemory, LacksMemory}
+use Rattle.rds_world.specs.Readiness.{IsMemory}
 use Rattle.rds_world.specs.Telling.{State, Tells, TellsWaiting, Waiting, none_waits}
 use Rattle.rds_world.proofs.Comings.{comes_lacking, comes_printed}
 
@@ -366,5 +366,8 @@ pub told_stopped : {A : Type 0} (B : Type 0) (IsRight : List Event → A → Typ
 told_stopped B IsRight limit hosts (Ok past) next why s t comes = comes_lacking B none_waits limit hosts (next past) why t comes
 told_stopped B IsRight limit hosts (Err full) next why s t comes = comes
 
-pub some_stream : (o : Option ℕ) (b : Bool) → b ≡ is_none o → b ≡ false → o ≡ None → ⊥
-some_stream o b is no_ none = let yes_ : is_none o ≡ true = ap (λ (x : Option ℕ). is_none x) none in let odd = sym no_ ∙ is ∙ yes_ in cc
+pub some_stream : (o : Option ℕ) (b : Bool) → is_some o ≡ not b → b ≡ false → o ≡ None → ⊥
+some_stream o b is no_ none =
+    let some : is_some o ≡ true = is ∙ ap (λ (x : Bool). not x) no_ in
+    let odd : is_some o ≡ false = ap (λ (x : Option ℕ). is_some x) none in
+    let both = sym odd ∙ some in cc

@@ -1,10 +1,8 @@
-use Rattle.std.proofs.Common.{◌≡◌, ℕ, ◌+◌, ◌<◌, ◌≤◌, ◌∷◌, Result, Ok, Err, List, [], length, refl, sym, ◌∙◌, ap, subst, arith, rules}
+use Rattle.std.proofs.Common.{◌≡◌, ℕ, ◌<◌, Result, Ok, Err, List, length, sym, ◌∙◌, ap, subst, arith}
 use Rattle.std.proofs.lemmas.Grind.{common_steps}
-use Rattle.rds_history.specs.Courses.{Course, and_then, if_room}
-use Rattle.rds_history.specs.Events.{Event}
+use Rattle.rds_history.specs.Courses.{Course, if_room}
 use Rattle.rds_history.specs.Journals.{in_flight}
 use Rattle.rds_history.specs.Move.{arrive, move_piece, portion}
-use Rattle.rds_mesh.specs.Ends.{end_at}
 use Rattle.rds_world.specs.declared.stop.Stop.{Stop}
 use Rattle.rds_world.specs.Coming.{ComesRight}
 use Rattle.rds_world.specs.Telling.{none_waits, state}

@@ -1,12 +1,11 @@
-use Rattle.std.proofs.Common.{◌≡◌, ◌<◌, ◌∷◌, Some, refl, sym, ◌∙◌, ap, subst}
+use Rattle.std.proofs.Common.{◌≡◌, ◌<◌, ◌∷◌, Some, refl, ◌∙◌, subst}
 use Rattle.rds_model.specs.declared.entry.Entry.TheVariants.{Read}
-use Rattle.rds_model.specs.declared.entry.Outcome.{Outcome}
 use Rattle.rds_model.specs.declared.entry.Outcome.TheVariants as outcome
 use Rattle.rds_history.specs.Events.{Appended}
 use Rattle.rds_mesh.specs.Ends.{end_at}
-use Rattle.rds_world.specs.Happening.{IsRead, outcome_here}
-use Rattle.rds_world.specs.Telling.{State, Tells, state}
-use Rattle.rds_world.proofs.Changing.{IsNoMap, peers_no_map}
+use Rattle.rds_world.specs.Happening.{IsRead}
+use Rattle.rds_world.specs.Telling.{Tells, state}
+use Rattle.rds_world.proofs.Changing.{peers_no_map}
 use Rattle.rds_world.proofs.Passing.{end_waits, here_on, ok_then, read_after, tells_read}
 use Rattle.rds_world.proofs.world.World.deliver.Goals as goal
 

@@ -1,7 +1,4 @@
-use Rattle.std.proofs.Common.{◌≡◌, ℕ, ◌<◌, refl, ◌∙◌, sym, ap, subst}
-use Rattle.std.specs.Prelude.{OnOk}
-use Rattle.rds_joint.specs.Steps.{came, went}
-use Rattle.rds_mesh.specs.Ends.{ChangesPair, end_at}
+use Rattle.std.proofs.Common.{◌<◌, refl, ◌∙◌, subst}
 use Rattle.rds_world.specs.Telling.{state}
 use Rattle.rds_world.proofs.Arriving.{fed_well, tells_fed}
 use Rattle.rds_world.proofs.world.World.feed.Goals as goal

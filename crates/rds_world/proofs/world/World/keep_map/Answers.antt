@@ -1,16 +1,12 @@
-use Rattle.std.proofs.Common.{◌≡◌, ℕ, ◌+◌, ◌*◌, ◌<◌, ◌≤◌, ◌∷◌, Some, None, List, get_or, length, sym, ◌∙◌, ap, subst, arith}
+use Rattle.std.proofs.Common.{◌≡◌, ℕ, ◌+◌, ◌*◌, ◌<◌, Some, List, get_or, length, sym, ◌∙◌, ap, subst, arith}
 use Rattle.std.specs.Option.{option_copied}
 use Rattle.rds_wire.specs.declared.frame.Frame.{Frame}
 use Rattle.rds_model.specs.declared.entry.Entry.{Entry}
-use Rattle.rds_model.specs.declared.entry.Entry.TheVariants.{Read}
-use Rattle.rds_model.specs.declared.entry.Outcome.TheVariants as outcome
 use Rattle.rds_model.specs.Sums.{last_pulled_frame}
-use Rattle.rds_history.specs.Events.{Appended}
 use Rattle.rds_history.specs.Journals.{journal}
 use Rattle.rds_mesh.specs.Ends.{end_at}
-use Rattle.rds_world.specs.Telling.{PeersTell, state}
-use Rattle.rds_world.proofs.Changing.{waits_back}
-use Rattle.rds_world.proofs.Passing.{chunk_is, end_waits, few_versions, kept_here, map_long, ok_then, ok_both, pulled_whole, some_same}
+use Rattle.rds_world.specs.Telling.{state}
+use Rattle.rds_world.proofs.Passing.{chunk_is, end_waits, few_versions, kept_here, map_long, ok_both, pulled_whole, some_same}
 use Rattle.rds_world.proofs.world.World.keep_map.Goals as goal
 
 pub returns-in-Some-first_chunk-clause-kept : goal.returns-in-Some-first_chunk-clause-kept

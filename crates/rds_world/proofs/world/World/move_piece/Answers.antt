@@ -1,4 +1,4 @@
-use Rattle.std.proofs.Common.{◌≡◌, ℕ, ◌<◌, List, [], ◌∷◌, length, sym, ◌∙◌, ap, subst, arith}
+use Rattle.std.proofs.Common.{◌≡◌, ℕ, ◌<◌, List, [], ◌∷◌, length, ap, subst, arith}
 use Rattle.std.specs.Prelude.{OnOk}
 use Rattle.rds_history.specs.Events.{Event, Moved}
 use Rattle.rds_history.specs.Journals.{in_flight}

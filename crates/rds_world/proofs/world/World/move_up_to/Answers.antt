@@ -1,5 +1,4 @@
-use Rattle.std.proofs.Common.{◌≡◌, ◌+◌, ◌∙◌, ap, subst, arith}
-use Rattle.rds_world.specs.Telling.{state}
+use Rattle.std.proofs.Common.{arith}
 use Rattle.rds_world.proofs.world.World.move_up_to.Goals as goal
 
 pub returns-clause-course : goal.returns-clause-course

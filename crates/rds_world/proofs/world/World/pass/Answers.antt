@@ -1,5 +1,4 @@
-use Rattle.std.proofs.Common.{◌≡◌, List, length, ◌∙◌, ap}
-use Rattle.std.specs.Prelude.{string_bytes}
+use Rattle.std.proofs.Common.{List, length, ◌∙◌, ap}
 use Rattle.rds_model.specs.declared.entry.Entry.{Entry}
 use Rattle.rds_joint.specs.Steps.{passed}
 use Rattle.rds_mesh.specs.Ends.{ChangesPair, end_at}

@@ -1,4 +1,4 @@
-use Rattle.std.proofs.Common.{◌≡◌, ℕ, ◌<◌, ◌∷◌, ◌++◌, List, get_or, length, refl, ◌∙◌, ap, subst}
+use Rattle.std.proofs.Common.{◌≡◌, ◌<◌, List, get_or, length, refl, ◌∙◌, ap, subst}
 use Rattle.rds_model.specs.declared.entry.Entry.{Entry}
 use Rattle.rds_joint.specs.Steps.{pulled}
 use Rattle.rds_mesh.specs.Ends.{ChangesPair, end_at}

@@ -1,4 +1,4 @@
-use Rattle.std.proofs.Common.{◌≡◌, ◌<◌, subst}
+use Rattle.std.proofs.Common.{◌<◌, subst}
 use Rattle.rds_history.specs.Journals.{journal}
 use Rattle.rds_mesh.specs.Ends.{end_at}
 use Rattle.rds_world.specs.Telling.{state}

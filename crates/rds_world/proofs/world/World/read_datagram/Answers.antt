@@ -2,14 +2,12 @@ use Rattle.std.proofs.Common.{◌≡◌, ℕ, ◌<◌, ◌∷◌, Option, Some, 
 use Rattle.std.specs.Prelude.{OnOk}
 use Rattle.std.specs.Option.{option_map_or}
 use Rattle.rds_model.specs.declared.entry.Entry.TheVariants.{Read}
-use Rattle.rds_model.specs.declared.entry.Outcome.{Outcome}
 use Rattle.rds_model.specs.declared.entry.Outcome.TheVariants as outcome
 use Rattle.rds_model.specs.declared.entry.Verdict.TheVariants as verdict
 use Rattle.rds_history.specs.Events.{Event, Appended}
 use Rattle.rds_history.specs.Journals.{journal}
 use Rattle.rds_history.specs.Mark.{update_mark}
 use Rattle.rds_history.specs.Sockets.{holder}
-use Rattle.rds_mesh.specs.Ends.{end_at}
 use Rattle.rds_world.specs.Telling.{Tells, state}
 use Rattle.rds_world.proofs.Passing.{delivered_here, port_is, read_on_as, read_plainly}
 use Rattle.rds_world.proofs.world.World.read_datagram.Goals as goal

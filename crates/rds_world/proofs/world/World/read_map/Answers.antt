@@ -1,4 +1,4 @@
-use Rattle.std.proofs.Common.{◌≡◌, ◌<◌, ◌∷◌, Some, None, List, refl, sym, ◌∙◌, ap, subst}
+use Rattle.std.proofs.Common.{◌≡◌, ◌<◌, ◌∷◌, Some, None, List, refl, ◌∙◌, subst}
 use Rattle.std.specs.Prelude.{OnOk}
 use Rattle.rds_model.specs.declared.entry.Entry.TheVariants.{Read}
 use Rattle.rds_model.specs.declared.entry.Outcome.TheVariants as outcome
@@ -7,7 +7,7 @@ use Rattle.rds_history.specs.Events.{Event, Appended}
 use Rattle.rds_history.specs.Journals.{journal}
 use Rattle.rds_mesh.specs.Ends.{end_at}
 use Rattle.rds_world.specs.Happening.{IsRead, outcome_here}
-use Rattle.rds_world.specs.Telling.{State, Tells, state}
+use Rattle.rds_world.specs.Telling.{Tells, state}
 use Rattle.rds_world.proofs.Changing.{hosts_untouched}
 use Rattle.rds_world.proofs.Passing.{end_waits, here_on, ok_then, outcome_here_is, read_after, read_on_as, tells_read}
 use Rattle.rds_world.proofs.world.World.read_map.Goals as goal

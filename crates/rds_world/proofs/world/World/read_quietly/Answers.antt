@@ -1,4 +1,4 @@
-use Rattle.std.proofs.Common.{◌≡◌, ◌<◌, ◌∷◌, sym, ◌∙◌, subst, Some, None}
+use Rattle.std.proofs.Common.{◌<◌, ◌∷◌, ◌∙◌, subst, Some, None}
 use Rattle.rds_model.specs.declared.entry.Entry.TheVariants.{Read}
 use Rattle.rds_history.specs.Events.{Appended}
 use Rattle.rds_mesh.specs.Ends.{end_at}

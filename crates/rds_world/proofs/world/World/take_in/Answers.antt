@@ -1,11 +1,11 @@
-use Rattle.std.proofs.Common.{◌≡◌, ℕ, ◌<◌, ◌∷◌, Some, None, get_or, length, sym, ◌∙◌, ap, subst, arith}
+use Rattle.std.proofs.Common.{◌≡◌, ◌<◌, ◌∷◌, Some, None, get_or, length, sym, ◌∙◌, ap, subst, arith}
 use Rattle.std.specs.Option.{option_copied}
 use Rattle.rds_wire.specs.declared.frame.Frame.{Frame}
 use Rattle.rds_model.specs.declared.entry.Entry.TheVariants.{Read}
 use Rattle.rds_model.specs.declared.entry.Outcome.TheVariants as outcome
 use Rattle.rds_history.specs.Events.{Appended}
 use Rattle.rds_hosts.specs.Telling.{TellsHost}
-use Rattle.rds_world.specs.Telling.{HostsTell, state}
+use Rattle.rds_world.specs.Telling.{state}
 use Rattle.rds_world.proofs.Passing.{end_waits, ok_then, queued_here, some_same}
 use Rattle.rds_world.proofs.world.World.take_in.Goals as goal
 

@@ -1,6 +1,6 @@
-use Rattle.std.proofs.Common.{◌≡◌, ℕ, ◌+◌, Option, Some, Result, Ok, Err, refl, sym, ◌∙◌, ap, subst, arith, rules}
+use Rattle.std.proofs.Common.{◌≡◌, ℕ, ◌+◌, Result, Ok, Err, sym, ◌∙◌, ap, subst, arith}
 use Rattle.std.proofs.lemmas.Grind.{common_steps}
-use Rattle.rds_history.specs.Courses.{Course, and_then}
+use Rattle.rds_history.specs.Courses.{Course}
 use Rattle.rds_history.specs.Move.{arrive, pull_if_idle, turn}
 use Rattle.rds_world.specs.declared.stop.Stop.{Stop}
 use Rattle.rds_world.specs.Coming.{ComesRight}
