@@ -14,7 +14,9 @@ ghost use Rattle.rds_history.specs.WorkedScripts.{hello, text_of_hello, cut_canc
 mod limits;
 pub mod sound;
 
-pub use limits::{drained_is_quiet, moved_was_written, rounds_suffice, turns_suffice};
+pub use limits::{
+    drained_is_quiet, moved_was_written, moves_go_forward, rounds_suffice, turns_suffice,
+};
 
 /// Each socket hands out what was delivered to it, in order.
 pub fn in_order()

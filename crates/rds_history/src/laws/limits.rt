@@ -1,11 +1,12 @@
 //! The step limits in the definitions of a move and of a drain are no part of what is promised.
-ghost use Rattle.std.specs.Prelude.{◌≡◌, ◌≢◌, ◌<◌, ◌≤◌, ◌+◌, ℕ, Ok, Option, List, []};
+ghost use Rattle.std.specs.Prelude.{◌≡◌, ◌≢◌, ◌<◌, ◌≤◌, ◌+◌, ℕ, Ok, Option, None, List, []};
 ghost use Rattle.rds_script.specs.declared.script.Command.{Command};
 ghost use Rattle.rds_script.specs.declared.script.Placed.{Placed};
 ghost use Rattle.rds_text.specs.declared.host.TheConstants.{MAX_HOSTS};
 ghost use Rattle.rds_history.specs.Events.{Event};
 ghost use Rattle.rds_history.specs.Courses.{again};
 ghost use Rattle.rds_history.specs.Drain.{drain, round, rounds};
+ghost use Rattle.rds_history.specs.Journals.{moved_in_all};
 ghost use Rattle.rds_history.specs.Move.{move_up_to};
 ghost use Rattle.rds_history.specs.History.{after, history};
 ghost use Rattle.rds_history.specs.Limits.{MovesOnlyWritten, IsMoved, IsDrained, turn_up_to};
@@ -29,6 +30,11 @@ pub fn turns_suffice()
         move_up_to limit h k most past ≡ Ok later → IsMoved h k most later }
     ensures still { (limit h k : ℕ) (most : Option ℕ) (past later : List Event) → MovesOnlyWritten past →
         move_up_to limit h k most past ≡ Ok later → turn_up_to limit h k most later ≡ Ok later }
+{}
+
+/// A move without a limit takes back no byte.
+pub fn moves_go_forward()
+    ensures { (limit h k : ℕ) (past later : List Event) → move_up_to limit h k None past ≡ Ok later → moved_in_all past ≤ moved_in_all later }
 {}
 
 /// A drain has enough rounds between as many hosts as a script may have: any greater number of them comes to the same,
