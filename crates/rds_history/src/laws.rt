@@ -9,7 +9,7 @@ ghost use Rattle.rds_history.specs.Events.{Event};
 ghost use Rattle.rds_history.specs.History.{after, history, text_of};
 ghost use Rattle.rds_history.specs.InOrder.{HandsOutInOrder};
 ghost use Rattle.rds_history.specs.Journals.{is_marked, own_map};
-ghost use Rattle.rds_history.specs.WorkedScripts.{hello, text_of_hello, cut_cancel_ping_congestion, text_of_cut_cancel_ping_congestion};
+ghost use Rattle.rds_history.specs.WorkedScripts.{hello, text_of_hello, cut_cancel_ping_congestion, text_of_cut_cancel_ping_congestion, three_hosts, text_of_three_hosts};
 
 mod limits;
 pub mod sound;
@@ -46,4 +46,10 @@ pub fn text_of_one_datagram()
 /// The definitions give the whole text of a script with a cut, a cancellation, a ping and a congested port.
 pub fn text_of_cut_cancel_ping_congestion()
     ensures { text_of 2 (history 100 2 cut_cancel_ping_congestion []) ≡ text_of_cut_cancel_ping_congestion }
+{}
+
+/// The definitions give the whole text of a script between three hosts, with a cut, a cancellation, a ping and a congested
+/// port.
+pub fn text_of_three_hosts()
+    ensures { text_of 3 (history 100 3 three_hosts []) ≡ text_of_three_hosts }
 {}

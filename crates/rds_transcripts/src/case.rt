@@ -6,16 +6,23 @@ use std::alloc::{AllocError, Global};
 pub struct Case {
     /// What the script shows.
     pub name: String,
-    /// At how many entries a journal is full, where that isn't the program's own limit.
-    pub limit: Option<u32>,
+    /// How many entries a journal may hold, where that isn't the program's own limit.
+    pub limits: Option<Limits>,
     pub script: String,
     pub expected: String,
     // Whether the lines that come belong to the text.
     is_text: bool,
 }
 
-/// The cases of a file. Each begins with a line `== NAME` or `== NAME LIMIT`; its script follows, then a line `--`, then
-/// the text. What stands before the first case is a remark.
+/// The limits with which a script prints one text: each number from `least` to `most`.
+#[derive(Clone, Copy)]
+pub struct Limits {
+    pub least: u32,
+    pub most: u32,
+}
+
+/// The cases of a file. Each begins with a line `== NAME`, `== NAME LIMIT` or `== NAME LEAST-MOST`; its script follows, then
+/// a line `--`, then the text. What stands before the first case is a remark.
 pub fn cases(alloc: Global, text: &str) -> anyhow::Result<Vec<Case>> {
     let mut found = Vec::new(alloc);
     for line in text.lines() {
@@ -35,16 +42,27 @@ fn add_line(cases: &mut Vec<Case>, line: &str) -> Result<(), AllocError> {
     }
 }
 
+impl Limits {
+    // `7` is that number alone; `7-60` is each from 7 to 60.
+    fn named(words: &str) -> anyhow::Result<Limits> {
+        let (least, most) = words.split_once("-").unwrap_or((words, words));
+        Ok(Limits {
+            least: least.parse::<u32>()?,
+            most: most.parse::<u32>()?,
+        })
+    }
+}
+
 impl Case {
     // A case without lines, from what stands behind its mark.
     fn named(alloc: Global, head: &str) -> anyhow::Result<Case> {
-        let (name, limit) = match head.split_once(" ") {
-            Some((name, limit)) => (name, Some(limit.parse::<u32>()?)),
+        let (name, limits) = match head.split_once(" ") {
+            Some((name, limits)) => (name, Some(Limits::named(limits)?)),
             None => (head, None),
         };
         Ok(Case {
             name: String::from_str(alloc, name)?,
-            limit,
+            limits,
             script: String::new(alloc),
             expected: String::new(alloc),
             is_text: false,

@@ -8,8 +8,8 @@ mod expected;
 mod playing;
 mod tally;
 
-use crate::case::cases;
-use crate::playing::{answer_to, printed};
+use crate::case::{Case, cases};
+use crate::playing::{answer_to, played_within};
 use crate::tally::Tally;
 use std::alloc::Global;
 use std::fs;
@@ -18,7 +18,7 @@ use std::process::ExitCode;
 use std::rt::Files;
 
 /// The files of cases, each named for what its scripts show.
-const FILES: [&str; 13] = [
+const FILES: [&str; 14] = [
     "binds.cases",
     "sends.cases",
     "receives.cases",
@@ -31,6 +31,7 @@ const FILES: [&str; 13] = [
     "pings.cases",
     "hosts.cases",
     "full_journals.cases",
+    "each_limit.cases",
     "refused_texts.cases",
 ];
 
@@ -69,8 +70,31 @@ where
 {
     let text = fs::read_to_string(rt, file)?;
     for case in cases(alloc, text.as_str())? {
-        let found = printed(alloc, &case)?;
-        tally.count(rt, file, case.name.as_str(), &found, case.expected.as_str())?;
+        try_case(rt, alloc, file, &case, tally)?;
+    }
+    Ok(())
+}
+
+// Plays a case by the program's own call, or by `play` with each of its limits.
+fn try_case<R: Files + Print>(
+    rt: &R,
+    alloc: Global,
+    file: &str,
+    case: &Case,
+    tally: &mut Tally,
+) -> anyhow::Result<()>
+where
+    R: AllocGlobal,
+{
+    let (script, expected) = (case.script.as_bytes(), case.expected.as_str());
+    let Some(limits) = case.limits else {
+        let found = answer_to(alloc, script)?;
+        return tally.count(rt, file, case.name.as_str(), &found, expected);
+    };
+    for limit in limits.least..=limits.most {
+        let found = played_within(alloc, script, limit)?;
+        let name = format!(in alloc; "{} {limit}", case.name)?;
+        tally.count(rt, file, name.as_str(), &found, expected)?;
     }
     Ok(())
 }

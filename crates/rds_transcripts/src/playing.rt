@@ -1,21 +1,12 @@
 ghost use Rattle.std.specs.Prelude.{◌≤◌};
 ghost use Rattle.rds_model.specs.declared.journal.TheConstants.{MIN_ENTRIES, MAX_ENTRIES};
 
-use crate::case::Case;
 use rds_link::{MemSink, MemSource};
 use rds_model::{MAX_ENTRIES, MIN_ENTRIES};
 use rds_play::{PlayEnd, play};
 use rds_run::rds_main;
 use rds_script::{Script, ScriptError, read};
 use std::alloc::Global;
-
-/// What playing a case prints: by the program's own call, or by `play` where the case has a limit of its own.
-pub fn printed(alloc: Global, case: &Case) -> anyhow::Result<Vec<u8>> {
-    match case.limit {
-        None => answer_to(alloc, case.script.as_bytes()),
-        Some(limit) => played_within(alloc, case.script.as_bytes(), limit),
-    }
-}
 
 /// What `rds play` prints where a script comes on its input.
 pub fn answer_to(alloc: Global, script: &[u8]) -> anyhow::Result<Vec<u8>> {
@@ -27,8 +18,8 @@ pub fn answer_to(alloc: Global, script: &[u8]) -> anyhow::Result<Vec<u8>> {
     told(alloc, &sink, status == 6)
 }
 
-// What `play` prints where a journal holds at most so many entries.
-fn played_within(alloc: Global, text: &[u8], limit: u32) -> anyhow::Result<Vec<u8>> {
+/// What `play` prints where a journal holds at most so many entries.
+pub fn played_within(alloc: Global, text: &[u8], limit: u32) -> anyhow::Result<Vec<u8>> {
     let Ok(script) = read(alloc, text) else {
         return Err(anyhow::anyhow!("a refused script with a limit"));
     };
