@@ -142,8 +142,14 @@ ends_of_fault source sink s risen (inr failed) begun =
 last_line : (all a b e : List ℕ) → all ≡ a ++ (b ++ e) → (front : List ℕ) × (all ≡ front ++ e)
 last_line all a b e is = (a ++ b, is ∙ sym (append_assoc a b e))
 
-pub ends_in_end_line : (m : Meaning) (before after : Option (List ℕ)) → IsPlayed m before after →
+ends_in_end_line : (m : Meaning) (before after : Option (List ℕ)) → IsPlayed m before after →
     (front : List ℕ) × SinkGained before after (front ++ end_line)
 ends_in_end_line m before after played =
     let last = last_line (text m MAX_ENTRIES) (lines played.past) _ end_line (ap (text_of m.hosts) played.leads) in
     (last.0, subst (SinkGained before after) last.1 played.written)
+
+pub last_of_written : (source : SourceSeen) (sink : SinkSeen) (s : Status) → IsEndOfCall source sink s → s ≡ ended.Written →
+    (front : List ℕ) × SinkGained sink.held_before sink.held_after (front ++ end_line)
+last_of_written source sink s ends is =
+    let played = subst (IsEndOfCall source sink) is ends in
+    ends_in_end_line played.0 sink.held_before sink.held_after played.2
