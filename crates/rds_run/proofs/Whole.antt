@@ -1,15 +1,21 @@
 -- What is read of a source is the whole of its text, unless that is too large; and what follows for the answers of a call.
-use Rattle.std.proofs.Common.{◌≡◌, ◌⊎◌, inl, inr, ℕ, ◌+◌, ◌≤◌, List, length, take, Option, Some, None, refl, sym, ap, subst, ◌∙◌, arith}
+use Rattle.std.proofs.Common.{◌≡◌, ◌⊎◌, inl, inr, ℕ, ◌+◌, ◌≤◌, List, ◌++◌, append_assoc, length, take, Option, Some, None, refl, sym, ap, subst, ◌∙◌, arith}
 use Rattle.std.proofs.lemmas.List.{length-take, take_all}
-use Rattle.rds_link.specs.Streaming.{SourceGaveFront}
+use Rattle.rds_link.specs.Streaming.{SourceGaveFront, HasRisen, SinkGained, SinkGainedFront}
+use Rattle.rds_model.specs.declared.journal.TheConstants.{MAX_ENTRIES}
+use Rattle.rds_history.specs.History.{text, text_of}
+use Rattle.rds_history.specs.Transcript.{lines}
+use Rattle.rds_text.specs.Lines.{end_line}
 use Rattle.rds_script.specs.declared.script.TheConstants.{MAX_TEXT}
 use Rattle.rds_script.specs.declared.cause.Cause.{Cause}
 use Rattle.rds_script.specs.declared.cause.Cause.TheVariants as cause
+use Rattle.rds_script.specs.Cause.{cause_text}
 use Rattle.rds_script.specs.Grammar.{Meaning, Spells}
 use Rattle.rds_script.specs.Refusal.{Refused}
 use Rattle.rds_run.specs.declared.status.Status.{Status}
 use Rattle.rds_run.specs.declared.status.Status.TheVariants as ended
-use Rattle.rds_run.specs.ExitStatus.{SourceSeen, SinkSeen, IsSpelled, IsRefusedAt, IsToldRefused, IsEndOfRefusal, IsEndOfPlay, IsEndOfCall}
+use Rattle.rds_run.specs.ExitStatus.{SourceSeen, SinkSeen, IsSpelled, IsRefusedAt, IsToldSpelled, IsToldRefused, IsPlayed, HasTaken, OfReadFault, OfRefusal, OfScript, IsEndOfRefusal, IsEndOfPlay, IsEndOfCall}
+use Rattle.rds_run.specs.Texts.{bad_line, read_fault_line}
 
 -- what is no longer than a script may be was read to its end
 whole : (all text : List ℕ) → text ≡ take (MAX_TEXT + 1) all → length text ≤ MAX_TEXT → text ≡ all
@@ -46,8 +52,8 @@ refused_whole all text line why handed refused (inr within) = subst (λ t. Refus
 
 refused_at : (left : Option (List ℕ)) (text : List ℕ) (line : ℕ) (why : Cause) → SourceGaveFront left (MAX_TEXT + 1) text →
     Refused text line why → IsRefusedAt left line why
-refused_at None text line why handed refused = tt
-refused_at (Some all) text line why handed refused = refused_whole all text line why handed refused (small text line why refused)
+refused_at None text line why handed refused = (text, tt, refused)
+refused_at (Some all) text line why handed refused = (all, refl, refused_whole all text line why handed refused (small text line why refused))
 
 -- and so is its front where the whole is
 refused_front : (all text : List ℕ) (line : ℕ) (why : Cause) → text ≡ take (MAX_TEXT + 1) all → Refused all line why →
@@ -71,18 +77,26 @@ pub refuses_same : (l line : ℕ) (c why : Cause) (sink : SinkSeen) (s : Status)
 refuses_same l line c why sink s same came =
     subst (λ k. IsEndOfRefusal line k sink s) same.1 (subst (λ n. IsEndOfRefusal n c sink s) same.0 came)
 
-spelled : (left : Option (List ℕ)) (text : List ℕ) (s : Meaning) → SourceGaveFront left (MAX_TEXT + 1) text → Spells text s → IsSpelled left
-spelled None text s handed spells = tt
-spelled (Some all) text s handed spells = (s, subst (λ t. Spells t s) (whole all text handed spells.small) spells)
+-- what is read of a source spells a script where its bytes do
+spelled : (left : Option (List ℕ)) (text : List ℕ) (m : Meaning) → SourceGaveFront left (MAX_TEXT + 1) text → Spells text m → IsSpelled left m
+spelled None text m handed spells = (text, tt, spells)
+spelled (Some all) text m handed spells = (text, whole all text handed spells.small, spells)
 
-ends_of_spelled : (source : SourceSeen) (sink : SinkSeen) (s : Status) → IsSpelled source.left → IsEndOfPlay sink s → IsEndOfCall source sink s
-ends_of_spelled source sink ended.Written read played = (read, played)
-ends_of_spelled source sink ended.Refused read played = absurd played
-ends_of_spelled source sink ended.Usage read played = absurd played
-ends_of_spelled source sink ended.ReadFault read played = absurd played
-ends_of_spelled source sink ended.WriteFault read played = played
-ends_of_spelled source sink ended.Memory read played = tt
-ends_of_spelled source sink ended.Spent read played = (read, played)
+pub spelled_told : (left : Option (List ℕ)) (text : List ℕ) (m : Meaning) → SourceGaveFront left (MAX_TEXT + 1) text →
+    IsToldSpelled left m → Spells text m
+spelled_told None text m handed spells = absurd spells
+spelled_told (Some all) text m handed spells =
+    subst (λ t. Spells t m) (sym (handed ∙ take_all (MAX_TEXT + 1) all (omega (arith, spells.small)))) spells
+
+ends_of_spelled : (source : SourceSeen) (sink : SinkSeen) (m : Meaning) (s : Status) → IsSpelled source.left m → IsEndOfPlay m sink s →
+    IsEndOfCall source sink s
+ends_of_spelled source sink m ended.Written read played = (m, read, played)
+ends_of_spelled source sink m ended.Refused read played = absurd played
+ends_of_spelled source sink m ended.Usage read played = absurd played
+ends_of_spelled source sink m ended.ReadFault read played = absurd played
+ends_of_spelled source sink m ended.WriteFault read played = (text m MAX_ENTRIES, OfScript m read, played)
+ends_of_spelled source sink m ended.Memory read played = played
+ends_of_spelled source sink m ended.Spent read played = (m, read, played)
 
 ends_of_refusal : (line : ℕ) (why : Cause) (source : SourceSeen) (sink : SinkSeen) (s : Status) → IsRefusedAt source.left line why →
     IsEndOfRefusal line why sink s → IsEndOfCall source sink s
@@ -90,17 +104,57 @@ ends_of_refusal line why source sink ended.Written at refused = absurd refused
 ends_of_refusal line why source sink ended.Refused at refused = (line, why, at, refused)
 ends_of_refusal line why source sink ended.Usage at refused = absurd refused
 ends_of_refusal line why source sink ended.ReadFault at refused = absurd refused
-ends_of_refusal line why source sink ended.WriteFault at refused = refused
-ends_of_refusal line why source sink ended.Memory at refused = tt
+ends_of_refusal line why source sink ended.WriteFault at refused = (bad_line line (cause_text why), OfRefusal line why at, refused)
+ends_of_refusal line why source sink ended.Memory at refused = refused
 ends_of_refusal line why source sink ended.Spent at refused = absurd refused
 
 -- what a played script leaves is how a call may end
 pub ends_of_played : (text : List ℕ) (m : Meaning) (source : SourceSeen) (sink : SinkSeen) (s : Status) →
-    SourceGaveFront source.left (MAX_TEXT + 1) text → Spells text m → IsEndOfPlay sink s → IsEndOfCall source sink s
-ends_of_played text m source sink s handed spells played = ends_of_spelled source sink s (spelled source.left text m handed spells) played
+    SourceGaveFront source.left (MAX_TEXT + 1) text → Spells text m → IsEndOfPlay m sink s → IsEndOfCall source sink s
+ends_of_played text m source sink s handed spells played = ends_of_spelled source sink m s (spelled source.left text m handed spells) played
 
 -- and so is what a refused text leaves
 pub ends_of_refused : (text : List ℕ) (line : ℕ) (why : Cause) (source : SourceSeen) (sink : SinkSeen) (s : Status) →
     SourceGaveFront source.left (MAX_TEXT + 1) text → Refused text line why → IsEndOfRefusal line why sink s → IsEndOfCall source sink s
 ends_of_refused text line why source sink s handed refused came =
     ends_of_refusal line why source sink s (refused_at source.left text line why handed refused) came
+
+-- a played script ends in one of three ways, where the sink does not fail
+pub plays : (m : Meaning) (sink : SinkSeen) (s : Status) → IsEndOfPlay m sink s → (HasRisen sink.faults_before sink.faults_after → ⊥) →
+    (s ≡ ended.Written) ⊎ ((s ≡ ended.Memory) ⊎ (s ≡ ended.Spent))
+plays m sink ended.Written played well = inl refl
+plays m sink ended.Refused played well = absurd played
+plays m sink ended.Usage played well = absurd played
+plays m sink ended.ReadFault played well = absurd played
+plays m sink ended.WriteFault played well = absurd (well played.0)
+plays m sink ended.Memory played well = inr (inl refl)
+plays m sink ended.Spent played well = inr (inr refl)
+
+-- what is said of a source that failed is how a call may end
+pub ends_of_fault : (source : SourceSeen) (sink : SinkSeen) (s : Status) → HasRisen source.faults_before source.faults_after →
+    (s ≡ ended.ReadFault × HasTaken sink read_fault_line) ⊎ (s ≡ ended.WriteFault × HasRisen sink.faults_before sink.faults_after) →
+    SinkGainedFront sink.held_before sink.held_after read_fault_line → IsEndOfCall source sink s
+ends_of_fault source sink s risen (inl said) begun = subst (IsEndOfCall source sink) (sym said.0) (risen, said.1)
+ends_of_fault source sink s risen (inr failed) begun =
+    subst (IsEndOfCall source sink) (sym failed.0) (read_fault_line, OfReadFault risen, (failed.1, begun))
+
+-- a script that ran to its end is answered by a text whose last line is `end ok`
+last_line : (all a b e : List ℕ) → all ≡ a ++ (b ++ e) → (front : List ℕ) × (all ≡ front ++ e)
+last_line all a b e is = (a ++ b, is ∙ sym (append_assoc a b e))
+
+ends_in_end_line : (m : Meaning) (before after : Option (List ℕ)) → IsPlayed m before after →
+    (front : List ℕ) × SinkGained before after (front ++ end_line)
+ends_in_end_line m before after played =
+    let last = last_line (text m MAX_ENTRIES) (lines played.past) _ end_line (ap (text_of m.hosts) played.leads) in
+    (last.0, subst (SinkGained before after) last.1 played.written)
+
+-- and so it is where a call ends with that text written
+pub last_of_written : (left before after : Option (List ℕ)) (a b x y : ℕ) (s : Status) →
+    IsEndOfCall record { left = left; faults_before = a; faults_after = b }
+      record { held_before = before; held_after = after; faults_before = x; faults_after = y } s →
+    s ≡ ended.Written → (front : List ℕ) × SinkGained before after (front ++ end_line)
+last_of_written left before after a b x y s ends is =
+    let source : SourceSeen = record { left = left; faults_before = a; faults_after = b } in
+    let sink : SinkSeen = record { held_before = before; held_after = after; faults_before = x; faults_after = y } in
+    let played = subst (IsEndOfCall source sink) is ends in
+    ends_in_end_line played.0 before after played.2

@@ -1,15 +1,19 @@
 -- What the exit status of a call says of its source and its sink. Source: this project's own; docs/COMMAND.md has the
 -- table.
-use Rattle.std.specs.Prelude.{ℕ, Option, List, ◌++◌, MatchOption, IsSomeAnd}
-use Rattle.rds_link.specs.Streaming.{HasRisen, SinkGained}
+use Rattle.std.specs.Prelude.{◌≡◌, ℕ, Option, Ok, Err, List, MatchOption, IsSomeAnd}
+use Rattle.rds_link.specs.Streaming.{HasRisen, SinkGained, SinkGainedFront}
+use Rattle.rds_model.specs.declared.journal.TheConstants.{MAX_ENTRIES}
 use Rattle.rds_script.specs.declared.cause.Cause.{Cause}
 use Rattle.rds_script.specs.Cause.{cause_text}
 use Rattle.rds_script.specs.Grammar.{Meaning, Spells}
 use Rattle.rds_script.specs.Refusal.{Refused}
-use Rattle.rds_text.specs.Lines.{end_line, spent_line}
+use Rattle.rds_history.specs.Events.{Event}
+use Rattle.rds_history.specs.Courses.{Full}
+use Rattle.rds_history.specs.History.{course, text}
+use Rattle.rds_history.specs.Sound.{IsSound}
 use Rattle.rds_run.specs.declared.status.Status.{Status}
 use Rattle.rds_run.specs.declared.status.Status.TheVariants as status
-use Rattle.rds_run.specs.Texts.{usage_line, read_fault_line, bad_line}
+use Rattle.rds_run.specs.Texts.{read_fault_line, bad_line}
 
 -- what a call sees of its source: the bytes that it had left, where it tells them, and how often it has failed
 pub record SourceSeen : Type 0 where
@@ -28,55 +32,88 @@ pub record SinkSeen : Type 0 where
 abbrev pub HasTaken : SinkSeen → List ℕ → Type 0
 HasTaken sink bytes = SinkGained sink.held_before sink.held_after bytes
 
--- the sink failed while the call ran
-abbrev pub HasFailed : SinkSeen → Type 0
-HasFailed sink = HasRisen sink.faults_before sink.faults_after
+-- the sink failed while the call ran, after it took a beginning of these bytes
+abbrev pub HasFailedIn : SinkSeen → List ℕ → Type 0
+HasFailedIn sink bytes =
+    HasRisen sink.faults_before sink.faults_after × SinkGainedFront sink.held_before sink.held_after bytes
 
--- the text spells a script
-abbrev pub IsScriptText : List ℕ → Type 0
-IsScriptText text = (s : Meaning) × Spells text s
+-- the sink holds what it held
+abbrev pub HasTakenNothing : SinkSeen → Type 0
+HasTakenNothing sink = sink.held_after ≡ sink.held_before
 
--- where the source tells what it has, the whole of that spells a script
-abbrev pub IsSpelled : (left : Option (List ℕ)) → Type 0
-IsSpelled left = MatchOption left (Unit {0}) IsScriptText
+-- these bytes are all that the source had left, where it tells
+abbrev pub AreAll : (left : Option (List ℕ)) → List ℕ → Type 0
+AreAll left bytes = MatchOption left (Unit {0}) (λ all. bytes ≡ all)
 
--- where the source tells what it has, the whole of that is refused at this line for this cause
+-- the source's bytes spell the script
+abbrev pub IsSpelled : (left : Option (List ℕ)) → Meaning → Type 0
+IsSpelled left s = (bytes : List ℕ) × AreAll left bytes × Spells bytes s
+
+-- the source's bytes are refused at this line for this cause
 abbrev pub IsRefusedAt : (left : Option (List ℕ)) → (line : ℕ) → Cause → Type 0
-IsRefusedAt left line cause = MatchOption left (Unit {0}) (λ text. Refused text line cause)
+IsRefusedAt left line cause = (bytes : List ℕ) × AreAll left bytes × Refused bytes line cause
 
--- the source tells what it has, and the whole of that is refused at this line for this cause
+-- the source tells its bytes, and they spell the script
+abbrev pub IsToldSpelled : (left : Option (List ℕ)) → Meaning → Type 0
+IsToldSpelled left s = IsSomeAnd left (λ bytes. Spells bytes s)
+
+-- the source tells its bytes, and they are refused at this line for this cause
 abbrev pub IsToldRefused : (left : Option (List ℕ)) → (line : ℕ) → Cause → Type 0
-IsToldRefused left line cause = IsSomeAnd left (λ text. Refused text line cause)
+IsToldRefused left line cause = IsSomeAnd left (λ bytes. Refused bytes line cause)
+
+-- the script ran to its end: its course leads to a past, which is sound, and the sink took its whole text
+pub record IsPlayed (s : Meaning) (held_before held_after : Option (List ℕ)) : Type 0 where
+  pub past : List Event
+  pub leads : course s MAX_ENTRIES ≡ Ok past
+  pub sound : IsSound s.hosts past
+  pub written : SinkGained held_before held_after (text s MAX_ENTRIES)
+
+-- the script filled a journal: its course ends there, and the sink took its text, which is the line of that journal
+pub record IsSpent (s : Meaning) (held_before held_after : Option (List ℕ)) : Type 0 where
+  pub full : Full
+  pub ends : course s MAX_ENTRIES ≡ Err full
+  pub written : SinkGained held_before held_after (text s MAX_ENTRIES)
 
 -- the text of a source is refused, and the text line that was written says where and why
 abbrev pub IsRefusal : (left held_before held_after : Option (List ℕ)) → Type 0
 IsRefusal left held_before held_after =
     (line : ℕ) × (cause : Cause) × IsRefusedAt left line cause × SinkGained held_before held_after (bad_line line (cause_text cause))
 
+-- what the command `play` has to write
+pub data IsAnswer (source : SourceSeen) : List ℕ → Type 0 where
+  -- a read of the source failed: the line that says so
+  OfReadFault : HasRisen source.faults_before source.faults_after → IsAnswer source read_fault_line
+  -- the source's bytes are refused: the line that says where and why
+  OfRefusal : (line : ℕ) (cause : Cause) → IsRefusedAt source.left line cause → IsAnswer source (bad_line line (cause_text cause))
+  -- the source's bytes spell a script: its text
+  OfScript : (s : Meaning) → IsSpelled source.left s → IsAnswer source (text s MAX_ENTRIES)
+
 -- A status for which `⊥` stands can't come.
 
 -- the status after a refusal: its text line was written, or a fault of the sink or a memory error kept the call from that
 abbrev pub IsEndOfRefusal : (line : ℕ) → Cause → SinkSeen → Status → Type 0
 IsEndOfRefusal line cause sink status.Refused = HasTaken sink (bad_line line (cause_text cause))
-IsEndOfRefusal line cause sink status.WriteFault = HasFailed sink
-IsEndOfRefusal line cause sink status.Memory = Unit {0}
+IsEndOfRefusal line cause sink status.WriteFault = HasFailedIn sink (bad_line line (cause_text cause))
+IsEndOfRefusal line cause sink status.Memory = HasTakenNothing sink
 IsEndOfRefusal line cause sink _ = ⊥
 
--- the status after a script was played: its text was written, or the text line of a full journal
-abbrev pub IsEndOfPlay : SinkSeen → Status → Type 0
-IsEndOfPlay sink status.Written = (text : List ℕ) × HasTaken sink (text ++ end_line)
-IsEndOfPlay sink status.Spent = (host : ℕ) × (peer : ℕ) × (entries : ℕ) × HasTaken sink (spent_line host peer entries)
-IsEndOfPlay sink status.WriteFault = HasFailed sink
-IsEndOfPlay sink status.Memory = Unit {0}
-IsEndOfPlay sink _ = ⊥
+-- the status after a script was played: its text was written, or a fault of the sink or a memory error kept the call from that
+abbrev pub IsEndOfPlay : Meaning → SinkSeen → Status → Type 0
+IsEndOfPlay s sink status.Written = IsPlayed s sink.held_before sink.held_after
+IsEndOfPlay s sink status.Spent = IsSpent s sink.held_before sink.held_after
+IsEndOfPlay s sink status.WriteFault = HasFailedIn sink (text s MAX_ENTRIES)
+IsEndOfPlay s sink status.Memory = HasTakenNothing sink
+IsEndOfPlay s sink _ = ⊥
 
--- the status of a whole call
+-- the status of the command `play`
 abbrev pub IsEndOfCall : SourceSeen → SinkSeen → Status → Type 0
-IsEndOfCall source sink status.Written = IsSpelled source.left × IsEndOfPlay sink status.Written
-IsEndOfCall source sink status.Spent = IsSpelled source.left × IsEndOfPlay sink status.Spent
+IsEndOfCall source sink status.Written =
+    (s : Meaning) × IsSpelled source.left s × IsPlayed s sink.held_before sink.held_after
+IsEndOfCall source sink status.Spent =
+    (s : Meaning) × IsSpelled source.left s × IsSpent s sink.held_before sink.held_after
 IsEndOfCall source sink status.Refused = IsRefusal source.left sink.held_before sink.held_after
-IsEndOfCall source sink status.Usage = HasTaken sink usage_line
+IsEndOfCall source sink status.Usage = ⊥
 IsEndOfCall source sink status.ReadFault =
     HasRisen source.faults_before source.faults_after × HasTaken sink read_fault_line
-IsEndOfCall source sink status.WriteFault = HasFailed sink
-IsEndOfCall source sink status.Memory = Unit {0}
+IsEndOfCall source sink status.WriteFault = (answer : List ℕ) × IsAnswer source answer × HasFailedIn sink answer
+IsEndOfCall source sink status.Memory = HasTakenNothing sink

@@ -1,11 +1,14 @@
 ghost use Rattle.std.specs.Prelude.{◌≡◌, ◌≢◌, ◌⊎◌, ℕ};
 ghost use Rattle.rds_script.specs.Script.{IsScript};
 ghost use Rattle.rds_script.specs.declared.cause.Cause.{Cause as Why};
-ghost use Rattle.rds_run.specs.ExitStatus.{IsEndOfCall, IsEndOfPlay, IsEndOfRefusal, IsToldRefused};
+ghost use Rattle.rds_script.specs.Grammar.{Meaning, meaning};
+ghost use Rattle.rds_link.specs.Streaming.{HasRisen};
+ghost use Rattle.rds_run.specs.ExitStatus.{IsEndOfCall, IsEndOfPlay, IsEndOfRefusal, IsToldRefused, IsToldSpelled};
 ghost use Rattle.rds_run.specs.declared.status.Status.TheVariants as ended;
 
 use crate::answer::say;
 use crate::status::Status;
+use rds_history::laws::sound::sound;
 use rds_link::{ReadError, Sink, Source, read_all};
 use rds_model::MAX_ENTRIES;
 use rds_play::{PlayEnd, play};
@@ -25,7 +28,10 @@ pub fn play_text<S: Source, K: Sink>(alloc: Global, source: &mut S, sink: &mut K
         IsEndOfRefusal line cause
         record { held_before = K.held sink.old; held_after = K.held sink.new; faults_before = K.faults sink.old; faults_after = K.faults sink.new }
         result
-        ⊎ (result ≡ ended.ReadFault) }
+        ⊎ ((result ≡ ended.ReadFault) ⊎ (result ≡ ended.WriteFault)) }
+    ensures plays { (s : Meaning) → IsToldSpelled (S.left source.old) s →
+        (HasRisen (S.faults source.old) (S.faults source.new) → ⊥) → (HasRisen (K.faults sink.old) (K.faults sink.new) → ⊥) →
+        (result ≡ ended.Written) ⊎ ((result ≡ ended.Memory) ⊎ (result ≡ ended.Spent)) }
     ensures play { result ≢ ended.Usage }
 {
     let text = match read_all(alloc, source, MAX_TEXT + 1) {
@@ -40,13 +46,14 @@ pub fn play_text<S: Source, K: Sink>(alloc: Global, source: &mut S, sink: &mut K
     }
 }
 
-// Plays a script.
+// Plays a script. The call of the law says that what it comes to is sound.
 fn play_script<K: Sink>(alloc: Global, script: &Script, sink: &mut K) -> Status
     requires { IsScript script.now }
-    ensures { IsEndOfPlay
+    ensures { IsEndOfPlay (meaning script.now)
         record { held_before = K.held sink.old; held_after = K.held sink.new; faults_before = K.faults sink.old; faults_after = K.faults sink.new }
         result }
 {
+    sound();
     match play(alloc, script, MAX_ENTRIES, sink) {
         PlayEnd::Ok => Status::Written,
         PlayEnd::Spent { .. } => Status::Spent,

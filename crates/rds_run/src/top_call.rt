@@ -1,9 +1,10 @@
 ghost use Rattle.std.specs.Prelude.{◌≡◌, ◌⊎◌, ◌≤◌, ◌++◌, ℕ, List};
-ghost use Rattle.rds_link.specs.Streaming.{HasRisen, SinkGained};
+ghost use Rattle.rds_link.specs.Streaming.{HasRisen, SinkGained, SinkGainedFront};
 ghost use Rattle.rds_script.specs.Cause.{cause_text};
 ghost use Rattle.rds_script.specs.declared.cause.Cause.{Cause as Why};
+ghost use Rattle.rds_script.specs.Grammar.{Meaning};
 ghost use Rattle.rds_text.specs.Lines.{end_line, spent_line};
-ghost use Rattle.rds_run.specs.ExitStatus.{IsRefusal, IsSpelled, IsToldRefused};
+ghost use Rattle.rds_run.specs.ExitStatus.{IsAnswer, IsPlayed, IsRefusal, IsSpelled, IsSpent, IsToldRefused, IsToldSpelled};
 ghost use Rattle.rds_run.specs.Texts.{ArePlay, usage_line, read_fault_line, bad_line};
 
 use crate::answer::say;
@@ -40,7 +41,14 @@ pub fn rds_main<S: Source, K: Sink>(
 
     ensures read_fault { result ≡ 3 → HasRisen (S.faults source.old) (S.faults source.new) }
     ensures read_fault_text { result ≡ 3 → SinkGained (K.held sink.old) (K.held sink.new) read_fault_line }
+
+    // The sink failed, after it took a beginning of the usage line, or of what `play` has to write.
     ensures write_fault { result ≡ 4 → HasRisen (K.faults sink.old) (K.faults sink.new) }
+    ensures usage_begun { result ≡ 4 → (ArePlay words.now → ⊥) → SinkGainedFront (K.held sink.old) (K.held sink.new) usage_line }
+    ensures answer_begun { result ≡ 4 → ArePlay words.now → (answer : List ℕ)
+        × IsAnswer record { left = S.left source.old; faults_before = S.faults source.old; faults_after = S.faults source.new } answer
+        × SinkGainedFront (K.held sink.old) (K.held sink.new) answer }
+    ensures memory { result ≡ 6 → K.held sink.new ≡ K.held sink.old }
 
     // The text of the source is refused, and the line that was written says where and why.
     ensures refused { result ≡ 1 → IsRefusal (S.left source.old) (K.held sink.old) (K.held sink.new) }
@@ -48,12 +56,18 @@ pub fn rds_main<S: Source, K: Sink>(
     ensures refuses { ArePlay words.now → (line : ℕ) → (cause : Why) → IsToldRefused (S.left source.old) line cause →
         (result ≡ 1 × SinkGained (K.held sink.old) (K.held sink.new) (bad_line line (cause_text cause)))
         ⊎ ((result ≡ 3) ⊎ ((result ≡ 4) ⊎ (result ≡ 6))) }
-    // The text was read to its end and spells a script, and the whole answer was written.
-    ensures read { result ≡ 0 → IsSpelled (S.left source.old) }
+
+    // The source's bytes spell a script. It ran to its end, what it came to is sound, and exactly its text was written.
+    ensures played { result ≡ 0 → (s : Meaning) × IsSpelled (S.left source.old) s × IsPlayed s (K.held sink.old) (K.held sink.new) }
     ensures written { result ≡ 0 → (text : List ℕ) × SinkGained (K.held sink.old) (K.held sink.new) (text ++ end_line) }
-    ensures read_before_spent { result ≡ 7 → IsSpelled (S.left source.old) }
+    // The source's bytes spell a script. It filled a journal, and exactly its text was written, which is the line of that.
+    ensures full { result ≡ 7 → (s : Meaning) × IsSpelled (S.left source.old) s × IsSpent s (K.held sink.old) (K.held sink.new) }
     ensures spent { result ≡ 7 → (host : ℕ) × (peer : ℕ) × (entries : ℕ)
         × SinkGained (K.held sink.old) (K.held sink.new) (spent_line host peer entries) }
+    // A text that spells a script is answered so, unless the source or the sink fails or memory runs out.
+    ensures plays { ArePlay words.now → (s : Meaning) → IsToldSpelled (S.left source.old) s →
+        (HasRisen (S.faults source.old) (S.faults source.new) → ⊥) → (HasRisen (K.faults sink.old) (K.faults sink.new) → ⊥) →
+        (result ≡ 0) ⊎ ((result ≡ 6) ⊎ (result ≡ 7)) }
 
     ensures known { (result ≤ 4) ⊎ ((result ≡ 6) ⊎ (result ≡ 7)) }
 {

@@ -1,6 +1,6 @@
-use Rattle.std.proofs.Common.{inl}
+use Rattle.std.proofs.Common.{inl, rules}
 use Rattle.rds_run.specs.ExitStatus.{SourceSeen, SinkSeen}
-use Rattle.rds_run.proofs.Whole.{ends_of_played, ends_of_refused, refused_told, refuses_same}
+use Rattle.rds_run.proofs.Whole.{ends_of_played, ends_of_refused, refused_told, refuses_same, spelled_told, plays, ends_of_fault}
 use Rattle.rds_run.proofs.play_command.play_text.Goals as goal
 
 pub returns-in-Ok-read-clause-ends : goal.returns-in-Ok-read-clause-ends
@@ -42,3 +42,34 @@ returns-in-Err-BadLine-clause-refuses g c line why told =
       faults_after = g.K.Sink.faults c.refuse.new.sink;
     } in
     inl (refuses_same _ _ _ _ sink c.refuse.result same c.refuse.ensures)
+
+pub returns-in-Ok-read-clause-plays : goal.returns-in-Ok-read-clause-plays
+returns-in-Ok-read-clause-plays g c m told source_well sink_well =
+    let sink : SinkSeen = record {
+      held_before = g.K.Sink.held c.args.sink.now;
+      held_after = g.K.Sink.held c.play_script.new.sink;
+      faults_before = g.K.Sink.faults c.args.sink.now;
+      faults_after = g.K.Sink.faults c.play_script.new.sink;
+    } in
+    plays _ sink c.play_script.result c.play_script.ensures sink_well
+
+pub returns-in-Err-BadLine-clause-plays : goal.returns-in-Err-BadLine-clause-plays
+returns-in-Err-BadLine-clause-plays g c m told source_well sink_well =
+    let at_line = rw c.in-Err-BadLine.field-0-is at c.in-Err-BadLine.ensures.only in
+    let only = rw c.deref.ensures.value at at_line in
+    absurd (only m (spelled_told _ _ m c.in-Ok.ensures.bytes told))
+
+pub returns-in-Err-Failed-clause-ends : goal.returns-in-Err-Failed-clause-ends
+returns-in-Err-Failed-clause-ends g c =
+    let source : SourceSeen = record {
+      left = g.S.Source.left c.args.source.now;
+      faults_before = g.S.Source.faults c.args.source.now;
+      faults_after = g.S.Source.faults c.read_all.new.source;
+    } in
+    let sink : SinkSeen = record {
+      held_before = g.K.Sink.held c.args.sink.now;
+      held_after = g.K.Sink.held c.say.new.sink;
+      faults_before = g.K.Sink.faults c.args.sink.now;
+      faults_after = g.K.Sink.faults c.say.new.sink;
+    } in
+    ends_of_fault source sink c.say.result (search rules) c.say.ensures.said c.say.ensures.front
