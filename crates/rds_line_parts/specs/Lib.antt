@@ -1,0 +1,5 @@
+pub mod Words
+pub mod Own
+pub mod Delivery
+pub mod DeliveryLaws
+pub mod OwnLaws

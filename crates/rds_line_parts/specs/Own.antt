@@ -1,0 +1,39 @@
+-- How a line reads its host's own congestion map. Source: this project's own.
+use Rattle.std.specs.Prelude.{◌≡◌, ◌≢◌, ℕ, ◌+◌, ◌<◌, Bool, true, false, List, [], ◌∷◌, length, slice_index, Option, Some}
+use Rattle.rds_cong.specs.Map.{word_at}
+use Rattle.rds_cong.specs.declared.map.TheConstants.{WORDS}
+use Rattle.rds_meter.specs.declared.view.Step.{Step}
+use Rattle.rds_meter.specs.declared.view.Step.TheVariants.{Loaded}
+use Rattle.rds_meter.specs.Places.{change_word}
+use Rattle.rds_meter.specs.Seats.{MeterSeat, knowing}
+use Rattle.rds_line_parts.specs.Words.{after_steps}
+
+-- the map as it was last read, and the change number that was found before
+pub record Own : Type 0 where
+  pub map : List ℕ
+  pub change : Option ℕ
+
+-- word i of the map, as the meter counts its words
+abbrev pub own_word : ℕ → ℕ
+own_word i = 4096 + i
+
+-- one load of each word of the map from word i on, which found these
+abbrev pub loads_from : ℕ → List ℕ → List Step
+loads_from i [] = []
+loads_from i (word ∷ words) = Loaded (own_word i) word ∷ loads_from (i + 1) words
+
+-- the map has these words, and no other
+pub record HasWords (map words : List ℕ) : Type 0 where
+  pub count : length words ≡ WORDS
+  pub each : (i : ℕ) → i < WORDS → word_at map i ≡ slice_index words i
+
+-- the change number was loaded, and then these words of the map, which has them if they were read
+pub record IsRefresh (old new : Own) (seat after : MeterSeat) (read : Bool) : Type 0 where
+  pub number : ℕ
+  pub words : List ℕ
+  pub steps : after ≡ knowing seat (after_steps seat.view (Loaded change_word number ∷ loads_from 0 words))
+  pub change : new.change ≡ Some number
+  -- no word was loaded only where the number is the one that was found before the last reading
+  pub same : read ≡ false → (old.change ≡ Some number) × (words ≡ []) × (new.map ≡ old.map)
+  -- all words were loaded only where it isn't
+  pub other : read ≡ true → (old.change ≢ Some number) × HasWords new.map words
