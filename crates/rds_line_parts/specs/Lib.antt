@@ -3,3 +3,5 @@ pub mod Own
 pub mod Delivery
 pub mod DeliveryLaws
 pub mod OwnLaws
+pub mod Relief
+pub mod Boxes

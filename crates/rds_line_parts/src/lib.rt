@@ -2,15 +2,21 @@
 //! host's own congestion map as it last read it.
 #![tactic(auto)]
 
+mod boxes;
 mod count;
 mod orders;
 mod own;
 mod ports;
+mod relief;
+mod slot_box;
 #[cfg(test)]
 mod tests;
 mod words;
 
+pub use boxes::Boxes;
 pub use orders::LineOrders;
 pub use own::OwnMap;
 pub use ports::LinePorts;
+pub use relief::relieve;
+pub use slot_box::SlotBox;
 pub use words::LineWords;
