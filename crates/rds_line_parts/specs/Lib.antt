@@ -5,3 +5,4 @@ pub mod DeliveryLaws
 pub mod OwnLaws
 pub mod Relief
 pub mod Boxes
+pub mod ReliefLaws

@@ -1,9 +1,9 @@
 -- How a line reads its host's own congestion map. Source: this project's own.
-use Rattle.std.specs.Prelude.{◌≡◌, ◌≢◌, ℕ, ◌+◌, ◌<◌, Bool, true, false, List, [], ◌∷◌, length, slice_index, Option, Some}
+use Rattle.std.specs.Prelude.{◌≡◌, ◌≢◌, ℕ, ◌+◌, ◌<◌, ◌==◌, if◌then◌else◌, Bool, true, false, List, [], ◌∷◌, length, slice_index, Option, Some, None}
 use Rattle.rds_cong.specs.Map.{word_at}
 use Rattle.rds_cong.specs.declared.map.TheConstants.{WORDS}
 use Rattle.rds_meter.specs.declared.view.Step.{Step}
-use Rattle.rds_meter.specs.declared.view.Step.TheVariants.{Loaded}
+use Rattle.rds_meter.specs.declared.view.Step.TheVariants.{Added, Stored, Loaded, Raised, Lowered, Bumped}
 use Rattle.rds_meter.specs.Places.{change_word}
 use Rattle.rds_meter.specs.Seats.{MeterSeat, knowing}
 use Rattle.rds_line_parts.specs.Words.{after_steps}
@@ -37,3 +37,26 @@ pub record IsRefresh (old new : Own) (seat after : MeterSeat) (read : Bool) : Ty
   pub same : read ≡ false → (old.change ≡ Some number) × (words ≡ []) × (new.map ≡ old.map)
   -- all words were loaded only where it isn't
   pub other : read ≡ true → (old.change ≢ Some number) × HasWords new.map words
+
+-- what a step found of this word, if it loaded it
+abbrev pub found_of : ℕ → Step → Option ℕ
+found_of w (Loaded word found) = if word == w then Some found else None
+found_of w (Added word amount after) = None
+found_of w (Stored word limit) = None
+found_of w (Raised port) = None
+found_of w (Lowered port) = None
+found_of w (Bumped after) = None
+
+-- the newer of two finds
+abbrev pub newer : Option ℕ → Option ℕ → Option ℕ
+newer None older = older
+newer (Some found) older = Some found
+
+-- what the last load of this word found, if there was one
+abbrev pub last_found : ℕ → List Step → Option ℕ
+last_found w [] = None
+last_found w (step ∷ steps) = newer (last_found w steps) (found_of w step)
+
+-- once the map was read, each of its words is what the last load of that word found
+abbrev pub IsAsRead : Own → List Step → Type 0
+IsAsRead own steps = (number : ℕ) → own.change ≡ Some number → (i : ℕ) → i < WORDS → last_found (own_word i) steps ≡ Some (word_at own.map i)
