@@ -1,6 +1,6 @@
 -- Laws, each proved: proofs in other crates use them. Nothing here has to be believed.
 -- What loads leave of the words as it was, and what the last load of each word found.
-use Rattle.std.proofs.Common.{◌≡◌, ◌≢◌, ℕ, zero, suc, ◌+◌, ◌<◌, ◌==◌, if◌then◌else◌, Bool, true, false, List, [], ◌∷◌, ◌++◌, length, slice_index, Option, Some, None, eq-eqb, ne_eqb, refl, sym, ap, ◌∙◌, subst, arith}
+use Rattle.std.proofs.Common.{◌≡◌, ◌≢◌, ℕ, zero, suc, ◌+◌, ◌<◌, if◌then◌else◌, Bool, true, false, List, [], ◌∷◌, ◌++◌, length, slice_index, Option, Some, None, eq-eqb, ne_eqb, refl, sym, ap, ◌∙◌, arith}
 use Rattle.rds_cong.specs.Map.{word_at}
 use Rattle.rds_cong.specs.declared.map.TheConstants.{WORDS}
 use Rattle.rds_meter.specs.declared.view.Step.{Step}

@@ -1,7 +1,6 @@
 -- Laws, each proved: proofs in other crates use them. Nothing here has to be believed.
 -- What relief adds to the words of a line's seat, and what it leaves as it was.
-use Rattle.std.proofs.Common.{◌≡◌, ◌≢◌, ℕ, zero, suc, ◌+◌, ◌<◌, ◌≤◌, ◌⊎◌, inl, inr, List, [], ◌∷◌, ◌++◌, All, slice_index, Option, None, refl, sym, ap, ◌∙◌, subst, arith, get_or}
-use Rattle.rds_cong.specs.declared.map.TheConstants.{WORDS}
+use Rattle.std.proofs.Common.{◌≡◌, ℕ, suc, ◌+◌, ◌<◌, ◌≤◌, ◌⊎◌, inl, inr, List, [], ◌∷◌, All, slice_index, None, refl, sym, ap, ◌∙◌, subst, arith}
 use Rattle.rds_meter.specs.declared.view.Step.{Step}
 use Rattle.rds_meter.specs.declared.view.Step.TheVariants.{Added, Stored, Loaded, Raised, Lowered, Bumped}
 use Rattle.rds_meter.specs.Places.{part, amount_in, freed_word}

@@ -52,7 +52,8 @@ impl OwnMap {
         ensures parts { AddsNothing words.old.view words.new.view }
     {
         let number = words.change();
-        if self.change == Some(number) {
+        let known = self.change == Some(number);
+        if known {
             return false;
         }
         read_words(&mut self.map, words);
