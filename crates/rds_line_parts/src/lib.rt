@@ -1,5 +1,5 @@
-//! What a line holds beside its connection: the getter of its orders, its seats at the host's port table and meter, and the
-//! host's own congestion map as it last read it.
+//! What a line holds beside its connection: the getter of its orders, its seats at the host's port table and meter, the host's
+//! own congestion map as it last read it, and the mailboxes that it delivers to.
 #![tactic(auto)]
 
 mod boxes;
