@@ -38,6 +38,11 @@ module _ {slot : ℕ} where
       let lowered = lowering_part w (must_lower slot mark s.taken s.holder) mark.port s.number in
       ap (λ (h : MeterSeat). part w h.view.steps) s.seat ∙ part-append w old.view.steps _ ∙ omega arith
 
+-- a delivery adds its bytes to the put word of its slot, and to no other
+pub delivery_part : (slot port n : ℕ) (old new : MeterSeat) (ports after : PortSeat) → IsDelivery slot port n old new ports after → AddsTo (put_word slot) n old.view new.view
+delivery_part slot port n old new ports after d w =
+    either_set d.mark.set (λ set. second_part (d.raised set) w) (λ unset. ap (λ (h : MeterSeat). part w h.view.steps) (d.other unset).0) ∙ counted_part d.counts w
+
 -- exactly one check more, which raised the bit of the port exactly where it had to
 pub one_check : (slot port n : ℕ) (old new : MeterSeat) (ports after : PortSeat) → IsDelivery slot port n old new ports after
     → (mark : Mark) × (mark.port ≡ port) × (mark.set ≡ must_raise (check_of slot mark)) × (new.view.checks ≡ old.view.checks ++ check_of slot mark ∷ [])

@@ -6,3 +6,5 @@ pub mod OwnLaws
 pub mod Relief
 pub mod Boxes
 pub mod ReliefLaws
+pub mod Counted
+pub mod CountedLaws
