@@ -57,12 +57,12 @@ module _ (freed left next : List ℕ) (old mid new : MeterSeat) (f : Freed) (n a
   low : f.slot < 1024
   low = let a = h.slot_is in let b = r.size in let c = r.few in omega arith
 
-  pub relieving_fits : ((slot : ℕ) → part (freed_word slot) old.view.steps + slice_index freed slot ≤ 2 ^ 52) → part (freed_word f.slot) mid.view.steps + n ≤ 2 ^ 52
+  pub relieving_fits : ((slot : ℕ) → slot < length freed → part (freed_word slot) old.view.steps + slice_index freed slot ≤ 2 ^ 52) → part (freed_word f.slot) mid.view.steps + n ≤ 2 ^ 52
   relieving_fits most =
       let sum_is : part (freed_word f.slot) mid.view.steps ≡ part (freed_word f.slot) old.view.steps + part (freed_word f.slot) r.steps =
       ap (λ (s : MeterSeat). part (freed_word f.slot) s.view.steps) r.seat ∙ part-append (freed_word f.slot) old.view.steps r.steps in
       let e = r.each f.slot in
-      let m = most f.slot in
+      let m = most f.slot (let a = h.slot_is in let b = r.size in omega arith) in
       let w = within in
       omega arith
 

@@ -1,28 +1,33 @@
 -- Laws, each proved: proofs in other crates use them. Nothing here has to be believed.
 -- One delivery more, in the journal, in a mailbox and in the counts of a line.
-use Rattle.std.proofs.Common.{◌≡◌, ◌≢◌, ℕ, zero, suc, ◌+◌, ◌<◌, ◌==◌, if◌then◌else◌, Bool, true, false, List, [], ◌∷◌, ◌++◌, length, set, sum, slice_index, Option, Some, None, slice_get, slice_set, eq-eqb, ne_eqb, refl, sym, ap, ◌∙◌, subst, arith, ⊎_elim}
+use Rattle.std.proofs.Common.{◌≡◌, ◌≢◌, ℕ, zero, suc, ◌+◌, ◌*◌, ◌<◌, ◌≤◌, if◌then◌else◌, Bool, true, false, List, [], ◌∷◌, ◌++◌, length, set, sum, slice_index, Option, Some, None, slice_get, filter, sum_by, length-append, eq-eqb, ne_eqb, refl, sym, ap, ◌∙◌, subst, arith, ⊎_elim}
 use Rattle.std.proofs.lemmas.Bool.{cases_eq, cases_lt}
 use Rattle.std.proofs.lemmas.List.{get_or_past}
-use Rattle.std.proofs.lemmas.List.Sums.{sum_by-set}
+use Rattle.std.proofs.lemmas.List.Sums.{sum_by-set, sum_by-cons}
 use Rattle.std.proofs.lemmas.Option.{same_Some, slice_get_within}
 use Rattle.rds_wire.specs.declared.frame.Frame.{Frame}
 use Rattle.rds_bindtab.specs.Seats.{PortSeat}
 use Rattle.rds_model.specs.declared.entry.Entry.{Entry}
-use Rattle.rds_model.specs.declared.entry.Entry.TheVariants.{Read}
+use Rattle.rds_model.specs.declared.entry.Entry.TheVariants.{Accept, Read}
 use Rattle.rds_model.specs.declared.entry.Outcome.{Outcome}
 use Rattle.rds_model.specs.declared.entry.Outcome.TheVariants as outcome
 use Rattle.rds_model.specs.declared.entry.TheConstants.{MAX_SLOTS}
 use Rattle.rds_model.specs.Pairs.{is_delivery}
+use Rattle.rds_model.specs.Past.{Accepted, accepted, datagram}
+use Rattle.rds_model.specs.Alive.{payload_bytes, up_to}
+use Rattle.rds_model.specs.Legal.{IsLegal}
+use Rattle.rds_model.specs.BoundLaws.{datagram_fits}
+use Rattle.rds_wire.specs.declared.kind.TheConstants.{MAX_LENGTH}
 use Rattle.rds_model.specs.declared.order.Datagram.{Datagram}
 use Rattle.rds_model.specs.Deliveries.{datagram_from, delivered_datagrams, put_bytes}
 use Rattle.rds_mail.specs.Passes.{Putter, after_put}
-use Rattle.rds_conn.specs.Connection.{Connection}
-use Rattle.rds_conn.specs.Released.{released_bytes}
+use Rattle.rds_conn.specs.Connection.{Connection, freed_bytes_of}
+use Rattle.rds_conn.specs.Released.{is_released, released_bytes}
 use Rattle.rds_meter.specs.declared.view.View.{View}
 use Rattle.rds_meter.specs.Places.{part, put_word}
 use Rattle.rds_meter.specs.Seats.{MeterSeat, must_raise}
 use Rattle.rds_line_parts.specs.Boxes.{IsBoxOf, IsPutInto}
-use Rattle.rds_line_parts.specs.Counted.{IsCheckOf, AreChecksOf, IsCountedFor, IsPutFor, IsFreedFor}
+use Rattle.rds_line_parts.specs.Counted.{AreChecksOf, IsCountedFor, IsPutFor, IsFreedFor}
 use Rattle.rds_line_parts.specs.Delivery.{check_of, IsDelivery}
 use Rattle.rds_line_parts.specs.DeliveryLaws.{one_check, delivery_part}
 use Rattle.rds_line_parts.specs.Relief.{IsRelief}
@@ -142,4 +147,47 @@ freed_for_relief old new seat after rest none relief was slot small =
     let added = relieved_part old.freed seat after relief slot in
     let held = no_element new.freed slot none in
     let past : released_bytes slot new.log.past ≡ released_bytes slot old.log.past = ap (λ (c : Connection). released_bytes slot c.log.past) rest in
+    omega arith
+
+-- and it may: what was freed is at most 1,048,576 bytes for each entry
+bounded : (f : ℕ → ℕ) (test : ℕ → Bool) (most : ℕ) (xs : List ℕ) → ((n : ℕ) → f n ≤ most) → sum_by f (filter test xs) ≤ most * length xs
+bounded f test most [] each = omega arith
+bounded f test most (x ∷ xs) each =
+    let rest = bounded f test most xs each in
+    let first = each x in
+    let with_it = sum_by-cons f x (filter test xs) in
+    let go : (b : Bool) → sum_by f (if b then x ∷ filter test xs else filter test xs) ≤ most * suc (length xs) = elim [ true ↦ omega (arith, rest, first, with_it) | false ↦ omega (arith, rest, first) ] in
+    go (test x)
+
+so_many : (n : ℕ) → length (up_to n) ≡ n
+so_many zero = refl
+so_many (suc n) = let e = length-append (up_to n) (suc n ∷ []) in let before = so_many n in omega arith
+
+accepted_within : (past : List Entry) → accepted past ≤ length past
+accepted_within [] = omega arith
+accepted_within (Accept slot sport dport payload ∷ past) = let before = accepted_within past in omega arith
+accepted_within (_ ∷ past) = let before = accepted_within past in omega arith
+
+short : (past : List Entry) → IsLegal past → (n : ℕ) → payload_bytes (datagram past n) ≤ MAX_LENGTH
+short past legal n =
+    let go : (d : Option Accepted) → datagram past n ≡ d → payload_bytes d ≤ MAX_LENGTH = elim [
+      | None ↦ (λ e. omega arith)
+      | Some d ↦ (λ e. (datagram_fits past n d legal e).short)
+    ] in go (datagram past n) refl
+
+pub released_bound : (slot : ℕ) (past : List Entry) → IsLegal past → released_bytes slot past ≤ MAX_LENGTH * length past
+released_bound slot past legal =
+    let all = bounded (λ n. payload_bytes (datagram past n)) (is_released slot past) MAX_LENGTH (up_to (accepted past)) (short past legal) in
+    let many = so_many (accepted past) in
+    let within = accepted_within past in
+    omega arith
+
+-- an order or a frame that is passed keeps it too, since what it frees is held
+pub freed_for_account : (old new : Connection) (v : View) → new.slots ≡ old.slots
+    → ((slot : ℕ) → slot < old.slots → freed_bytes_of slot new + released_bytes slot old.log.past ≡ freed_bytes_of slot old + released_bytes slot new.log.past)
+    → IsFreedFor old v → IsFreedFor new v
+freed_for_account old new v slots account was slot small =
+    let inside = subst (λ n. slot < n) slots small in
+    let before = was slot inside in
+    let more = account slot inside in
     omega arith

@@ -1,5 +1,6 @@
 //! Freed bytes, on their way from a connection to the meter of its host.
-ghost use Rattle.std.specs.Prelude.{◌≡◌, ℕ, ◌+◌, ◌<◌, ◌≤◌, ◌^◌, [], ◌∷◌, sum, slice_index};
+ghost use Rattle.std.specs.Prelude.{◌≡◌, ℕ, ◌+◌, ◌<◌, ◌≤◌, ◌^◌, [], ◌∷◌, sum};
+ghost use Rattle.rds_conn.specs.Connection.{freed_bytes_of};
 ghost use Rattle.rds_wire.specs.declared.kind.TheConstants.{MAX_LENGTH};
 ghost use Rattle.rds_model.specs.declared.entry.TheConstants.{MAX_SLOTS};
 ghost use Rattle.rds_meter.specs.declared.view.Step.TheVariants.{Added};
@@ -13,7 +14,7 @@ use rds_conn::{Conn, Freed};
 
 /// Adds to the freed word of each slot all freed bytes that the connection hasn't handed out.
 pub fn relieve(conn: &mut Conn, words: &mut LineWords)
-    requires { (slot : ℕ) → part (freed_word slot) words.old.view.steps + slice_index conn.old.freed slot ≤ 2 ^ 52 }
+    requires { (slot : ℕ) → slot < conn.old.slots → part (freed_word slot) words.old.view.steps + freed_bytes_of slot conn.old ≤ 2 ^ 52 }
     ensures none { sum conn.new.freed ≡ 0 }
     ensures rest { conn.new ≡ record conn.old { freed = conn.new.freed } }
     ensures words { IsRelief conn.old.freed words.old words.new }

@@ -4,7 +4,7 @@ use Rattle.rds_line_parts.proofs.Few.{few}
 use Rattle.rds_line_parts.proofs.tests.relieving.freed_after.Goals as goal
 
 pub relieve-requires : goal.relieve-requires
-relieve-requires c slot =
+relieve-requires c slot small =
     let most = few c.args.conn.now.freed slot (c.known.ensures.freed ∙ c.requires.slots) c.requires.freed in
     let none = c.requires.parts slot in
     omega arith
