@@ -1,0 +1,4 @@
+pub mod Reading
+pub mod Counting
+pub mod Relieving
+pub mod Few

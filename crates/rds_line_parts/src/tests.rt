@@ -1,0 +1,3 @@
+mod delivering;
+mod putting;
+mod relieving;
