@@ -1,0 +1,55 @@
+-- What the streams of a line keep, call by call.
+use Rattle.std.proofs.Common.{◌≡◌, ◌≢◌, ℕ, ◌+◌, ◌<◌, ◌≤◌, ◌==◌, Bool, true, false, List, ◌∷◌, length, Some, slice_get, refl, sym, ap, subst, ◌∙◌, arith}
+use Rattle.std.specs.List.Sorted.{IsStrictlyIncreasing}
+use Rattle.std.proofs.lemmas.Bool.{eqb-true, eqb-false}
+use Rattle.std.proofs.lemmas.Option.{same_Some}
+use Rattle.rds_link.specs.Ends.{Means}
+use Rattle.rds_line_streams.specs.Streams.{StreamsView, AreKept, IsEndedAt, IsUnused, newest_place, with_list}
+use Rattle.rds_line_streams.specs.Changes.{ChangesAt, IsShutDown}
+use Rattle.rds_line_streams.specs.ChangeLaws.{changed_here, changed_beside, changed_numbers, changed_length}
+
+module _ {E : Type 0} (m : Means E) (s : StreamsView E) (kept : AreKept m s) (on : s.is_open ≡ true) (list new : List (ℕ × E)) (same_list : list ≡ s.list) where
+  -- the end of the open stream changed
+  pub kept_changed : {Way : E → E → Type 0} → ChangesAt Way (newest_place s) list new → AreKept m (with_list s new)
+  kept_changed {Way} changed =
+      let change = subst (λ l. ChangesAt Way (newest_place s) l new) same_list changed in
+      let some : 1 ≤ s.opened = kept.newest on in
+      record {
+        within = (let same = changed_length change in let old = kept.within in omega arith);
+        newest = kept.newest;
+        numbered = subst (λ ns. IsStrictlyIncreasing (0 ∷ ns)) (sym (changed_numbers change)) kept.numbered;
+        ended = λ place stream stands is. kept.ended place stream (sym (changed_beside change place (is.1 on)) ∙ stands) is;
+        unused = λ place stream stands past. kept.unused place stream (sym (changed_beside change place (omega arith)) ∙ stands) past;
+      }
+
+  -- the end of the open stream was shut, and the stream isn't open any more
+  pub kept_ended : ChangesAt (IsShutDown m) (newest_place s) list new → AreKept m (record s { list = new; is_open = false })
+  kept_ended changed =
+      let change = subst (λ l. ChangesAt (IsShutDown m) (newest_place s) l new) same_list changed in
+      let some : 1 ≤ s.opened = kept.newest on in
+      record {
+        within = (let same = changed_length change in let old = kept.within in omega arith);
+        newest = λ e. absurd (cc);
+        numbered = subst (λ ns. IsStrictlyIncreasing (0 ∷ ns)) (sym (changed_numbers change)) kept.numbered;
+        ended = λ place stream stands is. go change place stream stands is.0 (place == newest_place s) refl;
+        unused = λ place stream stands past. kept.unused place stream (sym (changed_beside change place (omega arith)) ∙ stands) past;
+      }
+    where
+      go : ChangesAt (IsShutDown m) (newest_place s) s.list new → (place : ℕ) (stream : ℕ × E) → slice_get new place ≡ Some stream → place < s.opened → (b : Bool) → (place == newest_place s) ≡ b → (m.stand stream.1).is_shut ≡ true
+      go change place stream stands below true e =
+          let here = eqb-true place (newest_place s) e in
+          let is : (change.number, change.end_after) ≡ stream = same_Some (change.number, change.end_after) stream (sym (changed_here change) ∙ (ap (slice_get new) (sym here) ∙ stands)) in
+          subst (λ (x : ℕ × E). (m.stand x.1).is_shut ≡ true) is (ap (λ stand. stand.is_shut) change.way.shut.1)
+      go change place stream stands below false e =
+          let apart = eqb-false place (newest_place s) e in
+          kept.ended place stream (sym (changed_beside change place apart) ∙ stands) (below, λ _. apart)
+
+-- the next stream was opened
+pub kept_opened : {E : Type 0} (m : Means E) (s : StreamsView E) → AreKept m s → s.is_open ≡ false → s.opened < length s.list → AreKept m (record s { opened = s.opened + 1; is_open = true })
+kept_opened m s kept off left = record {
+  within = omega arith;
+  newest = λ _. omega arith;
+  numbered = kept.numbered;
+  ended = λ place stream stands is. kept.ended place stream stands ((let apart = is.1 refl in let below = is.0 in omega arith), λ on. absurd (cc));
+  unused = λ place stream stands past. kept.unused place stream stands (omega arith);
+}

@@ -1,0 +1,27 @@
+use Rattle.std.proofs.Common.{get_or, refl}
+use Rattle.std.proofs.lemmas.Option.{slice_get-get_or}
+use Rattle.rds_line_streams.proofs.places.write_at.Goals as goal
+
+pub returns-clause-sent : goal.returns-clause-sent
+returns-clause-sent g c =
+    let stream = get_or c.args.streams.now c.args.place c.index-streams-place.result in
+    record {
+      number = stream.0;
+      end_before = stream.1;
+      end_after = c.write.new.self;
+      stood = slice_get-get_or c.args.streams.now c.args.place c.index-streams-place.result c.requires.place;
+      stands = refl;
+      way = record {
+        sent = c.write.ensures.sent;
+        room = c.write.ensures.room;
+        got = c.write.ensures.got;
+        full = c.write.ensures.full;
+        goes = c.write.ensures.goes;
+        over = c.write.ensures.over;
+        fails = c.write.ensures.fails;
+        fulls = c.write.ensures.fulls;
+        others = c.write.ensures.others;
+        nothings = c.write.ensures.nothings;
+        meets = c.write.ensures.meets;
+      };
+    }

@@ -1,0 +1,35 @@
+use Rattle.std.proofs.Common.{◌≡◌, ◌<◌, ℕ, true, false, get_or, List, Some, slice_get, length, sym, ap, subst, ◌∙◌}
+use Rattle.std.specs.Option.{option_map}
+use Rattle.std.proofs.lemmas.Option.{slice_get-get_or}
+use Rattle.rds_line_streams.specs.Streams.{StreamsView, number_at, opened_numbers}
+use Rattle.rds_line_streams.proofs.Keeping.{kept_opened}
+use Rattle.rds_line_streams.proofs.Numbering.{above_opened}
+use Rattle.rds_line_streams.proofs.streams.Streams.open_next.Goals as goal
+
+pub invariant_of-self : goal.invariant_of-self
+invariant_of-self g c =
+    let inside = c.self.inside in
+    let s : StreamsView g.row.E.Denot = record { list = inside.streams.items; opened = inside.opened; is_open = inside.is_open } in
+    let off : inside.is_open ≡ false = ap (λ (v : StreamsView g.row.E.Denot). v.is_open) c.self.view_is ∙ c.requires in
+    let found = c.in_ok-number.ensures {u = tt} in
+    let left : inside.opened < length inside.streams.items = subst (λ (l : List (ℕ × g.row.E.Denot)). inside.opened < length l) c.deref.ensures.value found.lookup.3.0 in
+    kept_opened g.E.End.means s c.self.invariant off left
+
+pub returns-clause-number : goal.returns-clause-number
+returns-clause-number g c =
+    let found = c.in_ok-number.ensures {u = tt} in
+    let inside = c.self.inside in
+    let stream = c.in_ok-number.field-0.now in
+    let at : slice_get c.deref.result.now inside.opened ≡ Some stream = slice_get-get_or c.deref.result.now inside.opened stream found.lookup.3.0 ∙ ap Some (sym found.lookup.1) in
+    sym (ap (option_map (λ (s : ℕ × g.row.E.Denot). s.0)) at)
+    ∙ (ap (number_at inside.opened) c.deref.ensures.value ∙ ap (λ (v : StreamsView g.row.E.Denot). number_at v.opened v.list) c.self.view_is)
+
+pub returns-clause-above : goal.returns-clause-above
+returns-clause-above g c =
+    let found = c.in_ok-number.ensures {u = tt} in
+    let inside = c.self.inside in
+    let stream = c.in_ok-number.field-0.now in
+    let at : slice_get c.deref.result.now inside.opened ≡ Some stream = slice_get-get_or c.deref.result.now inside.opened stream found.lookup.3.0 ∙ ap Some (sym found.lookup.1) in
+    let number : number_at inside.opened inside.streams.items ≡ Some stream.0 = ap (number_at inside.opened) (sym c.deref.ensures.value) ∙ ap (option_map (λ (s : ℕ × g.row.E.Denot). s.0)) at in
+    subst (λ (v : StreamsView g.row.E.Denot). (0 < stream.0) × ((k d : ℕ) → k < length (opened_numbers v) → get_or (opened_numbers v) k d < stream.0)) c.self.view_is
+    (above_opened inside.streams.items inside.opened stream.0 c.self.invariant.numbered number)

@@ -1,0 +1,5 @@
+pub mod Streams
+pub mod Changes
+pub mod Meeting
+pub mod PlaceLaws
+pub mod ChangeLaws
