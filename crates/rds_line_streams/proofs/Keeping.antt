@@ -1,12 +1,14 @@
 -- What the streams of a line keep, call by call.
-use Rattle.std.proofs.Common.{◌≡◌, ◌≢◌, ℕ, ◌+◌, ◌<◌, ◌≤◌, ◌==◌, Bool, true, false, List, ◌∷◌, length, Some, slice_get, refl, sym, ap, subst, ◌∙◌, arith}
+use Rattle.std.proofs.Common.{◌≡◌, ◌≢◌, ℕ, ◌+◌, ◌<◌, ◌≤◌, ◌==◌, Bool, true, false, List, ◌∷◌, length, get_or, Some, slice_get, refl, sym, ap, subst, ◌∙◌, arith}
 use Rattle.std.specs.List.Sorted.{IsStrictlyIncreasing}
 use Rattle.std.proofs.lemmas.Bool.{eqb-true, eqb-false}
-use Rattle.std.proofs.lemmas.Option.{same_Some}
+use Rattle.std.proofs.lemmas.Option.{same_Some, slice_get-get_or, slice_get_within}
 use Rattle.rds_link.specs.Ends.{Means}
-use Rattle.rds_line_streams.specs.Streams.{StreamsView, AreKept, IsEndedAt, IsUnused, newest_place, with_list}
+use Rattle.rds_line_streams.specs.Streams.{StreamsView, AreKept, IsEndedAt, IsUnused, numbers, newest_place, with_list}
 use Rattle.rds_line_streams.specs.Changes.{ChangesAt, IsShutDown}
-use Rattle.rds_line_streams.specs.ChangeLaws.{changed_here, changed_beside, changed_numbers, changed_length}
+use Rattle.rds_line_streams.specs.ChangeLaws.{changed_here, changed_beside, changed_numbers, changed_length, same_length}
+use Rattle.rds_line_streams.specs.Meeting.{AtEach}
+use Rattle.rds_line_streams.specs.MeetingLaws.{MeetsSome}
 
 module _ {E : Type 0} (m : Means E) (s : StreamsView E) (kept : AreKept m s) (on : s.is_open ≡ true) (list new : List (ℕ × E)) (same_list : list ≡ s.list) where
   -- the end of the open stream changed
@@ -53,3 +55,31 @@ kept_opened m s kept off left = record {
   ended = λ place stream stands is. kept.ended place stream stands ((let apart = is.1 refl in let below = is.0 in omega arith), λ on. absurd (cc));
   unused = λ place stream stands past. kept.unused place stream stands (omega arith);
 }
+
+-- the ends have met those of another line
+pub kept_met : {E : Type 0} (m : Means E) (s : StreamsView E) (list new : List (ℕ × E)) → AreKept m s → list ≡ s.list → numbers new ≡ numbers list → AtEach (MeetsSome m) list new → AreKept m (with_list s new)
+kept_met {E} m s list new kept same_list same_numbers met = record {
+  within = (let count = same_length new s.list names in let old = kept.within in omega arith);
+  newest = kept.newest;
+  numbered = subst (λ ns. IsStrictlyIncreasing (0 ∷ ns)) (sym names) kept.numbered;
+  ended = λ place stream stands is. ap (λ stand. stand.is_shut) (did place stream stands).1.learns.0 ∙ kept.ended place (was place stream stands) (stood place stream stands) is;
+  unused = λ place stream stands past.
+      let one = did place stream stands in
+      let old = kept.unused place (was place stream stands) (stood place stream stands) past in
+      (λ tells. (one.1.moves.0 ∙ (old.0 tells).0, one.1.moves.1 ∙ (old.0 tells).1), ap (λ stand. stand.is_shut) one.1.learns.0 ∙ old.1);
+}
+  where
+    names : numbers new ≡ numbers s.list
+    names = same_numbers ∙ ap numbers same_list
+
+    was : (place : ℕ) (stream : ℕ × E) → slice_get new place ≡ Some stream → ℕ × E
+    was place stream stands = get_or s.list place stream
+
+    stood : (place : ℕ) (stream : ℕ × E) (stands : slice_get new place ≡ Some stream) → slice_get s.list place ≡ Some (was place stream stands)
+    stood place stream stands =
+        let small = slice_get_within new place stream stands in
+        let count = same_length new s.list names in
+        slice_get-get_or s.list place stream (omega arith)
+
+    did : (place : ℕ) (stream : ℕ × E) (stands : slice_get new place ≡ Some stream) → MeetsSome m (was place stream stands).1 stream.1
+    did place stream stands = met.at place (was place stream stands) stream (ap (λ l. slice_get l place) same_list ∙ stood place stream stands) stands

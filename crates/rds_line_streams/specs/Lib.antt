@@ -3,3 +3,4 @@ pub mod Changes
 pub mod Meeting
 pub mod PlaceLaws
 pub mod ChangeLaws
+pub mod MeetingLaws

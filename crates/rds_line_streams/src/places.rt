@@ -4,6 +4,7 @@ ghost use Rattle.rds_link.specs.Answers.{bytes_got, bytes_put};
 ghost use Rattle.rds_link.specs.declared.end.Got.TheVariants as got;
 ghost use Rattle.rds_link.specs.declared.end.Put.TheVariants as put;
 ghost use Rattle.rds_line_streams.specs.Changes.{ChangesAt, Receives, Sends, IsShutDown};
+ghost use Rattle.rds_line_streams.specs.Meeting.{StayPaired};
 
 use rds_link::{End, Got, Put};
 
@@ -14,6 +15,7 @@ pub(crate) fn read_at<E: End>(streams: &mut [(u32, E)], place: usize, buf: &mut 
     ensures count { (n : ℕ) → result ≡ got.Bytes n → (1 ≤ n) × (n ≤ length buf.old) }
     ensures rest { drop (bytes_got result) buf.new ≡ drop (bytes_got result) buf.old }
     ensures received { ChangesAt (Receives E.means result (take (bytes_got result) buf.new)) place streams.old streams.new }
+    ensures stays { StayPaired E.means streams.old streams.new }
 {
     let stream = &mut streams[place];
     stream.1.read(buf)
@@ -25,6 +27,7 @@ pub(crate) fn write_at<E: End>(streams: &mut [(u32, E)], place: usize, piece: &[
     requires piece { 0 < length piece.now }
     ensures count { (n : ℕ) → result ≡ put.Took n → (1 ≤ n) × (n ≤ length piece.now) }
     ensures sent { ChangesAt (Sends E.means result (take (bytes_put result) piece.now)) place streams.old streams.new }
+    ensures stays { StayPaired E.means streams.old streams.new }
 {
     let stream = &mut streams[place];
     stream.1.write(piece)
@@ -33,7 +36,8 @@ pub(crate) fn write_at<E: End>(streams: &mut [(u32, E)], place: usize, piece: &[
 // Shuts the end at this place.
 pub(crate) fn shut_at<E: End>(streams: &mut [(u32, E)], place: usize)
     requires { place < length streams.old }
-    ensures { ChangesAt (IsShutDown E.means) place streams.old streams.new }
+    ensures shut { ChangesAt (IsShutDown E.means) place streams.old streams.new }
+    ensures stays { StayPaired E.means streams.old streams.new }
 {
     let stream = &mut streams[place];
     stream.1.shut();

@@ -4,6 +4,7 @@ ghost use Rattle.rds_link.specs.Answers.{bytes_got, bytes_put};
 ghost use Rattle.rds_link.specs.declared.end.Got.TheVariants as got;
 ghost use Rattle.rds_link.specs.declared.end.Put.TheVariants as put;
 ghost use Rattle.rds_line_streams.specs.Changes.{ChangesAt, Receives, Sends, IsShutDown};
+ghost use Rattle.rds_line_streams.specs.Meeting.{StayPaired};
 ghost use Rattle.rds_line_streams.specs.Streams.{AreKept, AreNumbered, IsUnused, newest_place, number_at, open_number, opened_numbers, with_list};
 
 use crate::places::{read_at, shut_at, write_at};
@@ -79,6 +80,7 @@ impl<E: End> Streams<E> {
         ensures opened { IfSome result (λ _. self.new ≡ record self.old { opened = self.old.opened + 1; is_open = true }) }
         ensures none { IfNone result (self.new ≡ self.old) }
         ensures all { IfNone result (self.old.opened ≡ length self.old.list) }
+        ensures same { self.new.list ≡ self.old.list }
     {
         let number = self.streams.get(self.opened)?.0;
         self.opened += 1;
@@ -94,6 +96,7 @@ impl<E: End> Streams<E> {
         ensures rest { drop (bytes_got result) buf.new ≡ drop (bytes_got result) buf.old }
         ensures received { ChangesAt (Receives E.means result (take (bytes_got result) buf.new)) (newest_place self.old) self.old.list self.new.list }
         ensures same { self.new ≡ with_list self.old self.new.list }
+        ensures stays { StayPaired E.means self.old.list self.new.list }
     {
         read_at(&mut self.streams, self.opened - 1, buf)
     }
@@ -105,6 +108,7 @@ impl<E: End> Streams<E> {
         ensures count { (n : ℕ) → result ≡ put.Took n → (1 ≤ n) × (n ≤ length piece.now) }
         ensures sent { ChangesAt (Sends E.means result (take (bytes_put result) piece.now)) (newest_place self.old) self.old.list self.new.list }
         ensures same { self.new ≡ with_list self.old self.new.list }
+        ensures stays { StayPaired E.means self.old.list self.new.list }
     {
         write_at(&mut self.streams, self.opened - 1, piece)
     }
@@ -114,6 +118,7 @@ impl<E: End> Streams<E> {
         requires { self.old.is_open ≡ true }
         ensures shut { ChangesAt (IsShutDown E.means) (newest_place self.old) self.old.list self.new.list }
         ensures ended { self.new ≡ record self.old { list = self.new.list; is_open = false } }
+        ensures stays { StayPaired E.means self.old.list self.new.list }
     {
         shut_at(&mut self.streams, self.opened - 1);
         self.is_open = false;

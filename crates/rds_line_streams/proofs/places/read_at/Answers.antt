@@ -1,5 +1,6 @@
 use Rattle.std.proofs.Common.{get_or, refl}
 use Rattle.std.proofs.lemmas.Option.{slice_get-get_or}
+use Rattle.rds_line_streams.specs.ChangeLaws.{changed_paired}
 use Rattle.rds_line_streams.proofs.places.read_at.Goals as goal
 
 pub returns-clause-received : goal.returns-clause-received
@@ -25,3 +26,6 @@ returns-clause-received g c =
         meets = c.read.ensures.meets;
       };
     }
+
+pub returns-clause-stays : goal.returns-clause-stays
+returns-clause-stays g c = changed_paired (returns-clause-received g c) g.E.End.means (returns-clause-received g c).way.meets

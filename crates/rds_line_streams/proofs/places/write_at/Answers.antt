@@ -1,5 +1,6 @@
 use Rattle.std.proofs.Common.{get_or, refl}
 use Rattle.std.proofs.lemmas.Option.{slice_get-get_or}
+use Rattle.rds_line_streams.specs.ChangeLaws.{changed_paired}
 use Rattle.rds_line_streams.proofs.places.write_at.Goals as goal
 
 pub returns-clause-sent : goal.returns-clause-sent
@@ -25,3 +26,6 @@ returns-clause-sent g c =
         meets = c.write.ensures.meets;
       };
     }
+
+pub returns-clause-stays : goal.returns-clause-stays
+returns-clause-stays g c = changed_paired (returns-clause-sent g c) g.E.End.means (returns-clause-sent g c).way.meets

@@ -12,4 +12,4 @@ invariant_of-self g c =
     let new = c.shut_at.new.streams in
     let size : length new ≡ inside.streams.len = c.shut_at.auto.streams ∙ c.deref_mut.ensures.len in
     subst (λ (l : List (ℕ × g.row.E.Denot)). AreKept g.E.End.means (record s { list = l; is_open = false })) (sym (with_items_is inside.streams new size))
-    (kept_ended g.E.End.means s c.self.invariant on c.deref_mut.result.now new c.deref_mut.ensures.value c.shut_at.ensures)
+    (kept_ended g.E.End.means s c.self.invariant on c.deref_mut.result.now new c.deref_mut.ensures.value c.shut_at.ensures.shut)

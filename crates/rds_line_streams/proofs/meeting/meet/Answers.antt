@@ -1,0 +1,42 @@
+use Rattle.std.proofs.Common.{◌≡◌, ℕ, List, length, sym, ap, subst, ◌∙◌}
+use Rattle.std.proofs.lemmas.List.{with_items_is}
+use Rattle.rds_line_streams.specs.Streams.{StreamsView, AreKept, numbers, with_list}
+use Rattle.rds_line_streams.specs.Meeting.{AtEach, AreMet, HaveMet, GotBeginning}
+use Rattle.rds_line_streams.specs.MeetingLaws.{met_first, met_second, met_ends, got_beginning}
+use Rattle.rds_line_streams.specs.ChangeLaws.{same_length}
+use Rattle.rds_line_streams.proofs.Keeping.{kept_met}
+use Rattle.rds_line_streams.proofs.meeting.meet.Goals as goal
+
+pub invariant_of-a : goal.invariant_of-a
+invariant_of-a g c =
+    let m = g.W.End.End.means in
+    let one = c.deref_mut.result.now in
+    let other = c.deref_mut-2.result.now in
+    let one_met = c.meet_each.new.a in
+    let other_met = c.meet_each.new.b in
+    let one_is : one ≡ c.args.a.now.list = c.deref_mut.ensures.value ∙ ap (λ (v : StreamsView g.row.W-End.Denot). v.list) c.a.view_is in
+    let other_is : other ≡ c.args.b.now.list = c.deref_mut-2.ensures.value ∙ ap (λ (v : StreamsView g.row.W-End.Denot). v.list) c.b.view_is in
+    let one_now = with_items_is c.a.inside.streams one_met (c.meet_each.auto.a ∙ c.deref_mut.ensures.len) in
+    let other_now = with_items_is c.b.inside.streams other_met (c.meet_each.auto.b ∙ c.deref_mut-2.ensures.len) in
+    let count : length other ≡ length one = ap length other_is ∙ (same_length c.args.b.now.list c.args.a.now.list c.requires.numbers ∙ sym (ap length one_is)) in
+    let inside = c.a.inside in
+    let s : StreamsView g.row.W-End.Denot = record { list = inside.streams.items; opened = inside.opened; is_open = inside.is_open } in
+    subst (λ (l : List (ℕ × g.row.W-End.Denot)). AreKept m (with_list s l)) (sym one_now)
+    (kept_met m s one one_met c.a.invariant c.deref_mut.ensures.value c.meet_each.ensures.one (met_first m one one_met other other_met c.meet_each.ensures.met count c.meet_each.auto.b))
+
+pub invariant_of-b : goal.invariant_of-b
+invariant_of-b g c =
+    let m = g.W.End.End.means in
+    let one = c.deref_mut.result.now in
+    let other = c.deref_mut-2.result.now in
+    let one_met = c.meet_each.new.a in
+    let other_met = c.meet_each.new.b in
+    let one_is : one ≡ c.args.a.now.list = c.deref_mut.ensures.value ∙ ap (λ (v : StreamsView g.row.W-End.Denot). v.list) c.a.view_is in
+    let other_is : other ≡ c.args.b.now.list = c.deref_mut-2.ensures.value ∙ ap (λ (v : StreamsView g.row.W-End.Denot). v.list) c.b.view_is in
+    let one_now = with_items_is c.a.inside.streams one_met (c.meet_each.auto.a ∙ c.deref_mut.ensures.len) in
+    let other_now = with_items_is c.b.inside.streams other_met (c.meet_each.auto.b ∙ c.deref_mut-2.ensures.len) in
+    let count : length other ≡ length one = ap length other_is ∙ (same_length c.args.b.now.list c.args.a.now.list c.requires.numbers ∙ sym (ap length one_is)) in
+    let inside = c.b.inside in
+    let s : StreamsView g.row.W-End.Denot = record { list = inside.streams.items; opened = inside.opened; is_open = inside.is_open } in
+    subst (λ (l : List (ℕ × g.row.W-End.Denot)). AreKept m (with_list s l)) (sym other_now)
+    (kept_met m s other other_met c.b.invariant c.deref_mut-2.ensures.value c.meet_each.ensures.other (met_second m one one_met other other_met c.meet_each.ensures.met count c.meet_each.auto.a))
