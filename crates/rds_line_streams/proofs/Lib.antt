@@ -1,3 +1,4 @@
 mod Keeping
 mod Numbering
 mod Partly
+mod Over

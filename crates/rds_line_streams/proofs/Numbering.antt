@@ -2,15 +2,14 @@
 use Rattle.std.proofs.Common.{◌≡◌, ℕ, suc, ◌<◌, ◌≤◌, List, ◌∷◌, length, get_or, take, map, All, Some, slice_get, min, sym, ap, subst, ◌∙◌, arith}
 use Rattle.std.proofs.lemmas.List.{get_or-take, length-take}
 use Rattle.std.proofs.lemmas.List.Kept.{AllPairs-from_increasing}
-use Rattle.std.proofs.lemmas.Option.{slice_get-map, slice_get_within, get_or_from_slice_get}
-use Rattle.rds_line_streams.specs.Streams.{numbers, AreNumbered, number_at}
+use Rattle.std.proofs.lemmas.Option.{slice_get_within, get_or_from_slice_get}
+use Rattle.rds_line_streams.specs.Streams.{numbers, AreNumbered}
 
-pub above_opened : {E : Type 0} (list : List (ℕ × E)) (opened number : ℕ) → AreNumbered list → number_at opened list ≡ Some number → (0 < number) × All (λ earlier. earlier < number) (take opened (numbers list))
+pub above_opened : {E : Type 0} (list : List (ℕ × E)) (opened number : ℕ) → AreNumbered list → slice_get (numbers list) opened ≡ Some number → (0 < number) × All (λ earlier. earlier < number) (take opened (numbers list))
 above_opened list opened number numbered at =
-    let there = slice_get-map (λ s. s.0) list opened ∙ at in
-    let within = slice_get_within (numbers list) opened number there in
+    let within = slice_get_within (numbers list) opened number at in
     let pairs = AllPairs-from_increasing (0 ∷ numbers list) numbered in
-    let is = λ (d : ℕ). get_or_from_slice_get (numbers list) opened number d there in
+    let is = λ (d : ℕ). get_or_from_slice_get (numbers list) opened number d at in
     (
       subst (λ n. 0 < n) (is 0) (pairs 0 (suc opened) 0 (omega arith) (omega arith)),
       λ k d small.

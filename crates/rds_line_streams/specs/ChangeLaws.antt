@@ -5,7 +5,7 @@ use Rattle.std.proofs.lemmas.Bool.{eqb-true, eqb-false}
 use Rattle.std.proofs.lemmas.List.{length-set, length-map}
 use Rattle.std.proofs.lemmas.Option.{same_Some, slice_get_within, slice_get-get_or}
 use Rattle.rds_link.specs.Ends.{Means, Remains}
-use Rattle.rds_line_streams.specs.Streams.{numbers}
+use Rattle.rds_line_streams.specs.Streams.{EndAt, numbers}
 use Rattle.rds_line_streams.specs.Changes.{ChangesAt}
 use Rattle.rds_line_streams.specs.Meeting.{AtEach, StayPaired}
 use Rattle.rds_line_streams.specs.PlaceLaws.{at_set, beside_set, map_set}
@@ -57,6 +57,14 @@ module _ {E : Type 0} {Way : E → E → Type 0} {place : ℕ} {old new : List (
 
   pub changed_length : length new ≡ length old
   changed_length = ap length change.stands ∙ length-set old place (change.number, change.end_after)
+
+  -- what holds of the end there before the change gives what holds of it afterwards
+  pub changed_end : {Was Is : E → Type 0} → ((before after : E) → Way before after → Was before → Is after) → EndAt Was place old → EndAt Is place new
+  changed_end {Was} {Is} becomes was = record {
+    at = λ stream stands.
+        let is = same_Some (change.number, change.end_after) stream (sym changed_here ∙ stands) in
+        subst (λ (x : ℕ × E). Is x.1) is (becomes change.end_before change.end_after change.way (was.at (change.number, change.end_before) change.stood));
+  }
 
   -- what holds between an end and itself, and between the end before the change and after it, holds of each end
   pub changed_each : (Holds : E → E → Type 0) → ((e : E) → Holds e e) → Holds change.end_before change.end_after → AtEach Holds old new

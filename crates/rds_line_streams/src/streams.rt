@@ -5,7 +5,7 @@ ghost use Rattle.rds_link.specs.declared.end.Got.TheVariants as got;
 ghost use Rattle.rds_link.specs.declared.end.Put.TheVariants as put;
 ghost use Rattle.rds_line_streams.specs.Changes.{ChangesAt, Receives, Sends, IsShutDown};
 ghost use Rattle.rds_line_streams.specs.Meeting.{StayPaired};
-ghost use Rattle.rds_line_streams.specs.Streams.{AreKept, AreNumbered, IsUnused, newest_place, number_at, open_number, opened_numbers, with_list};
+ghost use Rattle.rds_line_streams.specs.Streams.{AreKept, AreNumbered, IsUnused, HasSaidOver, EndAt, numbers, newest_place, open_number, opened_numbers, with_list};
 
 use crate::places::{read_at, shut_at, write_at};
 use rds_link::{End, Got, Put};
@@ -75,7 +75,7 @@ impl<E: End> Streams<E> {
     /// Opens the next stream, where none is open, and answers its number. `None` where all were opened.
     pub fn open_next(&mut self) -> Option<u32>
         requires { self.old.is_open ≡ false }
-        ensures number { result ≡ number_at self.old.opened self.old.list }
+        ensures number { result ≡ slice_get (numbers self.old.list) self.old.opened }
         ensures above { IfSome result (λ number. (0 < number) × All (λ earlier. earlier < number) (opened_numbers self.old)) }
         ensures opened { IfSome result (λ _. self.new ≡ record self.old { opened = self.old.opened + 1; is_open = true }) }
         ensures none { IfNone result (self.new ≡ self.old) }
@@ -95,7 +95,9 @@ impl<E: End> Streams<E> {
         ensures count { (n : ℕ) → result ≡ got.Bytes n → (1 ≤ n) × (n ≤ length buf.old) }
         ensures rest { drop (bytes_got result) buf.new ≡ drop (bytes_got result) buf.old }
         ensures received { ChangesAt (Receives E.means result (take (bytes_got result) buf.new)) (newest_place self.old) self.old.list self.new.list }
+        ensures over { result ≡ got.Over → EndAt (HasSaidOver E.means) (newest_place self.old) self.new.list }
         ensures same { self.new ≡ with_list self.old self.new.list }
+        ensures numbers { numbers self.new.list ≡ numbers self.old.list }
         ensures stays { StayPaired E.means self.old.list self.new.list }
     {
         read_at(&mut self.streams, self.opened - 1, buf)
@@ -107,7 +109,9 @@ impl<E: End> Streams<E> {
         requires piece { 0 < length piece.now }
         ensures count { (n : ℕ) → result ≡ put.Took n → (1 ≤ n) × (n ≤ length piece.now) }
         ensures sent { ChangesAt (Sends E.means result (take (bytes_put result) piece.now)) (newest_place self.old) self.old.list self.new.list }
+        ensures over { result ≡ put.Over → EndAt (HasSaidOver E.means) (newest_place self.old) self.new.list }
         ensures same { self.new ≡ with_list self.old self.new.list }
+        ensures numbers { numbers self.new.list ≡ numbers self.old.list }
         ensures stays { StayPaired E.means self.old.list self.new.list }
     {
         write_at(&mut self.streams, self.opened - 1, piece)
@@ -118,6 +122,7 @@ impl<E: End> Streams<E> {
         requires { self.old.is_open ≡ true }
         ensures shut { ChangesAt (IsShutDown E.means) (newest_place self.old) self.old.list self.new.list }
         ensures ended { self.new ≡ record self.old { list = self.new.list; is_open = false } }
+        ensures numbers { numbers self.new.list ≡ numbers self.old.list }
         ensures stays { StayPaired E.means self.old.list self.new.list }
     {
         shut_at(&mut self.streams, self.opened - 1);

@@ -1,6 +1,6 @@
 use Rattle.std.proofs.Common.{get_or, refl}
 use Rattle.std.proofs.lemmas.Option.{slice_get-get_or}
-use Rattle.rds_line_streams.specs.ChangeLaws.{changed_paired}
+use Rattle.rds_line_streams.specs.ChangeLaws.{changed_numbers, changed_paired}
 use Rattle.rds_line_streams.proofs.places.shut_at.Goals as goal
 
 pub returns-clause-shut : goal.returns-clause-shut
@@ -23,3 +23,6 @@ returns-clause-shut g c =
 
 pub returns-clause-stays : goal.returns-clause-stays
 returns-clause-stays g c = changed_paired (returns-clause-shut g c) g.E.End.means (returns-clause-shut g c).way.meets
+
+pub returns-clause-numbers : goal.returns-clause-numbers
+returns-clause-numbers g c = changed_numbers (returns-clause-shut g c)

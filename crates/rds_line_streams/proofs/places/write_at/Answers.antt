@@ -1,6 +1,7 @@
 use Rattle.std.proofs.Common.{get_or, refl}
 use Rattle.std.proofs.lemmas.Option.{slice_get-get_or}
-use Rattle.rds_line_streams.specs.ChangeLaws.{changed_paired}
+use Rattle.rds_line_streams.specs.ChangeLaws.{changed_end, changed_numbers, changed_paired}
+use Rattle.rds_line_streams.proofs.Over.{over_said}
 use Rattle.rds_line_streams.proofs.places.write_at.Goals as goal
 
 pub returns-clause-sent : goal.returns-clause-sent
@@ -29,3 +30,11 @@ returns-clause-sent g c =
 
 pub returns-clause-stays : goal.returns-clause-stays
 returns-clause-stays g c = changed_paired (returns-clause-sent g c) g.E.End.means (returns-clause-sent g c).way.meets
+
+pub returns-clause-numbers : goal.returns-clause-numbers
+returns-clause-numbers g c = changed_numbers (returns-clause-sent g c)
+
+pub returns-clause-over : goal.returns-clause-over
+returns-clause-over g c = λ over.
+    let m = g.E.End.means in
+    changed_end (returns-clause-sent g c) (λ before after way was. over_said (m.stand before) (m.stand after) (way.over over) was) c.requires.by_fault

@@ -1,6 +1,8 @@
-use Rattle.std.proofs.Common.{◌≡◌, ℕ, true, false, List, length, sym, ap, subst, ◌∙◌}
+use Rattle.std.proofs.Common.{◌≡◌, ℕ, ◌-◌, take, true, false, List, length, sym, ap, subst, ◌∙◌}
 use Rattle.std.proofs.lemmas.List.{with_items_is}
-use Rattle.rds_line_streams.specs.Streams.{StreamsView, AreKept, with_list}
+use Rattle.rds_link.specs.Answers.{bytes_put}
+use Rattle.rds_line_streams.specs.Streams.{StreamsView, AreKept, EndAt, ShutByFaultOnly, with_list}
+use Rattle.rds_line_streams.proofs.Over.{sent_by_fault}
 use Rattle.rds_line_streams.proofs.Keeping.{kept_changed}
 use Rattle.rds_line_streams.proofs.streams.Streams.send.Goals as goal
 
@@ -12,4 +14,10 @@ invariant_of-self g c =
     let new = c.write_at.new.streams in
     let size : length new ≡ inside.streams.len = c.write_at.auto.streams ∙ c.deref_mut.ensures.len in
     subst (λ (l : List (ℕ × g.row.E.Denot)). AreKept g.E.End.means (with_list s l)) (sym (with_items_is inside.streams new size))
-    (kept_changed g.E.End.means s c.self.invariant on c.deref_mut.result.now new c.deref_mut.ensures.value c.write_at.ensures.sent)
+    (kept_changed g.E.End.means s c.self.invariant on c.deref_mut.result.now new c.deref_mut.ensures.value c.write_at.ensures.sent (sent_by_fault g.E.End.means c.write_at.result (take (bytes_put c.write_at.result) c.args.piece.now)))
+
+pub write_at-requires-clause-by_fault : goal.write_at-requires-clause-by_fault
+write_at-requires-clause-by_fault g c =
+    let inside = c.self.inside in
+    let on : inside.is_open ≡ true = ap (λ (v : StreamsView g.row.E.Denot). v.is_open) c.self.view_is ∙ c.requires.open in
+    subst (λ (l : List (ℕ × g.row.E.Denot)). EndAt (ShutByFaultOnly g.E.End.means) (inside.opened - 1) l) (sym c.deref_mut.ensures.value) (c.self.invariant.newest on)
