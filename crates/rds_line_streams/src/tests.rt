@@ -1,63 +1,138 @@
 //! Two lines' streams over a wire in memory.
-ghost use Rattle.std.specs.Prelude.{◌≡◌, IfOk, IfSome};
-ghost use Rattle.rds_link.specs.Memory.{memory_means};
+ghost use Rattle.std.specs.Prelude.{◌≡◌, false, [], ◌∷◌, IfSome};
 ghost use Rattle.rds_line_streams.specs.Meeting.{AtEach};
-ghost use Rattle.rds_line_streams.specs.Streams.{numbers};
+ghost use Rattle.rds_line_streams.specs.Streams.{IsUnused, numbers};
 
 use crate::*;
-use rds_link::{Got, MemEnd, MemWire, Put, Wire};
+use rds_link::{End, Got, MemWire, Put, Wire};
 use std::alloc::Global;
 use std::net::Net;
 use std::sync::Wait;
 use std::test::*;
 use std::thread::Threads;
 
-type Both = (Streams<MemEnd>, Streams<MemEnd>);
+type Both<E> = (Streams<E>, Streams<E>);
 
-// The streams of two lines, with the numbers 1 and 3.
-fn prepared<R: Threads + Wait + Net>(rt: &R, alloc: Global) -> Result<Both, Fail>
-    ensures numbers { IfOk result (λ both. numbers both.1.list ≡ numbers both.0.list) }
-    ensures pairs { IfOk result (λ both. AtEach memory_means.meets both.0.list both.1.list) }
-    ensures first { IfOk result (λ both. both.0.is_open ≡ false) }
-    ensures second { IfOk result (λ both. both.1.is_open ≡ false) }
+// A line's streams, with the numbers 1 and 3.
+fn two<E: End>(alloc: Global, first: E, second: E) -> Option<Streams<E>>
+    requires first { IsUnused E.means first }
+    requires second { IsUnused E.means second }
+    ensures list { IfSome result (λ s. s.list ≡ (1, first) ∷ (3, second) ∷ []) }
+    ensures closed { IfSome result (λ s. s.is_open ≡ false) }
 {
-    let mut wire = MemWire::new(alloc, Vec::new(alloc), Vec::new(alloc));
-    let (a, b) = wire.open(rt, 1, 2, 1).map_err(|_| "no memory")?;
-    let (c, d) = wire.open(rt, 1, 2, 3).map_err(|_| "no memory")?;
-    let low = vec![in alloc; (1, a), (3, c)]?;
-    let high = vec![in alloc; (1, b), (3, d)]?;
-    Ok((Streams::new(low), Streams::new(high)))
+    let mut streams = Vec::new(alloc);
+    streams.push((1, first)).ok()?;
+    streams.push((3, second)).ok()?;
+    Some(Streams::new(streams))
 }
 
-// What two lines answer that open a stream each, move five bytes on it, and end it.
-fn moved(a: &mut Streams<MemEnd>, b: &mut Streams<MemEnd>, buf: &mut [u8; 8]) -> Option<(Put, Got, Got)> {
+// The streams of two lines.
+fn prepared<W: Wire, R: Threads + Wait + Net>(
+    rt: &R,
+    alloc: Global,
+    wire: &mut W,
+) -> Option<Both<W::End>>
+    ensures numbers { IfSome result (λ both. numbers both.1.list ≡ numbers both.0.list) }
+    ensures pairs { IfSome result (λ both. AtEach W.End.means.meets both.0.list both.1.list) }
+    ensures closed { IfSome result (λ both. (both.0.is_open ≡ false) × (both.1.is_open ≡ false)) }
+{
+    let (a, b) = wire.open(rt, 1, 2, 1).ok()?;
+    let (c, d) = wire.open(rt, 1, 2, 3).ok()?;
+    Some((two(alloc, a, c)?, two(alloc, b, d)?))
+}
+
+// What two lines answer that open the next stream, move five bytes over it and end it.
+fn carried<E: End>(a: &mut Streams<E>, b: &mut Streams<E>, buf: &mut [u8; 8]) -> Option<[Got; 3]>
+    requires first { a.old.is_open ≡ false }
+    requires second { b.old.is_open ≡ false }
+{
     a.open_next()?;
     b.open_next()?;
-    let sent = a.send(b"hello");
+    a.send(b"hello");
     let came = b.receive(buf);
+    let none = b.receive(&mut [0; 8]);
     a.end_current();
-    let over = b.receive(buf);
-    b.end_current();
-    Some((sent, came, over))
+    let over = b.receive(&mut [0; 8]);
+    Some([came, none, over])
+}
+
+fn carry<W: Wire, R: Threads + Wait + Net>(
+    rt: &R,
+    alloc: Global,
+    wire: &mut W,
+    buf: &mut [u8; 8],
+) -> Option<[Got; 3]> {
+    let (mut a, mut b) = prepared(rt, alloc, wire)?;
+    carried(&mut a, &mut b, buf)
 }
 
 #[test]
-fn two_lines_open_one_stream_after_another(rt: HostRuntime) -> Result<(), Fail> {
-    let (mut a, mut b) = prepared(&rt, rt.alloc())?;
+fn bytes_go_over_the_open_stream(rt: HostRuntime) -> Result<(), Fail> {
+    let alloc = rt.alloc();
+    let mut wire = MemWire::new(alloc, Vec::new(alloc), Vec::new(alloc));
     let mut buf = [0; 8];
-    assert!(rt; !a.is_open() && a.has_next());
-    assert_eq!(rt; (a.open_next(), b.open_next()), (Some(1), Some(1)));
-    assert_eq!(rt; a.send(b"hello"), Put::Took(5));
-    assert_eq!(rt; b.receive(&mut buf), Got::Bytes(5));
+    let answers = carry(&rt, alloc, &mut wire, &mut buf);
+    assert_eq!(rt; answers, Some([Got::Bytes(5), Got::Nothing, Got::Over]));
     assert_eq!(rt; &buf[..5], b"hello".as_slice());
-    assert_eq!(rt; b.receive(&mut buf), Got::Nothing);
+    Ok(())
+}
+
+// What a line's read answers once the other line has sent three bytes and both have met.
+fn met<W: Wire>(a: &mut Streams<W::End>, b: &mut Streams<W::End>) -> Option<(Put, Got)>
+    requires first { a.old.is_open ≡ false }
+    requires second { b.old.is_open ≡ false }
+    requires numbers { numbers b.old.list ≡ numbers a.old.list }
+    requires pairs { AtEach W.End.means.meets a.old.list b.old.list }
+{
+    a.open_next()?;
+    b.open_next()?;
+    let sent = b.send(b"bye");
+    meet::<W>(a, b);
+    Some((sent, a.receive(&mut [0; 8])))
+}
+
+fn meeting<W: Wire, R: Threads + Wait + Net>(
+    rt: &R,
+    alloc: Global,
+    wire: &mut W,
+) -> Option<(Put, Got)> {
+    let (mut a, mut b) = prepared(rt, alloc, wire)?;
+    met::<W>(&mut a, &mut b)
+}
+
+#[test]
+fn two_lines_meet(rt: HostRuntime) -> Result<(), Fail> {
+    let alloc = rt.alloc();
+    let mut wire = MemWire::new(alloc, Vec::new(alloc), Vec::new(alloc));
+    assert_eq!(rt; meeting(&rt, alloc, &mut wire), Some((Put::Took(3), Got::Bytes(3))));
+    Ok(())
+}
+
+// The streams that a line has open, one after another, and whether it gets both back.
+fn numbered<W: Wire, R: Threads + Wait + Net>(
+    rt: &R,
+    alloc: Global,
+    wire: &mut W,
+) -> Option<([Option<u32>; 4], bool)> {
+    let (mut a, _b) = prepared(rt, alloc, wire)?;
+    let none = a.current();
+    a.open_next()?;
+    let first = a.current();
     a.end_current();
-    assert_eq!(rt; (a.current(), b.current()), (None, Some(1)));
-    assert_eq!(rt; b.receive(&mut buf), Got::Over);
-    b.end_current();
-    assert_eq!(rt; (a.open_next(), b.open_next()), (Some(3), Some(3)));
-    assert_eq!(rt; b.send(b"bye"), Put::Took(3));
-    meet::<MemWire>(&mut a, &mut b);
-    assert_eq!(rt; a.receive(&mut buf), Got::Bytes(3));
+    let second = a.open_next();
+    if a.is_open() {
+        a.end_current();
+    }
+    let left = a.has_next() || a.open_next().is_some();
+    let streams = a.into_streams();
+    Some(([none, first, second, streams.last().map(|s| s.0)], left))
+}
+
+#[test]
+fn streams_open_in_order(rt: HostRuntime) -> Result<(), Fail> {
+    let alloc = rt.alloc();
+    let mut wire = MemWire::new(alloc, Vec::new(alloc), Vec::new(alloc));
+    let numbers = [None, Some(1), Some(3), Some(3)];
+    assert_eq!(rt; numbered(&rt, alloc, &mut wire), Some((numbers, false)));
     Ok(())
 }
