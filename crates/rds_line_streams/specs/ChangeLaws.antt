@@ -1,6 +1,6 @@
 -- Laws, each proved: proofs in other crates use them. Nothing here has to be believed.
 -- What a change of the end at one place leaves as it was.
-use Rattle.std.proofs.Common.{◌≡◌, ◌≢◌, ℕ, ◌==◌, Bool, true, false, List, length, get_or, Some, slice_get, refl, sym, ap, subst, ◌∙◌, arith}
+use Rattle.std.proofs.Common.{◌≡◌, ◌≢◌, ◌⊎◌, inl, inr, ℕ, ◌==◌, Bool, true, false, List, length, get_or, Some, slice_get, refl, sym, ap, subst, ◌∙◌, arith}
 use Rattle.std.proofs.lemmas.Bool.{eqb-true, eqb-false}
 use Rattle.std.proofs.lemmas.List.{length-set, length-map}
 use Rattle.std.proofs.lemmas.Option.{same_Some, slice_get_within, slice_get-get_or}
@@ -51,6 +51,18 @@ module _ {E : Type 0} {Way : E → E → Type 0} {place : ℕ} {old new : List (
   -- any other stream
   pub changed_beside : (other : ℕ) → other ≢ place → slice_get new other ≡ slice_get old other
   changed_beside other apart = ap (λ l. slice_get l other) change.stands ∙ beside_set old place other (change.number, change.end_after) apart
+
+  -- a stream that stands in the list now: the one whose end changed, or one that stood there before
+  pub changed_cases : (other : ℕ) (stream : ℕ × E) → slice_get new other ≡ Some stream → ((other ≡ place) × (stream ≡ (change.number, change.end_after))) ⊎ ((other ≢ place) × (slice_get old other ≡ Some stream))
+  changed_cases other stream stands = go (other == place) refl
+    where
+      go : (b : Bool) → (other == place) ≡ b → ((other ≡ place) × (stream ≡ (change.number, change.end_after))) ⊎ ((other ≢ place) × (slice_get old other ≡ Some stream))
+      go true e =
+          let here : other ≡ place = eqb-true other place e in
+          inl (here, same_Some stream (change.number, change.end_after) (sym stands ∙ (ap (slice_get new) here ∙ changed_here)))
+      go false e =
+          let apart = eqb-false other place e in
+          inr (apart, sym (changed_beside other apart) ∙ stands)
 
   pub changed_numbers : numbers new ≡ numbers old
   changed_numbers = ap numbers change.stands ∙ map_set (λ stream. stream.0) old place (change.number, change.end_before) (change.number, change.end_after) change.stood refl

@@ -4,3 +4,4 @@ pub mod Meeting
 pub mod PlaceLaws
 pub mod ChangeLaws
 pub mod MeetingLaws
+pub mod NumberLaws

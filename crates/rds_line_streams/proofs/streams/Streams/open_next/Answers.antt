@@ -1,9 +1,7 @@
 use Rattle.std.proofs.Common.{◌≡◌, ◌<◌, ℕ, true, false, get_or, List, Some, slice_get, length, sym, ap, subst, ◌∙◌}
-use Rattle.std.specs.Option.{option_map}
-use Rattle.std.proofs.lemmas.Option.{slice_get-get_or, slice_get-map}
 use Rattle.rds_line_streams.specs.Streams.{StreamsView, AreNumbered, numbers, opened_numbers}
 use Rattle.rds_line_streams.proofs.Keeping.{kept_opened}
-use Rattle.rds_line_streams.proofs.Numbering.{above_opened}
+use Rattle.rds_line_streams.proofs.Numbering.{above_opened, number_read}
 use Rattle.rds_line_streams.proofs.streams.Streams.open_next.Goals as goal
 
 pub invariant_of-self : goal.invariant_of-self
@@ -20,12 +18,11 @@ returns-clause-number g c =
     let found = c.in_ok-number.ensures {u = tt} in
     let inside = c.self.inside in
     let stream = c.in_ok-number.field-0.now in
-    let at : slice_get c.deref.result.now inside.opened ≡ Some stream = slice_get-get_or c.deref.result.now inside.opened stream found.lookup.3.0 ∙ ap Some (sym found.lookup.1) in
-    sym (slice_get-map (λ (s : ℕ × g.row.E.Denot). s.0) c.deref.result.now inside.opened ∙ ap (option_map (λ (s : ℕ × g.row.E.Denot). s.0)) at)
+    number_read c.deref.result.now inside.opened stream found.lookup.3.0 found.lookup.1
     ∙ (ap (λ (l : List (ℕ × g.row.E.Denot)). slice_get (numbers l) inside.opened) c.deref.ensures.value ∙ ap (λ (v : StreamsView g.row.E.Denot). slice_get (numbers v.list) v.opened) c.self.view_is)
 
 pub returns-clause-above : goal.returns-clause-above
 returns-clause-above g c =
     let stream = c.in_ok-number.field-0.now in
-    let kept = c.self.invariant.numbered in
-    above_opened c.args.self.now.list c.args.self.now.opened stream.0 (subst (λ (v : StreamsView g.row.E.Denot). AreNumbered v.list) c.self.view_is c.self.invariant.numbered) (sym (returns-clause-number g c))
+    let numbered = subst (λ (v : StreamsView g.row.E.Denot). AreNumbered v.list) c.self.view_is c.self.invariant.numbered in
+    above_opened c.args.self.now.list c.args.self.now.opened stream.0 numbered (sym (returns-clause-number g c))
