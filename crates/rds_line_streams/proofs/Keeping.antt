@@ -1,10 +1,10 @@
 -- What the streams of a line keep, call by call.
-use Rattle.std.proofs.Common.{◌≡◌, ◌≢◌, ℕ, ◌+◌, ◌-◌, ◌<◌, ◌≤◌, ◌==◌, Bool, true, false, List, ◌∷◌, length, get_or, Some, slice_get, refl, sym, ap, subst, ◌∙◌, arith}
+use Rattle.std.proofs.Common.{◌≡◌, ℕ, ◌+◌, ◌-◌, ◌<◌, ◌≤◌, ◌==◌, Bool, true, false, List, ◌∷◌, length, get_or, Some, slice_get, refl, sym, ap, subst, ◌∙◌, arith}
 use Rattle.std.specs.List.Sorted.{IsStrictlyIncreasing}
 use Rattle.std.proofs.lemmas.Bool.{eqb-true, eqb-false}
 use Rattle.std.proofs.lemmas.Option.{same_Some, slice_get-get_or, slice_get_within}
 use Rattle.rds_link.specs.Ends.{Means}
-use Rattle.rds_line_streams.specs.Streams.{StreamsView, AreKept, IsEndedAt, IsUnused, ShutByFaultOnly, numbers, newest_place, with_list}
+use Rattle.rds_line_streams.specs.Streams.{StreamsView, AreKept, ShutByFaultOnly, numbers, newest_place, with_list}
 use Rattle.rds_line_streams.specs.Changes.{ChangesAt, IsShutDown}
 use Rattle.rds_line_streams.specs.ChangeLaws.{changed_here, changed_beside, changed_numbers, changed_length, changed_end, same_length}
 use Rattle.rds_line_streams.specs.Meeting.{AtEach}

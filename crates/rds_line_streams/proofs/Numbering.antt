@@ -1,5 +1,5 @@
 -- The numbers of streams.
-use Rattle.std.proofs.Common.{◌≡◌, ℕ, suc, ◌<◌, ◌≤◌, List, ◌∷◌, length, get_or, take, map, All, Some, slice_get, min, sym, ap, subst, ◌∙◌, arith}
+use Rattle.std.proofs.Common.{◌≡◌, ℕ, suc, ◌<◌, List, ◌∷◌, length, get_or, take, All, Some, slice_get, sym, ap, subst, ◌∙◌, arith}
 use Rattle.std.specs.Option.{option_map}
 use Rattle.std.proofs.lemmas.List.{get_or-take, length-take}
 use Rattle.std.proofs.lemmas.List.Kept.{AllPairs-from_increasing}
@@ -11,8 +11,7 @@ pub above_opened : {E : Type 0} (list : List (ℕ × E)) (opened number : ℕ) �
 above_opened list opened number numbered at =
     let within = slice_get_within (numbers list) opened number at in
     let pairs = AllPairs-from_increasing (0 ∷ numbers list) numbered in
-    let is = λ (d : ℕ). get_or_from_slice_get (numbers list) opened number d at in
-    (
+    let is = λ (d : ℕ). get_or_from_slice_get (numbers list) opened number d at in (
       subst (λ n. 0 < n) (is 0) (pairs 0 (suc opened) 0 (omega arith) (omega arith)),
       λ k d small.
           let below : k < opened = omega (arith, length-take opened (numbers list)) in

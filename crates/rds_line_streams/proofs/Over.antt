@@ -1,12 +1,12 @@
 -- How the open end of a line stands after a read or a write.
-use Rattle.std.proofs.Common.{◌≡◌, ◌≢◌, ◌⊎◌, inl, inr, ℕ, ◌≤◌, true, false, List, refl, sym, ap, subst, ◌∙◌, arith}
+use Rattle.std.proofs.Common.{◌≡◌, ◌⊎◌, inl, inr, ℕ, ◌≤◌, true, List, refl, sym, ap, subst, arith}
 use Rattle.rds_link.specs.declared.end.Got.{Got}
 use Rattle.rds_link.specs.declared.end.Got.TheVariants as got
 use Rattle.rds_link.specs.declared.end.Put.{Put}
 use Rattle.rds_link.specs.declared.end.Put.TheVariants as put
 use Rattle.rds_link.specs.Ends.{Means}
 use Rattle.rds_link.specs.Standing.{Stand, IsOver, GoesOn}
-use Rattle.rds_line_streams.specs.Streams.{ShutByFaultOnly, HasSaidOver}
+use Rattle.rds_line_streams.specs.Streams.{ShutByFaultOnly}
 use Rattle.rds_line_streams.specs.Changes.{Receives, Sends}
 
 goes_by_fault : (old new : Stand) → GoesOn old new → (new.is_shut ≡ true → 1 ≤ new.faults)

@@ -1,5 +1,5 @@
 -- The meeting of the ends at each place, one after another.
-use Rattle.std.proofs.Common.{◌≡◌, ◌≢◌, ℕ, ◌+◌, ◌<◌, ◌≤◌, ◌==◌, Bool, true, false, List, length, Some, slice_get, refl, sym, ap, subst, ◌∙◌, arith}
+use Rattle.std.proofs.Common.{◌≡◌, ℕ, ◌+◌, ◌<◌, ◌≤◌, ◌==◌, Bool, true, false, List, length, Some, slice_get, refl, sym, ap, subst, ◌∙◌, arith}
 use Rattle.std.proofs.lemmas.Bool.{eqb-true, eqb-false}
 use Rattle.std.proofs.lemmas.Option.{same_Some, slice_get_within}
 use Rattle.rds_link.specs.Ends.{Means}
@@ -66,11 +66,11 @@ module _ {E : Type 0} (m : Means E) where
             let c_is = same_stream other upto place (at.second.number, at.second.end_before) c (sym (partly.other_left upto (omega arith)) ∙ at.second.stood) here sc in
             let d_is = same_stream other_met upto place (at.second.number, at.second.end_after) d (changed_here at.second) here sd in
             subst (λ (p : ℕ × E). HaveMet m p.1 b.1 c.1 d.1) a_is (
-              subst (λ (p : ℕ × E). HaveMet m at.first.end_before p.1 c.1 d.1) b_is (
-                subst (λ (p : ℕ × E). HaveMet m at.first.end_before at.first.end_after p.1 d.1) c_is (
-                  subst (λ (p : ℕ × E). HaveMet m at.first.end_before at.first.end_after at.second.end_before p.1) d_is at.met
-                )
-              )
+            subst (λ (p : ℕ × E). HaveMet m at.first.end_before p.1 c.1 d.1) b_is (
+            subst (λ (p : ℕ × E). HaveMet m at.first.end_before at.first.end_after p.1 d.1) c_is (
+            subst (λ (p : ℕ × E). HaveMet m at.first.end_before at.first.end_after at.second.end_before p.1) d_is at.met
+            )
+            )
             )
         met place a b c d below sa sb sc sd false e =
             let apart = eqb-false place upto e in

@@ -1,9 +1,8 @@
 -- Laws, each proved: proofs in other crates use them. Nothing here has to be believed.
 -- What a meeting of the streams of two lines says of the ends of one of them.
-use Rattle.std.proofs.Common.{◌≡◌, ℕ, ◌<◌, true, List, length, get_or, Some, slice_get, sym, arith}
+use Rattle.std.proofs.Common.{◌≡◌, ℕ, List, length, get_or, sym, arith}
 use Rattle.std.proofs.lemmas.Option.{slice_get-get_or, slice_get_within}
 use Rattle.rds_link.specs.Ends.{Means, HasAll}
-use Rattle.rds_model.specs.Honest.{Begins}
 use Rattle.rds_line_streams.specs.ChangeLaws.{stay_paired}
 use Rattle.rds_line_streams.specs.Meeting.{AtEach, StayPaired, GotBeginning, Meets, HaveMet, AreMet}
 

@@ -104,7 +104,10 @@ fn meeting<W: Wire, R: Threads + Wait + Net>(
 fn two_lines_meet(rt: HostRuntime) -> Result<(), Fail> {
     let alloc = rt.alloc();
     let mut wire = MemWire::new(alloc, Vec::new(alloc), Vec::new(alloc));
-    assert_eq!(rt; meeting(&rt, alloc, &mut wire), Some((Put::Took(3), Got::Bytes(3))));
+    assert_eq!(rt;
+        meeting(&rt, alloc, &mut wire),
+        Some((Put::Took(3), Got::Bytes(3)))
+    );
     Ok(())
 }
 

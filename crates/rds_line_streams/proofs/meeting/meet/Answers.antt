@@ -1,8 +1,7 @@
 use Rattle.std.proofs.Common.{◌≡◌, ℕ, List, length, sym, ap, subst, ◌∙◌}
 use Rattle.std.proofs.lemmas.List.{with_items_is}
-use Rattle.rds_line_streams.specs.Streams.{StreamsView, AreKept, numbers, with_list}
-use Rattle.rds_line_streams.specs.Meeting.{AtEach, AreMet, HaveMet, GotBeginning}
-use Rattle.rds_line_streams.specs.MeetingLaws.{met_first, met_second, met_ends, got_beginning}
+use Rattle.rds_line_streams.specs.Streams.{StreamsView, AreKept, with_list}
+use Rattle.rds_line_streams.specs.MeetingLaws.{met_first, met_second}
 use Rattle.rds_line_streams.specs.ChangeLaws.{same_length}
 use Rattle.rds_line_streams.proofs.Keeping.{kept_met}
 use Rattle.rds_line_streams.proofs.meeting.meet.Goals as goal

@@ -1,6 +1,6 @@
 use Rattle.std.proofs.Common.{◌≡◌, ℕ, true, false, List, length, sym, ap, subst, ◌∙◌}
 use Rattle.std.proofs.lemmas.List.{with_items_is}
-use Rattle.rds_line_streams.specs.Streams.{StreamsView, AreKept, with_list}
+use Rattle.rds_line_streams.specs.Streams.{StreamsView, AreKept}
 use Rattle.rds_line_streams.proofs.Keeping.{kept_ended}
 use Rattle.rds_line_streams.proofs.streams.Streams.end_current.Goals as goal
 

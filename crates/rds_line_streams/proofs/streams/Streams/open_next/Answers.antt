@@ -1,5 +1,5 @@
-use Rattle.std.proofs.Common.{◌≡◌, ◌<◌, ℕ, true, false, get_or, List, Some, slice_get, length, sym, ap, subst, ◌∙◌}
-use Rattle.rds_line_streams.specs.Streams.{StreamsView, AreNumbered, numbers, opened_numbers}
+use Rattle.std.proofs.Common.{◌≡◌, ◌<◌, ℕ, false, List, slice_get, length, sym, ap, subst, ◌∙◌}
+use Rattle.rds_line_streams.specs.Streams.{StreamsView, AreNumbered, numbers}
 use Rattle.rds_line_streams.proofs.Keeping.{kept_opened}
 use Rattle.rds_line_streams.proofs.Numbering.{above_opened, number_read}
 use Rattle.rds_line_streams.proofs.streams.Streams.open_next.Goals as goal
