@@ -1,10 +1,17 @@
 -- Laws, each proved: proofs in other crates use them. Nothing here has to be believed.
 -- What a meeting of the streams of two lines says of the ends of one of them.
-use Rattle.std.proofs.Common.{◌≡◌, ℕ, List, length, get_or, sym, arith}
+use Rattle.std.proofs.Common.{◌≡◌, ℕ, List, length, get_or, sym, arith, true, false, [], ◌∷◌, ◌++◌, refl, ap, ◌∙◌, Some, slice_get}
 use Rattle.std.proofs.lemmas.Option.{slice_get-get_or, slice_get_within}
+use Rattle.std.proofs.lemmas.List.{append-nil}
+use Rattle.rds_link.specs.declared.end.Got.TheVariants as got
 use Rattle.rds_link.specs.Ends.{Means, HasAll}
+use Rattle.rds_line_streams.specs.Changes.{Receives}
 use Rattle.rds_line_streams.specs.ChangeLaws.{stay_paired}
 use Rattle.rds_line_streams.specs.Meeting.{AtEach, StayPaired, GotBeginning, Meets, HaveMet, AreMet}
+
+nil_front : (front back : List ℕ) → front ++ back ≡ [] → front ≡ []
+nil_front [] back e = refl
+nil_front (x ∷ front) back e = absurd (cc)
 
 module _ {E : Type 0} (m : Means E) where
   -- the end met some other end
@@ -60,3 +67,12 @@ module _ {E : Type 0} (m : Means E) where
   -- ends that met others are paired as they were
   pub met_stay : (old new : List (ℕ × E)) → length new ≡ length old → AtEach (MeetsSome) old new → StayPaired m old new
   met_stay old new count met = stay_paired m old new count (record { at = λ place x y stood stands. (met.at place x y stood stands).1.meets })
+
+  -- once two ends have met, one answers `Nothing` only where it got all that the other sent and the other hasn't shut
+  pub nothing_is_all : (a a_met b b_met next : E) → Meets m a a_met b → Meets m b b_met a → HasAll m a_met b_met → Receives m got.Nothing [] a_met next → (m.tells ≡ true → m.got a_met ≡ m.sent b_met) × ((m.stand b_met).is_shut ≡ false)
+  nothing_is_all a a_met b b_met next one other all did = (
+    λ tells.
+        let empty = nil_front (m.known a_met) (did.known tells).0 ((did.known tells).1 ∙ did.nothing refl tells) in
+        sym (append-nil (m.got a_met)) ∙ (ap (λ l. m.got a_met ++ l) (sym empty) ∙ all tells),
+    ap (λ s. s.is_shut) other.learns.0 ∙ (sym (ap (λ s. s.other_shut) one.learns.0) ∙ (did.goes (λ e. cc)).1),
+  )

@@ -1,5 +1,5 @@
 //! The meeting of the streams of two lines.
-ghost use Rattle.std.specs.Prelude.{◌≡◌, ◌<◌, ℕ, Some, length, slice_get};
+ghost use Rattle.std.specs.Prelude.{◌≡◌, ◌<◌, length};
 ghost use Rattle.rds_line_streams.specs.Streams.{numbers, with_list};
 ghost use Rattle.rds_line_streams.specs.Meeting.{AreMet, AtEach, GotBeginning, MeetAt, StayPaired};
 
@@ -36,7 +36,8 @@ fn meet_each<W: Wire>(a: &mut [(u32, W::End)], b: &mut [(u32, W::End)])
     }
 }
 
-/// Each end of one line is told all that the end of the other sent on that stream, and whether it has shut.
+/// The two ends of each stream of two lines meet, which were given the same streams: each is told all that the other sent,
+/// and whether it has shut. So what an end got is a beginning of what the other sent, both ways.
 pub fn meet<W: Wire>(a: &mut Streams<W::End>, b: &mut Streams<W::End>)
     requires numbers { numbers b.old.list ≡ numbers a.old.list }
     requires pairs { AtEach W.End.means.meets a.old.list b.old.list }

@@ -1,5 +1,5 @@
 //! The streams of a line.
-ghost use Rattle.std.specs.Prelude.{◌≡◌, ◌<◌, ◌≤◌, ◌+◌, ◌↔◌, ℕ, All, Some, None, [], true, false, length, take, drop, map, slice_get, IsTrue, IfSome, IfNone, IsSome};
+ghost use Rattle.std.specs.Prelude.{◌≡◌, ◌<◌, ◌≤◌, ◌+◌, ◌↔◌, ℕ, All, true, false, length, take, drop, slice_get, IsTrue, IfSome, IfNone, IsSome};
 ghost use Rattle.rds_link.specs.Answers.{bytes_got, bytes_put};
 ghost use Rattle.rds_link.specs.declared.end.Got.TheVariants as got;
 ghost use Rattle.rds_link.specs.declared.end.Put.TheVariants as put;
@@ -13,7 +13,8 @@ use std::marker::Model;
 
 /// All streams that a line was given: the number of each and the line's end of it. The line opens them one after another,
 /// each at most once, and at most one is open at a time. An end that isn't open any more has shut, and one that wasn't
-/// opened has moved nothing.
+/// opened has moved nothing. Contracts see the list of streams, how many were opened, and whether the newest of these is
+/// open.
 #[derive(Drop)]
 pub struct Streams<E: End> {
     pub(crate) streams: Vec<(u32, E)>,
@@ -34,7 +35,8 @@ impl<E: End> Model for Streams<E> {
 }
 
 impl<E: End> Streams<E> {
-    /// Streams in the order in which they are to be opened, none of which was.
+    /// Streams in the order in which they are to be opened, none of which was. Their numbers are above 0 and ascend, and their
+    /// ends are unused.
     pub fn new(streams: Vec<(u32, E)>) -> Streams<E>
         requires numbered { AreNumbered streams.items }
         requires unused { All (λ stream. IsUnused E.means stream.1) streams.items }
@@ -88,7 +90,8 @@ impl<E: End> Streams<E> {
         Some(number)
     }
 
-    /// Reads some bytes of the open stream to the front of `buf`, which isn't empty.
+    /// Reads some bytes of the open stream to the front of `buf`, which isn't empty. `Nothing` where none is there now, `Over`
+    /// where the stream is over, which the line then ends. The ends of all other streams stay as they are.
     pub fn receive(&mut self, buf: &mut [u8]) -> Got
         requires open { self.old.is_open ≡ true }
         requires buf { 0 < length buf.old }
@@ -103,7 +106,8 @@ impl<E: End> Streams<E> {
         read_at(&mut self.streams, self.opened - 1, buf)
     }
 
-    /// Writes some bytes from the front of `piece`, which isn't empty, to the open stream.
+    /// Writes some bytes from the front of `piece`, which isn't empty, to the open stream. `Full` where there is no room now,
+    /// `Over` where the stream is over, which the line then ends. The ends of all other streams stay as they are.
     pub fn send(&mut self, piece: &[u8]) -> Put
         requires open { self.old.is_open ≡ true }
         requires piece { 0 < length piece.now }
@@ -141,7 +145,7 @@ impl<E: End> Streams<E> {
         streams
     }
 
-    /// What every line's streams keep.
+    /// What the streams of every line keep.
     pub fn known(&self)
         ensures { AreKept E.means self.now }
     {
