@@ -1,6 +1,6 @@
 -- Laws, each proved: proofs in other crates use them. Nothing here has to be believed.
 -- What a meeting of the streams of two lines says of the ends of one of them.
-use Rattle.std.proofs.Common.{◌≡◌, ℕ, List, length, get_or, sym, arith, true, false, [], ◌∷◌, ◌++◌, refl, ap, ◌∙◌, Some, slice_get}
+use Rattle.std.proofs.Common.{◌≡◌, ℕ, List, length, get_or, sym, arith, true, false, [], ◌∷◌, ◌++◌, refl, ap, ◌∙◌}
 use Rattle.std.proofs.lemmas.Option.{slice_get-get_or, slice_get_within}
 use Rattle.std.proofs.lemmas.List.{append-nil}
 use Rattle.rds_link.specs.declared.end.Got.TheVariants as got
