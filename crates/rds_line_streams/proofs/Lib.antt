@@ -2,3 +2,4 @@ mod Keeping
 mod Numbering
 mod Partly
 mod Over
+mod OtherTerms
