@@ -1,0 +1,5 @@
+mod Keeping
+mod Numbering
+mod Partly
+mod Over
+mod OtherTerms
