@@ -151,7 +151,7 @@ ends_in_end_line m before after played =
 -- and so it is where a call ends with that text written
 pub last_of_written : (left before after : Option (List ℕ)) (a b x y : ℕ) (s : Status) →
     IsEndOfCall record { left = left; faults_before = a; faults_after = b }
-      record { held_before = before; held_after = after; faults_before = x; faults_after = y } s →
+    record { held_before = before; held_after = after; faults_before = x; faults_after = y } s →
     s ≡ ended.Written → (front : List ℕ) × SinkGained before after (front ++ end_line)
 last_of_written left before after a b x y s ends is =
     let source : SourceSeen = record { left = left; faults_before = a; faults_after = b } in
