@@ -2,7 +2,7 @@
 
 # The crates below the program `rds`. `make` proves those side by side that don't stand on one another.
 BELOW := rds_wire rds_views rds_frame rds_model rds_cong rds_script rds_link rds_msgs rds_conn rds_text \
-	rds_report rds_history rds_play rds_run
+	rds_report rds_history rds_pair rds_joint rds_mesh rds_hosts rds_world rds_play rds_run
 
 .PHONY: hello test below $(BELOW)
 
@@ -25,7 +25,12 @@ rds_msgs rds_text: rds_model
 rds_conn: rds_frame rds_msgs rds_cong
 rds_report: rds_text
 rds_history: rds_report rds_script rds_cong
-rds_play: rds_conn rds_history rds_link
+rds_pair: rds_conn
+rds_joint: rds_pair
+rds_mesh: rds_joint rds_report
+rds_hosts: rds_history
+rds_world: rds_mesh rds_hosts
+rds_play: rds_world rds_link
 rds_run: rds_play
 
 # Every proof, test, must-fail edit and program.
