@@ -91,8 +91,8 @@ where
         let found = answer_to(alloc, script)?;
         return tally.count(rt, file, case.name.as_str(), &found, expected);
     };
-    for limit in limits.least..=limits.most {
-        let found = played_within(alloc, script, limit)?;
+    for limit in u64::from(limits.least)..=u64::from(limits.most) {
+        let found = played_within(alloc, script, u32::try_from(limit).unwrap_or(u32::MAX))?;
         let name = format!(in alloc; "{} {limit}", case.name)?;
         tally.count(rt, file, name.as_str(), &found, expected)?;
     }
