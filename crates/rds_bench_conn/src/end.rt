@@ -17,7 +17,7 @@ use std::sync::ledger::Ledger;
 const SLOTS: u16 = 1;
 
 /// One end of a connection, the bytes that it has in flight, and what it has seen of datagrams.
-pub struct End {
+pub struct BenchEnd {
     conn: Conn,
     map: PortMap,
     out: Out,
@@ -29,7 +29,7 @@ pub struct End {
 }
 
 // By hand, so that one call drops it wherever it is let go, and no function that owns one drops each field.
-impl Drop for End {
+impl Drop for BenchEnd {
     fn drop(self) {
         let Self {
             conn: _conn,
@@ -41,13 +41,13 @@ impl Drop for End {
     }
 }
 
-impl End {
+impl BenchEnd {
     /// The end of the host `me`, of a connection to `peer`.
-    pub fn new(alloc: Global, me: u32, peer: u32) -> Result<End, Failure> {
+    pub fn new(alloc: Global, me: u32, peer: u32) -> Result<BenchEnd, Failure> {
         let map = PortMap::new(alloc)?;
         let out = Out::new(alloc)?;
         let conn = Conn::new(alloc, me, peer, SLOTS, MAX_ENTRIES)?;
-        Ok(End {
+        Ok(BenchEnd {
             conn,
             map,
             out,
@@ -95,7 +95,7 @@ impl End {
     /// Takes the bytes that the peer has in flight, and passes their frames.
     pub fn take_from<L: Ledger>(
         &mut self,
-        peer: &mut End,
+        peer: &mut BenchEnd,
         steps: &mut Steps<L>,
     ) -> Result<(), Failure> {
         for _ in 0..=peer.out.rest().len() {

@@ -10,7 +10,7 @@ mod memory;
 mod pair;
 
 use failure::Failure;
-use pair::Pair;
+use pair::BenchPair;
 use rds_msgs::Steps;
 use std::alloc::Global;
 use std::env;
@@ -79,17 +79,22 @@ fn report(
 }
 
 // Two connections that so many datagrams went through.
-fn sent(alloc: Global, count: u64, batch: u64) -> Result<Pair, Failure> {
+fn sent(alloc: Global, count: u64, batch: u64) -> Result<BenchPair, Failure> {
     sent_by::<Brand>(alloc, count, batch, Blank::new(1))
 }
 
-fn sent_by<L: Ledger>(alloc: Global, count: u64, batch: u64, blank: Blank) -> Result<Pair, Failure>
+fn sent_by<L: Ledger>(
+    alloc: Global,
+    count: u64,
+    batch: u64,
+    blank: Blank,
+) -> Result<BenchPair, Failure>
     requires name { blank.name ≡ L.name }
     requires parts { blank.parts ≡ L.parts }
     requires whole { 0 < L.parts }
 {
     let mut steps: Steps<L> = Steps::new(blank);
-    let mut pair = Pair::new(alloc)?;
+    let mut pair = BenchPair::new(alloc)?;
     pair.open()?;
     pair.send(count, batch, &mut steps)?;
     Ok(pair)

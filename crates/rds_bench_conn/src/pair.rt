@@ -1,4 +1,4 @@
-use crate::end::End;
+use crate::end::BenchEnd;
 use crate::failure::Failure;
 use rds_msgs::Steps;
 use rds_wire::Payload;
@@ -9,14 +9,14 @@ use std::sync::ledger::Ledger;
 const LENGTH: usize = 60;
 
 /// The two ends of a connection.
-pub struct Pair {
+pub struct BenchPair {
     alloc: Global,
-    near: End,
-    far: End,
+    near: BenchEnd,
+    far: BenchEnd,
 }
 
 // By hand, so that one call drops it wherever it is let go, and no function that owns one drops each field.
-impl Drop for Pair {
+impl Drop for BenchPair {
     fn drop(self) {
         let Self {
             alloc: _alloc,
@@ -26,12 +26,12 @@ impl Drop for Pair {
     }
 }
 
-impl Pair {
+impl BenchPair {
     /// Two hosts, with no stream.
-    pub fn new(alloc: Global) -> Result<Pair, Failure> {
-        let near = End::new(alloc, 1, 2)?;
-        let far = End::new(alloc, 2, 1)?;
-        Ok(Pair { alloc, near, far })
+    pub fn new(alloc: Global) -> Result<BenchPair, Failure> {
+        let near = BenchEnd::new(alloc, 1, 2)?;
+        let far = BenchEnd::new(alloc, 2, 1)?;
+        Ok(BenchPair { alloc, near, far })
     }
 
     /// Opens the first stream.
@@ -87,7 +87,11 @@ impl Pair {
 }
 
 // Carries what one end owes to the other. Answers whether there was any.
-fn carry<L: Ledger>(from: &mut End, to: &mut End, steps: &mut Steps<L>) -> Result<bool, Failure> {
+fn carry<L: Ledger>(
+    from: &mut BenchEnd,
+    to: &mut BenchEnd,
+    steps: &mut Steps<L>,
+) -> Result<bool, Failure> {
     let moving = from.pull_all()?;
     to.take_from(from, steps)?;
     Ok(moving)

@@ -10,8 +10,8 @@ use failure::Failure;
 use measure::{Rate, best};
 use std::env;
 use std::time::CpuClock;
-use stream::Stream;
-use work::{Check, Copied, Encode, Split};
+use stream::FrameStream;
+use work::{Copied, Encode, HeaderChecks, Split};
 
 /// How many bytes of payload the frames of a stream have.
 const PAYLOADS: [u32; 4] = [0, 64, 1024, 65_536];
@@ -36,11 +36,11 @@ fn main(rt: HostRuntime) -> Result<(), Failure> {
 
 // Encode and check, by the header.
 fn headers(rt: &(impl CpuClock + Print + AllocGlobal), rounds: u32) -> Result<(), Failure> {
-    let stream = Stream::new(rt.alloc(), 0)?;
+    let stream = FrameStream::new(rt.alloc(), 0)?;
     let frames = stream.frames();
     let mut encode = Encode::new(rt.alloc(), &stream.headers);
     let encoded = Rate::new(best(rt, rounds, &mut encode)?, frames);
-    let mut check = Check::new(&stream.headers);
+    let mut check = HeaderChecks::new(&stream.headers);
     let checked = Rate::new(best(rt, rounds, &mut check)?, frames);
     let passed = check.passed();
     rt.println(format_args!(
@@ -55,7 +55,7 @@ fn pieces(
     payload: u32,
     rounds: u32,
 ) -> Result<(), Failure> {
-    let stream = Stream::new(rt.alloc(), payload)?;
+    let stream = FrameStream::new(rt.alloc(), payload)?;
     let frames = stream.frames();
     let bytes = stream.bytes.len() as u64;
     for piece in PIECES {

@@ -7,14 +7,14 @@ const LENGTH: u64 = 4_194_304;
 
 /// Frames with payloads of one length, one after another.
 #[derive(Drop)]
-pub struct Stream {
+pub struct FrameStream {
     pub headers: Vec<Header>,
     pub bytes: Vec<u8>,
 }
 
-impl Stream {
-    pub fn new(alloc: Global, payload: u32) -> Result<Stream, Failure> {
-        let mut stream = Stream {
+impl FrameStream {
+    pub fn new(alloc: Global, payload: u32) -> Result<FrameStream, Failure> {
+        let mut stream = FrameStream {
             headers: Vec::new(alloc),
             bytes: Vec::new(alloc),
         };

@@ -36,14 +36,14 @@ impl Work for Encode<'_> {
 
 /// Headers checked, and those that pass counted.
 #[derive(Drop)]
-pub struct Check<'a> {
+pub struct HeaderChecks<'a> {
     headers: &'a [Header],
     passed: u64,
 }
 
-impl<'a> Check<'a> {
-    pub fn new(headers: &'a [Header]) -> Check<'a> {
-        Check { headers, passed: 0 }
+impl<'a> HeaderChecks<'a> {
+    pub fn new(headers: &'a [Header]) -> HeaderChecks<'a> {
+        HeaderChecks { headers, passed: 0 }
     }
 
     pub fn passed(&self) -> u64 {
@@ -51,7 +51,7 @@ impl<'a> Check<'a> {
     }
 }
 
-impl Work for Check<'_> {
+impl Work for HeaderChecks<'_> {
     fn run(&mut self) -> Result<(), Failure> {
         for header in self.headers {
             if check(header, 0).is_ok() {

@@ -17,7 +17,7 @@ use std::sync::Wait;
 use std::thread::Threads;
 use std::time::{Clock, Instant};
 use std::{env, io};
-use ways::{Gets, Sends, Socket, Stream};
+use ways::{Gets, Sends, SocketEnd, StreamEnd};
 
 // What is moved: so many bytes, in pieces of one size, by one thread or by two.
 #[derive(Clone, Copy, Drop)]
@@ -58,7 +58,7 @@ fn measure<R: Print + Threads + Wait + Clock + Sync>(
     total: u64,
 ) -> anyhow::Result<()>
 where
-    R: Net<Listener = TcpListener, Stream = TcpStream>,
+    R: Net<Listener = TcpListener, StreamEnd = TcpStream>,
 {
     for two in [false, true] {
         for size in [48, 1500, 65_536] {
@@ -76,7 +76,7 @@ fn compare<R: Print + Threads + Wait + Clock + Sync>(
     load: Load,
 ) -> anyhow::Result<()>
 where
-    R: Net<Listener = TcpListener, Stream = TcpStream>,
+    R: Net<Listener = TcpListener, StreamEnd = TcpStream>,
     requires { 0 < load.size }
 {
     let start = Instant::now(rt)?;
@@ -111,7 +111,7 @@ fn stream<R: Threads + Wait + Net + Sync>(rt: &R, alloc: Global, load: Load) -> 
 {
     let mut wire = MemWire::new(alloc, Vec::new(alloc), Vec::new(alloc));
     let (from, to) = wire.open(rt, 1, 2, 1).ok()?;
-    through(rt, alloc, Stream(from), Stream(to), load)
+    through(rt, alloc, StreamEnd(from), StreamEnd(to), load)
 }
 
 fn ring<R: Threads + Wait + Sync>(rt: &R, alloc: Global, load: Load) -> Option<u64>
@@ -123,15 +123,15 @@ fn ring<R: Threads + Wait + Sync>(rt: &R, alloc: Global, load: Load) -> Option<u
 
 fn socket<R: Threads + Wait + Sync>(rt: &R, alloc: Global, load: Load) -> anyhow::Result<u64>
 where
-    R: Net<Listener = TcpListener, Stream = TcpStream>,
+    R: Net<Listener = TcpListener, StreamEnd = TcpStream>,
     requires { 0 < load.size }
 {
     let (from, to) = sockets(rt)?;
-    let done = through(rt, alloc, Socket(from), Socket(to), load).ok_or(AllocError)?;
+    let done = through(rt, alloc, SocketEnd(from), SocketEnd(to), load).ok_or(AllocError)?;
     Ok(done)
 }
 
-fn sockets<R: Net<Listener = TcpListener, Stream = TcpStream>>(
+fn sockets<R: Net<Listener = TcpListener, StreamEnd = TcpStream>>(
     rt: &R,
 ) -> io::Result<(TcpStream, TcpStream)> {
     let listener = TcpListener::bind(rt, "127.0.0.1:0")?;

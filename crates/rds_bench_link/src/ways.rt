@@ -23,9 +23,9 @@ pub trait Gets: Drop {
 
 /// An end of a stream.
 #[derive(Drop)]
-pub struct Stream<E: End>(pub E);
+pub struct StreamEnd<E: End>(pub E);
 
-impl<E: End> Sends for Stream<E> {
+impl<E: End> Sends for StreamEnd<E> {
     fn send(&mut self, piece: &[u8]) -> usize {
         match self.0.write(piece) {
             Put::Took(count) => count,
@@ -34,7 +34,7 @@ impl<E: End> Sends for Stream<E> {
     }
 }
 
-impl<E: End> Gets for Stream<E> {
+impl<E: End> Gets for StreamEnd<E> {
     fn get(&mut self, buf: &mut [u8]) -> usize {
         match self.0.read(buf) {
             Got::Bytes(count) => count,
@@ -58,15 +58,15 @@ impl Gets for Consumer<u8> {
 
 /// An end of a socket.
 #[derive(Drop)]
-pub struct Socket<S: Read + Write + Drop>(pub S);
+pub struct SocketEnd<S: Read + Write + Drop>(pub S);
 
-impl<S: Read + Write + Drop> Sends for Socket<S> {
+impl<S: Read + Write + Drop> Sends for SocketEnd<S> {
     fn send(&mut self, piece: &[u8]) -> usize {
         self.0.write(piece).unwrap_or(0)
     }
 }
 
-impl<S: Read + Write + Drop> Gets for Socket<S> {
+impl<S: Read + Write + Drop> Gets for SocketEnd<S> {
     fn get(&mut self, buf: &mut [u8]) -> usize {
         self.0.read(buf).unwrap_or(0)
     }

@@ -3,7 +3,7 @@ use std::alloc::Global;
 
 /// A kind of scripts.
 #[derive(Clone, Copy, Debug, PartialEq, Eq)]
-pub enum Kind {
+pub enum ScriptKind {
     /// Sends, a cancellation, a drain and a receive by turns, and a cut every 200 lines.
     Mixed,
     /// A send and its cancellation by turns.
@@ -26,12 +26,12 @@ const CANCELLED: [&str; 2] = ["send A 4000 B 4001 f:60\n", "cancel A 4000 B 4001
 /// A cut stands in place of every so manieth line.
 const CUT_EVERY: u32 = 200;
 
-impl Kind {
+impl ScriptKind {
     /// The kind with this name.
-    pub fn named(word: &str) -> Option<Kind> {
+    pub fn named(word: &str) -> Option<ScriptKind> {
         match word {
-            "mixed" => Some(Kind::Mixed),
-            "cancelled" => Some(Kind::Cancelled),
+            "mixed" => Some(ScriptKind::Mixed),
+            "cancelled" => Some(ScriptKind::Cancelled),
             _ => None,
         }
     }
@@ -47,9 +47,9 @@ impl Kind {
 
     fn line(self, number: u32) -> &'static str {
         match self {
-            Kind::Mixed if number % CUT_EVERY == 0 => "cut A B\n",
-            Kind::Mixed => MIXED[(number % 5) as usize],
-            Kind::Cancelled => CANCELLED[(number % 2) as usize],
+            ScriptKind::Mixed if number % CUT_EVERY == 0 => "cut A B\n",
+            ScriptKind::Mixed => MIXED[(number % 5) as usize],
+            ScriptKind::Cancelled => CANCELLED[(number % 2) as usize],
         }
     }
 }

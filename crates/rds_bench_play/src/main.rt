@@ -11,7 +11,7 @@ mod memory;
 mod tally;
 
 use failure::Failure;
-use kind::Kind;
+use kind::ScriptKind;
 use rds_model::MAX_ENTRIES;
 use rds_play::{PlayEnd, play};
 use rds_script::{Script, read};
@@ -31,14 +31,14 @@ fn main(rt: HostRuntime) -> Result<(), Failure> {
     let (Some(kind), Some(lines)) = (words.next(), words.next()) else {
         return show(&rt);
     };
-    let kind = Kind::named(kind.as_str()).ok_or(Failure::Word)?;
+    let kind = ScriptKind::named(kind.as_str()).ok_or(Failure::Word)?;
     measure(&rt, kind, lines.as_str().parse::<u32>()?)
 }
 
 // What two short scripts print.
 fn show(rt: &(impl Print + AllocGlobal)) -> Result<(), Failure> {
-    let mixed = printed(rt.alloc(), Kind::Mixed)?;
-    let cancelled = printed(rt.alloc(), Kind::Cancelled)?;
+    let mixed = printed(rt.alloc(), ScriptKind::Mixed)?;
+    let cancelled = printed(rt.alloc(), ScriptKind::Cancelled)?;
     rt.println(format_args!(
         "{FEW} mixed lines print {mixed} bytes, {FEW} cancelled ones {cancelled}"
     ))?;
@@ -46,7 +46,7 @@ fn show(rt: &(impl Print + AllocGlobal)) -> Result<(), Failure> {
 }
 
 // How many bytes a short script of that kind prints.
-fn printed(alloc: Global, kind: Kind) -> Result<u64, Failure> {
+fn printed(alloc: Global, kind: ScriptKind) -> Result<u64, Failure> {
     let text = kind.script(alloc, FEW)?;
     let script = read_script(alloc, text.as_str())?;
     played(alloc, &script)
@@ -55,7 +55,7 @@ fn printed(alloc: Global, kind: Kind) -> Result<u64, Failure> {
 // What each line of a long script costs.
 fn measure(
     rt: &(impl CpuClock + Files + Print + AllocGlobal),
-    kind: Kind,
+    kind: ScriptKind,
     lines: u32,
 ) -> Result<(), Failure> {
     let text = kind.script(rt.alloc(), lines)?;

@@ -6,7 +6,7 @@ use Rattle.std.specs.Int.{bit_not}
 use Rattle.rds_cong.specs.Map.{has_port, with_port, without_port, IsMap, IsWords}
 use Rattle.rds_cong.specs.ChangeLaws.{has_port-with, has_port-without, bytes-put, bytes-taken}
 use Rattle.rds_cong.specs.PortLaws.{has_port-test}
-use Rattle.rds_cong.specs.WordLaws.{bytes_of, IsWords-set}
+use Rattle.rds_cong.specs.WordLaws.{bytes_of_words, IsWords-set}
 
 -- Code reads w as the word at i, which is that of port p.
 pub record IsWordOf (words : List ℕ) (p i w : ℕ) : Type 0 where
@@ -23,15 +23,15 @@ word_is words p i w h =
     h.read ∙ get_or_default words i w 0 (subst (λ k. k < length words) (sym h.place) (within words p i w h)) ∙ ap (slice_index words) h.place
 
 pub put_at : (words : List ℕ) (p i w : ℕ) → IsWordOf words p i w
-    → bytes_of (slice_set words i (bit_or w (1 * 2 ^ (p % 64) % 2 ^ 64))) ≡ with_port (bytes_of words) p
+    → bytes_of_words (slice_set words i (bit_or w (1 * 2 ^ (p % 64) % 2 ^ 64))) ≡ with_port (bytes_of_words words) p
 put_at words p i w h = rw (h.place, word_is words p i w h) (bytes-put words p (within words p i w h))
 
 pub taken_at : (words : List ℕ) (p i w : ℕ) → IsWordOf words p i w
-    → bytes_of (slice_set words i (bit_and w (bit_not w64 (1 * 2 ^ (p % 64) % 2 ^ 64)))) ≡ without_port (bytes_of words) p
+    → bytes_of_words (slice_set words i (bit_and w (bit_not w64 (1 * 2 ^ (p % 64) % 2 ^ 64)))) ≡ without_port (bytes_of_words words) p
 taken_at words p i w h = rw (h.place, word_is words p i w h) (bytes-taken words p (within words p i w h))
 
 pub test_at : (words : List ℕ) (p i w : ℕ) → IsWordOf words p i w
-    → nat_eq (bit_and (w / 2 ^ (p % 64)) 1) 1 ≡ has_port (bytes_of words) p
+    → nat_eq (bit_and (w / 2 ^ (p % 64)) 1) 1 ≡ has_port (bytes_of_words words) p
 test_at words p i w h = ap (λ v. nat_eq (bit_and (v / 2 ^ (p % 64)) 1) 1) (word_is words p i w h) ∙ has_port-test words p
 
 -- the word with a bit put in still fits

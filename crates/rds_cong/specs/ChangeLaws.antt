@@ -10,7 +10,7 @@ use Rattle.rds_wire.specs.Bytes.{IsBytes}
 use Rattle.rds_cong.specs.Map.{has_port, with_port, without_port}
 use Rattle.rds_cong.specs.BitLaws.{low_8, low_64, bit-put, bit-taken, bit-put_shifted, bit-taken_shifted}
 use Rattle.rds_cong.specs.PortLaws.{has_port-bytes, in_word, same_ports}
-use Rattle.rds_cong.specs.WordLaws.{bytes_of, length-bytes, IsBytes-bytes}
+use Rattle.rds_cong.specs.WordLaws.{bytes_of_words, length-bytes, IsBytes-bytes}
 
 -- a map with another byte has the bits of that byte there, and its own elsewhere
 here : (map : List ℕ) (i q v : ℕ) → i < length map → q / 8 ≡ i → has_port (slice_set map i v) q ≡ (bit_at v (q % 8) == 1)
@@ -67,14 +67,14 @@ IsBytes-without map p h small =
 -- Words of which one is changed have the bytes of a map where that has the ports of the changed word, and else the ports
 -- of the words as they were.
 pub bytes-changed : (words : List ℕ) (i word : ℕ) (map : List ℕ) → i < length words
-    → length map ≡ length (bytes_of words) → IsBytes map
+    → length map ≡ length (bytes_of_words words) → IsBytes map
     → ((q : ℕ) → q / 64 ≡ i → has_port map q ≡ (bit_at word (q % 64) == 1))
-    → ((q : ℕ) → q / 64 ≢ i → has_port map q ≡ has_port (bytes_of words) q)
-    → bytes_of (slice_set words i word) ≡ map
+    → ((q : ℕ) → q / 64 ≢ i → has_port map q ≡ has_port (bytes_of_words words) q)
+    → bytes_of_words (slice_set words i word) ≡ map
 bytes-changed words i word map h long small inside outside =
     let new = slice_set words i word in
-    let n : length (bytes_of new) ≡ length map = length-bytes new ∙ ap (λ k. 8 * k) (length-set words i word) ∙ sym (length-bytes words) ∙ sym long in
-    same_ports (bytes_of new) map n (IsBytes-bytes new) small (λ q. has_port-bytes new q ∙ ⊎_elim
+    let n : length (bytes_of_words new) ≡ length map = length-bytes new ∙ ap (λ k. 8 * k) (length-set words i word) ∙ sym (length-bytes words) ∙ sym long in
+    same_ports (bytes_of_words new) map n (IsBytes-bytes new) small (λ q. has_port-bytes new q ∙ ⊎_elim
     (λ (same : q / 64 ≡ i).
     ap (λ b. bit_at b (q % 64) == 1) (ap (slice_index new) same ∙ get_or-set_same words i word 0 h) ∙ sym (inside q same))
     (λ (other : q / 64 ≢ i).
@@ -82,15 +82,15 @@ bytes-changed words i word map h long small inside outside =
     ∙ sym (has_port-bytes words q) ∙ sym (outside q other))
     (cases_eq (q / 64) i))
 
-byte_within : (words : List ℕ) (p : ℕ) → p / 64 < length words → p / 8 < length (bytes_of words)
-byte_within words p h = let n : length (bytes_of words) ≡ 8 * length words = length-bytes words in omega arith
+byte_within : (words : List ℕ) (p : ℕ) → p / 64 < length words → p / 8 < length (bytes_of_words words)
+byte_within words p h = let n : length (bytes_of_words words) ≡ 8 * length words = length-bytes words in omega arith
 
 -- a port is put into words
 pub bytes-put : (words : List ℕ) (p : ℕ) → p / 64 < length words
-    → bytes_of (slice_set words (p / 64) (bit_or (slice_index words (p / 64)) (1 * 2 ^ (p % 64) % 2 ^ 64))) ≡ with_port (bytes_of words) p
+    → bytes_of_words (slice_set words (p / 64) (bit_or (slice_index words (p / 64)) (1 * 2 ^ (p % 64) % 2 ^ 64))) ≡ with_port (bytes_of_words words) p
 bytes-put words p h =
     let w = slice_index words (p / 64) in
-    let map = bytes_of words in
+    let map = bytes_of_words words in
     let place : p / 8 < length map = byte_within words p h in
     bytes-changed words (p / 64) (bit_or w (1 * 2 ^ (p % 64) % 2 ^ 64)) (with_port map p) h (length-set map (p / 8) _)
     (IsBytes-with map p place (IsBytes-bytes words))
@@ -102,10 +102,10 @@ bytes-put words p h =
 
 -- a port is taken out of words
 pub bytes-taken : (words : List ℕ) (p : ℕ) → p / 64 < length words
-    → bytes_of (slice_set words (p / 64) (bit_and (slice_index words (p / 64)) (bit_not w64 (1 * 2 ^ (p % 64) % 2 ^ 64)))) ≡ without_port (bytes_of words) p
+    → bytes_of_words (slice_set words (p / 64) (bit_and (slice_index words (p / 64)) (bit_not w64 (1 * 2 ^ (p % 64) % 2 ^ 64)))) ≡ without_port (bytes_of_words words) p
 bytes-taken words p h =
     let w = slice_index words (p / 64) in
-    let map = bytes_of words in
+    let map = bytes_of_words words in
     let place : p / 8 < length map = byte_within words p h in
     bytes-changed words (p / 64) (bit_and w (bit_not w64 (1 * 2 ^ (p % 64) % 2 ^ 64))) (without_port map p) h (length-set map (p / 8) _)
     (IsBytes-without map p place (IsBytes-bytes words))

@@ -8,17 +8,17 @@ use Rattle.std.specs.Int.{bit_at}
 use Rattle.rds_wire.specs.Bytes.{IsBytes}
 use Rattle.rds_cong.specs.Map.{has_port, IsMap}
 use Rattle.rds_cong.specs.DigitLaws.{bit-byte}
-use Rattle.rds_cong.specs.WordLaws.{bytes_of, byte-bytes}
+use Rattle.rds_cong.specs.WordLaws.{bytes_of_words, byte-bytes}
 
 -- a port of words is a bit of one of them
-pub has_port-bytes : (words : List ℕ) (p : ℕ) → has_port (bytes_of words) p ≡ (bit_at (slice_index words (p / 64)) (p % 64) == 1)
+pub has_port-bytes : (words : List ℕ) (p : ℕ) → has_port (bytes_of_words words) p ≡ (bit_at (slice_index words (p / 64)) (p % 64) == 1)
 has_port-bytes words p =
     let j = (p / 8) % 8 in
     let place : p / 8 ≡ 8 * (p / 64) + j = omega arith in
     let small : j < 8 = omega arith in
     let low : p % 8 < 8 = omega arith in
     let bit : 8 * j + p % 8 ≡ p % 64 = omega arith in
-    ap (λ b. bit_at b (p % 8) == 1) (ap (slice_index (bytes_of words)) place ∙ byte-bytes words (p / 64) j small)
+    ap (λ b. bit_at b (p % 8) == 1) (ap (slice_index (bytes_of_words words)) place ∙ byte-bytes words (p / 64) j small)
     ∙ ap (λ b. b == 1) (bit-byte j (p % 8) (slice_index words (p / 64)) low ∙ ap (bit_at (slice_index words (p / 64))) bit)
 
 -- two bits are the same where they are 1 alike
@@ -45,12 +45,12 @@ pub same_maps : (xs ys : List ℕ) → IsMap xs → IsMap ys → ((p : ℕ) → 
 same_maps xs ys mx my same = same_ports xs ys (mx.size ∙ sym my.size) mx.bytes my.bytes same
 
 -- a port of words by its place in a word
-pub in_word : (words : List ℕ) (i q : ℕ) → q / 64 ≡ i → has_port (bytes_of words) q ≡ (bit_at (slice_index words i) (q % 64) == 1)
+pub in_word : (words : List ℕ) (i q : ℕ) → q / 64 ≡ i → has_port (bytes_of_words words) q ≡ (bit_at (slice_index words i) (q % 64) == 1)
 in_word words i q same = has_port-bytes words q ∙ ap (λ k. bit_at (slice_index words k) (q % 64) == 1) same
 
 -- another word: its ports are its bits
 pub has_port-word : (words : List ℕ) (i word q : ℕ) → i < length words
-    → has_port (bytes_of (slice_set words i word)) q ≡ (if q / 64 == i then bit_at word (q % 64) == 1 else has_port (bytes_of words) q)
+    → has_port (bytes_of_words (slice_set words i word)) q ≡ (if q / 64 == i then bit_at word (q % 64) == 1 else has_port (bytes_of_words words) q)
 has_port-word words i word q h =
     ⊎_elim
     (λ (same : q / 64 ≡ i).
@@ -61,7 +61,7 @@ has_port-word words i word q h =
 
 -- the ports of word i
 pub has_port-at : (words : List ℕ) (i q : ℕ) → q < 64
-    → has_port (bytes_of words) (64 * i + q) ≡ (bit_at (slice_index words i) q == 1)
+    → has_port (bytes_of_words words) (64 * i + q) ≡ (bit_at (slice_index words i) q == 1)
 has_port-at words i q h =
     let word : (64 * i + q) / 64 ≡ i = omega arith in
     let bit : (64 * i + q) % 64 ≡ q = omega arith in
@@ -69,11 +69,11 @@ has_port-at words i q h =
 
 -- the test of a port in its word
 pub has_port-test : (words : List ℕ) (p : ℕ)
-    → nat_eq (bit_and (slice_index words (p / 64) / 2 ^ (p % 64)) 1) 1 ≡ has_port (bytes_of words) p
+    → nat_eq (bit_and (slice_index words (p / 64) / 2 ^ (p % 64)) 1) 1 ≡ has_port (bytes_of_words words) p
 has_port-test words p = ap (λ b. nat_eq b 1) (shr_and_one (slice_index words (p / 64)) (p % 64)) ∙ sym (has_port-bytes words p)
 
 -- zeros have no ports
-pub has_port-zeros : (n : ℕ) (words : List ℕ) (q : ℕ) → words ≡ replicate n 0 → has_port (bytes_of words) q ≡ false
+pub has_port-zeros : (n : ℕ) (words : List ℕ) (q : ℕ) → words ≡ replicate n 0 → has_port (bytes_of_words words) q ≡ false
 has_port-zeros n words q is =
     let zero_at : slice_index (replicate n 0) (q / 64) ≡ 0 = ⊎_elim
     (λ within. get_or-replicate n (q / 64) 0 0 within)

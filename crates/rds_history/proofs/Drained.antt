@@ -20,9 +20,9 @@ use Rattle.rds_history.specs.Events.{Event, Appended}
 use Rattle.rds_history.specs.Courses.{Course, and_then, each, again, prints}
 use Rattle.rds_history.specs.Journals.{journal, own_map}
 use Rattle.rds_history.specs.Open.{open_both, open_one}
-use Rattle.rds_history.specs.Drain.{Pair, pairs, open_if_closed, round, rounds, drain}
+use Rattle.rds_history.specs.Drain.{HostPair, pairs, open_if_closed, round, rounds, drain}
 use Rattle.rds_history.specs.History.{history}
-use Rattle.rds_history.specs.Limits.{IsDrained, IsIdle}
+use Rattle.rds_history.specs.Limits.{IsDrained, OwesNothing}
 use Rattle.rds_history.proofs.EventInvariants.{Holds, holds_weaker, holds_then, holds_appends, holds_each, holds_again, keeps_after}
 use Rattle.rds_history.proofs.OnlyWritten.{only_history}
 use Rattle.rds_history.proofs.Rounds.{AllResting, IsSwept, swept, resting_drained}
@@ -34,7 +34,7 @@ abbrev Member : ℕ → List ℕ → Type 0
 Member x [] = ⊥
 Member x (y ∷ ys) = (y ≡ x) ⊎ Member x ys
 
-abbrev Has : (h k : ℕ) → List Pair → Type 0
+abbrev Has : (h k : ℕ) → List HostPair → Type 0
 Has h k [] = ⊥
 Has h k (p ∷ ps) = ((p.low ≡ h) × (p.high ≡ k)) ⊎ Has h k ps
 
@@ -65,12 +65,12 @@ member_filter test x (y ∷ ys) passes (inl is) =
 member_filter test x (y ∷ ys) passes (inr is) =
     cond_both (test y) (y ∷ filter test ys) (filter test ys) (Member x) (λ e. inr (member_filter test x ys passes is)) (λ e. member_filter test x ys passes is)
 
-has_left : (h k : ℕ) (ps qs : List Pair) → Has h k ps → Has h k (ps ++ qs)
+has_left : (h k : ℕ) (ps qs : List HostPair) → Has h k ps → Has h k (ps ++ qs)
 has_left h k [] qs is = absurd is
 has_left h k (p ∷ ps) qs (inl is) = inl is
 has_left h k (p ∷ ps) qs (inr is) = inr (has_left h k ps qs is)
 
-has_right : (h k : ℕ) (ps qs : List Pair) → Has h k qs → Has h k (ps ++ qs)
+has_right : (h k : ℕ) (ps qs : List HostPair) → Has h k qs → Has h k (ps ++ qs)
 has_right h k [] qs is = is
 has_right h k (p ∷ ps) qs is = inr (has_right h k ps qs is)
 
@@ -79,7 +79,7 @@ has_map h k [] is = absurd is
 has_map h k (x ∷ xs) (inl is) = inl (refl, is)
 has_map h k (x ∷ xs) (inr is) = inr (has_map h k xs is)
 
-has_flat : (f : ℕ → List Pair) (h k : ℕ) (xs : List ℕ) → Member h xs → Has h k (f h) → Has h k (flat_map f xs)
+has_flat : (f : ℕ → List HostPair) (h k : ℕ) (xs : List ℕ) → Member h xs → Has h k (f h) → Has h k (flat_map f xs)
 has_flat f h k [] is has = absurd is
 has_flat f h k (x ∷ xs) (inl is) has = has_left h k (f x) (flat_map f xs) (subst (λ i. Has h k (f i)) (sym is) has)
 has_flat f h k (x ∷ xs) (inr is) has = has_right h k (f x) (flat_map f xs) (has_flat f h k xs is has)
@@ -91,7 +91,7 @@ has_pair hosts h k less high =
     (member_below h hosts (omega (arith, less, high)))
     (has_map h k (filter (nat_lt h) (below hosts)) (member_filter (nat_lt h) k (below hosts) (lt-ltb h k less) (member_below k hosts high)))
 
-resting_at : (limit h k : ℕ) (qs : List Pair) (past : List Event) → Has h k qs → AllResting limit qs past →
+resting_at : (limit h k : ℕ) (qs : List HostPair) (past : List Event) → Has h k qs → AllResting limit qs past →
     IsResting limit h k past × IsResting limit k h past
 resting_at limit h k [] past is rest = absurd is
 resting_at limit h k (q ∷ qs) past (inl is) rest = (
@@ -113,7 +113,7 @@ opens_entry a b h k n past is =
     cond_both (h == a && (k == b)) (Open n ∷ journal a b past) (journal a b past) (λ j. (stream : ℕ) × (open_stream j ≡ Some stream)) (λ own. (n, refl)) (λ other. is)
 
 module _ (limit : ℕ) where
-  kept_pair : (a b : ℕ) (p : Pair) (past : List Event) → Opens a b past → Holds (Opens a b) (open_if_closed limit p past)
+  kept_pair : (a b : ℕ) (p : HostPair) (past : List Event) → Opens a b past → Holds (Opens a b) (open_if_closed limit p past)
   kept_pair a b p past is = go (open_stream (journal p.low p.high past))
     where
       go : (o : Option ℕ) → Holds (Opens a b) (option_map_or (λ stream. Ok past) o (open_both limit p.low p.high past))
@@ -124,7 +124,7 @@ module _ (limit : ℕ) where
           (λ mid so. holds_appends (Opens a b) (Opens a b) limit p.high p.low (Open (suc (newest_stream (journal p.high p.low mid)))) mid so
           (λ before now. opens_entry a b p.high p.low (suc (newest_stream (journal p.high p.low mid))) before now))
 
-  opened_pair : (p : Pair) (past : List Event) → Holds (Opens p.low p.high) (open_if_closed limit p past)
+  opened_pair : (p : HostPair) (past : List Event) → Holds (Opens p.low p.high) (open_if_closed limit p past)
   opened_pair p past = go (open_stream (journal p.low p.high past)) refl
     where
       go : (o : Option ℕ) → open_stream (journal p.low p.high past) ≡ o →
@@ -139,7 +139,7 @@ module _ (limit : ℕ) where
           (λ mid so. holds_appends (Opens p.low p.high) (Opens p.low p.high) limit p.high p.low (Open (suc (newest_stream (journal p.high p.low mid)))) mid so
           (λ before now. opens_entry p.low p.high p.high p.low (suc (newest_stream (journal p.high p.low mid))) before now))
 
-  opened_all : (h k : ℕ) (qs : List Pair) (past : List Event) → Has h k qs → Holds (Opens h k) (each qs (open_if_closed limit) past)
+  opened_all : (h k : ℕ) (qs : List HostPair) (past : List Event) → Has h k qs → Holds (Opens h k) (each qs (open_if_closed limit) past)
   opened_all h k [] past is = absurd is
   opened_all h k (q ∷ qs) past (inl is) =
       holds_then (Opens h k) (Opens h k) (open_if_closed limit q past) (each qs (open_if_closed limit))
@@ -162,7 +162,7 @@ module _ (limit : ℕ) where
       (λ later round_so. (now.0, round_so.steady.streams h k ∙ now.1))))
       (λ later now. now))
 
-nothing_owed : (h k stream : ℕ) (past : List Event) → open_stream (journal h k past) ≡ Some stream → IsIdle h k past →
+nothing_owed : (h k stream : ℕ) (past : List Event) → open_stream (journal h k past) ≡ Some stream → OwesNothing h k past →
     owed_frame stream (journal h k past) (own_map h past) ≡ None
 nothing_owed h k stream past is idle =
     sym (ap (option_and_then (λ s. owed_frame s (journal h k past) (own_map h past))) is) ∙ idle.nothing_owed

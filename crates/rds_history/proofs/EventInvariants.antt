@@ -22,7 +22,7 @@ use Rattle.rds_history.specs.Recv.{recv, hand_out}
 use Rattle.rds_history.specs.Cancel.{cancel, cancel_refusal, close, unbind, unmark}
 use Rattle.rds_history.specs.Open.{open_both, open_pair, cut, cut_both}
 use Rattle.rds_history.specs.Move.{move_up_to, move_and_tell, move}
-use Rattle.rds_history.specs.Drain.{Pair, pairs, open_if_closed, round, rounds, drain}
+use Rattle.rds_history.specs.Drain.{HostPair, pairs, open_if_closed, round, rounds, drain}
 use Rattle.rds_history.specs.History.{after, history}
 pub use Rattle.rds_history.proofs.Holding.{Holds, holds_then, holds_if_room, holds_appends, holds_each, holds_again, holds_weaker}
 pub use Rattle.rds_history.proofs.KeptMoves.{IsQuiet, IsKept, IsKeptInFlight, in_flight_too, keeps_update_mark, keeps_turn, keeps_move_up_to, keeps_round}
@@ -119,7 +119,7 @@ module _ (P : List Event → Type 0) (kept : IsKeptInFlight P) where
       keeps_on_stream h k (open_both limit h k) (λ stream. prints (pair_refused_line (codes "open") h k is_open)) past
       (kept.opened limit h k past p) (λ stream. kept.printed (pair_refused_line (codes "open") h k is_open) past p)
 
-  keeps_open_if_closed : (limit : ℕ) (pair : Pair) (past : List Event) → P past → Holds P (open_if_closed limit pair past)
+  keeps_open_if_closed : (limit : ℕ) (pair : HostPair) (past : List Event) → P past → Holds P (open_if_closed limit pair past)
   keeps_open_if_closed limit pair past p =
       keeps_on_stream pair.low pair.high (open_both limit pair.low pair.high) (λ stream before. Ok before) past
       (kept.opened limit pair.low pair.high past p) (λ stream. p)

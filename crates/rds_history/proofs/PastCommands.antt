@@ -11,7 +11,7 @@ use Rattle.rds_history.specs.Events.{Event}
 use Rattle.rds_history.specs.Courses.{and_then, prints, each, again}
 use Rattle.rds_history.specs.Bind.{free_port}
 use Rattle.rds_history.specs.Move.{move_up_to}
-use Rattle.rds_history.specs.Drain.{Pair, pairs, open_if_closed, both_ways, round, rounds, drain}
+use Rattle.rds_history.specs.Drain.{HostPair, pairs, open_if_closed, both_ways, round, rounds, drain}
 use Rattle.rds_history.specs.History.{after, history}
 use Rattle.rds_history.proofs.EventInvariants.{Holds, holds_then, holds_again}
 use Rattle.rds_history.proofs.JoinedReads.{HonestLaws}
@@ -23,7 +23,7 @@ use Rattle.rds_history.proofs.PastStreams.{keeps_open_if_closed, keeps_open, kee
 
 -- the script's commands
 module _ (hosts : ℕ) (laws : HonestLaws) (limit : ℕ) (small : limit ≤ 2 ^ 63) where
-  keeps_both_ways : (pair : Pair) → IsOfTwo hosts pair → (past : List Event) → Keeps hosts past → Holds (Keeps hosts) (both_ways limit pair past)
+  keeps_both_ways : (pair : HostPair) → IsOfTwo hosts pair → (past : List Event) → Keeps hosts past → Holds (Keeps hosts) (both_ways limit pair past)
   keeps_both_ways pair two past keeps =
       holds_then (Keeps hosts) (Keeps hosts) (move_up_to limit pair.low pair.high None past) (move_up_to limit pair.high pair.low None)
       (keeps_move_up_to laws hosts limit pair.low pair.high small two None past keeps)

@@ -8,7 +8,7 @@ use Rattle.rds_history.specs.Events.{Event, Printed}
 use Rattle.rds_history.specs.Courses.{and_then, each, again, prints}
 use Rattle.rds_history.specs.Journals.{journal, moved_in_all, in_flight}
 use Rattle.rds_history.specs.Move.{move_up_to}
-use Rattle.rds_history.specs.Drain.{Pair, pairs, open_if_closed, both_ways, round, rounds, drain}
+use Rattle.rds_history.specs.Drain.{HostPair, pairs, open_if_closed, both_ways, round, rounds, drain}
 use Rattle.rds_history.specs.Limits.{MovesOnlyWritten}
 use Rattle.rds_history.proofs.EventInvariants.{Holds, holds_weaker, holds_then, keeps_opening, keeps_round}
 use Rattle.rds_history.proofs.Again.{Ends, ends_from, ends_again, IsLast, last_step}
@@ -27,31 +27,31 @@ right_rises a b c d e f one two three four = omega (arith, one, two, three, four
 
 module _ (limit : ℕ) where
   -- the entries of a pair's journals, as far as pulls have room
-  abbrev rank : Pair → List Event → ℕ
+  abbrev rank : HostPair → List Event → ℕ
   rank p past = min limit (length (journal p.low p.high past)) + min limit (length (journal p.high p.low past))
 
-  abbrev ranks : List Pair → List Event → ℕ
+  abbrev ranks : List HostPair → List Event → ℕ
   ranks [] past = 0
   ranks (p ∷ ps) past = rank p past + ranks ps past
 
   -- no more than these
-  abbrev capacity : List Pair → ℕ
+  abbrev capacity : List HostPair → ℕ
   capacity [] = 0
   capacity (p ∷ ps) = limit + limit + capacity ps
 
-  within_capacity : (ps : List Pair) (past : List Event) → ranks ps past ≤ capacity ps
+  within_capacity : (ps : List HostPair) (past : List Event) → ranks ps past ≤ capacity ps
   within_capacity [] past = omega arith
   within_capacity (p ∷ ps) past = omega (arith, within_capacity ps past)
 
-  abbrev NothingFlies : List Pair → List Event → Type 0
+  abbrev NothingFlies : List HostPair → List Event → Type 0
   NothingFlies [] past = Unit {0}
   NothingFlies (p ∷ ps) past = (in_flight p.low p.high past ≡ []) × (in_flight p.high p.low past ≡ []) × NothingFlies ps past
 
-  abbrev pub AllResting : List Pair → List Event → Type 0
+  abbrev pub AllResting : List HostPair → List Event → Type 0
   AllResting [] past = Unit {0}
   AllResting (p ∷ ps) past = IsResting limit p.low p.high past × IsResting limit p.high p.low past × AllResting ps past
 
-  rank_grows : (p : Pair) (past later : List Event) → IsSteady past later → rank p past ≤ rank p later
+  rank_grows : (p : HostPair) (past later : List Event) → IsSteady past later → rank p past ≤ rank p later
   rank_grows p past later steady =
       let there = min_le limit (length (journal p.low p.high past)) (length (journal p.low p.high later)) (steady.longer p.low p.high) in
       let back = min_le limit (length (journal p.high p.low past)) (length (journal p.high p.low later)) (steady.longer p.high p.low) in
@@ -61,7 +61,7 @@ module _ (limit : ℕ) where
       add_le : (a b c d : ℕ) → a ≤ b → c ≤ d → a + c ≤ b + d
       add_le a b c d one two = omega (arith, one, two)
 
-  ranks_grow : (ps : List Pair) (past later : List Event) → IsSteady past later → ranks ps past ≤ ranks ps later
+  ranks_grow : (ps : List HostPair) (past later : List Event) → IsSteady past later → ranks ps past ≤ ranks ps later
   ranks_grow [] past later steady = omega arith
   ranks_grow (p ∷ ps) past later steady =
       add_le (rank p past) (rank p later) (ranks ps past) (ranks ps later) (rank_grows p past later steady) (ranks_grow ps past later steady)
@@ -69,20 +69,20 @@ module _ (limit : ℕ) where
       add_le : (a b c d : ℕ) → a ≤ b → c ≤ d → a + c ≤ b + d
       add_le a b c d one two = omega (arith, one, two)
 
-  still_nothing_flies : (ps : List Pair) (past later : List Event) → IsSteady past later → NothingFlies ps past → NothingFlies ps later
+  still_nothing_flies : (ps : List HostPair) (past later : List Event) → IsSteady past later → NothingFlies ps past → NothingFlies ps later
   still_nothing_flies [] past later steady none = tt
   still_nothing_flies (p ∷ ps) past later steady none =
       (steady.keeps p.low p.high none.0, steady.keeps p.high p.low none.1, still_nothing_flies ps past later steady none.2)
 
   -- what a part of a round does to these pairs
-  pub record IsSwept (ps : List Pair) (past later : List Event) : Type 0 where
+  pub record IsSwept (ps : List HostPair) (past later : List Event) : Type 0 where
     pub steady : IsSteady past later
     pub empty : NothingFlies ps later
     pub rises : moved_in_all past < moved_in_all later → (2 ≤ limit) × (NothingFlies ps past → ranks ps past < ranks ps later)
     pub still : MovesOnlyWritten past → moved_in_all later ≡ moved_in_all past → (later ≡ past) × AllResting ps past
 
   -- both ways of one pair
-  record IsPaired (p : Pair) (past later : List Event) : Type 0 where
+  record IsPaired (p : HostPair) (past later : List Event) : Type 0 where
     steady : IsSteady past later
     there : in_flight p.low p.high later ≡ []
     back : in_flight p.high p.low later ≡ []
@@ -91,7 +91,7 @@ module _ (limit : ℕ) where
     still : MovesOnlyWritten past → moved_in_all later ≡ moved_in_all past →
         (later ≡ past) × IsResting limit p.low p.high past × IsResting limit p.high p.low past
 
-  both : (p : Pair) (past mid later : List Event) → IsCarried limit p.low p.high past mid → IsCarried limit p.high p.low mid later → IsPaired p past later
+  both : (p : HostPair) (past mid later : List Event) → IsCarried limit p.low p.high past mid → IsCarried limit p.high p.low mid later → IsPaired p past later
   both p past mid later first second = record {
     steady = steady_then past mid later first.steady second.steady;
     there = second.steady.keeps p.low p.high first.empty;
@@ -123,14 +123,14 @@ module _ (limit : ℕ) where
                 (two.1 (first.steady.keeps p.high p.low in_)),
           )
 
-  paired : (p : Pair) (past : List Event) → Holds (IsPaired p past) (both_ways limit p past)
+  paired : (p : HostPair) (past : List Event) → Holds (IsPaired p past) (both_ways limit p past)
   paired p past =
       holds_then (IsCarried limit p.low p.high past) (IsPaired p past) (move_up_to limit p.low p.high None past) (move_up_to limit p.high p.low None)
       (carried limit p.low p.high past)
       (λ mid first. holds_weaker (IsCarried limit p.high p.low mid) (IsPaired p past) (move_up_to limit p.high p.low None mid) (carried limit p.high p.low mid)
       (λ later second. both p past mid later first second))
 
-  joined : (p : Pair) (ps : List Pair) (past mid later : List Event) → IsPaired p past mid → IsSwept ps mid later → IsSwept (p ∷ ps) past later
+  joined : (p : HostPair) (ps : List HostPair) (past mid later : List Event) → IsPaired p past mid → IsSwept ps mid later → IsSwept (p ∷ ps) past later
   joined p ps past mid later first second = record {
     steady = steady_then past mid later first.steady second.steady;
     empty = (second.steady.keeps p.low p.high first.there, second.steady.keeps p.high p.low first.back, second.empty);
@@ -159,7 +159,7 @@ module _ (limit : ℕ) where
                 (two.1 (still_nothing_flies ps past mid first.steady none.2)),
           )
 
-  pub swept : (ps : List Pair) (past : List Event) → Holds (IsSwept ps past) (each ps (both_ways limit) past)
+  pub swept : (ps : List HostPair) (past : List Event) → Holds (IsSwept ps past) (each ps (both_ways limit) past)
   swept [] past = record {
     steady = steady_here past;
     empty = tt;
@@ -172,7 +172,7 @@ module _ (limit : ℕ) where
       (λ later second. joined p ps past mid later first second))
 
   -- a round where all pairs rest
-  resting_round : (ps : List Pair) (past : List Event) → AllResting ps past → each ps (both_ways limit) past ≡ Ok past
+  resting_round : (ps : List HostPair) (past : List Event) → AllResting ps past → each ps (both_ways limit) past ≡ Ok past
   resting_round [] past rest = refl
   resting_round (p ∷ ps) past rest =
       ap (λ c. and_then (and_then c (move_up_to limit p.high p.low None)) (each ps (both_ways limit))) (resting_move limit p.low p.high past rest.0)
@@ -193,7 +193,7 @@ module _ (limit : ℕ) where
   room_for_pairs (suc (suc (suc (suc (suc (suc (suc (suc (suc n))))))))) few = absurd (omega (arith, few))
 
   module _ (hosts : ℕ) (few : hosts ≤ MAX_HOSTS) where
-    abbrev ps : List Pair
+    abbrev ps : List HostPair
     ps = pairs hosts
 
     ends_empty : (n : ℕ) (past : List Event) → NothingFlies ps past → capacity ps ≤ ranks ps past + n → Ends (round limit hosts) (suc n) past
@@ -240,7 +240,7 @@ module _ (limit : ℕ) where
             subst (AllResting ps) (sym still.0) still.1
 
     -- so does what is printed then
-    printed_rest : (qs : List Pair) (text : List ℕ) (past : List Event) → AllResting qs past → AllResting qs (Printed text ∷ past)
+    printed_rest : (qs : List HostPair) (text : List ℕ) (past : List Event) → AllResting qs past → AllResting qs (Printed text ∷ past)
     printed_rest [] text past rest = tt
     printed_rest (q ∷ qs) text past rest = (printed_one q.low q.high rest.0, printed_one q.high q.low rest.1, printed_rest qs text past rest.2)
       where

@@ -8,7 +8,7 @@ use Rattle.rds_text.specs.Ports.{below}
 use Rattle.rds_history.specs.Events.{Event}
 use Rattle.rds_history.specs.Courses.{Course, each}
 use Rattle.rds_history.specs.Journals.{peers}
-use Rattle.rds_history.specs.Drain.{Pair, pairs}
+use Rattle.rds_history.specs.Drain.{HostPair, pairs}
 use Rattle.rds_history.proofs.EventInvariants.{Holds, holds_then}
 use Rattle.rds_history.proofs.PastEnds.{AreTwo}
 
@@ -41,7 +41,7 @@ peers_are hosts h =
     (peers hosts h) (filter_passes (λ k. not (k == h)) (below hosts)))
 
 -- a pair is of two hosts
-abbrev pub IsOfTwo : ℕ → Pair → Type 0
+abbrev pub IsOfTwo : ℕ → HostPair → Type 0
 IsOfTwo hosts p = AreTwo hosts p.low p.high
 
 pairs_of : (hosts low : ℕ) → low < hosts → All (IsOfTwo hosts) (map (λ high. record { low = low; high = high }) (filter (nat_lt low) (below hosts)))

@@ -25,7 +25,7 @@ use Rattle.rds_history.specs.Drain.{drain}
 use Rattle.rds_history.specs.History.{history}
 use Rattle.rds_history.specs.Journals.{journal, moved_count, in_flight, own_map}
 use Rattle.rds_history.specs.Limits.{IsDrained}
-use Rattle.rds_history.specs.Settled.{IsSettledFrom, IsSettled}
+use Rattle.rds_history.specs.Settled.{IsSettledFrom, IsSettledPast}
 use Rattle.rds_history.proofs.EventInvariants.{Holds}
 use Rattle.rds_history.proofs.Drained.{quiet_after}
 use Rattle.rds_history.proofs.JoinedEnds.{AreJoined, idle_of}
@@ -121,7 +121,7 @@ module _ (headline : Headline) (settles : SettledLaw) (hosts : ℕ) (past : List
 
 -- so after a drain of a script in range
 pub settled_history : Headline → HonestLaws → SettledLaw → (script : Script) (limit : ℕ) (past later : List Event) → IsScript script → limit ≤ 2 ^ 63 →
-    history limit script.hosts script.commands.items [] ≡ Ok past → drain limit script.hosts past ≡ Ok later → IsSettled script.hosts later
+    history limit script.hosts script.commands.items [] ≡ Ok past → drain limit script.hosts past ≡ Ok later → IsSettledPast script.hosts later
 settled_history headline laws settles script limit past later is small came drained h k known_h known_k apart =
     let before : Keeps script.hosts past =
     subst (Holds (Keeps script.hosts)) came (keeps_history script.hosts laws limit small script.commands.items [] is.each (keeps_nothing script.hosts)) in

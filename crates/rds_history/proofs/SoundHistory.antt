@@ -13,7 +13,7 @@ use Rattle.rds_history.specs.History.{history}
 use Rattle.rds_history.specs.InOrder.{HandsOutInOrder}
 use Rattle.rds_history.specs.Journals.{journal}
 use Rattle.rds_history.specs.Sockets.{handed_out, queue}
-use Rattle.rds_history.specs.Sound.{IsSoundBetween, IsSound, WasSentTo, of_ports}
+use Rattle.rds_history.specs.Sound.{IsSoundBetween, IsSoundPast, WasSentTo, of_ports}
 use Rattle.rds_history.proofs.EventInvariants.{Holds}
 use Rattle.rds_history.proofs.InOrder.{in_order_history}
 use Rattle.rds_history.proofs.JoinedReads.{HonestLaws}
@@ -74,7 +74,7 @@ module _ (headline : Headline) (hosts : ℕ) (past : List Event) (keeps : Keeps 
       (all_sent hosts k slot past (λ h far. keeps.beyond h k far) past (record { others = λ h apart. (once headline hosts past keeps h k apart 0 0).bytes; own = keeps.own k }))
 
 pub sound_history : Headline → HonestLaws → (script : Script) (limit : ℕ) (past : List Event) → IsScript script → limit ≤ 2 ^ 63 →
-    history limit script.hosts script.commands.items [] ≡ Ok past → IsSound script.hosts past
+    history limit script.hosts script.commands.items [] ≡ Ok past → IsSoundPast script.hosts past
 sound_history headline laws script limit past is small came =
     let keeps : Keeps script.hosts past =
     subst (Holds (Keeps script.hosts)) came (keeps_history script.hosts laws limit small script.commands.items [] is.each (keeps_nothing script.hosts)) in

@@ -10,21 +10,21 @@ use Rattle.rds_history.specs.Open.{open_both}
 use Rattle.rds_history.specs.Move.{move_up_to}
 
 -- two hosts, the lower one first
-pub record Pair : Type 0 where
+pub record HostPair : Type 0 where
   pub low : ℕ
   pub high : ℕ
 
 -- all pairs, in ascending order of the lower and then of the higher host
-abbrev pub pairs : ℕ → List Pair
+abbrev pub pairs : ℕ → List HostPair
 pairs hosts =
     flat_map (λ low. map (λ high. record { low = low; high = high }) (filter (nat_lt low) (below hosts))) (below hosts)
 
 -- a stream is opened between the two, if none is open
-abbrev pub open_if_closed : (limit : ℕ) → Pair → List Event → Course
+abbrev pub open_if_closed : (limit : ℕ) → HostPair → List Event → Course
 open_if_closed limit p past = on_stream p.low p.high (open_both limit p.low p.high) (λ stream before. Ok before) past
 
 -- bytes go without limit from the lower to the higher host, and then back
-abbrev pub both_ways : (limit : ℕ) → Pair → List Event → Course
+abbrev pub both_ways : (limit : ℕ) → HostPair → List Event → Course
 both_ways limit p past = and_then (move_up_to limit p.low p.high None past) (move_up_to limit p.high p.low None)
 
 -- a round over all pairs

@@ -19,7 +19,7 @@ use Rattle.rds_history.specs.Move.{move}
 use Rattle.rds_history.specs.Drain.{drain}
 use Rattle.rds_text.specs.Lines.{spent_line}
 use Rattle.rds_history.specs.Transcript.{lines}
-use Rattle.rds_report.specs.FinalState.{Socket, FinalHost}
+use Rattle.rds_report.specs.FinalState.{FinalSocket, FinalHost}
 use Rattle.rds_report.specs.Report.{report}
 
 -- what a command comes to
@@ -41,12 +41,12 @@ history limit hosts [] past = Ok past
 history limit hosts (placed ∷ commands) past = and_then (after limit hosts placed.command past) (history limit hosts commands)
 
 -- the socket of a slot of host h
-abbrev pub socket : (h : ℕ) → List Event → ℕ → Socket
+abbrev pub socket : (h : ℕ) → List Event → ℕ → FinalSocket
 socket h past slot =
     record { slot = slot; port = bound_port h slot past; got = handed_out h slot past; unread = queue h slot past }
 
 -- the sockets of host h by slot
-abbrev pub sockets : ℕ → List Event → List Socket
+abbrev pub sockets : ℕ → List Event → List FinalSocket
 sockets h past = map (socket h past) (below (next_slot h past))
 
 -- what host h has in the end

@@ -24,5 +24,5 @@ pub record IsSettledFrom (h k : ℕ) (past : List Event) : Type 0 where
   pub accounted : (sport dport : ℕ) → IsAllAccountedFor h sport k dport past
 
 -- so it is between each two hosts
-abbrev pub IsSettled : (hosts : ℕ) → List Event → Type 0
-IsSettled hosts past = (h k : ℕ) → h < hosts → k < hosts → h ≢ k → IsSettledFrom h k past
+abbrev pub IsSettledPast : (hosts : ℕ) → List Event → Type 0
+IsSettledPast hosts past = (h k : ℕ) → h < hosts → k < hosts → h ≢ k → IsSettledFrom h k past

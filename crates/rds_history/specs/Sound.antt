@@ -54,6 +54,6 @@ abbrev pub WasSentTo : (hosts k : ℕ) → List Event → Datagram → Type 0
 WasSentTo hosts k past d = (h : ℕ) × (n : ℕ) × (h < hosts) × (h ≢ k) × (sent h k past n ≡ Some d)
 
 -- So it is between each two hosts; and the sockets of a host hand out nothing but what another of these hosts sent to it.
-pub record IsSound (hosts : ℕ) (past : List Event) : Type 0 where
+pub record IsSoundPast (hosts : ℕ) (past : List Event) : Type 0 where
   pub between : (h k : ℕ) → h < hosts → k < hosts → h ≢ k → IsSoundBetween h k past
   pub all_sent : (k slot : ℕ) → All (WasSentTo hosts k past) (handed_out k slot past ++ queue k slot past)

@@ -11,7 +11,7 @@ use Rattle.rds_model.specs.Sums.{last_pulled_frame}
 -- `kept` what that end has of a frame which isn't whole.
 
 -- nothing is on its way
-pub record IsIdle (kept : List ℕ) (writer : JointEnd) (waiting : Option Frame) : Type 0 where
+pub record HasNothingOnWay (kept : List ℕ) (writer : JointEnd) (waiting : Option Frame) : Type 0 where
   pub none_flies : writer.flying ≡ []
   pub none_waits : waiting ≡ None
   pub none_kept : kept ≡ []
@@ -35,7 +35,7 @@ pub record HasCome (kept : List ℕ) (writer : JointEnd) (waiting : Option Frame
 
 -- at most one frame is on its way
 abbrev pub HasAtMostOne : (kept : List ℕ) → (writer : JointEnd) → (waiting : Option Frame) → Type 0
-HasAtMostOne kept writer waiting = IsIdle kept writer waiting ⊎ IsGoing kept writer waiting ⊎ HasCome kept writer waiting
+HasAtMostOne kept writer waiting = HasNothingOnWay kept writer waiting ⊎ IsGoing kept writer waiting ⊎ HasCome kept writer waiting
 
 -- so it is from one end to the other, of whatever the other keeps
 abbrev pub SendsOneByOne : (writer reader : JointEnd) → Type 0

@@ -25,8 +25,8 @@ raising false port number = []
 raising true port number = Raised port ∷ Bumped number ∷ []
 
 -- n bytes are added to the put word, the limit and the taken word are loaded, and the bit is raised if the mark is set
-abbrev pub counting : ℕ → ℕ → Mark → ℕ → List Step
-counting slot n mark number =
+abbrev pub counting_steps : ℕ → ℕ → Mark → ℕ → List Step
+counting_steps slot n mark number =
     Added (put_word slot) n mark.put ∷ Loaded (limit_word slot) mark.limit ∷ Loaded (taken_word slot) mark.taken ∷ raising mark.set mark.port number
 
 -- the view after one more check, and after these steps
@@ -35,11 +35,11 @@ with_check v check steps = record v { checks = v.checks ++ check ∷ []; steps =
 
 -- n bytes were counted for the slot at the port, with one check. The port's bit was raised exactly where a limit is set and
 -- put less taken is above it
-pub record IsCounted (slot port n : ℕ) (old new : MeterSeat) (mark : Mark) : Type 0 where
+pub record CountsBytes (slot port n : ℕ) (old new : MeterSeat) (mark : Mark) : Type 0 where
   pub number : ℕ
   pub port_is : mark.port ≡ port
   pub rule : mark.set ≡ must_raise (check_of slot mark)
-  pub seat : new ≡ knowing old (with_check old.view (check_of slot mark) (counting slot n mark number))
+  pub seat : new ≡ knowing old (with_check old.view (check_of slot mark) (counting_steps slot n mark number))
 
 -- whether the slot was found to hold the port
 abbrev pub is_held_by : ℕ → Option ℕ → Bool
@@ -67,6 +67,6 @@ pub record IsSecondLook (slot : ℕ) (mark : Mark) (old new : MeterSeat) (ports_
 pub record IsDelivery (slot port n : ℕ) (old new : MeterSeat) (ports_old ports_new : PortSeat) : Type 0 where
   pub mark : Mark
   pub counted : MeterSeat
-  pub counts : IsCounted slot port n old counted mark
+  pub counts : CountsBytes slot port n old counted mark
   pub raised : mark.set ≡ true → IsSecondLook slot mark counted new ports_old ports_new
   pub other : mark.set ≡ false → (new ≡ counted) × (ports_new ≡ ports_old)

@@ -12,7 +12,7 @@ use Rattle.rds_meter.specs.PartLaws.{part-append}
 use Rattle.rds_line_parts.specs.Words.{AddsTo}
 use Rattle.rds_line_parts.specs.Own.{Own, own_word, found_of, newer, last_found, IsAsRead}
 use Rattle.rds_line_parts.specs.OwnLaws.{found_there, still_read}
-use Rattle.rds_line_parts.specs.Delivery.{check_of, raising, lowering, counting, IsCounted, IsSecondLook, IsDelivery, must_lower}
+use Rattle.rds_line_parts.specs.Delivery.{check_of, raising, lowering, counting_steps, CountsBytes, IsSecondLook, IsDelivery, must_lower}
 
 either_set : {Goal : Type 0} (b : Bool) → (b ≡ true → Goal) → (b ≡ false → Goal) → Goal
 either_set true set unset = set refl
@@ -27,10 +27,10 @@ lowering_part w false port number = refl
 lowering_part w true port number = refl
 
 module _ {slot : ℕ} where
-  pub counted_part : {port n : ℕ} {old new : MeterSeat} {mark : Mark} → IsCounted slot port n old new mark → AddsTo (put_word slot) n old.view new.view
+  pub counted_part : {port n : ℕ} {old new : MeterSeat} {mark : Mark} → CountsBytes slot port n old new mark → AddsTo (put_word slot) n old.view new.view
   counted_part {port} {n} {old} {new} {mark} c w =
       let raised = raising_part w mark.set mark.port c.number in
-      ap (λ (h : MeterSeat). part w h.view.steps) c.seat ∙ part-append w old.view.steps (counting slot n mark c.number)
+      ap (λ (h : MeterSeat). part w h.view.steps) c.seat ∙ part-append w old.view.steps (counting_steps slot n mark c.number)
       ∙ ap (λ k. part w old.view.steps + k) (let e : (if put_word slot == w then n else 0) + (0 + (0 + part w (raising mark.set mark.port c.number))) ≡ (if put_word slot == w then n else 0) = omega arith in e)
 
   pub second_part : {mark : Mark} {old new : MeterSeat} {ports after : PortSeat} → IsSecondLook slot mark old new ports after → (w : ℕ) → part w new.view.steps ≡ part w old.view.steps
@@ -65,10 +65,10 @@ lowering_loads w false port number = refl
 lowering_loads w true port number = refl
 
 module _ (own : Own) (slot : ℕ) (small : slot < 1024) where
-  counted_read : (port n : ℕ) (old new : MeterSeat) (mark : Mark) → IsCounted slot port n old new mark → IsAsRead own old.view.steps → IsAsRead own new.view.steps
+  counted_read : (port n : ℕ) (old new : MeterSeat) (mark : Mark) → CountsBytes slot port n old new mark → IsAsRead own old.view.steps → IsAsRead own new.view.steps
   counted_read port n old new mark c read =
       subst (λ (h : MeterSeat). IsAsRead own h.view.steps) (sym c.seat)
-      (still_read own old.view.steps (counting slot n mark c.number) (λ i below.
+      (still_read own old.view.steps (counting_steps slot n mark c.number) (λ i below.
       ap (λ f. newer (newer (newer f (found_of (own_word i) (Loaded (taken_word slot) mark.taken))) (found_of (own_word i) (Loaded (limit_word slot) mark.limit))) None) (raising_loads (own_word i) mark.set mark.port c.number)
       ∙ ap (λ f. newer (newer f (found_of (own_word i) (Loaded (limit_word slot) mark.limit))) None) (found_there (own_word i) (taken_word slot) mark.taken (λ e. absurd (omega arith)))
       ∙ ap (λ f. newer f None) (found_there (own_word i) (limit_word slot) mark.limit (λ e. absurd (omega arith)))) read)

@@ -4,7 +4,7 @@ ghost use Rattle.rds_model.specs.declared.entry.TheConstants.{MAX_SLOTS};
 ghost use Rattle.rds_meter.specs.Places.{put_word, part};
 ghost use Rattle.rds_meter.specs.Seats.{knowing, after_raise, after_bump, OpensWith, must_raise};
 ghost use Rattle.rds_line_parts.specs.Words.{IsAtRest};
-ghost use Rattle.rds_line_parts.specs.Delivery.{check_of, after_check, IsCounted};
+ghost use Rattle.rds_line_parts.specs.Delivery.{check_of, after_check, CountsBytes};
 
 use rds_meter::{Mark, Meter, MeterSeat};
 
@@ -15,7 +15,7 @@ pub(crate) fn count_put(meter: &Meter, seat: &mut MeterSeat, slot: u16, port: u1
     requires slot { slot < MAX_SLOTS }
     requires part { part (put_word slot) seat.old.view.steps + n ≤ 2 ^ 52 }
     requires rest { IsAtRest seat.old.view }
-    ensures { IsCounted slot port n seat.old seat.new result }
+    ensures { CountsBytes slot port n seat.old seat.new result }
 {
     let mark = check(meter, seat, slot, port, n);
     if mark.set {

@@ -18,12 +18,12 @@ few_accepted (Accept slot from to payload ∷ past) legal = (acceptable slot fro
 few_accepted (_ ∷ past) legal = few_accepted past legal.1
 
 -- the ports and the payload of an accepted datagram fit
-pub record Fits (d : Accepted) : Type 0 where
+pub record FitsWire (d : Accepted) : Type 0 where
   pub sport : d.sport < 2 ^ 16
   pub dport : d.dport < 2 ^ 16
   pub short : length d.payload ≤ MAX_LENGTH
 
-pub datagram_fits : (past : List Entry) (n : ℕ) (d : Accepted) → IsLegal past → datagram past n ≡ Some d → Fits d
+pub datagram_fits : (past : List Entry) (n : ℕ) (d : Accepted) → IsLegal past → datagram past n ≡ Some d → FitsWire d
 datagram_fits [] n d legal known = cc
 datagram_fits (Accept slot from to payload ∷ past) n d legal known =
     elim (cases_eq n (suc (accepted past))) [
@@ -32,7 +32,7 @@ datagram_fits (Accept slot from to payload ∷ past) n d legal known =
           sym (datagram_newest slot from to payload past n newest) ∙ known in
           let same : record { place = length past; slot = slot; sport = from; dport = to; payload = payload } ≡ d = cc in
           let fits = acceptable slot from to payload legal now in
-          subst Fits same (record { sport = fits.sport; dport = fits.dport; short = fits.short })
+          subst FitsWire same (record { sport = fits.sport; dport = fits.dport; short = fits.short })
       | inr other ↦ datagram_fits past n d legal.1 (sym (datagram_other slot from to payload past n other) ∙ known)
     ]
 datagram_fits (_ ∷ past) n d legal known = datagram_fits past n d legal.1 known

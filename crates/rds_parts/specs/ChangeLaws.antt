@@ -8,7 +8,7 @@ use Rattle.rds_model.specs.declared.order.Order.{Order}
 use Rattle.rds_mail.specs.Passes.{Putter}
 use Rattle.rds_fmap.specs.declared.seen.Seen.{Seen}
 use Rattle.rds_parts.specs.Lanes.{Lane, Fixed, IsLaneAt, HasSeen, RoutesStay, fixed, with_order, IsPutAt, ArePut}
-use Rattle.rds_parts.specs.PlaceLaws.{here, there, stands, map_same, again}
+use Rattle.rds_parts.specs.PlaceLaws.{here, there, stands, map_same, set_same}
 
 -- two numbers are one or are apart
 either_way : {Goal : Type 0} (a b : ℕ) → (a ≡ b → Goal) → (a ≢ b → Goal) → Goal

@@ -19,10 +19,10 @@ there (x ∷ xs) (suc i) zero y ne = refl
 there (x ∷ xs) (suc i) (suc j) y ne = there xs i j y (λ e. ne (ap suc e))
 
 -- the element that stands there already
-pub again : {X : Type 0} (xs : List X) (i : ℕ) (y : X) → slice_get xs i ≡ Some y → set xs i y ≡ xs
-again [] i y e = refl
-again (x ∷ xs) zero y e = ap (λ z. z ∷ xs) (sym (same_Some x y e))
-again (x ∷ xs) (suc i) y e = ap (λ l. x ∷ l) (again xs i y e)
+pub set_same : {X : Type 0} (xs : List X) (i : ℕ) (y : X) → slice_get xs i ≡ Some y → set xs i y ≡ xs
+set_same [] i y e = refl
+set_same (x ∷ xs) zero y e = ap (λ z. z ∷ xs) (sym (same_Some x y e))
+set_same (x ∷ xs) (suc i) y e = ap (λ l. x ∷ l) (set_same xs i y e)
 
 -- what is read by an index stands there
 pub stands : {X : Type 0} (xs : List X) (i : ℕ) (x : X) → i < length xs → x ≡ get_or xs i x → slice_get xs i ≡ Some x

@@ -1,1 +1,1 @@
-pub mod Givings
+pub mod Followings

@@ -4,6 +4,6 @@ use Rattle.rds_history.specs.Courses.{Course}
 use Rattle.rds_play.specs.declared.playing.PlayEnd.{PlayEnd}
 use Rattle.rds_play.specs.declared.playing.PlayEnd.TheVariants as ended
 
-abbrev pub end_of : Course → PlayEnd
-end_of (Ok past) = ended.Ok
-end_of (Err full) = ended.Spent full.host full.peer full.entries
+abbrev pub play_end : Course → PlayEnd
+play_end (Ok past) = ended.Ok
+play_end (Err full) = ended.Spent full.host full.peer full.entries

@@ -5,7 +5,7 @@ ghost use Rattle.rds_script.specs.Grammar.{meaning};
 ghost use Rattle.rds_model.specs.declared.journal.TheConstants.{MIN_ENTRIES, MAX_ENTRIES};
 ghost use Rattle.rds_history.specs.History.{course, text};
 ghost use Rattle.rds_text.specs.Lines.{spent_line as line_of_spent};
-ghost use Rattle.rds_play.specs.Ends.{end_of};
+ghost use Rattle.rds_play.specs.Ends.{play_end};
 ghost use Rattle.rds_play.specs.declared.playing.PlayEnd.TheVariants as ended;
 
 use crate::texting::text_of;
@@ -79,7 +79,7 @@ fn answer_to(alloc: Global, script: &Script, limit: u32) -> Result<Answer, Memor
     requires least { MIN_ENTRIES ≤ limit }
     requires most { limit ≤ MAX_ENTRIES }
     ensures text { IfOk result (λ answer. string_bytes answer.text ≡ text (meaning script.now) limit) }
-    ensures end { IfOk result (λ answer. answer.end ≡ end_of (course (meaning script.now) limit)) }
+    ensures end { IfOk result (λ answer. answer.end ≡ play_end (course (meaning script.now) limit)) }
 {
     match text_of(alloc, script, limit) {
         Ok(text) => Ok(Answer {

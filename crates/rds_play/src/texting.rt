@@ -7,7 +7,7 @@ ghost use Rattle.rds_history.specs.History.{course, final_hosts};
 ghost use Rattle.rds_history.specs.Transcript.{lines};
 ghost use Rattle.rds_text.specs.Lines.{end_line};
 ghost use Rattle.rds_report.specs.Report.{report as text_of_report};
-ghost use Rattle.rds_play.specs.Giving.{Gives};
+ghost use Rattle.rds_play.specs.Following.{FollowsCourse};
 ghost use Rattle.rds_world.specs.Telling.{Tells, state};
 
 use crate::obey::obey;
@@ -25,7 +25,7 @@ pub fn text_of(alloc: Global, script: &Script, limit: u32) -> Result<String, Sto
     requires least { MIN_ENTRIES ≤ limit }
     requires most { limit ≤ MAX_ENTRIES }
     ensures end { IfOk result (λ text. (lines : List ℕ) × (string_bytes text ≡ lines ++ end_line)) }
-    ensures exact { Gives (λ past made. string_bytes made ≡ lines past ++ text_of_report (final_hosts script.now.hosts past))
+    ensures exact { FollowsCourse (λ past made. string_bytes made ≡ lines past ++ text_of_report (final_hosts script.now.hosts past))
         (course (meaning script.now) limit) result }
 {
     let world = played::<Brand>(alloc, script, limit, Blank::new(1))?;
@@ -47,7 +47,7 @@ fn played<L: Ledger>(
     requires name { blank.name ≡ L.name }
     requires parts { blank.parts ≡ L.parts }
     requires whole { 0 < L.parts }
-    ensures { Gives (λ past world. Tells limit script.now.hosts past (state world)) (course (meaning script.now) limit) result }
+    ensures { FollowsCourse (λ past world. Tells limit script.now.hosts past (state world)) (course (meaning script.now) limit) result }
 {
     let mut steps: Steps<L> = Steps::new(blank);
     let mut world = World::new(alloc, script.hosts, limit)?;

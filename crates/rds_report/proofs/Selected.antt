@@ -14,7 +14,7 @@ use Rattle.rds_model.specs.Past.{accepted}
 use Rattle.rds_report.specs.declared.item.What.{What}
 use Rattle.rds_report.specs.declared.item.What.TheVariants.{Accepted, Received, Unread, Dropped, Port0, Cancelled}
 use Rattle.rds_report.specs.declared.item.Item.{Item}
-use Rattle.rds_report.specs.FinalState.{Socket, FinalJournal, FinalHost, past_with, past_of, sockets_of}
+use Rattle.rds_report.specs.FinalState.{FinalSocket, FinalJournal, FinalHost, past_with, past_of, sockets_of}
 use Rattle.rds_report.specs.Report.{Group}
 use Rattle.rds_report.specs.Items.{item, accepted_items, sent_items, read_items, came_items, socket_items, is_lost, side_items, host_items, items}
 use Rattle.rds_report.specs.ItemReport.{is_of, of_pair}
@@ -175,7 +175,7 @@ module _ (g : Group) (to : ℕ) (differs : (to == g.to) ≡ false) where
   none_unread [] = refl
   none_unread (d ∷ ds) = skip g _ _ (other_to g to d.dport d.from d.sport Unread differs) ∙ none_unread ds
 
-  pub none_sockets : (sockets : List Socket) → of_pair g (flat_map (socket_items to) sockets) ≡ []
+  pub none_sockets : (sockets : List FinalSocket) → of_pair g (flat_map (socket_items to) sockets) ≡ []
   none_sockets [] = refl
   none_sockets (s ∷ sockets) =
       filter-append (is_of g) (socket_items to s) (flat_map (socket_items to) sockets)
@@ -265,7 +265,7 @@ module _ (kind : What → Bool) where
   kindless_map f never [] = refl
   kindless_map f never (x ∷ xs) = drop_one kind (f x) (map f xs) (never x) ∙ kindless_map f never xs
 
-  pub kindless_sockets : ((p : List ℕ) → kind (Received p) ≡ false) → kind Unread ≡ false → (to : ℕ) (sockets : List Socket) →
+  pub kindless_sockets : ((p : List ℕ) → kind (Received p) ≡ false) → kind Unread ≡ false → (to : ℕ) (sockets : List FinalSocket) →
       of_kind kind (flat_map (socket_items to) sockets) ≡ []
   kindless_sockets r u to [] = refl
   kindless_sockets r u to (s ∷ sockets) =
@@ -304,7 +304,7 @@ module _ (kind : What → Bool) (g : Group) (all : List FinalHost) where
   no_sides addr none (s ∷ sides) = ap (λ (l : List Item). l ++ flat_map (at_side addr) sides) (none s) ∙ no_sides addr none sides
 
   module _ (no_came : (from to : ℕ) (past : List Entry) → chosen kind g (came_items from to past) ≡ [])
-      (no_sockets : (to : ℕ) (sockets : List Socket) → chosen kind g (flat_map (socket_items to) sockets) ≡ []) where
+      (no_sockets : (to : ℕ) (sockets : List FinalSocket) → chosen kind g (flat_map (socket_items to) sockets) ≡ []) where
     abbrev sent_at : List Entry → List Item
     sent_at past = chosen kind g (sent_items g.from g.to (is_lost past (past_of g.to g.from all)) past)
 
@@ -345,7 +345,7 @@ module _ (kind : What → Bool) (g : Group) (all : List FinalHost) where
     only_came : (addr : ℕ) (s : FinalJournal) → at_side addr s ≡ chosen kind g (came_items s.peer addr s.past)
     only_came addr s = side_parts addr s ∙ ap (λ (l : List Item). l ++ chosen kind g (came_items s.peer addr s.past)) (no_sent addr s.peer (is_lost s.past (past_of s.peer addr all)) s.past)
 
-    module _ (no_sockets : (to : ℕ) (sockets : List Socket) → chosen kind g (flat_map (socket_items to) sockets) ≡ []) where
+    module _ (no_sockets : (to : ℕ) (sockets : List FinalSocket) → chosen kind g (flat_map (socket_items to) sockets) ≡ []) where
       abbrev came_at : List Entry → List Item
       came_at past = chosen kind g (came_items g.from g.to past)
 
@@ -378,7 +378,7 @@ module _ (kind : What → Bool) (g : Group) (all : List FinalHost) where
           ∙ one_end g.to at_end came_at (λ (e : FinalHost). past_with g.from e.sides) (past_of g.to g.from) refl (λ e ends. refl) came_other all (came_owns all sides) once
 
     module _ (no_came : (from to : ℕ) (past : List Entry) → chosen kind g (came_items from to past) ≡ []) where
-      abbrev kept_at : List Socket → List Item
+      abbrev kept_at : List FinalSocket → List Item
       kept_at sockets = chosen kind g (flat_map (socket_items g.to) sockets)
 
       only_sockets : (e : FinalHost) → at_end e ≡ chosen kind g (flat_map (socket_items e.addr) e.sockets)

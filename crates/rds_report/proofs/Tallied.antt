@@ -18,7 +18,7 @@ use Rattle.rds_report.specs.declared.item.What.{What}
 use Rattle.rds_report.specs.declared.item.What.TheVariants.{Accepted, Received, Unread, Dropped, Port0, Cancelled}
 use Rattle.rds_report.specs.declared.item.Item.{Item}
 use Rattle.rds_report.specs.Hosts.{IsAddress}
-use Rattle.rds_report.specs.FinalState.{Socket, FinalJournal, FinalHost, past_of, sockets_of}
+use Rattle.rds_report.specs.FinalState.{FinalSocket, FinalJournal, FinalHost, past_of, sockets_of}
 use Rattle.rds_report.specs.Report.{Group, Counts, accepted_groups, ascending, groups, of_group, received, unread, counts, counts_line, data_line, group_text, pair_text}
 use Rattle.rds_report.specs.Views.{AreSides, AreFinalHosts}
 use Rattle.rds_report.specs.Items.{seen, item, accepted_items, sent_items, read_items, came_items, socket_items, is_lost, side_items, host_items, items}
@@ -210,7 +210,7 @@ module _ (g : Group) where
           ap (λ (b : Bool). cond b (f d ∷ chosen kind g (map f ds)) (chosen kind g (map f ds))) (k d) ∙ ap (λ (l : List Item). f d ∷ l) ih
       go false ih = ih
 
-  pub got_chosen : (sockets : List Socket) → chosen is_received g (flat_map (socket_items g.to) sockets) ≡ map got_item (of_group g (flat_map (λ (s : Socket). s.got) sockets))
+  pub got_chosen : (sockets : List FinalSocket) → chosen is_received g (flat_map (socket_items g.to) sockets) ≡ map got_item (of_group g (flat_map (λ (s : FinalSocket). s.got) sockets))
   got_chosen [] = refl
   got_chosen (s ∷ sockets) =
       chosen_append is_received g (socket_items g.to s) (flat_map (socket_items g.to) sockets)
@@ -220,9 +220,9 @@ module _ (g : Group) where
       ∙ ap (λ (l : List Item). map got_item (of_group g s.got) ++ l) (none_chosen is_received g (map left_item s.unread) (kindless_map is_received left_item (λ d. refl) s.unread))
       ∙ append-nil (map got_item (of_group g s.got)))
       ∙ ap (λ (l : List Item). map got_item (of_group g s.got) ++ l) (got_chosen sockets)
-      ∙ sym (ap (map got_item) (filter-append is_in_group s.got (flat_map (λ (s : Socket). s.got) sockets)) ∙ map-append got_item (of_group g s.got) (of_group g (flat_map (λ (s : Socket). s.got) sockets)))
+      ∙ sym (ap (map got_item) (filter-append is_in_group s.got (flat_map (λ (s : FinalSocket). s.got) sockets)) ∙ map-append got_item (of_group g s.got) (of_group g (flat_map (λ (s : FinalSocket). s.got) sockets)))
 
-  pub left_chosen : (sockets : List Socket) → chosen is_unread g (flat_map (socket_items g.to) sockets) ≡ map left_item (of_group g (flat_map (λ (s : Socket). s.unread) sockets))
+  pub left_chosen : (sockets : List FinalSocket) → chosen is_unread g (flat_map (socket_items g.to) sockets) ≡ map left_item (of_group g (flat_map (λ (s : FinalSocket). s.unread) sockets))
   left_chosen [] = refl
   left_chosen (s ∷ sockets) =
       chosen_append is_unread g (socket_items g.to s) (flat_map (socket_items g.to) sockets)
@@ -231,7 +231,7 @@ module _ (g : Group) where
       ∙ ap (λ (l : List Item). l ++ chosen is_unread g (map left_item s.unread)) (none_chosen is_unread g (map got_item s.got) (kindless_map is_unread got_item (λ d. refl) s.got))
       ∙ chosen_map is_unread left_item (λ d. refl) (λ d. is_of_socket Unread d) s.unread)
       ∙ ap (λ (l : List Item). map left_item (of_group g s.unread) ++ l) (left_chosen sockets)
-      ∙ sym (ap (map left_item) (filter-append is_in_group s.unread (flat_map (λ (s : Socket). s.unread) sockets)) ∙ map-append left_item (of_group g s.unread) (of_group g (flat_map (λ (s : Socket). s.unread) sockets)))
+      ∙ sym (ap (map left_item) (filter-append is_in_group s.unread (flat_map (λ (s : FinalSocket). s.unread) sockets)) ∙ map-append left_item (of_group g s.unread) (of_group g (flat_map (λ (s : FinalSocket). s.unread) sockets)))
 
   got_lines : (ds : List Datagram) → flat_map (λ (i : Item). data_lines i.what) (map got_item ds) ≡ flat_map data_line ds
   got_lines [] = refl
@@ -271,7 +271,7 @@ module _ (ends : List FinalHost) (once : EndsOnce ends) (sides : AllSidesOnce en
   no_sent : (kind : What → Bool) → kind Accepted ≡ false → kind Cancelled ≡ false → (from to : ℕ) (lost : ℕ → Bool) (past : List Entry) → chosen kind g (sent_items from to lost past) ≡ []
   no_sent kind a c from to lost past = none_chosen kind g (sent_items from to lost past) (kindless_sent kind a c from to lost past)
 
-  no_kept : (kind : What → Bool) → ((p : List ℕ) → kind (Received p) ≡ false) → kind Unread ≡ false → (to : ℕ) (sockets : List Socket) → chosen kind g (flat_map (socket_items to) sockets) ≡ []
+  no_kept : (kind : What → Bool) → ((p : List ℕ) → kind (Received p) ≡ false) → kind Unread ≡ false → (to : ℕ) (sockets : List FinalSocket) → chosen kind g (flat_map (socket_items to) sockets) ≡ []
   no_kept kind r u to sockets = none_chosen kind g (flat_map (socket_items to) sockets) (kindless_sockets kind r u to sockets)
 
   abbrev there : List Entry

@@ -4,7 +4,7 @@ use Rattle.rds_model.specs.declared.order.Datagram.{Datagram}
 use Rattle.rds_model.specs.declared.entry.Entry.{Entry}
 
 -- a socket: its slot, the port that it was bound to, what it handed out, and what it left unread
-pub record Socket : Type 0 where
+pub record FinalSocket : Type 0 where
   pub slot : ℕ
   pub port : ℕ
   pub got : List Datagram
@@ -19,7 +19,7 @@ pub record FinalJournal : Type 0 where
 pub record FinalHost : Type 0 where
   pub addr : ℕ
   pub sides : List FinalJournal
-  pub sockets : List Socket
+  pub sockets : List FinalSocket
 
 -- the journal with the host at an address
 abbrev pub past_with : ℕ → List FinalJournal → List Entry
@@ -32,6 +32,6 @@ past_of addr peer [] = []
 past_of addr peer (host ∷ hosts) = if host.addr == addr then past_with peer host.sides else past_of addr peer hosts
 
 -- the sockets of the host at an address
-abbrev pub sockets_of : ℕ → List FinalHost → List Socket
+abbrev pub sockets_of : ℕ → List FinalHost → List FinalSocket
 sockets_of addr [] = []
 sockets_of addr (host ∷ hosts) = if host.addr == addr then host.sockets else sockets_of addr hosts

@@ -15,7 +15,7 @@ use Rattle.rds_report.specs.declared.item.Group.{Group as Key}
 use Rattle.rds_report.specs.declared.item.What.{What}
 use Rattle.rds_report.specs.declared.item.What.TheVariants.{Accepted, Received, Unread, Dropped, Port0, Cancelled}
 use Rattle.rds_report.specs.declared.item.Item.{Item}
-use Rattle.rds_report.specs.FinalState.{Socket, FinalJournal, FinalHost, past_of}
+use Rattle.rds_report.specs.FinalState.{FinalSocket, FinalJournal, FinalHost, past_of}
 use Rattle.rds_report.specs.Report.{Group}
 
 -- whether each number from 1 to m passes a test
@@ -62,7 +62,7 @@ came_items from to (Read stream frame outcome ∷ past) =
 came_items from to (_ ∷ past) = came_items from to past
 
 -- the items of a socket of the host at an address
-abbrev pub socket_items : ℕ → Socket → List Item
+abbrev pub socket_items : ℕ → FinalSocket → List Item
 socket_items to s =
     map (λ (d : Datagram). item to d.dport d.from d.sport (Received d.payload)) s.got
     ++ map (λ (d : Datagram). item to d.dport d.from d.sport Unread) s.unread

@@ -9,7 +9,7 @@ use Rattle.rds_model.specs.Streams.{was_passed}
 use Rattle.rds_model.specs.Pairs.{accepted_for, dropped, taken_by_port_0, taken_back}
 use Rattle.rds_text.specs.Words.{host_name, hex}
 use Rattle.rds_report.specs.Hosts.{host_at}
-use Rattle.rds_report.specs.FinalState.{Socket, FinalJournal, FinalHost, past_of, sockets_of}
+use Rattle.rds_report.specs.FinalState.{FinalSocket, FinalJournal, FinalHost, past_of, sockets_of}
 use Rattle.rds_text.specs.Lines.{text_line, phrase}
 
 -- a port pair: from port sport of the host at `from` to port dport of the host at `to`
@@ -56,11 +56,11 @@ of_group g ds = filter (λ (d : Datagram). (d.from == g.from && (d.sport == g.sp
 
 -- the datagrams of the pair that were handed out, in the order of the sockets, and so of their numbers
 abbrev pub received : List FinalHost → Group → List Datagram
-received hosts g = of_group g (flat_map (λ (s : Socket). s.got) (sockets_of g.to hosts))
+received hosts g = of_group g (flat_map (λ (s : FinalSocket). s.got) (sockets_of g.to hosts))
 
 -- the datagrams of the pair that wait, or that were left unread
 abbrev pub unread : List FinalHost → Group → List Datagram
-unread hosts g = of_group g (flat_map (λ (s : Socket). s.unread) (sockets_of g.to hosts))
+unread hosts g = of_group g (flat_map (λ (s : FinalSocket). s.unread) (sockets_of g.to hosts))
 
 -- the numbers of the pair that were taken back and never arrived
 abbrev pub cancelled : List FinalHost → Group → List ℕ

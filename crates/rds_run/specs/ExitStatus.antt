@@ -10,7 +10,7 @@ use Rattle.rds_script.specs.Refusal.{Refused}
 use Rattle.rds_history.specs.Events.{Event}
 use Rattle.rds_history.specs.Courses.{Full}
 use Rattle.rds_history.specs.History.{course, text}
-use Rattle.rds_history.specs.Sound.{IsSound}
+use Rattle.rds_history.specs.Sound.{IsSoundPast}
 use Rattle.rds_run.specs.declared.status.Status.{Status}
 use Rattle.rds_run.specs.declared.status.Status.TheVariants as status
 use Rattle.rds_run.specs.Texts.{read_fault_line, bad_line}
@@ -65,7 +65,7 @@ IsToldRefused left line cause = IsSomeAnd left (λ bytes. Refused bytes line cau
 pub record IsPlayed (s : Meaning) (held_before held_after : Option (List ℕ)) : Type 0 where
   pub past : List Event
   pub leads : course s MAX_ENTRIES ≡ Ok past
-  pub sound : IsSound s.hosts past
+  pub sound : IsSoundPast s.hosts past
   pub written : SinkGained held_before held_after (text s MAX_ENTRIES)
 
 -- the script filled a journal: its course ends there, and the sink took its text, which is the line of that journal

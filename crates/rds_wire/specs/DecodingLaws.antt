@@ -12,22 +12,22 @@ use Rattle.rds_wire.specs.declared.header.Header.{Header}
 use Rattle.rds_wire.specs.Bytes.{header_bytes, IsHeader, IsBytes}
 
 -- the n bytes from a place
-abbrev pub part : List ℕ → ℕ → ℕ → List ℕ
-part b i n = take n (drop i b)
+abbrev pub bytes_at : List ℕ → ℕ → ℕ → List ℕ
+bytes_at b i n = take n (drop i b)
 
 -- the header that the bytes show
 abbrev pub header_of : List ℕ → Header
 header_of b = record {
-  sequence = big_number 8 (part b 0 8);
-  ack = big_number 8 (part b 8 8);
-  len = big_number 4 (part b 16 4);
-  sport = big_number 2 (part b 20 2);
-  dport = big_number 2 (part b 22 2);
+  sequence = big_number 8 (bytes_at b 0 8);
+  ack = big_number 8 (bytes_at b 8 8);
+  len = big_number 4 (bytes_at b 16 4);
+  sport = big_number 2 (bytes_at b 20 2);
+  dport = big_number 2 (bytes_at b 22 2);
   flags = get_or b 24 0;
   credit = get_or b 25 0;
-  padding = part b 26 4;
-  csum = big_number 2 (part b 30 2);
-  ext = part b 32 16;
+  padding = bytes_at b 26 4;
+  csum = big_number 2 (bytes_at b 30 2);
+  ext = bytes_at b 32 16;
 }
 
 -- each place of bytes is below 256, also past the end
@@ -38,10 +38,10 @@ byte_lt b bytes i = elim (cases_lt i (length b)) [
 ]
 
 -- a part has its length, and is of bytes
-length-part : (b : List ℕ) (i n : ℕ) → i + n ≤ length b → length (part b i n) ≡ n
+length-part : (b : List ℕ) (i n : ℕ) → i + n ≤ length b → length (bytes_at b i n) ≡ n
 length-part b i n fits = length-take-le n (drop i b) (omega (arith, length-drop i b))
 
-IsBytes-part : (b : List ℕ) (i n : ℕ) → IsBytes b → IsBytes (part b i n)
+IsBytes-part : (b : List ℕ) (i n : ℕ) → IsBytes b → IsBytes (bytes_at b i n)
 IsBytes-part b i n bytes = All-take (λ x. x < 256) n (drop i b) (All-drop (λ x. x < 256) i b bytes)
 
 -- the bytes of the number in 8, 4 or 2 bytes are those bytes
@@ -67,22 +67,22 @@ take-number_2 xs n fits byte is =
 
 -- the parts of 48 bytes, one after another, are those bytes
 parts : (b : List ℕ) → length b ≡ 48
-    → part b 0 8 ++ part b 8 8 ++ part b 16 4 ++ part b 20 2 ++ part b 22 2 ++ part b 24 1 ++ part b 25 1 ++ part b 26 4 ++ part b 30 2 ++ part b 32 16 ≡ b
+    → bytes_at b 0 8 ++ bytes_at b 8 8 ++ bytes_at b 16 4 ++ bytes_at b 20 2 ++ bytes_at b 22 2 ++ bytes_at b 24 1 ++ bytes_at b 25 1 ++ bytes_at b 26 4 ++ bytes_at b 30 2 ++ bytes_at b 32 16 ≡ b
 parts b len =
     let step = λ (n m : ℕ). sym (take-add n m b) in
-    (λ i. step 8 8 i ++ part b 16 4 ++ part b 20 2 ++ part b 22 2 ++ part b 24 1 ++ part b 25 1 ++ part b 26 4 ++ part b 30 2 ++ part b 32 16)
-    ∙ (λ i. step 16 4 i ++ part b 20 2 ++ part b 22 2 ++ part b 24 1 ++ part b 25 1 ++ part b 26 4 ++ part b 30 2 ++ part b 32 16)
-    ∙ (λ i. step 20 2 i ++ part b 22 2 ++ part b 24 1 ++ part b 25 1 ++ part b 26 4 ++ part b 30 2 ++ part b 32 16)
-    ∙ (λ i. step 22 2 i ++ part b 24 1 ++ part b 25 1 ++ part b 26 4 ++ part b 30 2 ++ part b 32 16)
-    ∙ (λ i. step 24 1 i ++ part b 25 1 ++ part b 26 4 ++ part b 30 2 ++ part b 32 16)
-    ∙ (λ i. step 25 1 i ++ part b 26 4 ++ part b 30 2 ++ part b 32 16)
-    ∙ (λ i. step 26 4 i ++ part b 30 2 ++ part b 32 16)
-    ∙ (λ i. step 30 2 i ++ part b 32 16)
+    (λ i. step 8 8 i ++ bytes_at b 16 4 ++ bytes_at b 20 2 ++ bytes_at b 22 2 ++ bytes_at b 24 1 ++ bytes_at b 25 1 ++ bytes_at b 26 4 ++ bytes_at b 30 2 ++ bytes_at b 32 16)
+    ∙ (λ i. step 16 4 i ++ bytes_at b 20 2 ++ bytes_at b 22 2 ++ bytes_at b 24 1 ++ bytes_at b 25 1 ++ bytes_at b 26 4 ++ bytes_at b 30 2 ++ bytes_at b 32 16)
+    ∙ (λ i. step 20 2 i ++ bytes_at b 22 2 ++ bytes_at b 24 1 ++ bytes_at b 25 1 ++ bytes_at b 26 4 ++ bytes_at b 30 2 ++ bytes_at b 32 16)
+    ∙ (λ i. step 22 2 i ++ bytes_at b 24 1 ++ bytes_at b 25 1 ++ bytes_at b 26 4 ++ bytes_at b 30 2 ++ bytes_at b 32 16)
+    ∙ (λ i. step 24 1 i ++ bytes_at b 25 1 ++ bytes_at b 26 4 ++ bytes_at b 30 2 ++ bytes_at b 32 16)
+    ∙ (λ i. step 25 1 i ++ bytes_at b 26 4 ++ bytes_at b 30 2 ++ bytes_at b 32 16)
+    ∙ (λ i. step 26 4 i ++ bytes_at b 30 2 ++ bytes_at b 32 16)
+    ∙ (λ i. step 30 2 i ++ bytes_at b 32 16)
     ∙ step 32 16
     ∙ take_all 48 b (omega arith)
 
 -- one byte
-big_bytes-1 : (b : List ℕ) (i : ℕ) → i < length b → IsBytes b → big_bytes 1 (get_or b i 0) ≡ part b i 1
+big_bytes-1 : (b : List ℕ) (i : ℕ) → i < length b → IsBytes b → big_bytes 1 (get_or b i 0) ≡ bytes_at b i 1
 big_bytes-1 b i fits bytes =
     let byte = byte_lt b bytes i in
     let same : get_or b i 0 % 256 ≡ get_or b i 0 = omega arith in
@@ -92,20 +92,20 @@ big_bytes-1 b i fits bytes =
 pub header_bytes-header_of : (b : List ℕ) → length b ≡ 48 → IsBytes b → header_bytes (header_of b) ≡ b
 unfolding header_bytes
 header_bytes-header_of b len bytes =
-    let sequence = big_bytes-8 (part b 0 8) (length-part b 0 8 (omega arith)) (IsBytes-part b 0 8 bytes) in
-    let ack = big_bytes-8 (part b 8 8) (length-part b 8 8 (omega arith)) (IsBytes-part b 8 8 bytes) in
-    let len_of = big_bytes-4 (part b 16 4) (length-part b 16 4 (omega arith)) (IsBytes-part b 16 4 bytes) in
-    let sport = big_bytes-2 (part b 20 2) (length-part b 20 2 (omega arith)) (IsBytes-part b 20 2 bytes) in
-    let dport = big_bytes-2 (part b 22 2) (length-part b 22 2 (omega arith)) (IsBytes-part b 22 2 bytes) in
+    let sequence = big_bytes-8 (bytes_at b 0 8) (length-part b 0 8 (omega arith)) (IsBytes-part b 0 8 bytes) in
+    let ack = big_bytes-8 (bytes_at b 8 8) (length-part b 8 8 (omega arith)) (IsBytes-part b 8 8 bytes) in
+    let len_of = big_bytes-4 (bytes_at b 16 4) (length-part b 16 4 (omega arith)) (IsBytes-part b 16 4 bytes) in
+    let sport = big_bytes-2 (bytes_at b 20 2) (length-part b 20 2 (omega arith)) (IsBytes-part b 20 2 bytes) in
+    let dport = big_bytes-2 (bytes_at b 22 2) (length-part b 22 2 (omega arith)) (IsBytes-part b 22 2 bytes) in
     let flags = big_bytes-1 b 24 (omega arith) bytes in
     let credit = big_bytes-1 b 25 (omega arith) bytes in
-    let csum = big_bytes-2 (part b 30 2) (length-part b 30 2 (omega arith)) (IsBytes-part b 30 2 bytes) in
-    (λ i. sequence i ++ ack i ++ len_of i ++ sport i ++ dport i ++ flags i ++ credit i ++ part b 26 4 ++ csum i ++ part b 32 16)
+    let csum = big_bytes-2 (bytes_at b 30 2) (length-part b 30 2 (omega arith)) (IsBytes-part b 30 2 bytes) in
+    (λ i. sequence i ++ ack i ++ len_of i ++ sport i ++ dport i ++ flags i ++ credit i ++ bytes_at b 26 4 ++ csum i ++ bytes_at b 32 16)
     ∙ parts b len
 
 -- a number of n bytes is below 256 ^ n
-number_lt : (b : List ℕ) (i n : ℕ) → IsBytes b → big_number n (part b i n) < 256 ^ n
-number_lt b i n bytes = big_from-lt 0 n (part b i n) (byte_lt (part b i n) (IsBytes-part b i n bytes))
+number_lt : (b : List ℕ) (i n : ℕ) → IsBytes b → big_number n (bytes_at b i n) < 256 ^ n
+number_lt b i n bytes = big_from-lt 0 n (bytes_at b i n) (byte_lt (bytes_at b i n) (IsBytes-part b i n bytes))
 
 -- its fields fit
 pub IsHeader-header_of : (b : List ℕ) → length b ≡ 48 → IsBytes b → IsHeader (header_of b)
@@ -124,16 +124,16 @@ IsHeader-header_of b len bytes = record {
 
 -- what is read from 48 bytes in code, place by place
 pub record Shows (b : List ℕ) (h : Header) : Type 0 where
-  pub sequence : h.sequence ≡ big_number 8 (part b 0 8)
-  pub ack : h.ack ≡ big_number 8 (part b 8 8)
-  pub len : h.len ≡ big_number 4 (part b 16 4)
-  pub sport : h.sport ≡ big_number 2 (part b 20 2)
-  pub dport : h.dport ≡ big_number 2 (part b 22 2)
+  pub sequence : h.sequence ≡ big_number 8 (bytes_at b 0 8)
+  pub ack : h.ack ≡ big_number 8 (bytes_at b 8 8)
+  pub len : h.len ≡ big_number 4 (bytes_at b 16 4)
+  pub sport : h.sport ≡ big_number 2 (bytes_at b 20 2)
+  pub dport : h.dport ≡ big_number 2 (bytes_at b 22 2)
   pub flags : h.flags ≡ get_or b 24 0
   pub credit : h.credit ≡ get_or b 25 0
-  pub padding : h.padding ≡ part b 26 4
-  pub csum : h.csum ≡ big_number 2 (part b 30 2)
-  pub ext : h.ext ≡ part b 32 16
+  pub padding : h.padding ≡ bytes_at b 26 4
+  pub csum : h.csum ≡ big_number 2 (bytes_at b 30 2)
+  pub ext : h.ext ≡ bytes_at b 32 16
 
 shown : (b : List ℕ) (h : Header) → Shows b h → header_of b ≡ h
 shown b h shows = sym (λ i. record {

@@ -20,7 +20,7 @@ use Rattle.rds_history.specs.Journals.{journal, moved_count, in_flight, written_
 use Rattle.rds_history.specs.Move.{move_piece}
 use Rattle.rds_history.specs.PullAndRead.{read}
 use Rattle.rds_world.specs.declared.stop.Stop.{Stop}
-use Rattle.rds_world.specs.Happening.{IsFed}
+use Rattle.rds_world.specs.Happening.{BytesCame}
 use Rattle.rds_world.specs.Readiness.{or_memory}
 use Rattle.rds_world.specs.Telling.{State, Tells, TellsEnd, TellsWaiting, none_waits, one_waits}
 use Rattle.rds_world.proofs.Journaling.{moved_elsewhere, moved_here}
@@ -85,7 +85,7 @@ pub tells_fed : (limit hosts h k count : ℕ) (past : List Event) (s t : State) 
     Tells limit hosts past s → 0 < length (in_flight h k past) → count ≤ length (in_flight h k past) →
     IsKnown (end_at h k s.mesh) (end_at k h s.mesh) →
     ChangesPair h k (went count (end_at h k s.mesh)) (came count (end_at h k s.mesh) (end_at k h s.mesh)) s.mesh t.mesh →
-    t ≡ record s { mesh = t.mesh } → IsFed limit hosts h k (Moved h k count ∷ past) t
+    t ≡ record s { mesh = t.mesh } → BytesCame limit hosts h k (Moved h k count ∷ past) t
 tells_fed limit hosts h k count past s t apart count_is h_in k_in told some most known changed rest = record {
   flying = ap (λ (e : JointEnd). e.flying) changed.here_is ∙ here_after.flying_is;
   whole = λ none. (

@@ -9,7 +9,7 @@ use Rattle.rds_history.specs.Courses.{Course, and_then, appends, if_room}
 use Rattle.rds_history.specs.Events.{Event, Appended}
 use Rattle.rds_history.specs.Journals.{journal}
 use Rattle.rds_history.specs.Open.{open_both, open_one, shut_if_open}
-use Rattle.rds_world.specs.Happening.{opened_at_both, shut_at_both, shut_both}
+use Rattle.rds_world.specs.Happening.{both_opened, both_shut, shut_both}
 use Rattle.rds_world.proofs.Journaling.{journal_there}
 
 -- both journals have room, and then this happens
@@ -52,7 +52,7 @@ two_entries limit h k past e f apart = go (nat_lt limit (length (journal h k pas
         (ap (λ (j : List Entry). nat_lt limit (length j + 2)) there)
         ∙ second (nat_lt limit (length (journal k h past) + 2)) (journal k h past) (journal k h later) there
 
-pub open_both_is : (limit h k : ℕ) (past : List Event) → k ≢ h → open_both limit h k past ≡ if_both limit h k (opened_at_both h k) past
+pub open_both_is : (limit h k : ℕ) (past : List Event) → k ≢ h → open_both limit h k past ≡ if_both limit h k (both_opened h k) past
 open_both_is limit h k past apart =
     two_entries limit h k past (Open (suc (newest_stream (journal h k past)))) (λ later. Open (suc (newest_stream (journal k h later)))) apart
     ∙ same
@@ -61,25 +61,25 @@ open_both_is limit h k past apart =
     first p = Open (suc (newest_stream (journal h k p)))
 
     same : if_both limit h k (λ last. Appended k h (Open (suc (newest_stream (journal k h (Appended h k (first past) ∷ last))))) ∷ Appended h k (first past) ∷ last) past
-        ≡ if_both limit h k (opened_at_both h k) past
+        ≡ if_both limit h k (both_opened h k) past
     same = go (nat_lt limit (length (journal h k past) + 2)) (nat_lt limit (length (journal k h past) + 2))
       where
         go : (a b : Bool) →
             and_then (cond {A = Course} a (Err (record { host = h; peer = k; entries = length (journal h k past) })) (Ok past)) (λ before. and_then (if_room limit k h before)
             (λ last. Ok (Appended k h (Open (suc (newest_stream (journal k h (Appended h k (first past) ∷ last))))) ∷ Appended h k (first past) ∷ last)))
-            ≡ and_then (cond {A = Course} a (Err (record { host = h; peer = k; entries = length (journal h k past) })) (Ok past)) (λ before. and_then (if_room limit k h before) (λ last. Ok (opened_at_both h k last)))
+            ≡ and_then (cond {A = Course} a (Err (record { host = h; peer = k; entries = length (journal h k past) })) (Ok past)) (λ before. and_then (if_room limit k h before) (λ last. Ok (both_opened h k last)))
         go true b = refl
         go false b = inner (nat_lt limit (length (journal k h past) + 2))
           where
             inner : (b : Bool) →
                 and_then (cond {A = Course} b (Err (record { host = k; peer = h; entries = length (journal k h past) })) (Ok past))
                 (λ last. Ok (Appended k h (Open (suc (newest_stream (journal k h (Appended h k (first past) ∷ last))))) ∷ Appended h k (first past) ∷ last))
-                ≡ and_then (cond {A = Course} b (Err (record { host = k; peer = h; entries = length (journal k h past) })) (Ok past)) (λ last. Ok (opened_at_both h k last))
+                ≡ and_then (cond {A = Course} b (Err (record { host = k; peer = h; entries = length (journal k h past) })) (Ok past)) (λ last. Ok (both_opened h k last))
             inner true = refl
             inner false = refl
 
 pub shut_both_is : (limit h k s : ℕ) (past : List Event) → k ≢ h → open_stream (journal h k past) ≡ Some s → open_stream (journal k h past) ≡ Some s →
-    shut_both limit h k past ≡ if_both limit h k (shut_at_both h k s) past
+    shut_both limit h k past ≡ if_both limit h k (both_shut h k s) past
 shut_both_is limit h k s past apart on there =
     ap (λ (o : Option ℕ). and_then (option_map_or (λ stream. appends limit h k (Shut stream) past) o (Ok past)) (shut_if_open limit k h)) on
     ∙ go (nat_lt limit (length (journal h k past) + 2)) ∙ two_entries limit h k past (Shut s) (λ later. Shut s) apart

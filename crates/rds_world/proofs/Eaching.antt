@@ -6,7 +6,7 @@ use Rattle.std.proofs.lemmas.Bool.{cases_lt, cond-true, cond-false, lt-ltb, le-l
 use Rattle.std.proofs.lemmas.List.Elements.{filter-append}
 use Rattle.rds_text.specs.Ports.{below}
 use Rattle.rds_history.specs.Courses.{Course, again, and_then, each}
-use Rattle.rds_history.specs.Drain.{Pair, pairs}
+use Rattle.rds_history.specs.Drain.{HostPair, pairs}
 use Rattle.rds_history.specs.Events.{Event}
 use Rattle.rds_history.specs.Journals.{moved_in_all}
 use Rattle.rds_world.specs.declared.stop.Stop.{Stop}
@@ -135,17 +135,17 @@ range_next i n less = let e : n - i ≡ suc (n - (i + 1)) = omega (arith, less) 
 pub range_done : (i n : ℕ) → n ≤ i → range_with_len i (n - i) ≡ []
 range_done i n more = let e : n - i ≡ 0 = omega (arith, more) in ap (range_with_len i) e
 
-pub pair_of : (low high : ℕ) → Pair
+pub pair_of : (low high : ℕ) → HostPair
 pair_of low high = record { low = low; high = high }
 
 -- the pairs of one host, by the other, and all pairs, by the lower host
-pub each_above : (low hosts : ℕ) (act : Pair → List Event → Course) (past : List Event) →
+pub each_above : (low hosts : ℕ) (act : HostPair → List Event → Course) (past : List Event) →
     each (pairs_above low hosts) act past ≡ each (range_with_len (low + 1) (hosts - (low + 1))) (λ high. act (record { low = low; high = high })) past
 each_above low hosts act past =
     each_map (λ high. record { low = low; high = high }) (filter (nat_lt low) (below hosts)) act past
     ∙ ap (λ (l : List ℕ). each l (λ high. act (record { low = low; high = high })) past) (above_range low hosts)
 
-pub each_pair : (hosts : ℕ) (act : Pair → List Event → Course) (past : List Event) →
+pub each_pair : (hosts : ℕ) (act : HostPair → List Event → Course) (past : List Event) →
     each (pairs hosts) act past ≡ each (range_with_len 0 hosts) (λ low. each (pairs_above low hosts) act) past
 each_pair hosts act past =
     each_flat_map (λ low. pairs_above low hosts) (below hosts) act past

@@ -8,7 +8,7 @@ use Rattle.rds_text.specs.Ports.{below}
 use Rattle.rds_model.specs.declared.entry.Entry.{Entry}
 use Rattle.rds_model.specs.Log.{Log}
 use Rattle.rds_report.specs.declared.final_state.HostEnd.{HostEnd}
-use Rattle.rds_report.specs.FinalState.{FinalHost, FinalJournal, Socket}
+use Rattle.rds_report.specs.FinalState.{FinalHost, FinalJournal, FinalSocket}
 use Rattle.rds_report.specs.Hosts.{address_of}
 use Rattle.rds_report.specs.Views.{host_views, host_view}
 use Rattle.rds_mesh.specs.Ends.{MeshView}
@@ -31,13 +31,13 @@ ends_more count n past ends e before is =
     ∙ ap (λ (x : FinalHost). map (λ h. final_host count h past) (below n) ++ x ∷ []) is ∙ sym (map_push (λ h. final_host count h past) (below n) n)
 
 -- a host by its parts
-pub end_told : (count h addr : ℕ) (past : List Event) (js : List FinalJournal) (ks : List Socket) →
+pub end_told : (count h addr : ℕ) (past : List Event) (js : List FinalJournal) (ks : List FinalSocket) →
     addr ≡ address_of h → js ≡ (final_host count h past).sides → ks ≡ sockets h past →
     record { addr = addr; sides = js; sockets = ks } ≡ final_host count h past
 end_told count h addr past js ks addr_is js_are ks_are =
     ap (λ a. record { addr = a; sides = js; sockets = ks }) addr_is
     ∙ ap (λ (l : List FinalJournal). record { addr = address_of h; sides = l; sockets = ks }) js_are
-    ∙ ap (λ (l : List Socket). record { addr = address_of h; sides = (final_host count h past).sides; sockets = l }) ks_are
+    ∙ ap (λ (l : List FinalSocket). record { addr = address_of h; sides = (final_host count h past).sides; sockets = l }) ks_are
 
 pub below_less : (n m : ℕ) → n ≤ m → All (λ k. k < m) (below n)
 below_less zero m few = All-nil (λ k. k < m)

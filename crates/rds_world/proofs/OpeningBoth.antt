@@ -18,7 +18,7 @@ use Rattle.rds_hosts.specs.HostLaws.{untouched}
 use Rattle.rds_world.specs.declared.peer_map.PeerMap.{PeerMap}
 use Rattle.rds_world.specs.declared.stop.Stop.{Stop}
 use Rattle.rds_world.specs.Readiness.{or_memory}
-use Rattle.rds_world.specs.Happening.{opened_at, opened_at_both, shut_at_both}
+use Rattle.rds_world.specs.Happening.{opened_at, both_opened, both_shut}
 use Rattle.rds_world.specs.Printing.{PrintsAlone}
 use Rattle.rds_world.specs.Telling.{State, Tells, TellsEnd, TellsPeer, none_waits}
 use Rattle.rds_world.proofs.Journaling.{journal_here, journal_there}
@@ -64,7 +64,7 @@ pub tells_opened : {B F : Type 0} (limit hosts h k : ℕ) (past : List Event) (s
     PrintsAlone (accepted (e ∷ before)) before e → t ≡ record s { mesh = m; text = s.text ++ entry_line h k before e }) →
     OnOk last ((e : Entry) (before : List Entry) → (end_at k h t.mesh).past ≡ e ∷ before →
     PrintsAlone (accepted (e ∷ before)) before e → u ≡ record t { text = t.text ++ entry_line k h before e }) →
-    OnOk last (Tells limit hosts (opened_at_both h k past) u)
+    OnOk last (Tells limit hosts (both_opened h k past) u)
 tells_opened limit hosts h k past s m t u (Err why) told count h_in k_in apart closed known changed printed last = tt
 tells_opened limit hosts h k past s m t u (Ok x) told count h_in k_in apart closed known changed printed last =
     subst (Tells limit hosts later) (sym u_is) (record {
@@ -172,7 +172,7 @@ pub tells_shut : {B F : Type 0} (limit hosts h k n : ℕ) (past : List Event) (s
     PrintsAlone (accepted (e ∷ before)) before e → t ≡ record s { mesh = m; text = s.text ++ entry_line h k before e }) →
     OnOk last ((e : Entry) (before : List Entry) → (end_at k h t.mesh).past ≡ e ∷ before →
     PrintsAlone (accepted (e ∷ before)) before e → u ≡ record t { text = t.text ++ entry_line k h before e }) →
-    OnOk last (Tells limit hosts (shut_at_both h k n past) u)
+    OnOk last (Tells limit hosts (both_shut h k n past) u)
 tells_shut limit hosts h k n past s m t u (Err why) told count h_in k_in apart on known changed printed last = tt
 tells_shut limit hosts h k n past s m t u (Ok x) told count h_in k_in apart on known changed printed last =
     subst (Tells limit hosts later) (sym u_is) (record {

@@ -43,7 +43,7 @@ use Rattle.rds_hosts.specs.HostLaws.{changed_either, untouched, untouched_by_mar
 use Rattle.rds_hosts.specs.Telling.{TellsHost}
 use Rattle.rds_world.specs.declared.peer_map.PeerMap.{PeerMap}
 use Rattle.rds_world.specs.declared.stop.Stop.{Stop}
-use Rattle.rds_world.specs.Happening.{FrameWaits, IsPlain, IsRead, outcome_here}
+use Rattle.rds_world.specs.Happening.{FrameWaits, IsOnlyPassed, IsRead, outcome_here}
 use Rattle.rds_world.specs.Printing.{PrintsAlone}
 use Rattle.rds_world.specs.Telling.{HostsTell, PeersTell, State, Tells, TellsEnd, TellsPeer, none_waits, one_waits}
 use Rattle.rds_world.proofs.Journaling.{journal_here, journal_there}
@@ -201,7 +201,7 @@ tells_read limit hosts k h stream f o past s xs ps t apart count k_in h_in w cam
     there = subst (λ (x : Option Frame). TellsEnd limit h k x past (end_at h k s.mesh)) (waits_back k h (Some f) apart) (w.tells.ends_are h k h_in k_in (λ e. apart (sym e)))
 
 -- a plain frame was read
-plain_pong : (o : Outcome) (sport : ℕ) → IsPlain o → pong_for o sport ≡ None
+plain_pong : (o : Outcome) (sport : ℕ) → IsOnlyPassed o → pong_for o sport ≡ None
 plain_pong (outcome.Slot slot) sport plain = absurd plain
 plain_pong outcome.Ping sport plain = absurd plain
 plain_pong outcome.Map sport plain = absurd plain
@@ -211,7 +211,7 @@ plain_pong outcome.Void sport plain = refl
 plain_pong outcome.AckOnly sport plain = refl
 plain_pong outcome.OddMap sport plain = refl
 
-plain_map : (o : Outcome) (stream : ℕ) (f : Frame) → IsPlain o → IsNoMap (Read stream f o)
+plain_map : (o : Outcome) (stream : ℕ) (f : Frame) → IsOnlyPassed o → IsNoMap (Read stream f o)
 plain_map (outcome.Slot slot) stream f plain = absurd plain
 plain_map outcome.Ping stream f plain = absurd plain
 plain_map outcome.Map stream f plain = absurd plain
@@ -221,7 +221,7 @@ plain_map outcome.Void stream f plain = record { last_same = λ j. refl; count_s
 plain_map outcome.AckOnly stream f plain = record { last_same = λ j. refl; count_same = λ j. refl }
 plain_map outcome.OddMap stream f plain = record { last_same = λ j. refl; count_same = λ j. refl }
 
-plain_delivers : (o : Outcome) (stream : ℕ) (f : Frame) → IsPlain o → delivers (Read stream f o) ≡ false
+plain_delivers : (o : Outcome) (stream : ℕ) (f : Frame) → IsOnlyPassed o → delivers (Read stream f o) ≡ false
 plain_delivers (outcome.Slot slot) stream f plain = absurd plain
 plain_delivers outcome.Ping stream f plain = absurd plain
 plain_delivers outcome.Map stream f plain = absurd plain
@@ -231,7 +231,7 @@ plain_delivers outcome.Void stream f plain = refl
 plain_delivers outcome.AckOnly stream f plain = refl
 plain_delivers outcome.OddMap stream f plain = refl
 
-plain_answer : (o : Outcome) (k h : ℕ) (f : Frame) (past : List Event) → IsPlain o → answer k h f o past ≡ past
+plain_answer : (o : Outcome) (k h : ℕ) (f : Frame) (past : List Event) → IsOnlyPassed o → answer k h f o past ≡ past
 plain_answer (outcome.Slot slot) k h f past plain = absurd plain
 plain_answer outcome.Ping k h f past plain = absurd plain
 plain_answer outcome.Map k h f past plain = refl
@@ -242,7 +242,7 @@ plain_answer outcome.AckOnly k h f past plain = refl
 plain_answer outcome.OddMap k h f past plain = refl
 
 pub tells_plain : (limit hosts k h stream : ℕ) (f : Frame) (o : Outcome) (past : List Event) (s t : State) →
-    h ≢ k → s.mesh.count ≡ hosts → k < hosts → h < hosts → FrameWaits limit hosts k h stream f past s → IsRead k h stream f o s t → IsPlain o →
+    h ≢ k → s.mesh.count ≡ hosts → k < hosts → h < hosts → FrameWaits limit hosts k h stream f past s → IsRead k h stream f o s t → IsOnlyPassed o →
     Tells limit hosts (Appended k h (Read stream f o) ∷ past) t
 tells_plain limit hosts k h stream f o past s t apart count k_in h_in w came plain =
     tells_read limit hosts k h stream f o past s s.hosts s.peers t apart count k_in h_in w came (plain_pong o f.header.sport plain)
@@ -252,14 +252,14 @@ tells_plain limit hosts k h stream f o past s t apart count k_in h_in w came pla
 -- a frame with this verdict, and such an outcome, was read as a plain one
 pub read_plainly : {A : Type 0} (limit hosts k h stream : ℕ) (f : Frame) (past : List Event) (s t : State) (result : Result A Stop) (v : Verdict) (o : Outcome) →
     h ≢ k → k < hosts → h < hosts → FrameWaits limit hosts k h stream f past s → verdict_of (journal k h past) f.header ≡ v →
-    outcome_of v (found_for (end_at k h s.mesh).slots None v) ≡ o → outcome_at k v past ≡ o → IsPlain o →
-    (IsPlain (outcome_here None (end_at k h s.mesh) f) → OnOk result (Tells limit hosts (Appended k h (Read stream f (outcome_here None (end_at k h s.mesh) f)) ∷ past) t)) →
+    outcome_of v (found_for (end_at k h s.mesh).slots None v) ≡ o → outcome_at k v past ≡ o → IsOnlyPassed o →
+    (IsOnlyPassed (outcome_here None (end_at k h s.mesh) f) → OnOk result (Tells limit hosts (Appended k h (Read stream f (outcome_here None (end_at k h s.mesh) f)) ∷ past) t)) →
     OnOk result (Tells limit hosts (read_on k h stream f past) t)
 read_plainly limit hosts k h stream f past s t result v o apart k_in h_in w is here became plain told =
     let e = end_waits limit hosts k h stream f past s k_in h_in apart w in
     let so : outcome_here None (end_at k h s.mesh) f ≡ o = outcome_here_is None (end_at k h s.mesh) (journal k h past) f v e.journal_is is ∙ here in
     subst (λ (p : List Event). OnOk result (Tells limit hosts p t)) (sym (plain_answer o k h f (Appended k h (Read stream f o) ∷ past) plain) ∙ read_on_as k h stream f past v o is became)
-    (subst (λ (x : Outcome). OnOk result (Tells limit hosts (Appended k h (Read stream f x) ∷ past) t)) so (told (subst IsPlain (sym so) plain)))
+    (subst (λ (x : Outcome). OnOk result (Tells limit hosts (Appended k h (Read stream f x) ∷ past) t)) so (told (subst IsOnlyPassed (sym so) plain)))
 
 -- a ping was read and answered
 pub tells_ping : (limit hosts k h stream : ℕ) (f : Frame) (past : List Event) (s t u : State) →
@@ -423,7 +423,7 @@ verdict_waits e j f v r is at waits past_is =
 pub read_unanswered : {A : Type 0} (limit hosts k h stream : ℕ) (f : Frame) (past : List Event) (s t : State) (result : Result A Stop) (v : Verdict) →
     (v ≡ verdict.Old) ⊎ ((v ≡ verdict.Void) ⊎ ((v ≡ verdict.AckOnly) ⊎ (v ≡ verdict.OddMap))) →
     h ≢ k → k < hosts → h < hosts → FrameWaits limit hosts k h stream f past s → verdict_of (journal k h past) f.header ≡ v →
-    (IsPlain (outcome_here None (end_at k h s.mesh) f) → OnOk result (Tells limit hosts (Appended k h (Read stream f (outcome_here None (end_at k h s.mesh) f)) ∷ past) t)) →
+    (IsOnlyPassed (outcome_here None (end_at k h s.mesh) f) → OnOk result (Tells limit hosts (Appended k h (Read stream f (outcome_here None (end_at k h s.mesh) f)) ∷ past) t)) →
     OnOk result (Tells limit hosts (read k h past) t)
 read_unanswered limit hosts k h stream f past s t result v which apart k_in h_in w is told =
     subst (λ (p : List Event). OnOk result (Tells limit hosts p t)) (read_is limit hosts k h stream f past s w) (go which)

@@ -24,12 +24,12 @@ abbrev pub opened_at : (h k : ℕ) → List Event → List Event
 opened_at h k past = Appended h k (Open (suc (newest_stream (journal h k past)))) ∷ past
 
 -- both open their next stream, first h and then k
-abbrev pub opened_at_both : (h k : ℕ) → List Event → List Event
-opened_at_both h k past = opened_at k h (opened_at h k past)
+abbrev pub both_opened : (h k : ℕ) → List Event → List Event
+both_opened h k past = opened_at k h (opened_at h k past)
 
 -- both shut this stream, first h and then k
-abbrev pub shut_at_both : (h k stream : ℕ) → List Event → List Event
-shut_at_both h k stream past = Appended k h (Shut stream) ∷ Appended h k (Shut stream) ∷ past
+abbrev pub both_shut : (h k stream : ℕ) → List Event → List Event
+both_shut h k stream past = Appended k h (Shut stream) ∷ Appended h k (Shut stream) ∷ past
 
 -- each shuts its stream, if it has one, and if its journal has room
 abbrev pub shut_both : (limit h k : ℕ) → List Event → Course
@@ -42,7 +42,7 @@ pub record FrameWaits (limit hosts k h stream : ℕ) (f : Frame) (past : List Ev
   pub on : open_stream (journal k h past) ≡ Some stream
 
 -- bytes have come from h to k: with the last of them the whole frame waits there
-pub record IsFed (limit hosts h k : ℕ) (past : List Event) (s : State) : Type 0 where
+pub record BytesCame (limit hosts h k : ℕ) (past : List Event) (s : State) : Type 0 where
   pub flying : (end_at h k s.mesh).flying ≡ in_flight h k past
   pub whole : in_flight h k past ≡ [] → (stream : ℕ) × (f : Frame) × FrameWaits limit hosts k h stream f past s
   pub part : 0 < length (in_flight h k past) → Tells limit hosts past s
@@ -52,11 +52,11 @@ abbrev pub outcome_here : (slot : Option ℕ) → JointEnd → Frame → Outcome
 outcome_here slot e f = outcome_of (verdict_of e.past f.header) (found_for e.slots slot (verdict_of e.past f.header))
 
 -- nothing answers the frame, and it goes to no socket and is no map
-abbrev pub IsPlain : Outcome → Type 0
-IsPlain (outcome.Slot slot) = ⊥
-IsPlain outcome.Ping = ⊥
-IsPlain outcome.Map = ⊥
-IsPlain _ = Unit {0}
+abbrev pub IsOnlyPassed : Outcome → Type 0
+IsOnlyPassed (outcome.Slot slot) = ⊥
+IsOnlyPassed outcome.Ping = ⊥
+IsOnlyPassed outcome.Map = ⊥
+IsOnlyPassed _ = Unit {0}
 
 -- host h read a frame from k on a stream, with this outcome, and its line was printed; directly behind a ping its pong was
 -- accepted

@@ -7,14 +7,14 @@ use Rattle.rds_world.specs.declared.stop.Stop.{Stop}
 use Rattle.rds_world.specs.declared.stop.Stop.TheVariants as stop
 
 -- the journal of host h with k is the full one, and has so many entries
-pub record IsFull (h k entries : ℕ) (full : Full) : Type 0 where
+pub record IsFullJournal (h k entries : ℕ) (full : Full) : Type 0 where
   pub host_is : full.host ≡ h
   pub peer_is : full.peer ≡ k
   pub entries_are : full.entries ≡ entries
 
 -- a stop since there is no memory, or for this full journal
 abbrev pub IsStopAt : (h k entries : ℕ) → Stop → Type 0
-IsStopAt h k entries (stop.Spent full) = IsFull h k entries full
+IsStopAt h k entries (stop.Spent full) = IsFullJournal h k entries full
 IsStopAt h k entries stop.Memory = Unit {0}
 
 -- a stop since there is no memory
@@ -29,7 +29,7 @@ LacksMemory (Err why) = IsMemory why
 
 -- the journal of host h with k was full, or there was no memory
 abbrev pub IsStopped : (limit h k : ℕ) → List Entry → Stop → Type 0
-IsStopped limit h k past (stop.Spent full) = IsFull h k (length past) full × (nat_lt limit (length past + 2) ≡ true)
+IsStopped limit h k past (stop.Spent full) = IsFullJournal h k (length past) full × (nat_lt limit (length past + 2) ≡ true)
 IsStopped limit h k past stop.Memory = Unit {0}
 
 -- a call that needs room for two more entries found it, or was stopped

@@ -5,7 +5,7 @@ ghost use Rattle.rds_history.specs.Journals.{in_flight, moved_in_all};
 ghost use Rattle.rds_history.specs.Move.{arrive, move, move_piece, move_up_to, portion, pull_if_idle, turn};
 ghost use Rattle.rds_history.specs.PullAndRead.{pull};
 ghost use Rattle.rds_world.specs.Coming.{Comes, ComesRight};
-ghost use Rattle.rds_world.specs.Happening.{IsFed};
+ghost use Rattle.rds_world.specs.Happening.{BytesCame};
 ghost use Rattle.rds_world.specs.Readiness.{LacksMemory};
 ghost use Rattle.rds_world.specs.Telling.{Tells, none_waits, state};
 
@@ -231,7 +231,7 @@ impl World {
         ensures count { self.new.count ≡ self.old.count }
         ensures told { (limit hosts : ℕ) (past : List Event) → Tells limit hosts past (state self.old) →
             0 < length (in_flight from to past) → count ≤ length (in_flight from to past) →
-            OnOk result (IsFed limit hosts from to (Moved from to count ∷ past) (state self.new)) }
+            OnOk result (BytesCame limit hosts from to (Moved from to count ∷ past) (state self.new)) }
         ensures stop { LacksMemory result }
     {
         self.mesh.known(from, to);

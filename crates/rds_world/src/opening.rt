@@ -10,7 +10,7 @@ ghost use Rattle.rds_history.specs.Journals.{in_flight, journal};
 ghost use Rattle.rds_history.specs.Open.{cut, open_both, open_pair};
 ghost use Rattle.rds_history.specs.Transcript.{entry_line};
 ghost use Rattle.rds_world.specs.Coming.{Comes, ComesWaiting};
-ghost use Rattle.rds_world.specs.Happening.{opened_at_both, shut_at_both, shut_both};
+ghost use Rattle.rds_world.specs.Happening.{both_opened, both_shut, shut_both};
 ghost use Rattle.rds_world.specs.Printing.{PrintsAlone};
 ghost use Rattle.rds_world.specs.Readiness.{LacksMemory, or_memory};
 ghost use Rattle.rds_world.specs.Telling.{Tells, TellsWaiting, Waiting, state};
@@ -68,7 +68,7 @@ impl World {
         requires apart { peer ≢ host }
         ensures count { self.new.count ≡ self.old.count }
         ensures told { (limit hosts : ℕ) (past : List Event) → Tells limit hosts past (state self.old) →
-            open_stream (journal host peer past) ≡ None → OnOk result (Tells limit hosts (opened_at_both host peer past) (state self.new)) }
+            open_stream (journal host peer past) ≡ None → OnOk result (Tells limit hosts (both_opened host peer past) (state self.new)) }
         ensures stop { LacksMemory result }
     {
         self.mesh.known(host, peer);
@@ -133,7 +133,7 @@ impl World {
         ensures count { self.new.count ≡ self.old.count }
         ensures told { (limit hosts : ℕ) (past : List Event) (stream : ℕ) → Tells limit hosts past (state self.old) →
             open_stream (journal host peer past) ≡ Some stream →
-            OnOk result (Tells limit hosts (shut_at_both host peer stream past) (state self.new)) }
+            OnOk result (Tells limit hosts (both_shut host peer stream past) (state self.new)) }
         ensures stop { LacksMemory result }
     {
         self.mesh.known(host, peer);

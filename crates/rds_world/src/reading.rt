@@ -11,7 +11,7 @@ ghost use Rattle.rds_history.specs.Journals.{journal};
 ghost use Rattle.rds_history.specs.Mark.{update_mark};
 ghost use Rattle.rds_history.specs.PullAndRead.{read, read_on};
 ghost use Rattle.rds_history.specs.Sockets.{next_slot};
-ghost use Rattle.rds_world.specs.Happening.{FrameWaits, IsRead, outcome_here, IsPlain};
+ghost use Rattle.rds_world.specs.Happening.{FrameWaits, IsRead, outcome_here, IsOnlyPassed};
 ghost use Rattle.rds_world.specs.Readiness.{LacksMemory};
 ghost use Rattle.rds_world.specs.Telling.{HostsTell, PeersTell, Tells, state};
 
@@ -139,7 +139,7 @@ impl World {
         requires apart { peer ≢ host }
         ensures count { self.new.count ≡ self.old.count }
         ensures told { (limit hosts stream : ℕ) (f : Frame) (past : List Event) → FrameWaits limit hosts host peer stream f past (state self.old) →
-            IsPlain (outcome_here None (end_at host peer self.old.mesh) f) →
+            IsOnlyPassed (outcome_here None (end_at host peer self.old.mesh) f) →
             OnOk result (Tells limit hosts (Appended host peer (Read stream f (outcome_here None (end_at host peer self.old.mesh) f)) ∷ past) (state self.new)) }
         ensures stop { LacksMemory result }
     {

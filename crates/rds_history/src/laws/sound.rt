@@ -5,8 +5,8 @@ ghost use Rattle.rds_script.specs.Script.{IsScript};
 ghost use Rattle.rds_history.specs.Events.{Event};
 ghost use Rattle.rds_history.specs.Drain.{drain};
 ghost use Rattle.rds_history.specs.History.{history};
-ghost use Rattle.rds_history.specs.Settled.{IsSettled};
-ghost use Rattle.rds_history.specs.Sound.{IsSound};
+ghost use Rattle.rds_history.specs.Settled.{IsSettledPast};
+ghost use Rattle.rds_history.specs.Sound.{IsSoundPast};
 
 use rds_model::laws::{drained_of_all, fifo_of_all, headline_of_all, no_bad_of_all};
 
@@ -18,7 +18,7 @@ use rds_model::laws::{drained_of_all, fifo_of_all, headline_of_all, no_bad_of_al
 /// since a reader refuses others. The body cites three laws of journals.
 pub fn sound()
     ensures { (script : Script) (limit : ℕ) (past : List Event) → IsScript script → limit ≤ 2 ^ 63 →
-        history limit script.hosts script.commands.items [] ≡ Ok past → IsSound script.hosts past }
+        history limit script.hosts script.commands.items [] ≡ Ok past → IsSoundPast script.hosts past }
 {
     headline_of_all();
     no_bad_of_all();
@@ -32,7 +32,7 @@ pub fn sound()
 pub fn settled_after_drain()
     ensures { (script : Script) (limit : ℕ) (past later : List Event) → IsScript script → limit ≤ 2 ^ 63 →
         history limit script.hosts script.commands.items [] ≡ Ok past → drain limit script.hosts past ≡ Ok later →
-        IsSettled script.hosts later }
+        IsSettledPast script.hosts later }
 {
     headline_of_all();
     no_bad_of_all();

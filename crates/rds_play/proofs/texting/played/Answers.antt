@@ -10,8 +10,8 @@ use Rattle.rds_history.specs.History.{course}
 use Rattle.rds_world.specs.declared.stop.Stop.{Stop}
 use Rattle.rds_world.specs.declared.world.World.{World}
 use Rattle.rds_world.specs.Telling.{Tells, state}
-use Rattle.rds_play.specs.Giving.{Gives}
-use Rattle.rds_play.proofs.Givings.{Plays, plays_more, plays_stopped, gives_made}
+use Rattle.rds_play.specs.Following.{FollowsCourse}
+use Rattle.rds_play.proofs.Followings.{Plays, plays_more, plays_stopped, follows_made}
 use Rattle.rds_play.proofs.texting.played.Goals as goal
 
 -- the commands from one on
@@ -66,7 +66,7 @@ returns-in_err-obey g c =
     let at : x ≡ get_or xs i x = c.placed-item.is ∙ ap (λ (l : List Placed). get_or l i x) items in
     let p = subst (λ (rest : List Placed). Plays c.args.limit s.hosts xs rest (state c.loop-placed.world)) (from_one xs i x below at) c.loop-placed.invariant.1 in
     let same : c.from_residual-in_err-obey.result ≡ Err c.in_err-obey.field-0.0 = grind (arith, common_steps) in
-    subst (λ (r : Result World Stop). Gives (λ past world. Tells c.args.limit s.hosts past (state world)) (course (meaning s) c.args.limit) r) (sym same)
+    subst (λ (r : Result World Stop). FollowsCourse (λ past world. Tells c.args.limit s.hosts past (state world)) (course (meaning s) c.args.limit) r) (sym same)
     (plays_stopped (λ past world. Tells c.args.limit s.hosts past (state world)) c.args.limit s.hosts xs (drop (i + 1) xs) x (state c.loop-placed.world) (state c.obey.new.world)
     c.in_err-obey.field-0.0 p (c.in_err-obey.ensures.course c.args.limit s.hosts p.past p.tells))
 
@@ -77,4 +77,4 @@ returns g c =
     let i = c.loop-placed.placed-index in
     let none : drop i xs ≡ [] = at_drop_all (λ (l : List Placed). l) xs i (omega (arith, c.loop-placed-test.false)) in
     let p = subst (λ (rest : List Placed). Plays c.args.limit s.hosts xs rest (state c.loop-placed.world)) none c.loop-placed.invariant.1 in
-    gives_made (λ past world. Tells c.args.limit s.hosts past (state world)) (course (meaning s) c.args.limit) c.loop-placed.world p.past p.same p.tells
+    follows_made (λ past world. Tells c.args.limit s.hosts past (state world)) (course (meaning s) c.args.limit) c.loop-placed.world p.past p.same p.tells

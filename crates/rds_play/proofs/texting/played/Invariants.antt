@@ -1,6 +1,6 @@
 use Rattle.std.proofs.Common.{◌≡◌, drop}
 use Rattle.rds_world.specs.Telling.{state}
-use Rattle.rds_play.proofs.Givings.{Plays}
+use Rattle.rds_play.proofs.Followings.{Plays}
 use Rattle.rds_play.proofs.texting.played.Given as goal
 
 abbrev pub invariant-loop-placed : goal.invariant-loop-placed

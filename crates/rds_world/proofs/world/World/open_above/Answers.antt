@@ -3,7 +3,7 @@ use Rattle.std.specs.Prelude.{Result}
 use Rattle.std.specs.List.{range_with_len}
 use Rattle.std.proofs.lemmas.Grind.{common_steps}
 use Rattle.rds_history.specs.Courses.{Course, each}
-use Rattle.rds_history.specs.Drain.{Pair, open_if_closed}
+use Rattle.rds_history.specs.Drain.{HostPair, open_if_closed}
 use Rattle.rds_history.specs.Events.{Event}
 use Rattle.rds_world.specs.declared.stop.Stop.{Stop}
 use Rattle.rds_world.specs.Coming.{Comes}

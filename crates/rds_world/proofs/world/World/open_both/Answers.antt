@@ -8,7 +8,7 @@ use Rattle.rds_history.specs.Journals.{journal}
 use Rattle.rds_history.specs.Open.{open_both}
 use Rattle.rds_world.specs.declared.stop.Stop.{Stop}
 use Rattle.rds_world.specs.Coming.{Comes}
-use Rattle.rds_world.specs.Happening.{opened_at_both, shut_at_both}
+use Rattle.rds_world.specs.Happening.{both_opened, both_shut}
 use Rattle.rds_world.specs.Telling.{Tells, none_waits, state}
 use Rattle.rds_world.proofs.BothReady.{if_both, open_both_is, room_same, shut_both_is}
 use Rattle.rds_world.proofs.Comings.{comes_made, comes_stopped, comes_then}
@@ -17,7 +17,7 @@ use Rattle.rds_world.proofs.world.World.open_both.Goals as goal
 
 -- what is left to do where the first journal has room
 abbrev next : (limit h k : ℕ) → List Event → Course
-next limit h k before = and_then (if_room limit k h before) (λ last. Ok (opened_at_both h k last))
+next limit h k before = and_then (if_room limit k h before) (λ last. Ok (both_opened h k last))
 
 pub returns-in_err-ready-clause-course : goal.returns-in_err-ready-clause-course
 returns-in_err-ready-clause-course c = λ limit hosts past told closed.
@@ -38,7 +38,7 @@ returns-in_err-ready-2-clause-course c = λ limit hosts past told closed.
     (subst (λ (course : Course). Comes {A = Unit {0}} limit hosts course (Err c.in_err-ready-2.field-0.0) (state c.ready-2.new.self)) (sym (open_both_is limit h k past c.requires.apart))
     (comes_then none_waits none_waits limit hosts (if_room limit h k past) (next limit h k) c.in_ok-ready.field-0 (Err c.in_err-ready-2.field-0.0)
     (state c.ready.new.self) (state c.ready-2.new.self) (c.in_ok-ready.ensures.course none_waits limit hosts past told)
-    (λ later is told_later. comes_stopped (Unit {0}) (Unit {0}) none_waits none_waits limit hosts (if_room limit k h later) (λ last. Ok (opened_at_both h k last))
+    (λ later is told_later. comes_stopped (Unit {0}) (Unit {0}) none_waits none_waits limit hosts (if_room limit k h later) (λ last. Ok (both_opened h k last))
     c.in_err-ready-2.field-0.0 (state c.ready-2.new.self) (state c.ready-2.new.self) (c.in_err-ready-2.ensures.course none_waits limit hosts later told_later))))
 
 pub returns-clause-course : goal.returns-clause-course
@@ -48,9 +48,9 @@ returns-clause-course c = λ limit hosts past told closed.
     subst (λ (course : Course). Comes {A = Unit {0}} limit hosts course c.open_ends.result (state c.open_ends.new.self)) (sym (open_both_is limit h k past c.requires.apart))
     (comes_then none_waits none_waits limit hosts (if_room limit h k past) (next limit h k) c.in_ok-ready.field-0 c.open_ends.result
     (state c.ready.new.self) (state c.open_ends.new.self) (c.in_ok-ready.ensures.course none_waits limit hosts past told)
-    (λ later is told_later. comes_then none_waits none_waits limit hosts (if_room limit k h later) (λ last. Ok (opened_at_both h k last)) c.in_ok-ready-2.field-0 c.open_ends.result
+    (λ later is told_later. comes_then none_waits none_waits limit hosts (if_room limit k h later) (λ last. Ok (both_opened h k last)) c.in_ok-ready-2.field-0 c.open_ends.result
     (state c.ready-2.new.self) (state c.open_ends.new.self) (c.in_ok-ready-2.ensures.course none_waits limit hosts later told_later)
     (λ last last_is told_last.
     let same : last ≡ past = room_same limit k h later last last_is ∙ room_same limit h k past later is in
-    comes_made (Unit {0}) none_waits limit hosts (opened_at_both h k last) c.open_ends.result (state c.open_ends.new.self)
+    comes_made (Unit {0}) none_waits limit hosts (both_opened h k last) c.open_ends.result (state c.open_ends.new.self)
     (c.open_ends.ensures.told limit hosts last told_last (ap (λ (p : List Event). open_stream (journal h k p)) same ∙ closed)) c.open_ends.ensures.stop)))

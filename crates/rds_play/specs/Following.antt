@@ -7,8 +7,8 @@ use Rattle.rds_world.specs.Readiness.{IsMemory, IsStopAt}
 
 -- what is made is right for the past that the course leads to, or the stop is that of the first full journal; there may
 -- always be no memory
-abbrev pub Gives : {A : Type 0} → (List Event → A → Type 0) → Course → Result A Stop → Type 0
-Gives IsRight (Ok past) (Ok x) = IsRight past x
-Gives IsRight (Ok past) (Err why) = IsMemory why
-Gives IsRight (Err full) (Ok _) = ⊥
-Gives IsRight (Err full) (Err why) = IsStopAt full.host full.peer full.entries why
+abbrev pub FollowsCourse : {A : Type 0} → (List Event → A → Type 0) → Course → Result A Stop → Type 0
+FollowsCourse IsRight (Ok past) (Ok x) = IsRight past x
+FollowsCourse IsRight (Ok past) (Err why) = IsMemory why
+FollowsCourse IsRight (Err full) (Ok _) = ⊥
+FollowsCourse IsRight (Err full) (Err why) = IsStopAt full.host full.peer full.entries why

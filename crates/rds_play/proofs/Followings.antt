@@ -7,23 +7,23 @@ use Rattle.rds_history.specs.History.{after, history}
 use Rattle.rds_world.specs.declared.stop.Stop.{Stop}
 use Rattle.rds_world.specs.declared.stop.Stop.TheVariants as stop
 use Rattle.rds_world.specs.Coming.{Comes}
-use Rattle.rds_play.specs.Giving.{Gives}
+use Rattle.rds_play.specs.Following.{FollowsCourse}
 use Rattle.rds_world.specs.Readiness.{IsMemory}
 use Rattle.rds_world.specs.Telling.{State, Tells}
 
 -- there may always be no memory
-pub gives_memory : {A : Type 0} (P : List Event → A → Type 0) (c : Course) → Gives P c (Err stop.Memory)
-gives_memory P (Ok past) = tt
-gives_memory P (Err full) = tt
+pub follows_memory : {A : Type 0} (P : List Event → A → Type 0) (c : Course) → FollowsCourse P c (Err stop.Memory)
+follows_memory P (Ok past) = tt
+follows_memory P (Err full) = tt
 
-pub gives_lacking : {A : Type 0} (P : List Event → A → Type 0) (c : Course) (why : Stop) → IsMemory why → Gives P c (Err why)
-gives_lacking P c stop.Memory lacks = gives_memory P c
-gives_lacking P c (stop.Spent full) lacks = absurd lacks
+pub follows_lacking : {A : Type 0} (P : List Event → A → Type 0) (c : Course) (why : Stop) → IsMemory why → FollowsCourse P c (Err why)
+follows_lacking P c stop.Memory lacks = follows_memory P c
+follows_lacking P c (stop.Spent full) lacks = absurd lacks
 
 -- a stop stays one, whatever was to be made
-pub gives_stopped : {A B : Type 0} (P : List Event → A → Type 0) (Q : List Event → B → Type 0) (c : Course) (why : Stop) → Gives P c (Err why) → Gives Q c (Err why)
-gives_stopped P Q (Ok past) why is = is
-gives_stopped P Q (Err full) why is = is
+pub follows_stopped : {A B : Type 0} (P : List Event → A → Type 0) (Q : List Event → B → Type 0) (c : Course) (why : Stop) → FollowsCourse P c (Err why) → FollowsCourse Q c (Err why)
+follows_stopped P Q (Ok past) why is = is
+follows_stopped P Q (Err full) why is = is
 
 -- what was made is made of a past
 pub record Made {A : Type 0} (P : List Event → A → Type 0) (c : Course) (x : A) : Type 0 where
@@ -31,12 +31,12 @@ pub record Made {A : Type 0} (P : List Event → A → Type 0) (c : Course) (x :
   pub past_is : c ≡ Ok past
   pub right : P past x
 
-pub made_of : {A : Type 0} (P : List Event → A → Type 0) (c : Course) (x : A) → Gives P c (Ok x) → Made P c x
+pub made_of : {A : Type 0} (P : List Event → A → Type 0) (c : Course) (x : A) → FollowsCourse P c (Ok x) → Made P c x
 made_of P (Ok past) x is = record { past = past; past_is = refl; right = is }
 made_of P (Err full) x is = absurd is
 
-pub gives_made : {A : Type 0} (P : List Event → A → Type 0) (c : Course) (x : A) (past : List Event) → c ≡ Ok past → P past x → Gives P c (Ok x)
-gives_made P c x past is right = subst (λ d. Gives P d (Ok x)) (sym is) right
+pub follows_made : {A : Type 0} (P : List Event → A → Type 0) (c : Course) (x : A) (past : List Event) → c ≡ Ok past → P past x → FollowsCourse P c (Ok x)
+follows_made P c x past is right = subst (λ d. FollowsCourse P d (Ok x)) (sym is) right
 
 -- how far a history has come
 pub record Plays (limit hosts : ℕ) (all rest : List Placed) (s : State) : Type 0 where
@@ -60,10 +60,10 @@ plays_more limit hosts all rest placed s t p comes = go (after limit hosts place
 -- a command that was stopped
 pub plays_stopped : {A : Type 0} (P : List Event → A → Type 0) (limit hosts : ℕ) (all rest : List Placed) (placed : Placed) (s t : State) (why : Stop) →
     (p : Plays limit hosts all (placed ∷ rest) s) → Comes {A = Unit {0}} limit hosts (after limit hosts placed.command p.past) (Err why) t →
-    Gives P (history limit hosts all []) (Err why)
+    FollowsCourse P (history limit hosts all []) (Err why)
 plays_stopped {A} P limit hosts all rest placed s t why p comes =
-    subst (λ c. Gives P c (Err why)) (sym p.same) (go (after limit hosts placed.command p.past) comes)
+    subst (λ c. FollowsCourse P c (Err why)) (sym p.same) (go (after limit hosts placed.command p.past) comes)
   where
-    go : (c : Course) → Comes {A = Unit {0}} limit hosts c (Err why) t → Gives P (and_then c (history limit hosts rest)) (Err why)
-    go (Ok later) lacks = gives_lacking P (history limit hosts rest later) why lacks
+    go : (c : Course) → Comes {A = Unit {0}} limit hosts c (Err why) t → FollowsCourse P (and_then c (history limit hosts rest)) (Err why)
+    go (Ok later) lacks = follows_lacking P (history limit hosts rest later) why lacks
     go (Err full) stops = stops
