@@ -1,4 +1,4 @@
-use Rattle.std.proofs.Common.{refl, arith, rules, ◌≡◌, List, Ok, Err, IsOk}
+use Rattle.std.proofs.Common.{refl, arith, rules, ◌≡◌, ℕ, Option, List, Ok, Err, IsOk}
 use Rattle.rds_model.specs.declared.journal.TheConstants.{MAX_ENTRIES}
 use Rattle.rds_history.specs.Events.{Event}
 use Rattle.rds_history.specs.Courses.{Course}
@@ -9,16 +9,16 @@ leads : (course : Course) → IsOk course → (past : List Event) × (course ≡
 leads (Ok past) ok = (past, refl)
 leads (Err full) ok = absurd (search rules)
 
+-- what a script that ran to its end leaves
+is_played : (s : Meaning) (held_before held_after : Option (List ℕ)) (past : List Event) → course s MAX_ENTRIES ≡ Ok past → IsSoundPast s.hosts past →
+    SinkGained held_before held_after (text s MAX_ENTRIES) → IsPlayed s held_before held_after
+is_played s held_before held_after past leads_to sound written = record { past = past; leads = leads_to; sound = sound; written = written }
+
 pub returns-in-Ok : goal.returns-in-Ok
 returns-in-Ok g c =
     let played = c.in-Ok.ensures.ok refl in
     let course = leads _ played.0 in
-    record {
-      past = course.0;
-      leads = course.1;
-      sound = c.sound.ensures _ MAX_ENTRIES course.0 c.requires (omega arith) course.1;
-      written = played.1;
-    }
+    is_played _ _ _ course.0 course.1 (c.sound.ensures _ MAX_ENTRIES course.0 c.requires (omega arith) course.1) played.1
 
 pub returns-in-Spent : goal.returns-in-Spent
 returns-in-Spent g c =
