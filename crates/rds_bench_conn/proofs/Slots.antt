@@ -9,7 +9,9 @@ use Rattle.rds_conn.specs.declared.conn.ConnError.{ConnError}
 use Rattle.rds_conn.specs.declared.conn.ConnError.TheVariants as errors
 use Rattle.rds_conn.specs.Connection.{Connection, with_entries, stream_of}
 use Rattle.rds_conn.specs.Feeding.{RefusesHeader}
+use Rattle.rds_conn.specs.declared.conn.Pulled.{Pulled}
 use Rattle.rds_conn.specs.Passing.{with_pong, after_pass}
+use Rattle.rds_conn.specs.Pulling.{Pulls}
 
 -- a connection that is the same has the same
 pub slots_of : (old new : Connection) → new ≡ old → new.slots ≡ old.slots
@@ -38,3 +40,9 @@ slots_read old new k f came entry =
     let before : (after_pass k f came old).slots ≡ old.slots =
     slots_answered (record (with_entries (Read k f came ∷ []) old) { waiting = None }) (pong_for came f.header.sport) in
     cc
+
+-- a frame was pulled, or none was owed
+pub slots_pulled : (s : ℕ) (owed : Option Frame) (old new : Connection) (out_old out_new : List ℕ) (came : Pulled) →
+    Pulls s owed old new out_old out_new came → new.slots ≡ old.slots
+slots_pulled s None old new out_old out_new came pulls = ap (λ (c : Connection). c.slots) pulls.same
+slots_pulled s (Some f) old new out_old out_new came pulls = ap (λ (c : Connection). c.slots) pulls.entry

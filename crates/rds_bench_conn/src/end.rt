@@ -3,6 +3,7 @@ ghost use Rattle.rds_wire.specs.declared.kind.TheConstants.{MAX_LENGTH};
 ghost use Rattle.rds_model.specs.Reading.{verdict_of};
 ghost use Rattle.rds_conn.specs.Connection.{IsReady};
 ghost use Rattle.rds_conn.specs.Passing.{Matches};
+ghost use Rattle.rds_bench_conn.specs.Behind.{IsBehind};
 
 use crate::failure::Failure;
 use rds_cong::PortMap;
@@ -82,12 +83,10 @@ impl BenchEnd {
 
     /// Pulls every frame that is owed. Answers whether bytes are in flight.
     pub fn pull_all(&mut self) -> Result<bool, Failure> {
-        for _ in 0..u64::MAX {
-            self.conn.reserve()?;
-            match self.conn.pull(&self.map, &mut self.out)? {
-                Pulled::Nothing | Pulled::Down => break,
-                Pulled::Data | Pulled::Ack | Pulled::Map => {}
-            }
+        self.conn.reserve()?;
+        match self.conn.pull(&self.map, &mut self.out)? {
+            Pulled::Nothing | Pulled::Down => {}
+            Pulled::Data | Pulled::Ack | Pulled::Map => pull_behind(&mut self.conn, &mut self.out)?,
         }
         Ok(!self.out.rest().is_empty())
     }
@@ -134,6 +133,21 @@ impl BenchEnd {
             self.freed = self.freed.wrapping_add(freed.bytes);
         }
     }
+}
+
+// Pulls every frame that is owed behind the map, which was pulled.
+fn pull_behind(conn: &mut Conn, out: &mut Out) -> Result<(), Failure>
+    requires { IsBehind conn.old }
+    ensures { conn.new.slots ≡ conn.old.slots }
+{
+    for _ in 0..u64::MAX {
+        conn.reserve()?;
+        match conn.pull_behind(out)? {
+            Pulled::Nothing | Pulled::Down => break,
+            Pulled::Data | Pulled::Ack | Pulled::Map => {}
+        }
+    }
+    Ok(())
 }
 
 // Moves bytes in flight to a connection, until a frame is whole. Answers whether one is.
