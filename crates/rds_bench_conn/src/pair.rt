@@ -1,7 +1,7 @@
 use crate::end::BenchEnd;
 use crate::failure::Failure;
 use rds_msgs::Steps;
-use rds_wire::Payload;
+use rds_wire::Payloads;
 use std::alloc::Global;
 use std::sync::ledger::Ledger;
 
@@ -10,7 +10,7 @@ const LENGTH: usize = 60;
 
 /// The two ends of a connection.
 pub struct BenchPair {
-    alloc: Global,
+    payloads: Payloads,
     near: BenchEnd,
     far: BenchEnd,
 }
@@ -19,7 +19,7 @@ pub struct BenchPair {
 impl Drop for BenchPair {
     fn drop(self) {
         let Self {
-            alloc: _alloc,
+            payloads: _payloads,
             near: _near,
             far: _far,
         } = self;
@@ -31,7 +31,11 @@ impl BenchPair {
     pub fn new(alloc: Global) -> Result<BenchPair, Failure> {
         let near = BenchEnd::new(alloc, 1, 2)?;
         let far = BenchEnd::new(alloc, 2, 1)?;
-        Ok(BenchPair { alloc, near, far })
+        Ok(BenchPair {
+            payloads: Payloads::new(alloc),
+            near,
+            far,
+        })
     }
 
     /// Opens the first stream.
@@ -66,7 +70,7 @@ impl BenchPair {
 
     fn send_batch<L: Ledger>(&mut self, count: u64, steps: &mut Steps<L>) -> Result<(), Failure> {
         for _ in 0..count {
-            let payload = Payload::copy_of(self.alloc, &[7; LENGTH])?;
+            let payload = self.payloads.copy_of(&[7; LENGTH])?;
             self.near.send(payload, steps)?;
         }
         self.settle(steps)
