@@ -1,0 +1,5 @@
+pub mod Line
+pub mod Keeps
+pub mod Stays
+pub mod Steps
+pub mod Turns
