@@ -3,3 +3,4 @@ pub mod Keeps
 pub mod Stays
 pub mod Steps
 pub mod Turns
+pub mod Doing

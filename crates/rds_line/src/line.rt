@@ -7,6 +7,7 @@ mod taking;
 mod turn;
 
 use crate::parts::LineParts;
+use rds_bindtab::BindNote;
 use rds_cong::PortMap;
 use rds_fmap::MapWriter;
 use rds_line_channel::Channel;
@@ -14,7 +15,6 @@ use rds_line_parts::{Boxes, LineOrders, LinePorts, LineWords, OwnMap};
 use rds_link::End;
 use rds_mail::{Asked, Note};
 use rds_model::{Datagram, Journal, MAX_SLOTS};
-use rds_bindtab::BindNote;
 use rds_wire::Memory;
 use std::alloc::Global;
 use std::marker::Model;

@@ -101,7 +101,7 @@ impl<E: End, M: MapWriter> Line<E, M> {
         ensures err { IfErr result (λ error. error ≡ errors.Memory) }
     {
         match self.channel.verdict() {
-            Some(Verdict::Deliver(port)) => self.deliver(rt, port),
+            Some(Verdict::Deliver { dport }) => self.deliver(rt, dport),
             Some(Verdict::Map) => self.publish(rt),
             _ => {
                 self.channel.pass(Found::Unasked);
