@@ -37,64 +37,46 @@ is_bytes_sent sent.Closed = false
 abbrev pub TakesOrder : Getter Order → Getter Order → Type 0
 TakesOrder old new = (number : Number) × (order : Order) × (new ≡ after_get old number order)
 
-module _ {E M : Type 0} (m : Means E) where
-  -- The end of the open stream answered that no bytes are there. No frame waits, and no byte that came is left.
-  pub record HearsNothing (old new : ChannelView E) : Type 0 where
-    pub answer : ChangesAt (Receives m got.Nothing []) (newest_place old.streams) old.streams.list new.streams.list
-    pub none_waits : new.conn.waiting ≡ None
-    pub none_left : new.piece ≡ []
-
+module _ {E : Type 0} where
   -- where no frame waits and no byte that came is left, that stays
   abbrev pub LeavesNothing : ChannelView E → ChannelView E → Type 0
   LeavesNothing old new = old.conn.waiting ≡ None → old.piece ≡ [] → (new.conn.waiting ≡ None) × (new.piece ≡ [])
 
+  module _ (m : Means E) where
+    -- The end of the open stream answered that no bytes are there. No frame waits, and no byte that came is left.
+    pub record HearsNothing (old new : ChannelView E) : Type 0 where
+      pub answer : ChangesAt (Receives m got.Nothing []) (newest_place old.streams) old.streams.list new.streams.list
+      pub none_waits : new.conn.waiting ≡ None
+      pub none_left : new.piece ≡ []
+
+    -- bytes are to be written, and the end of the open stream answered that there is no room for them
+    pub record FindsNoRoom (old new : ChannelView E) : Type 0 where
+      pub answer : ChangesAt (Sends m put.Full []) (newest_place old.streams) old.streams.list new.streams.list
+      pub on : new.streams.is_open ≡ true
+      pub left : new.out ≢ []
+
+    -- the end at this place got more bytes
+    pub record GetsBytes (place : ℕ) (old new : List (ℕ × E)) : Type 0 where
+      pub before_it : ℕ × E
+      pub after_it : ℕ × E
+      pub stood : slice_get old place ≡ Some before_it
+      pub stands : slice_get new place ≡ Some after_it
+      pub more : m.tells ≡ true → (piece : List ℕ) × (piece ≢ []) × (m.got after_it.1 ≡ m.got before_it.1 ++ piece)
+
+    -- the end at this place sent more bytes
+    pub record SendsBytes (place : ℕ) (old new : List (ℕ × E)) : Type 0 where
+      pub before_it : ℕ × E
+      pub after_it : ℕ × E
+      pub stood : slice_get old place ≡ Some before_it
+      pub stands : slice_get new place ≡ Some after_it
+      pub more : m.tells ≡ true → (piece : List ℕ) × (piece ≢ []) × (m.sent after_it.1 ≡ m.sent before_it.1 ++ piece)
+
+module _ {E M : Type 0} where
   -- nothing is to be written, and no frame is owed
   pub record OwesNothing (old new : LineView E M) : Type 0 where
     pub streams : new.channel.streams ≡ old.channel.streams
     pub none_left : new.channel.out ≡ []
     pub none_owed : (s : ℕ) → stream_of new.channel.conn ≡ Some s → owed_frame s (past_of new) new.own.map ≡ None
-
-  -- bytes are to be written, and the end of the open stream answered that there is no room for them
-  pub record FindsNoRoom (old new : ChannelView E) : Type 0 where
-    pub answer : ChangesAt (Sends m put.Full []) (newest_place old.streams) old.streams.list new.streams.list
-    pub on : new.streams.is_open ≡ true
-    pub left : new.out ≢ []
-
-  -- There was nothing to do: the queue of orders was empty, nothing came, nothing went, and no entry was appended. Either no frame
-  -- is owed, or there is no room for what is to be written.
-  pub record IsIdle (old new : LineView E M) : Type 0 where
-    pub orders : new.orders ≡ old.orders
-    pub all_got : AllGot new.orders
-    pub past : past_of new ≡ past_of old
-    pub on : new.channel.streams.is_open ≡ true
-    pub middle : LineView E M
-    pub hears : HearsNothing old.channel middle.channel
-    pub none_waits : new.channel.conn.waiting ≡ None
-    pub none_left : new.channel.piece ≡ []
-    pub sends : OwesNothing middle new ⊎ FindsNoRoom middle.channel new.channel
-
-  -- the end at this place got more bytes
-  pub record GetsBytes (place : ℕ) (old new : List (ℕ × E)) : Type 0 where
-    pub before : ℕ × E
-    pub after : ℕ × E
-    pub stood : slice_get old place ≡ Some before
-    pub stands : slice_get new place ≡ Some after
-    pub more : m.tells ≡ true → (piece : List ℕ) × (piece ≢ []) × (m.got after.1 ≡ m.got before.1 ++ piece)
-
-  -- the end at this place sent more bytes
-  pub record SendsBytes (place : ℕ) (old new : List (ℕ × E)) : Type 0 where
-    pub before : ℕ × E
-    pub after : ℕ × E
-    pub stood : slice_get old place ≡ Some before
-    pub stands : slice_get new place ≡ Some after
-    pub more : m.tells ≡ true → (piece : List ℕ) × (piece ≢ []) × (m.sent after.1 ≡ m.sent before.1 ++ piece)
-
-  -- an order was taken, the journal has more entries, or an end got or sent bytes
-  abbrev pub HasMoved : LineView E M → LineView E M → Type 0
-  HasMoved old new =
-      TakesOrder old.orders new.orders ⊎ ((length (past_of old) < length (past_of new))
-      ⊎ (((place : ℕ) × GetsBytes place old.channel.streams.list new.channel.streams.list)
-      ⊎ ((place : ℕ) × SendsBytes place old.channel.streams.list new.channel.streams.list)))
 
   -- there was no order, no stream is open, and none is left
   pub record IsOver (old new : LineView E M) : Type 0 where
@@ -102,3 +84,24 @@ module _ {E M : Type 0} (m : Means E) where
     pub all_got : AllGot new.orders
     pub closed : new.channel.streams.is_open ≡ false
     pub last : new.channel.streams.opened ≡ length new.channel.streams.list
+
+  module _ (m : Means E) where
+    -- There was nothing to do: the queue of orders was empty, nothing came, nothing went, and no entry was appended. Either no
+    -- frame is owed, or there is no room for what is to be written.
+    pub record IsIdle (old new : LineView E M) : Type 0 where
+      pub orders : new.orders ≡ old.orders
+      pub all_got : AllGot new.orders
+      pub past : past_of new ≡ past_of old
+      pub on : new.channel.streams.is_open ≡ true
+      pub middle : LineView E M
+      pub hears : HearsNothing m old.channel middle.channel
+      pub none_waits : new.channel.conn.waiting ≡ None
+      pub none_left : new.channel.piece ≡ []
+      pub sends : OwesNothing middle new ⊎ FindsNoRoom m middle.channel new.channel
+
+    -- an order was taken, the journal has more entries, or an end got or sent bytes
+    abbrev pub HasMoved : LineView E M → LineView E M → Type 0
+    HasMoved old new =
+        TakesOrder old.orders new.orders ⊎ ((length (past_of old) < length (past_of new))
+        ⊎ (((place : ℕ) × GetsBytes m place old.channel.streams.list new.channel.streams.list)
+        ⊎ ((place : ℕ) × SendsBytes m place old.channel.streams.list new.channel.streams.list)))

@@ -1,4 +1,4 @@
-ghost use Rattle.std.specs.Prelude.{◌≡◌, ◌⊎◌, ◌<◌, nat_lt, ℕ, Err, IfOk, OnOk, length, sum};
+ghost use Rattle.std.specs.Prelude.{◌≡◌, ◌⊎◌, ◌<◌, nat_lt, ℕ, true, Err, IfOk, OnOk, length, sum};
 ghost use Rattle.rds_model.specs.declared.journal.JournalError.TheVariants as errors;
 ghost use Rattle.rds_line.specs.Line.{IsFull, past_of};
 ghost use Rattle.rds_line.specs.Stays.{LineStays};
