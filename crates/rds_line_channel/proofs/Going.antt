@@ -1,0 +1,119 @@
+-- How a journal goes on by an order, by a frame that is pulled, and by one that is read.
+use Rattle.std.proofs.Common.{◌≡◌, ◌≢◌, ℕ, Option, Some, None, List, [], ◌∷◌, ◌++◌, refl, sym, ap, subst, ◌∙◌, append_assoc}
+use Rattle.std.proofs.lemmas.Option.{same_Some}
+use Rattle.rds_wire.specs.declared.frame.Frame.{Frame}
+use Rattle.rds_wire.specs.Bytes.{frame_bytes}
+use Rattle.rds_frame.specs.Holding.{waiting_bytes}
+use Rattle.rds_model.specs.declared.entry.Entry.{Entry}
+use Rattle.rds_model.specs.declared.entry.Entry.TheVariants.{Accept, Cancel, Pull, Read}
+use Rattle.rds_model.specs.declared.entry.Outcome.{Outcome}
+use Rattle.rds_model.specs.declared.entry.Target.{Target}
+use Rattle.rds_model.specs.declared.entry.Target.TheVariants as target
+use Rattle.rds_model.specs.declared.entry.TheConstants.{NO_SLOT}
+use Rattle.rds_model.specs.declared.order.Order.{Order}
+use Rattle.rds_model.specs.declared.order.Order.TheVariants as order
+use Rattle.rds_model.specs.Past.{open_stream}
+use Rattle.rds_model.specs.Legal.{IsLegal, pong_for}
+use Rattle.rds_model.specs.Streams.{read_bytes, written_bytes}
+use Rattle.rds_model.specs.StreamLaws.{written_pull, written_pull_other, read_read, read_read_other}
+use Rattle.rds_conn.specs.Connection.{Connection, stream_of, taken_bytes, with_entries}
+use Rattle.rds_conn.specs.Orders.{after_order}
+use Rattle.rds_conn.specs.Passing.{after_pass, with_pong}
+use Rattle.rds_line_channel.proofs.Carrying.{JournalGoesOn}
+
+-- nothing happened
+pub goes_nowhere : (past : List Entry) (arrived out : List ℕ) → JournalGoesOn past past arrived arrived out out
+goes_nowhere past arrived out = record {
+  stream = refl;
+  opened = refl;
+  refused = λ n. refl;
+  written_beside = λ n apart. refl;
+  read_beside = λ n apart. refl;
+  written = λ n on sent is. is;
+  read = λ n on. refl;
+  idle = λ none is. is;
+}
+
+-- an entry that is neither pulled nor read, and that opens and ends no stream, changes nothing
+pub goes_accepted : {past next : List Entry} {arrived arrived_next out out_next : List ℕ} (slot sport dport : ℕ) (payload : List ℕ) → JournalGoesOn past next arrived arrived_next out out_next → JournalGoesOn past (Accept slot sport dport payload ∷ next) arrived arrived_next out out_next
+goes_accepted slot sport dport payload goes = record {
+  stream = goes.stream;
+  opened = goes.opened;
+  refused = goes.refused;
+  written_beside = goes.written_beside;
+  read_beside = goes.read_beside;
+  written = goes.written;
+  read = goes.read;
+  idle = goes.idle;
+}
+
+goes_cancelled : (slot : ℕ) (target : Target) (past : List Entry) (arrived out : List ℕ) → JournalGoesOn past (Cancel slot target ∷ past) arrived arrived out out
+goes_cancelled slot target past arrived out = record {
+  stream = refl;
+  opened = refl;
+  refused = λ n. refl;
+  written_beside = λ n apart. refl;
+  read_beside = λ n apart. refl;
+  written = λ n on sent is. is;
+  read = λ n on. refl;
+  idle = λ none is. is;
+}
+
+-- an order of a socket
+pub goes_order : (o : Order) (c : Connection) (piece out : List ℕ) →
+    JournalGoesOn c.log.past (after_order o c).log.past (taken_bytes c ++ piece) (taken_bytes (after_order o c) ++ piece) out out
+goes_order (order.Send slot sport dport payload) c piece out = goes_accepted slot sport dport payload (goes_nowhere c.log.past (taken_bytes c ++ piece) out)
+goes_order (order.Cancel slot dport) c piece out = goes_cancelled slot (target.Port dport) c.log.past (taken_bytes c ++ piece) out
+goes_order (order.CloseSocket slot) c piece out = goes_cancelled slot target.All c.log.past (taken_bytes c ++ piece) out
+goes_order order.Cut c piece out = goes_nowhere c.log.past (taken_bytes c ++ piece) out
+
+-- a frame that is pulled on the open stream
+pub goes_pulled : (s : ℕ) (f : Frame) (past : List Entry) (arrived out : List ℕ) → open_stream past ≡ Some s →
+    JournalGoesOn past (Pull s f ∷ past) arrived arrived out (out ++ frame_bytes f)
+goes_pulled s f past arrived out current = record {
+  stream = refl;
+  opened = refl;
+  refused = λ n. refl;
+  written_beside = λ n apart. written_pull_other n s f past (λ same. apart (current ∙ ap Some same));
+  read_beside = λ n apart. refl;
+  written = λ n on sent is.
+      let same : s ≡ n = same_Some s n (sym current ∙ on) in
+      let more : sent ++ (out ++ frame_bytes f) ≡ written_bytes n past ++ frame_bytes f = sym (append_assoc sent out (frame_bytes f)) ∙ ap (λ l. l ++ frame_bytes f) is in
+      more ∙ sym (ap (λ k. written_bytes n (Pull k f ∷ past)) same ∙ written_pull n f past);
+  read = λ n on. refl;
+  idle = λ none. absurd (cc);
+}
+
+-- a frame that is read of the open stream
+pub goes_read : (s : ℕ) (f : Frame) (o : Outcome) (past : List Entry) (after out : List ℕ) → IsLegal past → open_stream past ≡ Some s →
+    JournalGoesOn past (Read s f o ∷ past) (frame_bytes f ++ after) after out out
+goes_read s f o past after out legal current = record {
+  stream = refl;
+  opened = refl;
+  refused = λ n. refl;
+  written_beside = λ n apart. refl;
+  read_beside = λ n apart. read_read_other n s f o past (λ same. apart (current ∙ ap Some same));
+  written = λ n on sent is. is;
+  read = λ n on.
+      let same : s ≡ n = same_Some s n (sym current ∙ on) in
+      let more : read_bytes n (Read s f o ∷ past) ≡ read_bytes n past ++ frame_bytes f = ap (λ k. read_bytes n (Read k f o ∷ past)) same ∙ read_read n f o past legal on in
+      sym (append_assoc (read_bytes n past) (frame_bytes f) after) ∙ ap (λ l. l ++ after) (sym more);
+  idle = λ none. absurd (cc);
+}
+
+-- and the pong directly behind it, if one is owed
+goes_pong : (port : Option ℕ) (old c : Connection) (piece arrived out : List ℕ) →
+    JournalGoesOn old.log.past c.log.past arrived (taken_bytes c ++ piece) out out →
+    JournalGoesOn old.log.past (with_pong port c).log.past arrived (taken_bytes (with_pong port c) ++ piece) out out
+goes_pong None old c piece arrived out goes = goes
+goes_pong (Some port) old c piece arrived out goes = goes_accepted NO_SLOT 0 port [] goes
+
+-- a frame that waited is passed
+pub goes_passed : (s : ℕ) (f : Frame) (o : Outcome) (c : Connection) (piece out : List ℕ) → IsLegal c.log.past → stream_of c ≡ Some s → c.waiting ≡ Some f →
+    JournalGoesOn c.log.past (after_pass s f o c).log.past (taken_bytes c ++ piece) (taken_bytes (after_pass s f o c) ++ piece) out out
+goes_passed s f o c piece out legal current waits =
+    let next : Connection = record (with_entries (Read s f o ∷ []) c) { waiting = None } in
+    let whole : frame_bytes f ++ (c.rest ++ piece) ≡ taken_bytes c ++ piece =
+    sym (append_assoc (frame_bytes f) c.rest piece) ∙ ap (λ w. (waiting_bytes w ++ c.rest) ++ piece) (sym waits) in
+    goes_pong (pong_for o f.header.sport) c next piece (taken_bytes c ++ piece) out
+    (subst (λ arrived. JournalGoesOn c.log.past (Read s f o ∷ c.log.past) arrived (c.rest ++ piece) out out) whole (goes_read s f o c.log.past (c.rest ++ piece) out legal current))

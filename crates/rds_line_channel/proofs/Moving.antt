@@ -1,0 +1,29 @@
+-- What a read and a write of the end of the open stream do to the tie of its bytes to the journal.
+use Rattle.std.proofs.Common.{◌≡◌, ℕ, true, List, [], ◌++◌, take, drop, refl, sym, ap, ◌∙◌, append_assoc}
+use Rattle.std.proofs.lemmas.List.{append-nil, take-append-drop}
+use Rattle.rds_link.specs.declared.end.Got.{Got}
+use Rattle.rds_link.specs.declared.end.Put.{Put}
+use Rattle.rds_link.specs.Ends.{Means}
+use Rattle.rds_model.specs.declared.entry.Entry.{Entry}
+use Rattle.rds_line_streams.specs.Changes.{Receives, Sends}
+use Rattle.rds_model.specs.Streams.{read_bytes}
+use Rattle.rds_line_channel.specs.Carried.{IsOn}
+
+module _ {E : Type 0} (m : Means E) (past : List Entry) (tells : m.tells ≡ true) (number : ℕ) (old new : E) where
+  -- the bytes that a read gave arrive behind those that were taken
+  pub received_on : (answer : Got) (taken before_it piece out : List ℕ) → before_it ≡ [] → Receives m answer piece old new →
+      IsOn m past (taken ++ before_it) out number old → IsOn m past (taken ++ piece) out number new
+  received_on answer taken before_it piece out empty did on = record {
+    sends = ap (λ sent. sent ++ out) did.sent.0 ∙ on.sends;
+    gets =
+        let none : taken ++ before_it ≡ taken = ap (λ l. taken ++ l) empty ∙ append-nil taken in
+        did.got tells ∙ (ap (λ l. l ++ piece) (on.gets ∙ ap (λ l. read_bytes number past ++ l) none) ∙ append_assoc (read_bytes number past) taken piece);
+  }
+
+  -- the bytes that a write sent are those that are written no more
+  pub sent_on : (answer : Put) (arrived out : List ℕ) (n : ℕ) → Sends m answer (take n out) old new →
+      IsOn m past arrived out number old → IsOn m past arrived (drop n out) number new
+  sent_on answer arrived out n did on = record {
+    sends = ap (λ sent. sent ++ drop n out) (did.sent tells) ∙ (append_assoc (m.sent old) (take n out) (drop n out) ∙ (ap (λ l. m.sent old ++ l) (take-append-drop n out) ∙ on.sends));
+    gets = did.got.0 ∙ on.gets;
+  }

@@ -1,0 +1,2 @@
+use Rattle.rds_line_channel.proofs.Going.{goes_pulled}
+use Rattle.rds_line_channel.proofs.channel.Channel.pull_behind.Goals as goal
