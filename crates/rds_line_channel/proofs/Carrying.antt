@@ -1,6 +1,7 @@
 -- How the tie of a journal to the streams that carry it goes on, step by step.
-use Rattle.std.proofs.Common.{◌≡◌, ◌≢◌, ◌⊎◌, inl, inr, ℕ, ◌-◌, ◌<◌, ◌≤◌, if◌then◌else◌, Bool, true, false, Option, Some, None, List, [], ◌++◌, length, get_or, take, slice_get, refl, sym, ap, subst, ◌∙◌, arith}
+use Rattle.std.proofs.Common.{◌≡◌, ◌≢◌, ◌⊎◌, inl, inr, ℕ, ◌-◌, ◌<◌, ◌≤◌, if◌then◌else◌, Bool, true, false, is_some, IsSome, Option, Some, None, List, [], ◌++◌, length, get_or, take, slice_get, refl, sym, ap, subst, ◌∙◌, arith}
 use Rattle.std.proofs.lemmas.Bool.{cond-true, cond-false}
+use Rattle.std.proofs.lemmas.List.{length-map}
 use Rattle.std.proofs.lemmas.Option.{same_Some, slice_get-get_or}
 use Rattle.rds_link.specs.Ends.{Means}
 use Rattle.rds_model.specs.declared.entry.Entry.{Entry}
@@ -49,6 +50,15 @@ module _ {E : Type 0} (m : Means E) (s : StreamsView E) where
           let less = later_number s.list kept.numbered place (newest_place s) stream newest (omega (arith, below, apart)) stands there in
           omega (arith, less, numbered)
       go false off = let none = number_off s off in cc (none, same, is)
+
+  -- the open stream has a number
+  pub open_some : AreKept m s → s.is_open ≡ true → IsSome (open_number s)
+  open_some kept on =
+      let some = kept.some on in
+      let within = kept.within in
+      let count = length-map s.list (λ stream. stream.0) in
+      let there = slice_get-get_or (numbers s.list) (newest_place s) 0 (omega (arith, some, within, count)) in
+      ap is_some (cond-true s.is_open (slice_get (numbers s.list) (newest_place s)) None on ∙ there)
 
   -- the journal went on, and the streams stay
   pub carried_on : (past next : List Entry) (arrived arrived_next out out_next cuts : List ℕ) → AreKept m s → JournalGoesOn past next arrived arrived_next out out_next → IsCarriedBy m past arrived out s cuts → IsCarriedBy m next arrived_next out_next s cuts

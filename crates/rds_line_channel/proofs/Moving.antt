@@ -1,8 +1,10 @@
 -- What a read and a write of the end of the open stream do to the tie of its bytes to the journal.
-use Rattle.std.proofs.Common.{◌≡◌, ℕ, true, List, [], ◌++◌, take, drop, refl, sym, ap, ◌∙◌, append_assoc}
-use Rattle.std.proofs.lemmas.List.{append-nil, take-append-drop}
+use Rattle.std.proofs.Common.{◌≡◌, ◌≢◌, ℕ, true, List, [], ◌++◌, refl, sym, ap, ◌∙◌, append_assoc}
+use Rattle.std.proofs.lemmas.List.{append-nil}
 use Rattle.rds_link.specs.declared.end.Got.{Got}
 use Rattle.rds_link.specs.declared.end.Put.{Put}
+use Rattle.rds_link.specs.declared.end.Put.TheVariants as put
+use Rattle.rds_link.specs.Answers.{bytes_put}
 use Rattle.rds_link.specs.Ends.{Means}
 use Rattle.rds_model.specs.declared.entry.Entry.{Entry}
 use Rattle.rds_line_streams.specs.Changes.{Receives, Sends}
@@ -20,10 +22,16 @@ module _ {E : Type 0} (m : Means E) (past : List Entry) (tells : m.tells ≡ tru
         did.got tells ∙ (ap (λ l. l ++ piece) (on.gets ∙ ap (λ l. read_bytes number past ++ l) none) ∙ append_assoc (read_bytes number past) taken piece);
   }
 
-  -- the bytes that a write sent are those that are written no more
-  pub sent_on : (answer : Put) (arrived out : List ℕ) (n : ℕ) → Sends m answer (take n out) old new →
-      IsOn m past arrived out number old → IsOn m past arrived (drop n out) number new
-  sent_on answer arrived out n did on = record {
-    sends = ap (λ sent. sent ++ drop n out) (did.sent tells) ∙ (append_assoc (m.sent old) (take n out) (drop n out) ∙ (ap (λ l. m.sent old ++ l) (take-append-drop n out) ∙ on.sends));
+  -- the bytes that a write sent are to be written no more
+  pub sent_on : (answer : Put) (arrived out sent rest : List ℕ) → sent ++ rest ≡ out → Sends m answer sent old new →
+      IsOn m past arrived out number old → IsOn m past arrived rest number new
+  sent_on answer arrived out sent rest whole did on = record {
+    sends = ap (λ l. l ++ rest) (did.sent tells) ∙ (append_assoc (m.sent old) sent rest ∙ (ap (λ l. m.sent old ++ l) whole ∙ on.sends));
     gets = did.got.0 ∙ on.gets;
   }
+
+-- a write that took no bytes
+pub none_put : (answer : Put) → ((n : ℕ) → answer ≢ put.Took n) → bytes_put answer ≡ 0
+none_put (put.Took n) none = absurd (none n refl)
+none_put put.Full none = refl
+none_put put.Over none = refl
