@@ -1,3 +1,3 @@
 pub mod Carrying
 pub mod Going
-pub mod Moving
+pub mod OpenEnd

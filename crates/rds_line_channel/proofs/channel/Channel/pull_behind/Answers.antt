@@ -9,14 +9,19 @@ use Rattle.rds_line_channel.proofs.channel.Channel.pull_behind.Goals.{in-Ok, in-
 
 pub invariant_of-self : goal.invariant_of-self
 invariant_of-self g c =
-    let inside = c.self.inside in
+    let i = c.self.inside in
     let new = c.pull_behind.new.self in
     let out = c.pull_behind.new.out in
-    let on : inside.streams.is_open ≡ true = ap (λ (v : ChannelView g.row.E.Denot). v.streams.is_open) c.self.view_is ∙ c.requires.open in
-    let some = subst IsSome c.self.invariant.current (open_some g.E.End.means inside.streams c.known.ensures on) in
-    let behind = subst (λ (v : ChannelView g.row.E.Denot). IfSome (stream_of v.conn) (λ s. IsSome (last_map s v.conn.log.past))) (sym c.self.view_is) c.requires.behind in
-    carried_conn g.E.End.means inside.streams inside.conn new inside.piece inside.out out inside.cuts.numbers c.known.ensures
+    let is_open = ap (λ (v : ChannelView g.row.E.Denot). v.streams.is_open) c.self.view_is in
+    let on : i.streams.is_open ≡ true = is_open ∙ c.requires.open in
+    let some = subst IsSome c.self.invariant.current (open_some g.E.End.means i.streams c.known.ensures on) in
+    let conn = ap (λ (v : ChannelView g.row.E.Denot). v.conn) c.self.view_is in
+    let behind =
+    subst (λ (v : Connection). IfSome (stream_of v) (λ s. IsSome (last_map s v.log.past))) (sym conn) c.requires.behind in
+    carried_conn g.E.End.means i.streams i.conn new i.piece i.out out i.cuts.numbers c.known.ensures
     (elim c.match-pull_behind.branch [
-      | in-Ok w ↦ goes_behind (stream_of inside.conn) inside.conn new inside.piece inside.out out w.in-Ok.pulled refl some behind w.in-Ok.ensures.owed
-      | in-Err w ↦ goes_same inside.conn new inside.piece inside.out out w.in-Err.ensures.err.0 w.in-Err.ensures.err.1
+      | in-Ok w ↦
+          let owed = w.in-Ok.ensures.owed in
+          goes_behind (stream_of i.conn) i.conn new i.piece i.out out w.in-Ok.pulled refl some behind owed
+      | in-Err w ↦ goes_same i.conn new i.piece i.out out w.in-Err.ensures.err.0 w.in-Err.ensures.err.1
     ]) c.self.invariant

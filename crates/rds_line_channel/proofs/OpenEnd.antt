@@ -1,5 +1,5 @@
 -- What a read and a write of the end of the open stream do to the tie of its bytes to the journal.
-use Rattle.std.proofs.Common.{◌≡◌, ◌≢◌, ℕ, true, List, [], ◌++◌, refl, sym, ap, ◌∙◌, append_assoc}
+use Rattle.std.proofs.Common.{◌≡◌, ◌≢◌, ℕ, true, List, [], ◌++◌, refl, ap, ◌∙◌, append_assoc}
 use Rattle.std.proofs.lemmas.List.{append-nil}
 use Rattle.rds_link.specs.declared.end.Got.{Got}
 use Rattle.rds_link.specs.declared.end.Put.{Put}
@@ -18,15 +18,18 @@ module _ {E : Type 0} (m : Means E) (past : List Entry) (tells : m.tells ≡ tru
   received_on answer taken before_it piece out empty did on = record {
     sends = ap (λ sent. sent ++ out) did.sent.0 ∙ on.sends;
     gets =
+        let was_read = read_bytes number past in
         let none : taken ++ before_it ≡ taken = ap (λ l. taken ++ l) empty ∙ append-nil taken in
-        did.got tells ∙ (ap (λ l. l ++ piece) (on.gets ∙ ap (λ l. read_bytes number past ++ l) none) ∙ append_assoc (read_bytes number past) taken piece);
+        did.got tells ∙ (ap (λ l. l ++ piece) (on.gets ∙ ap (λ l. was_read ++ l) none) ∙ append_assoc was_read taken piece);
   }
 
   -- the bytes that a write sent are to be written no more
   pub sent_on : (answer : Put) (arrived out sent rest : List ℕ) → sent ++ rest ≡ out → Sends m answer sent old new →
       IsOn m past arrived out number old → IsOn m past arrived rest number new
   sent_on answer arrived out sent rest whole did on = record {
-    sends = ap (λ l. l ++ rest) (did.sent tells) ∙ (append_assoc (m.sent old) sent rest ∙ (ap (λ l. m.sent old ++ l) whole ∙ on.sends));
+    sends =
+        ap (λ l. l ++ rest) (did.sent tells)
+        ∙ (append_assoc (m.sent old) sent rest ∙ (ap (λ l. m.sent old ++ l) whole ∙ on.sends));
     gets = did.got.0 ∙ on.gets;
   }
 
