@@ -1,0 +1,5 @@
+mod Restated
+mod Starting
+mod Ending
+mod Moving
+mod Honesty
