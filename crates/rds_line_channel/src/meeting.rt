@@ -21,5 +21,9 @@ pub fn meet<W: Wire>(a: &mut Channel<W::End>, b: &mut Channel<W::End>)
     ensures one_numbers { numbers a.new.streams.list ≡ numbers a.old.streams.list }
     ensures other_numbers { numbers b.new.streams.list ≡ numbers b.old.streams.list }
 {
+    a.conn.known();
+    b.conn.known();
     rds_line_streams::meet::<W>(&mut a.streams, &mut b.streams);
+    a.streams.known();
+    b.streams.known();
 }

@@ -1,0 +1,126 @@
+-- The open stream ends: it is shut, or a header that came on it was refused.
+use Rattle.std.proofs.Common.{◌≡◌, ◌≢◌, ◌⊎◌, inl, inr, ℕ, suc, ◌-◌, if◌then◌else◌, ◌<◌, ◌≤◌, true, false, Some, None, slice_get, List, [], ◌∷◌, ◌++◌, take, length, refl, sym, ap, subst, ◌∙◌, arith}
+use Rattle.std.specs.List.{Contains}
+use Rattle.std.proofs.lemmas.List.Kept.{AllPairs-from_increasing}
+use Rattle.std.proofs.lemmas.Option.{get_or_from_slice_get, slice_get_within}
+use Rattle.rds_link.specs.Ends.{Means}
+use Rattle.rds_model.specs.declared.entry.Entry.{Entry}
+use Rattle.rds_model.specs.declared.entry.Entry.TheVariants.{Shut}
+use Rattle.rds_model.specs.Honest.{Begins}
+use Rattle.rds_model.specs.Past.{open_stream}
+use Rattle.rds_model.specs.Streams.{read_bytes, refused_bytes, written_bytes}
+use Rattle.rds_model.specs.Sums.{opens}
+use Rattle.rds_line_streams.specs.ChangeLaws.{changed_cases, changed_length, changed_numbers}
+use Rattle.rds_line_streams.specs.Changes.{ChangesAt, IsShutDown}
+use Rattle.rds_line_streams.specs.NumberLaws.{later_number, number_there}
+use Rattle.rds_line_streams.specs.Streams.{StreamsView, AreKept, AreNumbered, HasSaidOver, newest_place, numbers}
+use Rattle.rds_line_channel.specs.Changes.{EndsStream}
+use Rattle.rds_line_channel.specs.Carried.{StreamAt, IsOn, IsOff, HasCause, IsCarriedBy}
+
+-- what becomes of a journal and of the cuts where the open stream ends, which has this number and of which these bytes arrived
+pub record Ends (past past_now : List Entry) (arrived cuts cuts_now : List ℕ) (number : ℕ) : Type 0 where
+  pub none : open_stream past_now ≡ None
+  pub opened : opens past_now ≡ opens past
+  pub written : (n : ℕ) → written_bytes n past_now ≡ written_bytes n past
+  pub read : Begins (read_bytes number past_now) (read_bytes number past ++ arrived)
+  pub read_beside : (n : ℕ) → n ≢ number → read_bytes n past_now ≡ read_bytes n past
+  pub refused_beside : (n : ℕ) → n ≢ number → refused_bytes n past_now ≡ refused_bytes n past
+  pub more : (n : ℕ) → Contains cuts n → Contains cuts_now n
+  pub late : Contains cuts_now 0 → Contains cuts 0
+
+-- a stream has a number above 0
+number_some : {E : Type 0} (list : List (ℕ × E)) → AreNumbered list → (place : ℕ) (stream : ℕ × E) → slice_get list place ≡ Some stream → 0 < stream.0
+number_some list numbered place stream stands =
+    let there = number_there list place stream stands in
+    let within = slice_get_within (numbers list) place stream.0 there in
+    let pair = AllPairs-from_increasing (0 ∷ numbers list) numbered 0 (suc place) 0 (omega arith) (omega arith) in
+    subst (λ n. 0 < n) (get_or_from_slice_get (numbers list) place stream.0 0 there) pair
+
+-- the stream is shut
+shut_ends : (number : ℕ) (past : List Entry) (arrived cuts cuts_now : List ℕ) → ((n : ℕ) → Contains cuts n → Contains cuts_now n) → (Contains cuts_now 0 → Contains cuts 0) →
+    Ends past (Shut number ∷ past) arrived cuts cuts_now number
+shut_ends number past arrived cuts cuts_now more late = record {
+  none = refl;
+  opened = refl;
+  written = λ n. refl;
+  read = (arrived, refl);
+  read_beside = λ n _. refl;
+  refused_beside = λ n _. refl;
+  more = more;
+  late = late;
+}
+
+module _ {E : Type 0} (m : Means E) where
+  -- an end that had said that it is over has said so still
+  pub said_over : (old new : E) → IsShutDown m old new → HasSaidOver m old → HasSaidOver m new
+  said_over old new shut (inl saw) = inl (ap (λ s. s.saw) shut.shut.1 ∙ saw)
+  said_over old new shut (inr faults) = inr (subst (λ n. 1 ≤ n) (sym (ap (λ s. s.faults) shut.shut.1)) faults)
+
+  module _ (past past_now : List Entry) (arrived out cuts cuts_now : List ℕ) (s : StreamsView E) (new : List (ℕ × E)) (carried : IsCarriedBy m past arrived out s cuts) (kept : AreKept m s) (on : s.is_open ≡ true) (change : ChangesAt (IsShutDown m) (newest_place s) s.list new) where
+    -- a stream at any other place has another number
+    other_number : (place : ℕ) (stream : ℕ × E) → place < s.opened → place ≢ newest_place s → slice_get s.list place ≡ Some stream → stream.0 ≢ change.number
+    other_number place stream below apart stood same =
+        let lower = later_number s.list kept.numbered place (newest_place s) stream (change.number, change.end_before) (omega arith) stood change.stood in
+        absurd (omega arith)
+
+    -- the open stream is the one whose end was shut
+    pub shut_is_open : open_stream past ≡ Some change.number
+    shut_is_open = sym carried.current ∙ (ap (λ b. if b then slice_get (numbers s.list) (newest_place s) else None) on ∙ number_there s.list (newest_place s) (change.number, change.end_before) change.stood)
+
+    module _ (ends : Ends past past_now arrived cuts cuts_now change.number) where
+      off_now : m.tells ≡ true → (place : ℕ) → place < s.opened → (stream : ℕ × E) →
+          ((place ≡ newest_place s) × (stream ≡ (change.number, change.end_after))) ⊎ ((place ≢ newest_place s) × (slice_get s.list place ≡ Some stream)) →
+          IsOff m past_now stream.0 stream.1
+      off_now tells place below stream (inl here) =
+          let was = (carried.on tells on).at (change.number, change.end_before) change.stood in
+          subst (λ (x : ℕ × E). IsOff m past_now x.0 x.1) (sym here.1) (record {
+            sends = (out, ends.written change.number ∙ (sym was.sends ∙ ap (λ (l : List ℕ). l ++ out) (sym change.way.sent.0)));
+            gets = (ends.read.0, change.way.got.0 ∙ (was.gets ∙ ends.read.1));
+          })
+      off_now tells place below stream (inr apart) =
+          let was = (carried.off tells place (below, λ _. apart.0)).at stream apart.1 in
+          let other = other_number place stream below apart.0 apart.1 in
+          record {
+            sends = (was.sends.0, ends.written stream.0 ∙ was.sends.1);
+            gets = (was.gets.0, was.gets.1 ∙ ap (λ (l : List ℕ). l ++ was.gets.0) (sym (ends.read_beside stream.0 other)));
+          }
+
+      caused_still : (number : ℕ) (e : E) → number ≢ change.number → HasCause m past cuts number e → HasCause m past_now cuts_now number e
+      caused_still number e other (inl cut) = inl (ends.more number cut)
+      caused_still number e other (inr (inl over)) = inr (inl over)
+      caused_still number e other (inr (inr refused)) = inr (inr (λ none. refused (sym (ends.refused_beside number other) ∙ none)))
+
+      caused_now : HasCause m past_now cuts_now change.number change.end_after → (place : ℕ) → place < s.opened → (stream : ℕ × E) →
+          ((place ≡ newest_place s) × (stream ≡ (change.number, change.end_after))) ⊎ ((place ≢ newest_place s) × (slice_get s.list place ≡ Some stream)) →
+          HasCause m past_now cuts_now stream.0 stream.1
+      caused_now cause place below stream (inl here) = subst (λ (x : ℕ × E). HasCause m past_now cuts_now x.0 x.1) (sym here.1) cause
+      caused_now cause place below stream (inr apart) =
+          caused_still stream.0 stream.1 (other_number place stream below apart.0 apart.1) ((carried.causes place (below, λ _. apart.0)).at stream apart.1)
+
+      pub carried_ended : HasCause m past_now cuts_now change.number change.end_after → IsCarriedBy m past_now [] [] (record s { list = new; is_open = false }) cuts_now
+      carried_ended cause = record {
+        current = sym ends.none;
+        opened = ap (take s.opened) (changed_numbers change) ∙ (carried.opened ∙ sym ends.opened);
+        on = λ tells still. absurd (cc);
+        off = λ tells place is. record { at = λ stream stands. off_now tells place is.0 stream (changed_cases change place stream stands) };
+        idle = λ _. (refl, refl);
+        causes = λ place is. record { at = λ stream stands. caused_now cause place is.0 stream (changed_cases change place stream stands) };
+        late = λ zero. carried.late (ends.late zero) ∙ sym (changed_length change);
+      }
+
+  module _ (past : List Entry) (arrived out cuts : List ℕ) (s s_now : StreamsView E) (carried : IsCarriedBy m past arrived out s cuts) (kept : AreKept m s) (on : s.is_open ≡ true) (ends : EndsStream m s s_now) where
+    -- the number of the stream that was ended isn't 0, which stands for no stream
+    pub ended_some : 0 < ends.change.number
+    ended_some = number_some s.list kept.numbered (newest_place s) (ends.change.number, ends.change.end_before) ends.change.stood
+
+    -- the open stream was shut
+    pub carried_shut : (cuts_now : List ℕ) → ((n : ℕ) → Contains cuts n → Contains cuts_now n) → (Contains cuts_now 0 → Contains cuts 0) →
+        Contains cuts_now ends.change.number ⊎ HasSaidOver m ends.change.end_before →
+        IsCarriedBy m (Shut ends.change.number ∷ past) [] [] s_now cuts_now
+    carried_shut cuts_now more late cause =
+        subst (λ (v : StreamsView E). IsCarriedBy m (Shut ends.change.number ∷ past) [] [] v cuts_now) (sym ends.is)
+        (carried_ended past (Shut ends.change.number ∷ past) arrived out cuts cuts_now s s_now.list carried kept on ends.change (shut_ends ends.change.number past arrived cuts cuts_now more late) (caused cause))
+      where
+        caused : Contains cuts_now ends.change.number ⊎ HasSaidOver m ends.change.end_before → HasCause m (Shut ends.change.number ∷ past) cuts_now ends.change.number ends.change.end_after
+        caused (inl cut) = inl cut
+        caused (inr over) = inr (inl (said_over ends.change.end_before ends.change.end_after ends.change.way over))

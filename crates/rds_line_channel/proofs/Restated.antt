@@ -1,0 +1,23 @@
+-- How the streams stand to the journal, where the code knows each part by another term.
+use Rattle.std.proofs.Common.{◌≡◌, ℕ, List, sym, subst}
+use Rattle.std.specs.Option.{IfSome}
+use Rattle.std.proofs.Common.{Option, Some}
+use Rattle.rds_link.specs.Ends.{Means}
+use Rattle.rds_model.specs.declared.entry.Entry.{Entry}
+use Rattle.rds_line_streams.specs.Streams.{StreamsView}
+use Rattle.rds_line_channel.specs.Carried.{IsCarriedBy}
+
+-- what is known of the value, where there is one
+pub of_the_value : {X : Type 0} (P : X → Type 0) {o : Option X} {x : X} → o ≡ Some x → IfSome o P → P x
+of_the_value P is known = subst (λ v. IfSome v P) is known
+
+module _ {E : Type 0} (m : Means E) where
+  pub restated : {past past_now : List Entry} {arrived arrived_now out out_now : List ℕ} {s s_now : StreamsView E} {cuts cuts_now : List ℕ} →
+      past_now ≡ past → arrived_now ≡ arrived → out_now ≡ out → s_now ≡ s → cuts_now ≡ cuts →
+      IsCarriedBy m past arrived out s cuts → IsCarriedBy m past_now arrived_now out_now s_now cuts_now
+  restated {past} {past_now} {arrived} {arrived_now} {out} {out_now} {s} {s_now} {cuts} {cuts_now} e f g h i carried =
+      subst (λ p. IsCarriedBy m p arrived_now out_now s_now cuts_now) (sym e)
+      (subst (λ a. IsCarriedBy m past a out_now s_now cuts_now) (sym f)
+      (subst (λ o. IsCarriedBy m past arrived o s_now cuts_now) (sym g)
+      (subst (λ v. IsCarriedBy m past arrived out v cuts_now) (sym h)
+      (subst (λ c. IsCarriedBy m past arrived out s c) (sym i) carried))))
