@@ -1,15 +1,23 @@
 -- How the streams stand to the journal, where the code knows each part by another term.
-use Rattle.std.proofs.Common.{◌≡◌, ℕ, List, sym, subst}
+use Rattle.std.proofs.Common.{◌≡◌, ℕ, Option, Some, List, sym, ap, subst, ◌∙◌}
 use Rattle.std.specs.Option.{IfSome}
-use Rattle.std.proofs.Common.{Option, Some}
 use Rattle.rds_link.specs.Ends.{Means}
 use Rattle.rds_model.specs.declared.entry.Entry.{Entry}
-use Rattle.rds_line_streams.specs.Streams.{StreamsView}
+use Rattle.rds_line_streams.specs.Streams.{StreamsView, AreKept, numbers}
+use Rattle.rds_line_channel.specs.Channel.{ChannelView}
 use Rattle.rds_line_channel.specs.Carried.{IsCarriedBy}
 
 -- what is known of the value, where there is one
 pub of_the_value : {X : Type 0} (P : X → Type 0) {o : Option X} {x : X} → o ≡ Some x → IfSome o P → P x
 of_the_value P is known = subst (λ v. IfSome v P) is known
+
+-- two channels were given streams with the same numbers
+pub same_numbers : {E : Type 0} {a b one other : ChannelView E} → one ≡ a → other ≡ b → numbers b.streams.list ≡ numbers a.streams.list → numbers other.streams.list ≡ numbers one.streams.list
+same_numbers e f same = ap (λ v. numbers v.streams.list) f ∙ (same ∙ sym (ap (λ v. numbers v.streams.list) e))
+
+-- what every channel's streams keep
+pub kept_inside : {E : Type 0} (m : Means E) {v inside : ChannelView E} → inside ≡ v → AreKept m v.streams → AreKept m inside.streams
+kept_inside m e kept = subst (λ c. AreKept m c.streams) (sym e) kept
 
 module _ {E : Type 0} (m : Means E) where
   pub restated : {past past_now : List Entry} {arrived arrived_now out out_now : List ℕ} {s s_now : StreamsView E} {cuts cuts_now : List ℕ} →
