@@ -165,6 +165,16 @@ module _ {E : Type 0} (m : Means E) where
         caused (inl cut) = inl cut
         caused (inr over) = inr (inl (said_over ends.change.end_before ends.change.end_after ends.change.way over))
 
+    -- a cut shut it
+    pub carried_cut : IsCarriedBy m (Shut ends.change.number ∷ past) [] [] s_now (cuts ++ ends.change.number ∷ [])
+    carried_cut =
+        let number = ends.change.number in
+        carried_shut (cuts ++ number ∷ []) (λ n cut. Contains-append_left cuts (number ∷ []) n cut) (λ zero. earlier (Contains-push_cases cuts number 0 zero)) (inl (Contains-push cuts number))
+      where
+        earlier : Contains cuts 0 ⊎ (ends.change.number ≡ 0) → Contains cuts 0
+        earlier (inl cut) = cut
+        earlier (inr none) = absurd (let some = ended_some in omega arith)
+
     -- a header that came on it was refused
     pub carried_refused : (header : Header) (fault : Malformed) (taken piece : List ℕ) (used : ℕ) → arrived ≡ taken ++ piece → IsLegal past → IsHeader header →
         header_bytes header ≡ taken ++ take used piece →
