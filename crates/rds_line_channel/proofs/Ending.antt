@@ -1,11 +1,20 @@
 -- The open stream ends: it is shut, or a header that came on it was refused.
-use Rattle.std.proofs.Common.{◌≡◌, ◌≢◌, ◌⊎◌, inl, inr, ℕ, suc, ◌-◌, if◌then◌else◌, ◌<◌, ◌≤◌, true, false, Some, None, slice_get, List, [], ◌∷◌, ◌++◌, take, length, refl, sym, ap, subst, ◌∙◌, arith}
+use Rattle.std.proofs.Common.{◌≡◌, ◌≢◌, ◌⊎◌, inl, inr, ℕ, suc, ◌-◌, if◌then◌else◌, ◌<◌, ◌≤◌, true, false, Some, None, slice_get, List, [], ◌∷◌, ◌++◌, take, drop, length, append_assoc, ◌==◌, refl, sym, ap, subst, ◌∙◌, arith}
 use Rattle.std.specs.List.{Contains}
+use Rattle.std.proofs.lemmas.Bool.{cond-true, cond-false, eq-eqb, ne_eqb}
+use Rattle.std.proofs.lemmas.List.{take-append-drop}
+use Rattle.std.proofs.lemmas.List.Elements.{Contains-append_left, Contains-push, Contains-push_cases}
 use Rattle.std.proofs.lemmas.List.Kept.{AllPairs-from_increasing}
 use Rattle.std.proofs.lemmas.Option.{get_or_from_slice_get, slice_get_within}
 use Rattle.rds_link.specs.Ends.{Means}
+use Rattle.rds_wire.specs.Bytes.{header_bytes, IsHeader}
+use Rattle.rds_wire.specs.HeaderLaws.{length-header_bytes}
+use Rattle.rds_wire.specs.declared.header.Header.{Header}
+use Rattle.rds_wire.specs.declared.kind.Malformed.{Malformed}
 use Rattle.rds_model.specs.declared.entry.Entry.{Entry}
-use Rattle.rds_model.specs.declared.entry.Entry.TheVariants.{Shut}
+use Rattle.rds_model.specs.declared.entry.Entry.TheVariants.{Shut, Bad}
+use Rattle.rds_model.specs.Legal.{IsLegal}
+use Rattle.rds_model.specs.StreamLaws.{read_bad, read_bad_other}
 use Rattle.rds_model.specs.Honest.{Begins}
 use Rattle.rds_model.specs.Past.{open_stream}
 use Rattle.rds_model.specs.Streams.{read_bytes, refused_bytes, written_bytes}
@@ -49,6 +58,37 @@ shut_ends number past arrived cuts cuts_now more late = record {
   more = more;
   late = late;
 }
+
+-- a header that came is refused, of which the front had been taken and the rest begins the piece
+refused_ends : (number : ℕ) (header : Header) (fault : Malformed) (past : List Entry) (taken piece cuts : List ℕ) (used : ℕ) → IsLegal past → open_stream past ≡ Some number →
+    header_bytes header ≡ taken ++ take used piece → Ends past (Bad number header fault ∷ past) (taken ++ piece) cuts cuts number
+refused_ends number header fault past taken piece cuts used legal on bytes = record {
+  none = refl;
+  opened = refl;
+  written = λ n. refl;
+  read = (drop used piece, begins);
+  read_beside = λ n apart. read_bad_other n number header fault past (λ same. apart (sym same));
+  refused_beside = λ n apart. cond-false (number == n) (header_bytes header) (refused_bytes n past) (ne_eqb number n (λ same. apart (sym same)));
+  more = λ n cut. cut;
+  late = λ zero. zero;
+}
+  where
+    before : List ℕ
+    before = read_bytes number past
+
+    begins : before ++ (taken ++ piece) ≡ read_bytes number (Bad number header fault ∷ past) ++ drop used piece
+    begins =
+        ap (λ (l : List ℕ). before ++ (taken ++ l)) (sym (take-append-drop used piece))
+        ∙ (ap (λ (l : List ℕ). before ++ l) (sym (append_assoc taken (take used piece) (drop used piece)))
+        ∙ (ap (λ (l : List ℕ). before ++ (l ++ drop used piece)) (sym bytes)
+        ∙ (sym (append_assoc before (header_bytes header) (drop used piece))
+        ∙ ap (λ (l : List ℕ). l ++ drop used piece) (sym (read_bad number header fault past legal on)))))
+
+-- such a header has bytes
+refused_some : (number : ℕ) (header : Header) (fault : Malformed) (past : List Entry) → IsHeader header → refused_bytes number (Bad number header fault ∷ past) ≢ []
+refused_some number header fault past fits none =
+    let is = cond-true (number == number) (header_bytes header) (refused_bytes number past) (eq-eqb number number refl) in
+    absurd (omega (arith, length-header_bytes header fits, ap length (sym is ∙ none)))
 
 module _ {E : Type 0} (m : Means E) where
   -- an end that had said that it is over has said so still
@@ -124,3 +164,41 @@ module _ {E : Type 0} (m : Means E) where
         caused : Contains cuts_now ends.change.number ⊎ HasSaidOver m ends.change.end_before → HasCause m (Shut ends.change.number ∷ past) cuts_now ends.change.number ends.change.end_after
         caused (inl cut) = inl cut
         caused (inr over) = inr (inl (said_over ends.change.end_before ends.change.end_after ends.change.way over))
+
+    -- a cut shut it
+    pub carried_cut : IsCarriedBy m (Shut ends.change.number ∷ past) [] [] s_now (cuts ++ ends.change.number ∷ [])
+    carried_cut =
+        let number = ends.change.number in
+        carried_shut (cuts ++ number ∷ []) (λ n cut. Contains-append_left cuts (number ∷ []) n cut) (λ zero. earlier (Contains-push_cases cuts number 0 zero)) (inl (Contains-push cuts number))
+      where
+        earlier : Contains cuts 0 ⊎ (ends.change.number ≡ 0) → Contains cuts 0
+        earlier (inl cut) = cut
+        earlier (inr none) = absurd (let some = ended_some in omega arith)
+
+    -- a header that came on it was refused
+    pub carried_refused : (header : Header) (fault : Malformed) (taken piece : List ℕ) (used : ℕ) → arrived ≡ taken ++ piece → IsLegal past → IsHeader header →
+        header_bytes header ≡ taken ++ take used piece →
+        IsCarriedBy m (Bad ends.change.number header fault ∷ past) [] [] s_now cuts
+    carried_refused header fault taken piece used came legal fits bytes =
+        let number = ends.change.number in
+        let past_now = Bad number header fault ∷ past in
+        let is_open = shut_is_open past past_now arrived out cuts cuts s s_now.list carried kept on ends.change in
+        let gone = subst (λ (l : List ℕ). Ends past past_now l cuts cuts number) (sym came) (refused_ends number header fault past taken piece cuts used legal is_open bytes) in
+        subst (λ (v : StreamsView E). IsCarriedBy m past_now [] [] v cuts) (sym ends.is)
+        (carried_ended past past_now arrived out cuts cuts s s_now.list carried kept on ends.change gone (inr (inr (refused_some number header fault past fits))))
+
+  -- a cut came where no stream was open and no further one is left
+  pub carried_late : (past : List Entry) (arrived out cuts : List ℕ) (s : StreamsView E) → s.opened ≡ length s.list → IsCarriedBy m past arrived out s cuts → IsCarriedBy m past arrived out s (cuts ++ 0 ∷ [])
+  carried_late past arrived out cuts s last carried = record {
+    current = carried.current;
+    opened = carried.opened;
+    on = carried.on;
+    off = carried.off;
+    idle = carried.idle;
+    causes = λ place is. record { at = λ stream stands. more stream.0 stream.1 ((carried.causes place is).at stream stands) };
+    late = λ zero. last;
+  }
+    where
+      more : (number : ℕ) (e : E) → HasCause m past cuts number e → HasCause m past (cuts ++ 0 ∷ []) number e
+      more number e (inl cut) = inl (Contains-append_left cuts (0 ∷ []) number cut)
+      more number e (inr other) = inr other

@@ -38,7 +38,7 @@ impl<E: End> Channel<E> {
         ensures refused { result ≡ Ok taken.Refused → EndsRefused E.means self.old self.new }
         ensures err { OnErr result (self.new ≡ self.old) }
     {
-        self.streams.known();
+        self.known();
         match self.conn.feed(self.piece.rest()) {
             Ok(fed) => {
                 self.piece.took(fed.used);

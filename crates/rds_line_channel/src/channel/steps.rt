@@ -18,8 +18,7 @@ impl<E: End> Channel<E> {
         ensures opened { IsTrue result → OpensNext self.old self.new }
         ensures none { result ≡ false → (self.new ≡ self.old) × (self.old.streams.opened ≡ length self.old.streams.list) }
     {
-        self.conn.known();
-        self.streams.known();
+        self.known();
         match self.streams.open_next() {
             Some(number) => {
                 self.conn.open(number);
@@ -39,7 +38,7 @@ impl<E: End> Channel<E> {
         ensures off { self.old.streams.is_open ≡ false →
             self.new ≡ record self.old { cuts = record { numbers = self.old.cuts.numbers ++ 0 ∷ []; has_room = false } } }
     {
-        self.streams.known();
+        self.known();
         match self.conn.stream() {
             Some(number) => {
                 self.conn.shut();
@@ -59,7 +58,6 @@ impl<E: End> Channel<E> {
         ensures cuts { self.new.cuts ≡ self.old.cuts }
     {
         self.known();
-        self.streams.known();
         self.conn.shut();
         give_up(&mut self.out, &mut self.piece, &mut self.streams);
     }

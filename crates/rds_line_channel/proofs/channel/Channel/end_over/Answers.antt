@@ -4,7 +4,7 @@ use Rattle.rds_conn.specs.Connection.{Connection, taken_bytes, with_entries}
 use Rattle.rds_line_streams.specs.Streams.{EndAt, HasSaidOver, newest_place}
 use Rattle.rds_line_channel.specs.Channel.{ChannelView}
 use Rattle.rds_line_channel.proofs.Ending.{carried_shut, shut_is_open}
-use Rattle.rds_line_channel.proofs.Restated.{of_the_value, restated}
+use Rattle.rds_line_channel.proofs.Restated.{kept_inside, of_the_value, restated}
 use Rattle.rds_line_channel.proofs.channel.Channel.end_over.Goals as goal
 
 pub invariant_of-self : goal.invariant_of-self
@@ -16,7 +16,7 @@ invariant_of-self g c =
     let ends = c.give_up.ensures.streams in
     let on : inside.streams.is_open ≡ true = ap (λ (v : ChannelView g.row.E.Denot). v.streams.is_open) c.self.view_is ∙ c.requires.open in
     let over = subst (λ (v : ChannelView g.row.E.Denot). EndAt (HasSaidOver m) (newest_place v.streams) v.streams.list) (sym c.self.view_is) c.requires.over in
-    let kept = c.known-2.ensures in
+    let kept = kept_inside m c.self.view_is c.known.ensures.streams in
     let is_open = shut_is_open m inside.conn.log.past inside.conn.log.past arrived inside.out cuts cuts inside.streams c.give_up.new.streams.list c.self.invariant kept on ends.change in
     let conn_is = of_the_value (λ (number : ℕ). c.shut.new.self ≡ record (with_entries (entry.Shut number ∷ []) inside.conn) { waiting = None; rest = [] }) is_open c.shut.ensures in
     restated m (ap (λ (conn : Connection). conn.log.past) conn_is) (ap (λ (conn : Connection). taken_bytes conn ++ c.give_up.new.piece) conn_is ∙ c.give_up.ensures.piece) c.give_up.ensures.out refl refl
