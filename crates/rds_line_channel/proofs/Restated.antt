@@ -14,7 +14,8 @@ pub of_the_value : {X : Type 0} (P : X → Type 0) {o : Option X} {x : X} → o 
 of_the_value P is known = subst (λ v. IfSome v P) is known
 
 -- two channels were given streams with the same numbers
-pub same_numbers : {E : Type 0} {a b one other : ChannelView E} → one ≡ a → other ≡ b → numbers b.streams.list ≡ numbers a.streams.list → numbers other.streams.list ≡ numbers one.streams.list
+pub same_numbers : {E : Type 0} {a b one other : ChannelView E} → one ≡ a → other ≡ b → numbers b.streams.list ≡ numbers a.streams.list →
+    numbers other.streams.list ≡ numbers one.streams.list
 same_numbers e f same = ap (λ v. numbers v.streams.list) f ∙ (same ∙ sym (ap (λ v. numbers v.streams.list) e))
 
 -- what every channel's streams keep
@@ -28,10 +29,10 @@ none_left v off is_open (inl on) = absurd (false≢true (sym (ap is_some off) �
 none_left v off is_open (inr last) = last
 
 module _ {E : Type 0} (m : Means E) where
-  pub restated : {past past_now : List Entry} {arrived arrived_now out out_now : List ℕ} {s s_now : StreamsView E} {cuts cuts_now : List ℕ} →
+  pub restated : {past past_now : List Entry} {arrived arrived_now out out_now cuts cuts_now : List ℕ} {s s_now : StreamsView E} →
       past_now ≡ past → arrived_now ≡ arrived → out_now ≡ out → s_now ≡ s → cuts_now ≡ cuts →
       IsCarriedBy m past arrived out s cuts → IsCarriedBy m past_now arrived_now out_now s_now cuts_now
-  restated {past} {past_now} {arrived} {arrived_now} {out} {out_now} {s} {s_now} {cuts} {cuts_now} e f g h i carried =
+  restated {past} {past_now} {arrived} {arrived_now} {out} {out_now} {cuts} {cuts_now} {s} {s_now} e f g h i carried =
       subst (λ p. IsCarriedBy m p arrived_now out_now s_now cuts_now) (sym e)
       (subst (λ a. IsCarriedBy m past a out_now s_now cuts_now) (sym f)
       (subst (λ o. IsCarriedBy m past arrived o s_now cuts_now) (sym g)

@@ -4,7 +4,7 @@ use Rattle.std.proofs.lemmas.Option.{same_Some}
 use Rattle.rds_model.specs.declared.entry.Entry.TheVariants as entry
 use Rattle.rds_conn.specs.Connection.{Connection, stream_of, taken_bytes, with_entries}
 use Rattle.rds_line_channel.specs.Channel.{ChannelView, CutsView}
-use Rattle.rds_line_channel.proofs.Ending.{carried_cut, carried_late, shut_is_open}
+use Rattle.rds_line_channel.proofs.Ending.{carried_cut, carried_late, ended_is_open}
 use Rattle.rds_line_channel.proofs.Restated.{kept_inside, none_left, of_the_value, restated}
 use Rattle.rds_line_channel.proofs.channel.Channel.cut.Goals as goal
 
@@ -15,17 +15,19 @@ invariant_of-self g c =
     let past = inside.conn.log.past in
     let arrived = taken_bytes inside.conn ++ inside.piece in
     let cuts = inside.cuts.numbers in
+    let now = c.give_up.new.streams in
     let ends = c.give_up.ensures.streams in
     let number = ends.change.number in
     let stream_is = c.in-Some.ensures {u = tt} in
     let on = subst (λ (v : ChannelView g.row.E.Denot). IsSome (stream_of v.conn) → v.streams.is_open ≡ true) (sym c.self.view_is) c.known.ensures.open.1 (ap is_some (sym stream_is)) in
     let kept = kept_inside m c.self.view_is c.known.ensures.streams in
-    let is_open = shut_is_open m past past arrived inside.out cuts cuts inside.streams c.give_up.new.streams.list c.self.invariant kept on ends.change in
+    let is_open = ended_is_open m past arrived inside.out cuts inside.streams c.self.invariant kept on now ends in
     let number_is : c.in-Some.number ≡ number = same_Some c.in-Some.number number (stream_is ∙ is_open) in
     let conn_is = of_the_value (λ (n : ℕ). c.shut.new.self ≡ record (with_entries (entry.Shut n ∷ []) inside.conn) { waiting = None; rest = [] }) is_open c.shut.ensures in
-    restated m (ap (λ (conn : Connection). conn.log.past) conn_is) (ap (λ (conn : Connection). taken_bytes conn ++ c.give_up.new.piece) conn_is ∙ c.give_up.ensures.piece) c.give_up.ensures.out refl
+    restated m (ap (λ (conn : Connection). conn.log.past) conn_is)
+    (ap (λ (conn : Connection). taken_bytes conn ++ c.give_up.new.piece) conn_is ∙ c.give_up.ensures.piece) c.give_up.ensures.out refl
     (ap (λ (v : CutsView). v.numbers) c.push.ensures ∙ ap (λ (n : ℕ). cuts ++ n ∷ []) number_is)
-    (carried_cut m past arrived inside.out cuts inside.streams c.give_up.new.streams c.self.invariant kept on ends)
+    (carried_cut m past arrived inside.out cuts inside.streams c.self.invariant kept on now ends)
 
 pub invariant_of-self-in-None : goal.invariant_of-self-in-None
 invariant_of-self-in-None g c =
