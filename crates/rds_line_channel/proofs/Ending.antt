@@ -38,7 +38,8 @@ pub record Ends (past past_now : List Entry) (arrived cuts cuts_now : List ℕ) 
   pub late : Contains cuts_now 0 → Contains cuts 0
 
 -- a stream has a number above 0
-number_some : {E : Type 0} (list : List (ℕ × E)) → AreNumbered list → (place : ℕ) (stream : ℕ × E) → slice_get list place ≡ Some stream → 0 < stream.0
+number_some : {E : Type 0} (list : List (ℕ × E)) → AreNumbered list → (place : ℕ) (stream : ℕ × E) →
+    slice_get list place ≡ Some stream → 0 < stream.0
 number_some list numbered place stream stands =
     let there = number_there list place stream stands in
     let within = slice_get_within (numbers list) place stream.0 there in
@@ -46,8 +47,9 @@ number_some list numbered place stream stands =
     subst (λ n. 0 < n) (get_or_from_slice_get (numbers list) place stream.0 0 there) pair
 
 -- the stream is shut
-shut_ends : (number : ℕ) (past : List Entry) (arrived cuts cuts_now : List ℕ) → ((n : ℕ) → Contains cuts n → Contains cuts_now n) →
-    (Contains cuts_now 0 → Contains cuts 0) → Ends past (Shut number ∷ past) arrived cuts cuts_now number
+shut_ends : (number : ℕ) (past : List Entry) (arrived cuts cuts_now : List ℕ) →
+    ((n : ℕ) → Contains cuts n → Contains cuts_now n) → (Contains cuts_now 0 → Contains cuts 0) →
+    Ends past (Shut number ∷ past) arrived cuts cuts_now number
 shut_ends number past arrived cuts cuts_now more late = record {
   none = refl;
   opened = refl;
@@ -61,14 +63,16 @@ shut_ends number past arrived cuts cuts_now more late = record {
 
 -- a header that came is refused, of which the front had been taken and the rest begins the piece
 refused_ends : (number : ℕ) (header : Header) (fault : Malformed) (past : List Entry) (taken piece cuts : List ℕ) (used : ℕ) →
-    IsLegal past → open_stream past ≡ Some number → header_bytes header ≡ taken ++ take used piece → Ends past (Bad number header fault ∷ past) (taken ++ piece) cuts cuts number
+    IsLegal past → open_stream past ≡ Some number → header_bytes header ≡ taken ++ take used piece →
+    Ends past (Bad number header fault ∷ past) (taken ++ piece) cuts cuts number
 refused_ends number header fault past taken piece cuts used legal on bytes = record {
   none = refl;
   opened = refl;
   written = λ n. refl;
   read = (drop used piece, begins);
   read_beside = λ n apart. read_bad_other n number header fault past (λ same. apart (sym same));
-  refused_beside = λ n apart. cond-false (number == n) (header_bytes header) (refused_bytes n past) (ne_eqb number n (λ same. apart (sym same)));
+  refused_beside = λ n apart.
+      cond-false (number == n) (header_bytes header) (refused_bytes n past) (ne_eqb number n (λ same. apart (sym same)));
   more = λ n cut. cut;
   late = λ zero. zero;
 }
@@ -116,14 +120,15 @@ module _ {E : Type 0} (m : Means E) where
         ⊎ ((place ≢ newest_place s) × (slice_get s.list place ≡ Some stream))
 
     -- a stream beside has another number
-    other_number : (place : ℕ) (stream : ℕ × E) → place < s.opened → place ≢ newest_place s → slice_get s.list place ≡ Some stream →
-        stream.0 ≢ ends.change.number
+    other_number : (place : ℕ) (stream : ℕ × E) → place < s.opened → place ≢ newest_place s →
+        slice_get s.list place ≡ Some stream → stream.0 ≢ ends.change.number
     other_number place stream below apart stands same =
         let shut : ℕ × E = (ends.change.number, ends.change.end_before) in
         let lower = later_number s.list kept.numbered place (newest_place s) stream shut (omega arith) stands ends.change.stood in
         absurd (omega arith)
 
-    module _ (past_now : List Entry) (cuts_now : List ℕ) (gone : Ends past past_now arrived cuts cuts_now ends.change.number) where
+    module _ (past_now : List Entry) (cuts_now : List ℕ)
+        (gone : Ends past past_now arrived cuts cuts_now ends.change.number) where
       off_now : m.tells ≡ true → (place : ℕ) (stream : ℕ × E) → place < s.opened → HereOrBeside place stream →
           IsOff m past_now stream.0 stream.1
       off_now tells place stream below (inl here) =
@@ -147,7 +152,8 @@ module _ {E : Type 0} (m : Means E) where
       caused_still n e other (inr (inr refused)) = inr (inr (λ none. refused (sym (gone.refused_beside n other) ∙ none)))
 
       caused_now : HasCause m past_now cuts_now ends.change.number ends.change.end_after →
-          (place : ℕ) (stream : ℕ × E) → place < s.opened → HereOrBeside place stream → HasCause m past_now cuts_now stream.0 stream.1
+          (place : ℕ) (stream : ℕ × E) → place < s.opened → HereOrBeside place stream →
+          HasCause m past_now cuts_now stream.0 stream.1
       caused_now cause place stream below (inl here) =
           subst (λ (x : ℕ × E). HasCause m past_now cuts_now x.0 x.1) (sym here.1) cause
       caused_now cause place stream below (inr beside) =
@@ -170,11 +176,14 @@ module _ {E : Type 0} (m : Means E) where
         late = λ zero. carried.late (gone.late zero) ∙ sym (changed_length ends.change);
       }
 
-      carried_by_now : HasCause m past_now cuts_now ends.change.number ends.change.end_after → IsCarriedBy m past_now [] [] s_now cuts_now
-      carried_by_now cause = subst (λ (v : StreamsView E). IsCarriedBy m past_now [] [] v cuts_now) (sym ends.is) (carried_ended cause)
+      carried_by_now : HasCause m past_now cuts_now ends.change.number ends.change.end_after →
+          IsCarriedBy m past_now [] [] s_now cuts_now
+      carried_by_now cause =
+          subst (λ (v : StreamsView E). IsCarriedBy m past_now [] [] v cuts_now) (sym ends.is) (carried_ended cause)
 
     -- it was shut, since its end had said that it is over
-    pub carried_over : EndAt (HasSaidOver m) (newest_place s) s.list → IsCarriedBy m (Shut ends.change.number ∷ past) [] [] s_now cuts
+    pub carried_over : EndAt (HasSaidOver m) (newest_place s) s.list →
+        IsCarriedBy m (Shut ends.change.number ∷ past) [] [] s_now cuts
     carried_over over =
         let shut = ends.change in
         let said = over.at (shut.number, shut.end_before) shut.stood in

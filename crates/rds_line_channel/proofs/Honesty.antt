@@ -79,22 +79,26 @@ module _ {E : Type 0} (m : Means E) (tells : m.tells ≡ true) where
         (written_bytes number past, ap (λ (l : List ℕ). l ++ written_bytes number past) (sym nothing))
 
   module _ (past other_past : List Entry) (arrived other_arrived out other_out cuts other_cuts : List ℕ) (s other : StreamsView E)
-      (carried : IsCarriedBy m past arrived out s cuts) (other_carried : IsCarriedBy m other_past other_arrived other_out other other_cuts) where
+      (carried : IsCarriedBy m past arrived out s cuts)
+      (other_carried : IsCarriedBy m other_past other_arrived other_out other other_cuts) where
     -- what one journal read is a beginning of what the other wrote
-    pub honest : AreKept m other → IsLegal past → numbers other.list ≡ numbers s.list → AtEach (GotBeginning m) s.list other.list →
+    pub honest : AreKept m other → IsLegal past → numbers other.list ≡ numbers s.list →
+        AtEach (GotBeginning m) s.list other.list →
         (number : ℕ) → Begins (read_bytes number past) (written_bytes number other_past)
     honest other_kept legal same got number = go (nil_or_not (read_bytes number past))
       where
-        go : (read_bytes number past ≡ []) ⊎ (read_bytes number past ≢ []) → Begins (read_bytes number past) (written_bytes number other_past)
+        go : (read_bytes number past ≡ []) ⊎ (read_bytes number past ≢ []) →
+            Begins (read_bytes number past) (written_bytes number other_past)
         go (inl none) = (written_bytes number other_past, ap (λ (l : List ℕ). l ++ written_bytes number other_past) (sym none))
         go (inr some) =
-            let found = subst (λ (ns : List ℕ). Contains ns number) (sym carried.opened) (read_was_opened number past legal some) in
+            let opened = read_was_opened number past legal some in
+            let found = subst (λ (ns : List ℕ). Contains ns number) (sym carried.opened) opened in
             let here = stands_opened s number found in
             let there = same_number s.list other.list same here.0 number here.1 here.3 in
-            let opened = was_on past arrived out cuts s carried here.0 number here.1 here.3 here.2 in
-            let reads = read_begins past arrived out cuts s carried here.0 number here.1 here.3 opened in
+            let was = was_on past arrived out cuts s carried here.0 number here.1 here.3 here.2 in
+            let reads = read_begins past arrived out cuts s carried here.0 number here.1 here.3 was in
             let goes = got.at here.0 (number, here.1) (number, there.0) here.3 there.1 tells in
-            let all = sent_at_all other_past other_arrived other_out other_cuts other other_carried here.0 number there.0 there.1 in
-            let sends = all other_kept (cases_lt here.0 other.opened) in
+            let sent = sent_at_all other_past other_arrived other_out other_cuts other other_carried in
+            let sends = sent here.0 number there.0 there.1 other_kept (cases_lt here.0 other.opened) in
             begins_through (read_bytes number past) (m.got here.1) (written_bytes number other_past) reads
             (begins_through (m.got here.1) (m.sent there.0) (written_bytes number other_past) goes sends)

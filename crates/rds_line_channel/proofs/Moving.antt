@@ -12,11 +12,13 @@ use Rattle.rds_line_channel.specs.Carried.{StreamAt, IsOn, IsOff, HasCause, IsCa
 
 -- what held of the number and the end of a stream holds of it still
 still_at : {E : Type 0} {Way : E → E → Type 0} {Was Is : ℕ → E → Type 0} (old new : List (ℕ × E)) → numbers new ≡ numbers old →
-    AtEach Way old new → ((number : ℕ) (x y : E) → Way x y → Was number x → Is number y) → (place : ℕ) → StreamAt Was place old → StreamAt Is place new
+    AtEach Way old new → ((number : ℕ) (x y : E) → Way x y → Was number x → Is number y) →
+    (place : ℕ) → StreamAt Was place old → StreamAt Is place new
 still_at old new same each becomes place was = record {
   at = λ stream stands.
       let stood = same_number new old (sym same) place stream.0 stream.1 stands in
-      becomes stream.0 stood.0 stream.1 (each.at place (stream.0, stood.0) stream stood.1 stands) (was.at (stream.0, stood.0) stood.1);
+      becomes stream.0 stood.0 stream.1 (each.at place (stream.0, stood.0) stream stood.1 stands)
+      (was.at (stream.0, stood.0) stood.1);
 }
 
 module _ {E : Type 0} (m : Means E) where

@@ -12,22 +12,27 @@ use Rattle.rds_model.specs.StreamLaws.{none_read, none_written}
 use Rattle.rds_model.specs.Streams.{read_bytes, written_bytes}
 use Rattle.rds_model.specs.Sums.{opens}
 use Rattle.rds_line_streams.specs.NumberLaws.{number_there, opened_more}
-use Rattle.rds_line_streams.specs.Streams.{StreamsView, AreKept, IsEndedAt, numbers}
+use Rattle.rds_line_streams.specs.Streams.{StreamsView, AreKept, IsEndedAt, numbers, opened_numbers}
 use Rattle.rds_line_channel.specs.Carried.{StreamAt, IsOn, IsOff, IsCarriedBy}
 
--- a number above 0 and above all streams that were opened is above the newest
-pub newest_below : (past : List Entry) (number : ℕ) → 0 < number → All (λ earlier. earlier < number) (opens past) →
+above_newest : (past : List Entry) (number : ℕ) → 0 < number → All (λ earlier. earlier < number) (opens past) →
     newest_stream past < number
-newest_below [] number some above = some
-newest_below (Open stream ∷ past) number some above =
+above_newest [] number some above = some
+above_newest (Open stream ∷ past) number some above =
     All-contains (λ earlier. earlier < number) (opens past ++ stream ∷ []) stream above (Contains-push (opens past) stream)
-newest_below (_ ∷ past) number some above = newest_below past number some above
+above_newest (_ ∷ past) number some above = above_newest past number some above
+
+-- a number above 0 and above those of all streams that were opened is above the newest
+pub newest_below : {E : Type 0} (past : List Entry) (s : StreamsView E) (number : ℕ) → opened_numbers s ≡ opens past →
+    (0 < number) × All (λ earlier. earlier < number) (opened_numbers s) → newest_stream past < number
+newest_below past s number same above =
+    above_newest past number above.0 (subst (λ (ns : List ℕ). All (λ earlier. earlier < number) ns) same above.1)
 
 module _ {E : Type 0} (m : Means E) (past : List Entry) (arrived out : List ℕ) (s : StreamsView E) (cuts : List ℕ)
     (carried : IsCarriedBy m past arrived out s cuts) (off : s.is_open ≡ false) where
   -- neither end has moved anything on the new stream, and the journal has nothing of it
-  starts_empty : (number : ℕ) (stream : ℕ × E) → number ≡ stream.0 → (m.sent stream.1 ≡ []) × (m.got stream.1 ≡ []) → IsLegal past →
-      newest_stream past < number → IsOn m (Open number ∷ past) arrived out stream.0 stream.1
+  starts_empty : (number : ℕ) (stream : ℕ × E) → number ≡ stream.0 → (m.sent stream.1 ≡ []) × (m.got stream.1 ≡ []) →
+      IsLegal past → newest_stream past < number → IsOn m (Open number ∷ past) arrived out stream.0 stream.1
   starts_empty number stream is unused legal newer =
       let idle = carried.idle off in
       let above = subst (λ n. newest_stream past < n) is newer in
@@ -44,7 +49,8 @@ module _ {E : Type 0} (m : Means E) (past : List Entry) (arrived out : List ℕ)
   ended_before place is = ((let apart = is.1 refl in let below = is.0 in omega arith), λ on. absurd (cc))
 
   pub carried_opened : AreKept m s → IsLegal past → (number : ℕ) → slice_get (numbers s.list) s.opened ≡ Some number →
-      newest_stream past < number → IsCarriedBy m (Open number ∷ past) arrived out (record s { opened = s.opened + 1; is_open = true }) cuts
+      newest_stream past < number →
+      IsCarriedBy m (Open number ∷ past) arrived out (record s { opened = s.opened + 1; is_open = true }) cuts
   carried_opened kept legal number next newer =
       let newest : s.opened + 1 - 1 ≡ s.opened = omega arith in
       record {
@@ -57,7 +63,8 @@ module _ {E : Type 0} (m : Means E) (past : List Entry) (arrived out : List ℕ)
               starts_empty number stream is (((kept.unused s.opened (omega arith)).at stream stood).0 tells) legal newer;
         };
         off = λ tells place is. record {
-          at = λ stream stands. off_still number stream.0 stream.1 ((carried.off tells place (ended_before place is)).at stream stands);
+          at = λ stream stands.
+              off_still number stream.0 stream.1 ((carried.off tells place (ended_before place is)).at stream stands);
         };
         idle = λ on. absurd (cc);
         causes = λ place is. carried.causes place (ended_before place is);

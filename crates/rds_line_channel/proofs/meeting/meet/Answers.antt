@@ -18,7 +18,8 @@ invariant_of-a g c =
     let other_now = c.meet.new.b.list in
     let did = c.meet.ensures in
     let same = same_numbers c.a.view_is c.b.view_is c.requires.numbers in
-    let met = met_first m list now other_list other_now did.met (same_length other_list list same) (same_length other_now other_list did.other_numbers) in
+    let count = same_length other_list list same in
+    let met = met_first m list now other_list other_now did.met count (same_length other_now other_list did.other_numbers) in
     let arrived = taken_bytes one.conn ++ one.piece in
     restated m refl refl refl did.one refl
     (carried_met m one.conn.log.past arrived one.out one.cuts.numbers one.streams now did.one_numbers met c.a.invariant)
@@ -33,7 +34,8 @@ invariant_of-b g c =
     let now = c.meet.new.b.list in
     let did = c.meet.ensures in
     let same = same_numbers c.a.view_is c.b.view_is c.requires.numbers in
-    let met = met_second m one_list one_now list now did.met (same_length list one_list same) (same_length one_now one_list did.one_numbers) in
+    let count = same_length list one_list same in
+    let met = met_second m one_list one_now list now did.met count (same_length one_now one_list did.one_numbers) in
     let arrived = taken_bytes other.conn ++ other.piece in
     restated m refl refl refl did.other refl
     (carried_met m other.conn.log.past arrived other.out other.cuts.numbers other.streams now did.other_numbers met c.b.invariant)
