@@ -1,3 +1,6 @@
+mod Carrying
+mod Going
+mod OpenEnd
 mod Restated
 mod Starting
 mod Ending

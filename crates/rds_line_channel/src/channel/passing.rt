@@ -44,6 +44,8 @@ impl<E: End> Channel<E> {
         ensures passes { Passes found self.old.conn self.new.conn }
         ensures rest { self.new ≡ with_conn self.old self.new.conn }
     {
+        self.conn.known();
+        self.streams.known();
         self.conn.pass_uncounted(found);
     }
 

@@ -29,6 +29,7 @@ impl<E: End> Channel<E> {
         ensures err { OnErr result (self.new ≡ self.old) }
         ensures rest { self.new ≡ record self.old { conn = self.new.conn; out = self.new.out } }
     {
+        self.streams.known();
         match self.conn.pull(map, &mut self.out) {
             Ok(pulled) => Ok(pulled),
             Err(_) => Err(Memory),
@@ -52,6 +53,7 @@ impl<E: End> Channel<E> {
         ensures err { OnErr result (self.new ≡ self.old) }
         ensures rest { self.new ≡ record self.old { conn = self.new.conn; out = self.new.out } }
     {
+        self.streams.known();
         match self.conn.pull_behind(&mut self.out) {
             Ok(pulled) => Ok(pulled),
             Err(_) => Err(Memory),

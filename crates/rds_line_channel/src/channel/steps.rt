@@ -70,6 +70,7 @@ impl<E: End> Channel<E> {
         ensures freed { (slot : ℕ) → slot < self.old.conn.slots →
             freed_bytes_of slot self.new.conn + released_bytes slot self.old.conn.log.past ≡ freed_bytes_of slot self.old.conn + released_bytes slot self.new.conn.log.past }
     {
+        self.streams.known();
         self.conn.order_uncounted(order);
     }
 }
