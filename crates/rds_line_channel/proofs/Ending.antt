@@ -1,5 +1,5 @@
 -- The open stream ends: it is shut, or a header that came on it was refused.
-use Rattle.std.proofs.Common.{◌≡◌, ◌≢◌, ◌⊎◌, inl, inr, ℕ, suc, ◌-◌, if◌then◌else◌, ◌<◌, ◌≤◌, true, false, Some, None, slice_get, List, [], ◌∷◌, ◌++◌, take, drop, length, append_assoc, ◌==◌, refl, sym, ap, subst, ◌∙◌, arith}
+use Rattle.std.proofs.Common.{◌≡◌, ◌≢◌, ◌⊎◌, inl, inr, ℕ, suc, if◌then◌else◌, ◌<◌, ◌≤◌, true, false, Some, None, slice_get, List, [], ◌∷◌, ◌++◌, take, drop, length, append_assoc, ◌==◌, refl, sym, ap, subst, ◌∙◌, arith}
 use Rattle.std.specs.List.{Contains}
 use Rattle.std.proofs.lemmas.Bool.{cond-true, cond-false, eq-eqb, ne_eqb}
 use Rattle.std.proofs.lemmas.List.{take-append-drop}
@@ -20,11 +20,11 @@ use Rattle.rds_model.specs.Past.{open_stream}
 use Rattle.rds_model.specs.Streams.{read_bytes, refused_bytes, written_bytes}
 use Rattle.rds_model.specs.Sums.{opens}
 use Rattle.rds_line_streams.specs.ChangeLaws.{changed_cases, changed_length, changed_numbers}
-use Rattle.rds_line_streams.specs.Changes.{ChangesAt, IsShutDown}
+use Rattle.rds_line_streams.specs.Changes.{IsShutDown}
 use Rattle.rds_line_streams.specs.NumberLaws.{later_number, number_there}
 use Rattle.rds_line_streams.specs.Streams.{StreamsView, AreKept, AreNumbered, EndAt, HasSaidOver, newest_place, numbers}
 use Rattle.rds_line_channel.specs.Changes.{EndsStream}
-use Rattle.rds_line_channel.specs.Carried.{StreamAt, IsOn, IsOff, HasCause, IsCarriedBy}
+use Rattle.rds_line_channel.specs.Carried.{IsOff, HasCause, IsCarriedBy}
 
 -- what becomes of a journal and of the cuts where the open stream ends, which has this number and of which these bytes arrived
 pub record Ends (past past_now : List Entry) (arrived cuts cuts_now : List ℕ) (number : ℕ) : Type 0 where

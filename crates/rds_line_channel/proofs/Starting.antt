@@ -1,7 +1,7 @@
 -- The next stream is opened.
-use Rattle.std.proofs.Common.{◌≡◌, ℕ, ◌+◌, ◌-◌, ◌<◌, All, true, false, Some, slice_get, List, [], ◌∷◌, ◌++◌, length, refl, sym, ap, subst, ◌∙◌, arith}
+use Rattle.std.proofs.Common.{◌≡◌, ℕ, ◌+◌, ◌-◌, ◌<◌, All, true, false, Some, slice_get, List, [], ◌∷◌, ◌++◌, refl, sym, ap, subst, ◌∙◌, arith}
 use Rattle.std.proofs.lemmas.List.{length-map}
-use Rattle.std.proofs.lemmas.List.Elements.{All-contains, Contains-push, Contains-append_left}
+use Rattle.std.proofs.lemmas.List.Elements.{All-contains, Contains-push}
 use Rattle.std.proofs.lemmas.Option.{same_Some, slice_get_within}
 use Rattle.rds_link.specs.Ends.{Means}
 use Rattle.rds_model.specs.declared.entry.Entry.{Entry}
@@ -9,11 +9,10 @@ use Rattle.rds_model.specs.declared.entry.Entry.TheVariants.{Open}
 use Rattle.rds_model.specs.Legal.{IsLegal}
 use Rattle.rds_model.specs.Past.{newest_stream}
 use Rattle.rds_model.specs.StreamLaws.{none_read, none_written}
-use Rattle.rds_model.specs.Streams.{read_bytes, written_bytes}
 use Rattle.rds_model.specs.Sums.{opens}
 use Rattle.rds_line_streams.specs.NumberLaws.{number_there, opened_more}
 use Rattle.rds_line_streams.specs.Streams.{StreamsView, AreKept, IsEndedAt, numbers, opened_numbers}
-use Rattle.rds_line_channel.specs.Carried.{StreamAt, IsOn, IsOff, IsCarriedBy}
+use Rattle.rds_line_channel.specs.Carried.{IsOn, IsOff, IsCarriedBy}
 
 above_newest : (past : List Entry) (number : ℕ) → 0 < number → All (λ earlier. earlier < number) (opens past) →
     newest_stream past < number
