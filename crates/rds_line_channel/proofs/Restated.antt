@@ -42,6 +42,7 @@ is_shut conn now number on known =
     subst (λ o. IfSome o (λ n. now ≡ record (with_entries (Shut n ∷ []) conn) { waiting = None; rest = [] })) on known
 
 module _ {E : Type 0} (m : Means E) where
+  -- the tie between journal and streams, told of equal parts
   pub restated : {past past_now : List Entry} {arrived arrived_now out out_now cuts cuts_now : List ℕ} {s s_now : StreamsView E} →
       past_now ≡ past → arrived_now ≡ arrived → out_now ≡ out → s_now ≡ s → cuts_now ≡ cuts →
       IsCarriedBy m past arrived out s cuts → IsCarriedBy m past_now arrived_now out_now s_now cuts_now
