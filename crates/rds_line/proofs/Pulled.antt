@@ -1,0 +1,133 @@
+-- What a line keeps when it reads its host's own map and pulls the frame that is owed.
+use Rattle.std.proofs.Common.{◌≡◌, ◌≢◌, ℕ, ◌+◌, Bool, true, false, Option, Some, None, IfSome, List, [], ◌∷◌, ◌++◌, refl, sym, ap, subst, ◌∙◌}
+use Rattle.rds_wire.specs.declared.frame.Frame.{Frame}
+use Rattle.rds_link.specs.Ends.{Means}
+use Rattle.rds_model.specs.declared.entry.Entry.{Entry}
+use Rattle.rds_model.specs.declared.entry.Entry.TheVariants.{Pull}
+use Rattle.rds_model.specs.Owed.{last_map, owed_frame}
+use Rattle.rds_model.specs.Past.{Moment, now, before}
+use Rattle.rds_model.specs.SumLaws.{same_list}
+use Rattle.rds_meter.specs.Places.{put_word, freed_word}
+use Rattle.rds_meter.specs.Seats.{MeterSeat}
+use Rattle.rds_conn.specs.declared.conn.Pulled.{Pulled}
+use Rattle.rds_conn.specs.Connection.{Connection, freed_bytes_of, stream_of, with_entries}
+use Rattle.rds_conn.specs.Pulling.{Pulls}
+use Rattle.rds_line_parts.specs.CountedLaws.{counted_for_steps}
+use Rattle.rds_line_parts.specs.Own.{Own, IsRefresh}
+use Rattle.rds_line_parts.specs.OwnLaws.{refreshed}
+use Rattle.rds_line_parts.specs.Words.{AddsNothing}
+use Rattle.rds_line_channel.specs.Channel.{ChannelView}
+use Rattle.rds_line.specs.Keeps.{IsPulled, KeepsLine}
+use Rattle.rds_line.specs.Line.{LineView, past_of}
+use Rattle.rds_line.specs.Stays.{ChannelStays, LineStays}
+use Rattle.rds_line.proofs.Staying.{boxes_same, streams_same}
+
+-- what a pull leaves of the connection
+pub record LeavesConn (old new : Connection) : Type 0 where
+  pub me : new.me ≡ old.me
+  pub peer : new.peer ≡ old.peer
+  pub slots : new.slots ≡ old.slots
+  pub limit : new.log.limit ≡ old.log.limit
+  pub past : Moment old.log.past new.log.past
+  pub waiting : new.waiting ≡ old.waiting
+  pub stream : stream_of new ≡ stream_of old
+
+pub leaves_same : (conn : Connection) → LeavesConn conn conn
+leaves_same conn = record { me = refl; peer = refl; slots = refl; limit = refl; past = now; waiting = refl; stream = refl }
+
+leaves_pulled : (s : ℕ) (f : Frame) (conn : Connection) → LeavesConn conn (with_entries (Pull s f ∷ []) conn)
+leaves_pulled s f conn = record { me = refl; peer = refl; slots = refl; limit = refl; past = before now; waiting = refl; stream = refl }
+
+pub pull_leaves : (s : ℕ) (owed : Option Frame) (old new : Connection) (out out_new : List ℕ) (came : Pulled) →
+    Pulls s owed old new out out_new came → LeavesConn old new
+pull_leaves s None old new out out_new came did = subst (LeavesConn old) (sym did.same) (leaves_same old)
+pull_leaves s (Some f) old new out out_new came did = subst (LeavesConn old) (sym did.entry) (leaves_pulled s f old)
+
+module _ {E M : Type 0} where
+  -- the line with another connection and other bytes on their way
+  abbrev pub with_pull : LineView E M → Connection → List ℕ → LineView E M
+  with_pull v conn out = record v { channel = record v.channel { conn = conn; out = out } }
+
+  -- the line with another own map and other counts
+  abbrev pub with_own : LineView E M → Own → MeterSeat → LineView E M
+  with_own v own words = record v { own = own; words = words }
+
+  keeps_same : (published : M → List (List ℕ)) (v : LineView E M) (out : List ℕ) → KeepsLine published v →
+      KeepsLine published (with_pull v v.channel.conn out)
+  keeps_same published v out k = record {
+    taken = k.taken;
+    cuts = k.cuts;
+    put = k.put;
+    counted = k.counted;
+    freed = k.freed;
+    maps = k.maps;
+    read = k.read;
+    boxes = k.boxes;
+    few = k.few;
+    slots = k.slots;
+  }
+
+  keeps_entry : (published : M → List (List ℕ)) (v : LineView E M) (out : List ℕ) (s : ℕ) (f : Frame) → KeepsLine published v →
+      KeepsLine published (with_pull v (with_entries (Pull s f ∷ []) v.channel.conn) out)
+  keeps_entry published v out s f k = record {
+    taken = k.taken;
+    cuts = k.cuts;
+    put = k.put;
+    counted = record { put = k.counted.put; checks = k.counted.checks };
+    freed = k.freed;
+    maps = k.maps;
+    read = k.read;
+    boxes = k.boxes;
+    few = k.few;
+    slots = k.slots;
+  }
+
+  -- a pull changes nothing of what a line keeps
+  pub keeps_pull : (published : M → List (List ℕ)) (v : LineView E M) (s : ℕ) (owed : Option Frame) (conn : Connection) (out : List ℕ) (came : Pulled) →
+      Pulls s owed v.channel.conn conn v.channel.out out came → KeepsLine published v → KeepsLine published (with_pull v conn out)
+  keeps_pull published v s None conn out came did k =
+      subst (λ (c : Connection). KeepsLine published (with_pull v c out)) (sym did.same) (keeps_same published v out k)
+  keeps_pull published v s (Some f) conn out came did k =
+      subst (λ (c : Connection). KeepsLine published (with_pull v c out)) (sym did.entry) (keeps_entry published v out s f k)
+
+  -- nor does a reading of the own map
+  pub keeps_own : (published : M → List (List ℕ)) (v : LineView E M) (own : Own) (words : MeterSeat) (read : Bool) →
+      IsRefresh v.own own v.words words read → AddsNothing v.words.view words.view → KeepsLine published v →
+      KeepsLine published (with_own v own words)
+  keeps_own published v own words read r nothing k = record {
+    taken = k.taken;
+    cuts = k.cuts;
+    put = k.put;
+    counted = counted_for_steps (past_of v) v.words.view words.view (λ slot small. nothing (put_word slot))
+        (ap (λ (h : MeterSeat). h.view.checks) r.steps) k.counted;
+    freed = λ slot small. ap (λ n. n + freed_bytes_of slot v.channel.conn) (nothing (freed_word slot)) ∙ k.freed slot small;
+    maps = k.maps;
+    read = refreshed v.own own v.words words read r k.read;
+    boxes = k.boxes;
+    few = k.few;
+    slots = k.slots;
+  }
+
+  -- what the line is over both
+  pub pull_stays : {Name : Type 0} (m : Means E) (pair : M → Name) (v : LineView E M) (own : Own) (words : MeterSeat) (read : Bool) (conn : Connection) (out : List ℕ) →
+      IsRefresh v.own own v.words words read → LeavesConn v.channel.conn conn → LineStays m pair v (with_pull (with_own v own words) conn out)
+  pull_stays m pair v own words read conn out r leaves = record {
+    channel = record {
+      me = leaves.me;
+      peer = leaves.peer;
+      slots = leaves.slots;
+      limit = leaves.limit;
+      past = leaves.past;
+      streams = streams_same m v.channel.streams;
+      cuts = same_list v.channel.cuts.numbers;
+    };
+    mail = refl;
+    told = refl;
+    joined = refl;
+    got = same_list v.orders.got;
+    boxes = boxes_same v.boxes;
+    ports = refl;
+    words = ap (λ (h : MeterSeat). h.table) r.steps;
+    slot = ap (λ (h : MeterSeat). h.slot) r.steps;
+    map = refl;
+  }
