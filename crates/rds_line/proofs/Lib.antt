@@ -1,1 +1,4 @@
+mod Keeping
+mod Relieving
 mod Staying
+mod Taking
