@@ -1,2 +1,5 @@
+mod Keeping
+mod Relieving
 mod Staying
+mod Taking
 mod Pulled
