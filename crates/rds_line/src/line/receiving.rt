@@ -119,6 +119,7 @@ impl<E: End, M: MapWriter> Line<E, M> {
         ensures passed { OnOk result (PassesOne self.old.channel self.new.channel) }
         ensures err { IfErr result (λ error. error ≡ errors.Memory) }
     {
+        self.channel.known();
         let Some(slot) = self.ports.look(port) else {
             self.channel.pass(Found::NoSocket);
             return Ok(());
@@ -145,6 +146,7 @@ impl<E: End, M: MapWriter> Line<E, M> {
         ensures passed { OnOk result (PassesOne self.old.channel self.new.channel) }
         ensures err { IfErr result (λ error. error ≡ errors.Memory) }
     {
+        self.channel.known();
         let Some(frame) = self.channel.waiting() else {
             unreachable!()
         };
