@@ -1,1 +1,4 @@
 mod Staying
+mod Passing
+mod Delivering
+mod StaysPassed
