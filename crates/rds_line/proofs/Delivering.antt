@@ -1,8 +1,8 @@
 -- What a line does with a frame that it passes: it delivers it, publishes its map, or does nothing with it.
-use Rattle.std.proofs.Common.{◌≡◌, ◌≢◌, ℕ, suc, ◌+◌, ◌*◌, ◌<◌, ◌≤◌, ◌^◌, ◌==◌, if◌then◌else◌, Bool, true, false, cond, Option, Some, None, List, [], ◌∷◌, ◌++◌, length, refl, sym, ap, subst, ◌∙◌, ne_eqb, arith}
+use Rattle.std.proofs.Common.{◌≡◌, ◌≢◌, ℕ, suc, ◌+◌, ◌*◌, ◌<◌, ◌≤◌, ◌^◌, ◌==◌, if◌then◌else◌, Bool, true, false, cond, Option, Some, None, List, [], ◌∷◌, ◌++◌, length, take, refl, sym, ap, subst, ◌∙◌, ne_eqb, arith}
 use Rattle.std.specs.Option.{IfSome}
 use Rattle.std.proofs.lemmas.Option.{same_Some, slice_get_within}
-use Rattle.std.proofs.lemmas.List.{length-set}
+use Rattle.std.proofs.lemmas.List.{length-set, take_all}
 use Rattle.rds_wire.specs.declared.frame.Frame.{Frame}
 use Rattle.rds_wire.specs.declared.header.Header.{Header}
 use Rattle.rds_wire.specs.declared.kind.Kind.{Kind}
@@ -52,6 +52,12 @@ verdict_here {v} {old} {new} {came} w p =
 -- the datagram of the frame that waited
 pub datagram_is : {from : ℕ} {frame : Frame} (d : Datagram) (waiting : Option Frame) → IfSome waiting (λ f. d ≡ datagram_from from f) → waiting ≡ Some frame → d ≡ datagram_from from frame
 datagram_is {from} {frame} d waiting is waits = subst (λ (o : Option Frame). IfSome o (λ f. d ≡ datagram_from from f)) waits is
+
+-- the bytes that were published are those of the frame
+pub map_is : (payload xs ys : List ℕ) (n : ℕ) → xs ≡ payload → length payload ≡ n → ys ≡ take n xs → ys ≡ payload
+map_is payload xs ys n is long front =
+    let count = ap length is in
+    front ∙ take_all n xs (omega (arith, long, count)) ∙ is
 
 -- a datagram is delivered to the port that its header names
 pub port_is : (past : List Entry) (h : Header) (port : ℕ) → verdict_of past h ≡ verdict.Deliver port → h.dport ≡ port

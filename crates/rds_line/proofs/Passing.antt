@@ -159,3 +159,22 @@ module _ {E M : Type 0} (published : M → List (List ℕ)) where
         ∙ was.1 is t (sym (ap open_stream r.past ∙ stream_after s f o past port) ∙ on)
         ∙ ap (λ (own : Own). Some own.map) (sym p.own),
   )
+
+  -- a publication that failed changes none of it
+  pub keeps_unpublished : {old : LineView E M} (pulled : Bool) (map : M) → published map ≡ published old.map → KeepsLine published old × IsPulled pulled old →
+      KeepsLine published (record old { map = map }) × IsPulled pulled (record old { map = map })
+  keeps_unpublished {old} pulled map same was = (
+    record {
+      taken = was.0.taken;
+      cuts = was.0.cuts;
+      put = was.0.put;
+      counted = was.0.counted;
+      freed = was.0.freed;
+      maps = same ∙ was.0.maps;
+      read = was.0.read;
+      boxes = was.0.boxes;
+      few = was.0.few;
+      slots = was.0.slots;
+    },
+    was.1,
+  )

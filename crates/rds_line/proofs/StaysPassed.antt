@@ -1,6 +1,6 @@
 -- What every turn of a line leaves as it was stays so where a frame is passed.
 use Rattle.std.proofs.Common.{◌≡◌, ◌≢◌, ◌⊎◌, inl, inr, ℕ, ◌<◌, Bool, true, false, Option, Some, Result, Ok, Err, List, ◌∷◌, length, slice_get, slice_set, refl, sym, ap, subst, ◌∙◌}
-use Rattle.std.specs.Prelude.{OnOk, OnErr}
+use Rattle.std.specs.Prelude.{IfOk, OnOk, OnErr}
 use Rattle.std.specs.Result.{is_err}
 use Rattle.std.proofs.lemmas.Bool.{cases_eq}
 use Rattle.std.proofs.lemmas.List.{length-set}
@@ -30,6 +30,10 @@ use Rattle.rds_line.proofs.Staying.{begins_of, boxes_same, channel_of, conn_stay
 pub at_ok : {A F : Type 0} {P : Type 0} (r : Result A F) → false ≡ is_err r → OnOk r P → P
 at_ok (Ok x) is p = p
 at_ok (Err why) is p = absurd (cc)
+
+pub at_value : {A F : Type 0} {P : Type 0} (r : Result A F) → false ≡ is_err r → IfOk r (λ x. P) → P
+at_value (Ok x) is p = p
+at_value (Err why) is p = absurd (cc)
 
 pub at_err : {A F : Type 0} {P : Type 0} (r : Result A F) → true ≡ is_err r → OnErr r P → P
 at_err (Ok x) is p = absurd (cc)
