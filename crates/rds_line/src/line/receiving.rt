@@ -76,7 +76,7 @@ impl<E: End, M: MapWriter> Line<E, M> {
         requires open { self.old.channel.streams.is_open ≡ true }
         ensures stays { LineStays E.means M.pair self.old self.new }
         ensures orders { self.new.orders ≡ self.old.orders }
-        ensures ready { OnOk result (IsReady self.new.channel.conn) }
+        ensures ready { result ≡ Ok taken.Frame → IsReady self.new.channel.conn }
         ensures frame { result ≡ Ok taken.Frame → IsSome self.new.channel.conn.waiting }
         ensures part { result ≡ Ok taken.Part → (self.new.channel.conn.waiting ≡ None) × (self.new.channel.piece ≡ []) }
         ensures streams { result ≢ Ok taken.Refused → self.new.channel.streams ≡ self.old.channel.streams }
