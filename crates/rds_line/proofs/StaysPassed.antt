@@ -1,5 +1,5 @@
 -- What every turn of a line leaves as it was stays so where a frame is passed.
-use Rattle.std.proofs.Common.{◌≡◌, ◌≢◌, ◌⊎◌, inl, inr, ℕ, ◌<◌, Bool, true, false, Option, Some, Result, Ok, Err, List, ◌∷◌, length, slice_get, slice_set, refl, sym, ap, subst, ◌∙◌}
+use Rattle.std.proofs.Common.{◌≡◌, ◌≢◌, ◌⊎◌, inl, inr, ℕ, ◌<◌, Bool, true, false, Option, Some, Result, Ok, Err, List, [], ◌∷◌, drop, length, slice_get, slice_set, refl, sym, ap, subst, ◌∙◌}
 use Rattle.std.specs.Prelude.{IfOk, OnOk, OnErr}
 use Rattle.std.specs.Result.{is_err}
 use Rattle.std.proofs.lemmas.Bool.{cases_eq}
@@ -12,19 +12,24 @@ use Rattle.rds_meter.specs.Seats.{MeterSeat}
 use Rattle.rds_model.specs.declared.entry.Entry.{Entry}
 use Rattle.rds_model.specs.declared.order.Datagram.{Datagram}
 use Rattle.rds_model.specs.declared.order.Order.{Order}
-use Rattle.rds_model.specs.Past.{Moment}
+use Rattle.rds_model.specs.Past.{Moment, now, before}
 use Rattle.rds_model.specs.Reading.{verdict_of}
 use Rattle.rds_mail.specs.Passes.{Getter, Putter, after_put}
 use Rattle.rds_conn.specs.declared.conn.Found.{Found}
+use Rattle.rds_wire.specs.declared.memory.Memory.{Memory}
+use Rattle.rds_conn.specs.Connection.{Connection}
 use Rattle.rds_conn.specs.Passing.{Passes, outcome_of}
 use Rattle.rds_line_parts.specs.Boxes.{IsBoxOf, IsPutInto}
 use Rattle.rds_line_parts.specs.Delivery.{IsDelivery}
 use Rattle.rds_line_streams.specs.PlaceLaws.{at_set, beside_set}
-use Rattle.rds_line_channel.specs.Channel.{ChannelView, with_conn}
+use Rattle.rds_line_channel.specs.Channel.{ChannelView, CutsView, with_conn}
+use Rattle.rds_line_channel.specs.Changes.{EndsRefused, TakesBytes}
+use Rattle.rds_line_channel.specs.declared.channel.Taken.{Taken}
+use Rattle.rds_line_channel.specs.declared.channel.Taken.TheVariants as taken
 use Rattle.rds_line.specs.Line.{LineView}
 use Rattle.rds_line.specs.Stays.{AreSameBoxes, ChannelStays, LineStays}
 use Rattle.rds_line.proofs.Passing.{moment_after, passes_reads}
-use Rattle.rds_line.proofs.Staying.{begins_of, boxes_same, channel_of, conn_stays}
+use Rattle.rds_line.proofs.Staying.{begins_of, boxes_same, channel_of, channel_same, conn_stays, ending_stays}
 
 -- what holds on success and what holds on failure, where the test says which it was
 pub at_ok : {A F : Type 0} {P : Type 0} (r : Result A F) → false ≡ is_err r → OnOk r P → P
@@ -100,6 +105,44 @@ module _ {E : Type 0} {m : Means E} where
       let r = passes_reads came old.conn new.conn p o refl in
       let later = subst (λ (l : List Entry). Moment old.conn.log.past l) (sym r.past) (moment_after p.stream p.frame o old.conn.log.past _) in
       channel_of m old new (with_conn old new.conn) rest (conn_stays m old new.conn r.me r.peer r.slots r.limit later)
+
+  -- bytes were taken
+  fed_stays : (waits : Bool) (old new : ChannelView E) → TakesBytes waits old new → ChannelStays m old new
+  fed_stays waits old new took =
+      let next : Connection = record old.conn { waiting = new.conn.waiting; rest = new.conn.rest } in
+      let conn : ChannelStays m old (with_conn old new.conn) =
+      subst (λ (c : Connection). ChannelStays m old (with_conn old c)) (sym {b = next} took.feeds.rest_same) (conn_stays m old next refl refl refl refl now) in
+      channel_of m old new (record old { conn = new.conn; piece = drop took.fed.used old.piece }) took.is (record {
+        me = conn.me;
+        peer = conn.peer;
+        slots = conn.slots;
+        limit = conn.limit;
+        past = conn.past;
+        streams = conn.streams;
+        cuts = conn.cuts;
+      })
+
+  -- a header was refused
+  refused_stays : (old new : ChannelView E) → EndsRefused m old new → ChannelStays m old new
+  refused_stays old new ends =
+      let r = ends.refuses in
+      record {
+        me = ap (λ (c : Connection). c.me) r.entry;
+        peer = ap (λ (c : Connection). c.peer) r.entry;
+        slots = ap (λ (c : Connection). c.slots) r.entry;
+        limit = ap (λ (c : Connection). c.log.limit) r.entry;
+        past = subst (λ (c : Connection). Moment old.conn.log.past c.log.past) (sym r.entry) (before now);
+        streams = ending_stays m old.streams new.streams ends.streams;
+        cuts = begins_of old.cuts.numbers new.cuts.numbers (ap (λ (c : CutsView). c.numbers) ends.cuts);
+      }
+
+  pub taken_stays : (came : Result Taken Memory) {old new : ChannelView E} → (came ≡ Ok taken.Frame → TakesBytes true old new) →
+      (came ≡ Ok taken.Part → TakesBytes false old new × (new.piece ≡ [])) → (came ≡ Ok taken.Refused → EndsRefused m old new) →
+      OnErr came (new ≡ old) → ChannelStays m old new
+  taken_stays (Ok taken.Frame) {old} {new} frame part refused err = fed_stays true old new (frame refl)
+  taken_stays (Ok taken.Part) {old} {new} frame part refused err = fed_stays false old new (part refl).0
+  taken_stays (Ok taken.Refused) {old} {new} frame part refused err = refused_stays old new (refused refl)
+  taken_stays (Err why) {old} {new} frame part refused err = channel_of m old new old err (channel_same m old)
 
   module _ {M Name : Type 0} {pair : M → Name} where
     -- the line took no order, and each of its parts stays the same one

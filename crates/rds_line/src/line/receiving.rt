@@ -100,9 +100,12 @@ impl<E: End, M: MapWriter> Line<E, M> {
         ensures passed { OnOk result (PassesOne self.old.channel self.new.channel) }
         ensures err { IfErr result (λ error. error ≡ errors.Memory) }
     {
-        match self.channel.verdict() {
-            Some(Verdict::Deliver { dport }) => self.deliver(rt, dport),
-            Some(Verdict::Map) => self.publish(rt),
+        let Some(verdict) = self.channel.verdict() else {
+            unreachable!()
+        };
+        match verdict {
+            Verdict::Deliver { dport } => self.deliver(rt, dport),
+            Verdict::Map => self.publish(rt),
             _ => {
                 self.channel.pass(Found::Unasked);
                 Ok(())

@@ -6,7 +6,7 @@ use Rattle.rds_line.proofs.line.Line.pass.Goals as goal
 
 pub invariant_of-self : goal.invariant_of-self
 invariant_of-self g c =
-    let a = c.verdict.ensures in let b = c.in_default in let d = c.pass.ensures in ?
+   let e = c.in-Some in ?
 
 pub returns-in_default-clause-stays : goal.returns-in_default-clause-stays
 returns-in_default-clause-stays g c =
