@@ -1,5 +1,9 @@
+mod Delivering
 mod Keeping
+mod Passing
+mod Pulled
 mod Relieving
 mod Staying
+mod StaysPassed
 mod Taking
-mod Pulled
+mod Written
