@@ -1,6 +1,6 @@
 -- What a line does with a frame that it passes: it delivers it, publishes its map, or does nothing with it.
 use Rattle.std.proofs.Common.{◌≡◌, ◌≢◌, ℕ, suc, ◌+◌, ◌*◌, ◌<◌, ◌≤◌, ◌^◌, ◌==◌, if◌then◌else◌, Bool, true, false, cond, Option, Some, None, List, [], ◌∷◌, ◌++◌, length, take, refl, sym, ap, subst, ◌∙◌, ne_eqb, arith}
-use Rattle.std.specs.Option.{IfSome}
+use Rattle.std.specs.Option.{IfSome, option_map}
 use Rattle.std.proofs.lemmas.Option.{same_Some, slice_get_within}
 use Rattle.std.proofs.lemmas.List.{length-set, take_all}
 use Rattle.rds_wire.specs.declared.frame.Frame.{Frame}
@@ -48,6 +48,12 @@ use Rattle.rds_line.proofs.Passing.{PassesWith, passes_reads}
 pub verdict_here : {v : Verdict} {old new : Connection} {came : Found} → IsWaiting v old → (p : Passes came old new) → verdict_of old.log.past p.frame.header ≡ v
 verdict_here {v} {old} {new} {came} w p =
     subst (λ (f : Frame). verdict_of old.log.past f.header ≡ v) (same_Some w.frame p.frame (sym w.waits ∙ p.waits)) w.is
+
+-- a verdict is that of the frame that waited
+pub verdict_there : (past : List Entry) (o : Option Frame) (v : Verdict) (f : Frame) → Some v ≡ option_map (λ (g : Frame). verdict_of past g.header) o →
+    o ≡ Some f → v ≡ verdict_of past f.header
+verdict_there past o v f is there =
+    same_Some v (verdict_of past f.header) (is ∙ ap (option_map (λ (g : Frame). verdict_of past g.header)) there)
 
 -- the datagram of the frame that waited
 pub datagram_is : {from : ℕ} {frame : Frame} (d : Datagram) (waiting : Option Frame) → IfSome waiting (λ f. d ≡ datagram_from from f) → waiting ≡ Some frame → d ≡ datagram_from from frame
