@@ -261,9 +261,12 @@ module _ {E : Type 0} (m : Means E) where
     line_of old new middle is stays = subst (λ (v : LineView E M). LineStays m pair old v) (sym is) stays
 
     -- the same where the fields of a line are known by its view
+    pub line_shown : (inside shown new : LineView E M) → inside ≡ shown → LineStays m pair inside new → LineStays m pair shown new
+    line_shown inside shown new is stays = subst (λ (v : LineView E M). LineStays m pair v new) is stays
+
     pub line_inside : (inside shown : LineView E M) → inside ≡ shown → (channel : ChannelView E) → ChannelStays m inside.channel channel → LineStays m pair shown (record inside { channel = channel })
     line_inside inside shown is channel stays =
-        subst (λ (v : LineView E M). LineStays m pair v (record inside { channel = channel })) is (line_stays inside channel stays)
+        line_shown inside shown (record inside { channel = channel }) is (line_stays inside channel stays)
 
     pub line_through : (old middle new : LineView E M) → LineStays m pair old middle → LineStays m pair middle new → LineStays m pair old new
     line_through old middle new first second = record {

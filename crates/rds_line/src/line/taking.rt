@@ -26,6 +26,7 @@ impl<E: End, M: MapWriter> Line<E, M> {
         if self.channel.reserve_cut().is_err() {
             return Err(JournalError::Memory);
         }
+        self.channel.known();
         let Some(order) = self.orders.take_order(rt) else {
             return Ok(false);
         };
