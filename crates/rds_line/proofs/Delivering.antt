@@ -1,13 +1,12 @@
 -- What a line does with a frame that it passes: it delivers it, publishes its map, or does nothing with it.
-use Rattle.std.proofs.Common.{◌≡◌, ◌≢◌, ℕ, suc, ◌+◌, ◌*◌, ◌<◌, ◌≤◌, ◌^◌, ◌==◌, if◌then◌else◌, Bool, true, false, cond, Option, Some, None, List, [], ◌∷◌, ◌++◌, length, take, refl, sym, ap, subst, ◌∙◌, ne_eqb, arith}
-use Rattle.std.specs.Option.{IfSome}
-use Rattle.std.proofs.lemmas.Option.{same_Some, slice_get_within}
+use Rattle.std.proofs.Common.{◌≡◌, ◌≢◌, ℕ, ◌+◌, ◌<◌, ◌≤◌, ◌^◌, ◌==◌, if◌then◌else◌, Bool, true, false, cond, Option, Some, None, List, [], ◌∷◌, ◌++◌, length, take, refl, sym, ap, subst, ◌∙◌, ne_eqb, arith}
+use Rattle.std.specs.Option.{IfSome, option_map}
+use Rattle.std.proofs.lemmas.Option.{same_Some}
 use Rattle.std.proofs.lemmas.List.{length-set, take_all}
 use Rattle.rds_wire.specs.declared.frame.Frame.{Frame}
 use Rattle.rds_wire.specs.declared.header.Header.{Header}
 use Rattle.rds_wire.specs.declared.kind.Kind.{Kind}
 use Rattle.rds_wire.specs.declared.kind.Kind.TheVariants.{Data, Ack, Map, OddMap}
-use Rattle.rds_wire.specs.declared.kind.TheConstants.{MAX_LENGTH}
 use Rattle.rds_wire.specs.Kinds.{kind_of}
 use Rattle.rds_bindtab.specs.Seats.{PortSeat}
 use Rattle.rds_model.specs.declared.entry.Entry.{Entry}
@@ -19,16 +18,15 @@ use Rattle.rds_model.specs.declared.entry.Verdict.{Verdict}
 use Rattle.rds_model.specs.declared.entry.Verdict.TheVariants as verdict
 use Rattle.rds_model.specs.declared.journal.TheConstants.{MAX_ENTRIES}
 use Rattle.rds_model.specs.declared.order.Datagram.{Datagram}
-use Rattle.rds_model.specs.Deliveries.{datagram_from, put_bytes}
+use Rattle.rds_model.specs.Deliveries.{datagram_from}
 use Rattle.rds_model.specs.DeliveryLaws.{put_bound, put_here}
 use Rattle.rds_model.specs.Pairs.{is_delivery}
 use Rattle.rds_model.specs.Legal.{IsLegal, pong_for}
 use Rattle.rds_model.specs.Reading.{is_old, verdict_of, verdict_of_kind, verdict_of_ports}
 use Rattle.rds_model.specs.Sums.{maps, with_map}
-use Rattle.rds_mail.specs.Passes.{Putter, after_put}
+use Rattle.rds_mail.specs.Passes.{after_put}
 use Rattle.rds_meter.specs.declared.view.View.{View}
 use Rattle.rds_meter.specs.Places.{part, freed_word, put_word}
-use Rattle.rds_meter.specs.Seats.{MeterSeat}
 use Rattle.rds_conn.specs.declared.conn.Found.{Found}
 use Rattle.rds_conn.specs.declared.conn.Found.TheVariants as found
 use Rattle.rds_conn.specs.Connection.{Connection, IsReady}
@@ -39,7 +37,7 @@ use Rattle.rds_line_parts.specs.CountedLaws.{counted_for_more, counted_for_read,
 use Rattle.rds_line_parts.specs.Delivery.{IsDelivery}
 use Rattle.rds_line_parts.specs.DeliveryLaws.{delivery_part, read_after_delivery}
 use Rattle.rds_line_parts.specs.Own.{IsAsRead}
-use Rattle.rds_line_channel.specs.Channel.{ChannelView, with_conn}
+use Rattle.rds_line_channel.specs.Channel.{with_conn}
 use Rattle.rds_line.specs.Line.{LineView, past_of}
 use Rattle.rds_line.specs.Steps.{IsWaiting}
 use Rattle.rds_line.proofs.Passing.{PassesWith, passes_reads}
@@ -48,6 +46,12 @@ use Rattle.rds_line.proofs.Passing.{PassesWith, passes_reads}
 pub verdict_here : {v : Verdict} {old new : Connection} {came : Found} → IsWaiting v old → (p : Passes came old new) → verdict_of old.log.past p.frame.header ≡ v
 verdict_here {v} {old} {new} {came} w p =
     subst (λ (f : Frame). verdict_of old.log.past f.header ≡ v) (same_Some w.frame p.frame (sym w.waits ∙ p.waits)) w.is
+
+-- a verdict is that of the frame that waited
+pub verdict_there : (past : List Entry) (o : Option Frame) (v : Verdict) (f : Frame) → Some v ≡ option_map (λ (g : Frame). verdict_of past g.header) o →
+    o ≡ Some f → v ≡ verdict_of past f.header
+verdict_there past o v f is there =
+    same_Some v (verdict_of past f.header) (is ∙ ap (option_map (λ (g : Frame). verdict_of past g.header)) there)
 
 -- the datagram of the frame that waited
 pub datagram_is : {from : ℕ} {frame : Frame} (d : Datagram) (waiting : Option Frame) → IfSome waiting (λ f. d ≡ datagram_from from f) → waiting ≡ Some frame → d ≡ datagram_from from frame

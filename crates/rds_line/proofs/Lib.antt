@@ -1,5 +1,6 @@
 mod Delivering
 mod Keeping
+mod Longer
 mod Passing
 mod Pulled
 mod Relieving

@@ -1,7 +1,6 @@
 -- What a line keeps when a frame is passed, whatever became of it.
 use Rattle.std.proofs.Common.{◌≡◌, ℕ, ◌+◌, ◌<◌, ◌≤◌, ◌==◌, Bool, Option, Some, None, List, [], ◌∷◌, ◌++◌, length, refl, sym, ap, subst, ◌∙◌}
 use Rattle.std.proofs.lemmas.Bool.{cond-true, eq-eqb}
-use Rattle.rds_link.specs.Ends.{Means}
 use Rattle.rds_wire.specs.declared.frame.Frame.{Frame}
 use Rattle.rds_model.specs.declared.entry.Entry.{Entry}
 use Rattle.rds_model.specs.declared.entry.Entry.TheVariants.{Accept, Read}
@@ -21,10 +20,10 @@ use Rattle.rds_views.specs.Views.{Table}
 use Rattle.rds_meter.specs.declared.view.View.{View}
 use Rattle.rds_meter.specs.Places.{part, freed_word}
 use Rattle.rds_conn.specs.declared.conn.Found.{Found}
-use Rattle.rds_conn.specs.Connection.{Connection, freed_bytes_of, stream_of, with_entries}
+use Rattle.rds_conn.specs.Connection.{Connection, freed_bytes_of, with_entries}
 use Rattle.rds_conn.specs.Passing.{Passes, outcome_of, with_pong}
 use Rattle.rds_conn.specs.Released.{released_bytes}
-use Rattle.rds_line_parts.specs.Counted.{IsCountedFor, IsFreedFor, IsPutFor}
+use Rattle.rds_line_parts.specs.Counted.{IsCountedFor, IsPutFor}
 use Rattle.rds_line_parts.specs.CountedLaws.{freed_for_account}
 use Rattle.rds_line_parts.specs.Own.{Own, IsAsRead}
 use Rattle.rds_line_channel.specs.Channel.{ChannelView, with_conn}
@@ -59,8 +58,8 @@ pub passes_reads : (came : Found) (old new : Connection) (p : Passes came old ne
 passes_reads came old new p o is =
     let was = outcome_of (verdict_of old.log.past p.frame.header) came in
     let next = λ (k : Outcome).
-        let with_it : Connection = record (with_pong (pong_for k p.frame.header.sport) (record (with_entries (Read p.stream p.frame k ∷ []) old) { waiting = None })) { freed = new.freed } in
-        with_it in
+    let with_it : Connection = record (with_pong (pong_for k p.frame.header.sport) (record (with_entries (Read p.stream p.frame k ∷ []) old) { waiting = None })) { freed = new.freed } in
+    with_it in
     subst (λ (c : Connection). ReadsFrame (pong_for o p.frame.header.sport) p.stream p.frame o old c) (sym {b = next o} (p.entry ∙ ap next is))
     (reads_pong (pong_for o p.frame.header.sport) p.stream p.frame o old new.freed)
 

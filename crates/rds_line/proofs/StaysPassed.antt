@@ -1,5 +1,5 @@
 -- What every turn of a line leaves as it was stays so where a frame is passed.
-use Rattle.std.proofs.Common.{◌≡◌, ◌≢◌, ◌⊎◌, inl, inr, ℕ, ◌<◌, Bool, true, false, Option, Some, Result, Ok, Err, List, [], ◌∷◌, drop, length, slice_get, slice_set, refl, sym, ap, subst, ◌∙◌}
+use Rattle.std.proofs.Common.{◌≡◌, inl, inr, ℕ, Bool, true, false, Result, Ok, Err, List, [], drop, length, slice_get, slice_set, refl, sym, ap, subst, ◌∙◌}
 use Rattle.std.specs.Prelude.{IfOk, OnOk, OnErr}
 use Rattle.std.specs.Result.{is_err}
 use Rattle.std.proofs.lemmas.Bool.{cases_eq}
@@ -7,7 +7,6 @@ use Rattle.std.proofs.lemmas.List.{length-set}
 use Rattle.std.proofs.lemmas.Option.{same_Some, slice_get_within}
 use Rattle.rds_link.specs.Ends.{Means}
 use Rattle.rds_bindtab.specs.Seats.{PortSeat}
-use Rattle.rds_views.specs.Views.{Table}
 use Rattle.rds_meter.specs.Seats.{MeterSeat}
 use Rattle.rds_model.specs.declared.entry.Entry.{Entry}
 use Rattle.rds_model.specs.declared.order.Datagram.{Datagram}
@@ -60,8 +59,7 @@ put_same slot item old new put =
             | inl same ↦
                 let was : box ≡ put.0 = same_Some box put.0 (sym stood ∙ (ap (slice_get old) same ∙ put.1)) in
                 let is : after ≡ grown =
-                same_Some after grown (sym here ∙ (ap (λ k. slice_get (slice_set old slot grown) k) same ∙ at_set old slot grown (slice_get_within old slot put.0 put.1))) in
-                (
+                same_Some after grown (sym here ∙ (ap (λ k. slice_get (slice_set old slot grown) k) same ∙ at_set old slot grown (slice_get_within old slot put.0 put.1))) in (
                   ap (λ (b : Putter Datagram). b.mail) is ∙ ap (λ (b : Putter Datagram). b.mail) (sym was),
                   ap (λ (b : Putter Datagram). b.number) is ∙ ap (λ (b : Putter Datagram). b.number) (sym was),
                   ap (λ (b : Putter Datagram). b.splits) is ∙ ap (λ (b : Putter Datagram). b.splits) (sym was),

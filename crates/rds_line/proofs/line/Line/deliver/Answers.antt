@@ -1,18 +1,14 @@
-use Rattle.std.proofs.Common.{◌≡◌, ℕ, ◌<◌, ◌≤◌, Option, Some, List, length, refl, sym, ap, subst, ◌∙◌, arith}
-use Rattle.std.specs.Prelude.{IfSome}
-use Rattle.rds_wire.specs.declared.frame.Frame.{Frame}
+use Rattle.std.proofs.Common.{ℕ, ◌<◌, length, refl, sym, ap, subst, ◌∙◌, arith}
 use Rattle.rds_bindtab.specs.Seats.{PortSeat}
 use Rattle.rds_model.specs.declared.entry.TheConstants.{MAX_SLOTS}
 use Rattle.rds_model.specs.declared.entry.Verdict.TheVariants as verdict
 use Rattle.rds_model.specs.declared.order.Datagram.{Datagram}
-use Rattle.rds_model.specs.Deliveries.{datagram_from}
-use Rattle.rds_mail.specs.Passes.{Putter}
 use Rattle.rds_conn.specs.Connection.{IsReady}
 use Rattle.rds_line_parts.specs.Boxes.{IsPutInto}
 use Rattle.rds_line_parts.specs.Delivery.{IsDelivery}
 use Rattle.rds_line.specs.Line.{LineView}
 use Rattle.rds_line.specs.Steps.{IsWaiting}
-use Rattle.rds_line.proofs.Staying.{boxes_same, channel_same, channel_of}
+use Rattle.rds_line.proofs.Staying.{boxes_same, channel_same}
 use Rattle.rds_line.proofs.Passing.{keeps_passed}
 use Rattle.rds_line.proofs.Delivering.{datagram_is, delivery_fits, passes_delivery, verdict_here}
 use Rattle.rds_line.proofs.StaysPassed.{at_err, at_ok, boxes_as, line_stays, passed_stays, put_same, same_seats}
