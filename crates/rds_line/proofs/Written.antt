@@ -1,5 +1,5 @@
 -- What a line keeps when it writes to its open stream or reads from it, and when that stream is over.
-use Rattle.std.proofs.Common.{◌≡◌, ◌≢◌, ℕ, zero, suc, ◌<◌, ◌≤◌, Bool, true, Option, Some, None, IsSome, List, [], ◌∷◌, take, length, refl, sym, ap, subst, ◌∙◌, arith}
+use Rattle.std.proofs.Common.{◌≡◌, ◌≢◌, ℕ, zero, suc, ◌<◌, ◌≤◌, Bool, true, Option, Some, None, IsSome, List, [], ◌∷◌, ◌++◌, append_assoc, take, length, refl, sym, ap, subst, ◌∙◌, arith}
 use Rattle.rds_link.specs.declared.end.Got.{Got}
 use Rattle.rds_link.specs.declared.end.Put.{Put}
 use Rattle.rds_link.specs.declared.end.Got.TheVariants as got
@@ -9,12 +9,14 @@ use Rattle.rds_model.specs.declared.entry.Entry.TheVariants as entry
 use Rattle.rds_conn.specs.Connection.{Connection, stream_of, with_entries, with_room}
 use Rattle.rds_line_streams.specs.Changes.{ChangesAt, Receives, Sends}
 use Rattle.rds_line_streams.specs.ChangeLaws.{changed_here}
-use Rattle.rds_line_streams.specs.Streams.{newest_place, with_list}
+use Rattle.rds_line_streams.specs.Meeting.{AtEach}
+use Rattle.rds_line_streams.specs.NumberLaws.{same_number}
+use Rattle.rds_line_streams.specs.Streams.{newest_place, numbers, with_list}
 use Rattle.rds_line_channel.specs.Channel.{ChannelView, CutsView, with_conn}
 use Rattle.rds_line_channel.specs.Changes.{ShutsStream}
 use Rattle.rds_line.specs.Keeps.{IsPulled, KeepsLine}
 use Rattle.rds_line.specs.Line.{LineView, past_of}
-use Rattle.rds_line.specs.Stays.{ChannelStays}
+use Rattle.rds_line.specs.Stays.{ChannelStays, GoesFurther}
 use Rattle.rds_line.specs.Turns.{GetsBytes, SendsBytes}
 use Rattle.rds_line.proofs.Keeping.{keeps_plain, pulled_off}
 use Rattle.rds_line.proofs.Staying.{begins_of, channel_moved, channel_of, channel_through, read_stays, room_stays, shutting_stays, write_stays}
@@ -28,6 +30,10 @@ taken_some : (n : ℕ) (l : List ℕ) → 1 ≤ n → n ≤ length l → take n 
 taken_some zero l some within e = absurd (omega arith)
 taken_some (suc n) [] some within e = absurd (omega arith)
 taken_some (suc n) (x ∷ l) some within e = absurd (cc)
+
+nil_front : (front back : List ℕ) → front ++ back ≡ [] → front ≡ []
+nil_front [] back e = refl
+nil_front (x ∷ front) back e = absurd (cc)
 
 module _ {E : Type 0} (m : Means E) where
   -- room was made for entries
@@ -76,6 +82,26 @@ module _ {E : Type 0} (m : Means E) where
     stands = changed_here change;
     more = λ tells. (piece, (λ none. let e = ap length none in absurd (omega arith)), change.way.got tells);
   }
+
+  -- and it got as much where the ends went further since
+  pub gets_still : (place : ℕ) (old middle new : List (ℕ × E)) → GetsBytes m place old middle → numbers new ≡ numbers middle →
+      AtEach (GoesFurther m) middle new → GetsBytes m place old new
+  gets_still place old middle new came same each =
+      let there = same_number middle new same place came.after_it.0 came.after_it.1 came.stands in
+      record {
+        before_it = came.before_it;
+        after_it = (came.after_it.0, there.0);
+        stood = came.stood;
+        stands = there.1;
+        more = λ tells.
+            let was = came.more tells in
+            let far = (each.at place came.after_it (came.after_it.0, there.0) came.stands there.1 tells).1 in
+            (
+              was.0 ++ far.0,
+              (λ none. was.1 (nil_front was.0 far.0 none)),
+              far.1 ∙ ap (λ (l : List ℕ). l ++ far.0) was.2 ∙ append_assoc (m.got came.before_it.1) was.0 far.0,
+            );
+      }
 
   module _ {M : Type 0} (v : LineView E M) (middle new : ChannelView E) (number : ℕ) (shuts : ShutsStream m number middle new)
     (conn : middle.conn ≡ with_room v.channel.conn) where
