@@ -1,4 +1,5 @@
 mod Delivering
+mod Fields
 mod Keeping
 mod Longer
 mod Passing

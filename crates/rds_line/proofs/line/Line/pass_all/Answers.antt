@@ -1,4 +1,4 @@
-use Rattle.std.proofs.Common.{◌≡◌, ◌≢◌, ◌<◌, true, Ok, length, sym, ap, ◌∙◌, arith}
+use Rattle.std.proofs.Common.{◌≡◌, Ok, sym, ap, ◌∙◌, arith}
 use denote.Enum.Bare.{same_true}
 use Rattle.rds_line_channel.specs.contracts.channel.Taken.{the_type}
 use Rattle.rds_line_channel.specs.declared.channel.Taken.TheVariants as taken
@@ -10,7 +10,8 @@ use Rattle.rds_line.proofs.line.Line.pass_all.Goals as goal
 
 pub returns-in_err-pass-clause-stays : goal.returns-in_err-pass-clause-stays
 returns-in_err-pass-clause-stays g c =
-    line_through g.E.End.means g.M.MapWriter.pair c.args.self.now c.loop-taken.self c.pass.new.self c.loop-taken.invariant.stays c.pass.ensures.stays
+    line_through g.E.End.means g.M.MapWriter.pair c.args.self.now c.loop-taken.self c.pass.new.self c.loop-taken.invariant.stays
+    c.pass.ensures.stays
 
 pub returns-in_err-taken-2-clause-stays : goal.returns-in_err-taken-2-clause-stays
 returns-in_err-taken-2-clause-stays g c =
@@ -31,7 +32,8 @@ loop-taken-preserved g c =
     let was = c.loop-taken.invariant in
     let took = c.in_ok-taken-2.ensures in
     let passed = line_through m pair start c.loop-taken.self middle was.stays c.pass.ensures.stays in
-    let frame : c.loop-taken.taken ≡ taken.Frame = same_true the_type tt c.loop-taken.taken taken.Frame (sym c.eq.ensures ∙ c.loop-taken-test.true) in
+    let frame : c.loop-taken.taken ≡ taken.Frame = same_true the_type tt c.loop-taken.taken taken.Frame
+    (sym c.eq.ensures ∙ c.loop-taken-test.true) in
     record {
       stays = line_through m pair start middle new passed c.take-in-loop-taken.ensures.stays;
       orders = c.take-in-loop-taken.ensures.orders ∙ c.pass.ensures.orders ∙ was.orders;

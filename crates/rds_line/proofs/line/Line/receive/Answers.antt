@@ -4,34 +4,22 @@ use Rattle.rds_conn.specs.Connection.{stream_of, with_room}
 use Rattle.rds_line_streams.specs.Streams.{StreamsView, newest_place}
 use Rattle.rds_line_channel.specs.Channel.{ChannelView}
 use Rattle.rds_line.specs.Line.{LineView, past_of}
-use Rattle.rds_line.specs.Stays.{LineStays}
 use Rattle.rds_line.specs.Turns.{GetsBytes}
-use Rattle.rds_line.specs.declared.line.Line.TheInside.{Inside}
+use Rattle.rds_line.proofs.Fields.{view_in}
 use Rattle.rds_line.proofs.Longer.{longer}
-use Rattle.rds_line.proofs.Staying.{channel_through, line_inside, line_same, line_through}
-use Rattle.rds_line.proofs.Written.{the_one, made_room, got_on, over_stays, gets_bytes, gets_still, more_entries, keeps_over}
+use Rattle.rds_line.proofs.Staying.{line_same, line_stays, line_through}
+use Rattle.rds_line.proofs.Written.{the_one, reads_line, over_stays, gets_bytes, gets_still, more_entries, keeps_over}
 use Rattle.rds_line.proofs.line.Line.receive.Given as given
 use Rattle.rds_line.proofs.line.Line.receive.Goals as goal
-
--- what contracts see of a line of these fields
-abbrev view_in : {E M : Type 0} → Inside E M → LineView E M
-view_in i = record { channel = i.channel; orders = i.orders; boxes = i.boxes; ports = i.ports; words = i.words; own = i.own; map = i.map }
 
 pub returns-then-not-is_open-clause-stays : goal.returns-then-not-is_open-clause-stays
 returns-then-not-is_open-clause-stays g c = line_same g.E.End.means g.M.MapWriter.pair c.args.self.now
 
 pub returns-in-Nothing-clause-stays : goal.returns-in-Nothing-clause-stays
 returns-in-Nothing-clause-stays g c =
-    let m = g.E.End.means in
-    let pair = g.M.MapWriter.pair in
-    let v = view_in c.self-2.inside in
-    let passed = c.pass_all.new.self in
-    let ready = c.reserve.new.self in
-    let new = c.receive.new.self in
-    line_through m pair c.args.self.now passed (record v { channel = new }) c.pass_all.ensures.stays
-    (line_inside m pair v passed c.self-2.view_is new
-    (channel_through m v.channel ready new (made_room m v.channel ready c.in_ok-reserve.ensures.ok)
-    (got_on m ready new c.receive.result _ c.receive.ensures.received c.receive.ensures.rest)))
+    reads_line g.E.End.means g.M.MapWriter.pair c.args.self.now c.pass_all.new.self (view_in c.self-2.inside) c.reserve.new.self
+    c.receive.new.self c.receive.result c.self-2.view_is c.pass_all.ensures.stays c.in_ok-reserve.ensures.ok
+    c.receive.ensures.received c.receive.ensures.rest
 
 module _ (g : given.Over) (c : goal.After-end_over g) where
   -- the number of the stream that is over
@@ -56,23 +44,22 @@ invariant_of-self-in-Over g c =
     let cuts = c.end_over.ensures.cuts ∙ ap (λ (v : ChannelView g.row.E.Denot). v.cuts) c.receive.ensures.rest
         ∙ ap (λ (v : ChannelView g.row.E.Denot). v.cuts) c.in_ok-reserve.ensures.ok in
     keeps_over g.E.End.means (view_in c.self-2.inside) c.receive.new.self c.end_over.new.self (one g c).0
-    (c.end_over.ensures.shut (one g c).0 (one g c).1) (conn g c) g.M.MapWriter.published c.self-2.inside.own_pulled cuts c.self-2.invariant.0
+    (c.end_over.ensures.shut (one g c).0 (one g c).1) (conn g c) g.M.MapWriter.published c.self-2.inside.own_pulled cuts
+    c.self-2.invariant.0
 
 pub returns-in-Over-clause-stays : goal.returns-in-Over-clause-stays
 returns-in-Over-clause-stays g c =
     let m = g.E.End.means in
     let pair = g.M.MapWriter.pair in
     let v = view_in c.self-2.inside in
-    let passed = c.pass_all.new.self in
-    let ready = c.reserve.new.self in
     let middle = c.receive.new.self in
     let new = c.end_over.new.self in
+    let read =
+    reads_line m pair c.args.self.now c.pass_all.new.self v c.reserve.new.self middle c.receive.result c.self-2.view_is
+    c.pass_all.ensures.stays c.in_ok-reserve.ensures.ok c.receive.ensures.received c.receive.ensures.rest in
     let shuts = c.end_over.ensures.shut (one g c).0 (one g c).1 in
-    line_through m pair c.args.self.now passed (record v { channel = new }) c.pass_all.ensures.stays
-    (line_inside m pair v passed c.self-2.view_is new
-    (channel_through m v.channel ready new (made_room m v.channel ready c.in_ok-reserve.ensures.ok)
-    (channel_through m ready middle new (got_on m ready middle c.receive.result _ c.receive.ensures.received c.receive.ensures.rest)
-    (over_stays m (one g c).0 middle new shuts c.end_over.ensures.cuts))))
+    line_through m pair c.args.self.now (record v { channel = middle }) (record v { channel = new }) read
+    (line_stays m pair (record v { channel = middle }) new (over_stays m (one g c).0 middle new shuts c.end_over.ensures.cuts))
 
 pub returns-in-Over-clause-ended : goal.returns-in-Over-clause-ended
 returns-in-Over-clause-ended g c same =
@@ -89,32 +76,24 @@ returns-in_err-pass_all-in-Bytes-clause-stays g c =
     let m = g.E.End.means in
     let pair = g.M.MapWriter.pair in
     let v = view_in c.self-2.inside in
-    let passed = c.pass_all.new.self in
-    let ready = c.reserve.new.self in
     let new = c.receive.new.self in
-    let later = c.pass_all-in-Bytes.new.self in
-    line_through m pair c.args.self.now passed later c.pass_all.ensures.stays
-    (line_through m pair passed (record v { channel = new }) later
-    (line_inside m pair v passed c.self-2.view_is new
-    (channel_through m v.channel ready new (made_room m v.channel ready c.in_ok-reserve.ensures.ok)
-    (got_on m ready new c.receive.result _ c.receive.ensures.received c.receive.ensures.rest)))
-    c.pass_all-in-Bytes.ensures.stays)
+    let read =
+    reads_line m pair c.args.self.now c.pass_all.new.self v c.reserve.new.self new c.receive.result c.self-2.view_is
+    c.pass_all.ensures.stays c.in_ok-reserve.ensures.ok c.receive.ensures.received c.receive.ensures.rest in
+    line_through m pair c.args.self.now (record v { channel = new }) c.pass_all-in-Bytes.new.self read
+    c.pass_all-in-Bytes.ensures.stays
 
 pub returns-in_ok-pass_all-in-Bytes-clause-stays : goal.returns-in_ok-pass_all-in-Bytes-clause-stays
 returns-in_ok-pass_all-in-Bytes-clause-stays g c =
     let m = g.E.End.means in
     let pair = g.M.MapWriter.pair in
     let v = view_in c.self-2.inside in
-    let passed = c.pass_all.new.self in
-    let ready = c.reserve.new.self in
     let new = c.receive.new.self in
-    let later = c.pass_all-in-Bytes.new.self in
-    line_through m pair c.args.self.now passed later c.pass_all.ensures.stays
-    (line_through m pair passed (record v { channel = new }) later
-    (line_inside m pair v passed c.self-2.view_is new
-    (channel_through m v.channel ready new (made_room m v.channel ready c.in_ok-reserve.ensures.ok)
-    (got_on m ready new c.receive.result _ c.receive.ensures.received c.receive.ensures.rest)))
-    c.pass_all-in-Bytes.ensures.stays)
+    let read =
+    reads_line m pair c.args.self.now c.pass_all.new.self v c.reserve.new.self new c.receive.result c.self-2.view_is
+    c.pass_all.ensures.stays c.in_ok-reserve.ensures.ok c.receive.ensures.received c.receive.ensures.rest in
+    line_through m pair c.args.self.now (record v { channel = new }) c.pass_all-in-Bytes.new.self read
+    c.pass_all-in-Bytes.ensures.stays
 
 pub returns-in_ok-pass_all-in-Bytes-clause-bytes : goal.returns-in_ok-pass_all-in-Bytes-clause-bytes
 returns-in_ok-pass_all-in-Bytes-clause-bytes g c same =
@@ -133,4 +112,5 @@ returns-in_ok-pass_all-in-Bytes-clause-bytes g c same =
     let further = c.pass_all-in-Bytes.ensures.stays.channel.streams in
     subst (λ (s : StreamsView g.row.E.Denot). GetsBytes m (newest_place s) s.list later.channel.streams.list) streams
     (gets_still m place ready.streams.list new.streams.list later.channel.streams.list
-    (gets_bytes m place (got.Bytes n) new.piece ready.streams.list new.streams.list some did.received) further.numbers further.further)
+    (gets_bytes m place (got.Bytes n) new.piece ready.streams.list new.streams.list some did.received) further.numbers
+    further.further)

@@ -4,17 +4,13 @@ use Rattle.rds_line_channel.specs.Channel.{ChannelView}
 use Rattle.rds_line.specs.Line.{LineView, past_of}
 use Rattle.rds_line.specs.Stays.{LineStays}
 use Rattle.rds_line.specs.Turns.{SendsBytes}
-use Rattle.rds_line.specs.declared.line.Line.TheInside.{Inside}
+use Rattle.rds_line.proofs.Fields.{view_in}
 use Rattle.rds_line.proofs.Longer.{longer}
 use Rattle.rds_line.proofs.Staying.{channel_of, channel_same, line_inside, line_same, line_through}
 use Rattle.rds_line.proofs.Written.{made_room}
 use Rattle.rds_line.proofs.line.Line.send.Given as given
 use Rattle.rds_line.proofs.line.Line.send.Goals as goal
 use Rattle.rds_line.proofs.line.Line.send.Goals.{else-unwritten-eq0-via-then-unwritten-eq0+in_ok-pull+else-not-branch, else-unwritten-eq0-via-else-unwritten-eq0}
-
--- what contracts see of a line of these fields
-abbrev view_in : {E M : Type 0} → Inside E M → LineView E M
-view_in i = record { channel = i.channel; orders = i.orders; boxes = i.boxes; ports = i.ports; words = i.words; own = i.own; map = i.map }
 
 pub returns-then-not-is_open-clause-stays : goal.returns-then-not-is_open-clause-stays
 returns-then-not-is_open-clause-stays g c = line_same g.E.End.means g.M.MapWriter.pair c.args.self.now
@@ -40,10 +36,12 @@ module _ (g : given.Over) (c : goal.After-write g) where
   middle_stays : LineStays g.E.End.means g.M.MapWriter.pair c.args.self.now c.else-unwritten-eq0.self
   middle_stays = elim c.else-unwritten-eq0.branch [
     | else-unwritten-eq0-via-then-unwritten-eq0+in_ok-pull+else-not-branch w ↦
-        subst (λ (v : LineView g.row.E.Denot g.row.M.Denot). LineStays g.E.End.means g.M.MapWriter.pair c.args.self.now v) (sym w.self-is)
+        subst (λ (v : LineView g.row.E.Denot g.row.M.Denot). LineStays g.E.End.means g.M.MapWriter.pair c.args.self.now v)
+        (sym w.self-is)
         (line_through g.E.End.means g.M.MapWriter.pair c.args.self.now ready w.pull.new.self ready_stays w.pull.ensures.stays)
     | else-unwritten-eq0-via-else-unwritten-eq0 w ↦
-        subst (λ (v : LineView g.row.E.Denot g.row.M.Denot). LineStays g.E.End.means g.M.MapWriter.pair c.args.self.now v) (sym w.self-is)
+        subst (λ (v : LineView g.row.E.Denot g.row.M.Denot). LineStays g.E.End.means g.M.MapWriter.pair c.args.self.now v)
+        (sym w.self-is)
         ready_stays
   ]
 
@@ -61,11 +59,14 @@ module _ (g : given.Over) (c : goal.After-write g) where
 
 pub returns-clause-stays : goal.returns-clause-stays
 returns-clause-stays g c =
-    line_through g.E.End.means g.M.MapWriter.pair c.args.self.now c.else-unwritten-eq0.self c.write.new.self (middle_stays g c) c.write.ensures.stays
+    line_through g.E.End.means g.M.MapWriter.pair c.args.self.now c.else-unwritten-eq0.self c.write.new.self
+    (middle_stays g c) c.write.ensures.stays
 
 pub returns-clause-bytes : goal.returns-clause-bytes
 returns-clause-bytes g c same =
-    subst (λ (s : StreamsView g.row.E.Denot). SendsBytes g.E.End.means (newest_place s) s.list c.write.new.self.channel.streams.list) (same_streams g c)
+    let m = g.E.End.means in
+    let new = c.write.new.self.channel.streams in
+    subst (λ (s : StreamsView g.row.E.Denot). SendsBytes m (newest_place s) s.list new.list) (same_streams g c)
     (c.write.ensures.bytes same)
 
 pub returns-clause-ended : goal.returns-clause-ended
