@@ -1,4 +1,6 @@
+mod Judging
 mod Keeping
 mod Relieving
+mod Starting
 mod Staying
 mod Taking
