@@ -3,6 +3,10 @@ use Rattle.std.proofs.Common.{◌≡◌, ◌⊎◌, inl, inr, ◌&&◌, ◌||◌
 use Rattle.rds_line.specs.declared.outcome.Turn.{Turn}
 use Rattle.rds_line.specs.declared.outcome.Turn.TheVariants as turn
 
+pub not_false : (b : Bool) → not b ≡ false → b ≡ true
+not_false true e = refl
+not_false false e = absurd (cc)
+
 pub judged_moved : (took on has_next moved appended : Bool) → (took ≡ true) ⊎ ((on ≡ true) ⊎ (has_next ≡ true)) → (moved ≡ true) ⊎ (appended ≡ true)
     → turn.Moved ≡ (if not took && (not on && not has_next) then turn.Over else if moved || appended then turn.Moved else turn.Idle)
 judged_moved true on has_next true appended going did = refl
