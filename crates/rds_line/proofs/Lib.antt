@@ -3,4 +3,7 @@ mod Keeping
 mod Relieving
 mod Starting
 mod Staying
+mod Passing
+mod Delivering
+mod StaysPassed
 mod Taking

@@ -1,5 +1,5 @@
 -- What was read of a stream is a beginning of what was written to it, once the ends of two lines have met.
-use Rattle.std.proofs.Common.{◌≡◌, ◌≢◌, ◌⊎◌, inl, inr, ℕ, ◌-◌, ◌<◌, ◌≤◌, ◌==◌, Bool, true, false, Some, None, slice_get, List, [], ◌∷◌, ◌++◌, get_or, take, length, append_assoc, refl, sym, ap, subst, ◌∙◌, arith}
+use Rattle.std.proofs.Common.{◌≡◌, ◌≢◌, ◌⊎◌, inl, inr, ℕ, ◌<◌, ◌≤◌, Bool, true, false, Some, None, slice_get, List, [], ◌∷◌, ◌++◌, get_or, take, length, append_assoc, refl, sym, ap, subst, ◌∙◌, arith}
 use Rattle.std.specs.List.{Contains}
 use Rattle.std.proofs.lemmas.Bool.{cases_eq, cases_lt}
 use Rattle.std.proofs.lemmas.List.{get_or-take, length-take, length-map}
@@ -16,7 +16,8 @@ use Rattle.rds_line_streams.specs.Streams.{StreamsView, AreKept, numbers, newest
 use Rattle.rds_line_channel.specs.Carried.{IsOn, IsOff, IsCarriedBy}
 
 begins_through : (x y z : List ℕ) → Begins x y → Begins y z → Begins x z
-begins_through x y z first second = (first.0 ++ second.0, second.1 ∙ (ap (λ (l : List ℕ). l ++ second.0) first.1 ∙ append_assoc x first.0 second.0))
+begins_through x y z first second =
+    (first.0 ++ second.0, second.1 ∙ (ap (λ (l : List ℕ). l ++ second.0) first.1 ∙ append_assoc x first.0 second.0))
 
 nil_or_not : (l : List ℕ) → (l ≡ []) ⊎ (l ≢ [])
 nil_or_not [] = inl refl
@@ -37,9 +38,12 @@ stands_opened {E} s number found = go (slice_get_cases s.list place).1
     within = (let small = found.1 in omega (arith, length-take s.opened (numbers s.list)))
 
     there : slice_get (numbers s.list) place ≡ Some number
-    there = slice_get-get_or (numbers s.list) place number within ∙ ap Some (sym (get_or-take s.opened (numbers s.list) place number below) ∙ found.2)
+    there =
+        slice_get-get_or (numbers s.list) place number within
+        ∙ ap Some (sym (get_or-take s.opened (numbers s.list) place number below) ∙ found.2)
 
-    go : ((x : ℕ × E) × (place < length s.list) × (slice_get s.list place ≡ Some x) × (get_or s.list place x ≡ x)) ⊎ ((length s.list ≤ place) × (slice_get s.list place ≡ None)) →
+    go : ((x : ℕ × E) × (place < length s.list) × (slice_get s.list place ≡ Some x) × (get_or s.list place x ≡ x))
+        ⊎ ((length s.list ≤ place) × (slice_get s.list place ≡ None)) →
         (at : ℕ) × (e : E) × (at < s.opened) × (slice_get s.list at ≡ Some (number, e))
     go (inl stream) =
         let is = same_Some stream.0.0 number (sym (number_there s.list place stream.0 stream.2) ∙ there) in
@@ -47,9 +51,11 @@ stands_opened {E} s number found = go (slice_get_cases s.list place).1
     go (inr past_all) = absurd (omega (arith, within, length-map s.list (λ (x : ℕ × E). x.0)))
 
 module _ {E : Type 0} (m : Means E) (tells : m.tells ≡ true) where
-  module _ (past : List Entry) (arrived out cuts : List ℕ) (s : StreamsView E) (carried : IsCarriedBy m past arrived out s cuts) (place number : ℕ) (e : E) (stands : slice_get s.list place ≡ Some (number, e)) where
+  module _ (past : List Entry) (arrived out cuts : List ℕ) (s : StreamsView E) (carried : IsCarriedBy m past arrived out s cuts)
+      (place number : ℕ) (e : E) (stands : slice_get s.list place ≡ Some (number, e)) where
     -- a stream that was opened is open or was
-    on_or_off : place < s.opened → (b : Bool) → s.is_open ≡ b → (place ≡ newest_place s) ⊎ (place ≢ newest_place s) → IsOn m past arrived out number e ⊎ IsOff m past number e
+    on_or_off : place < s.opened → (b : Bool) → s.is_open ≡ b → (place ≡ newest_place s) ⊎ (place ≢ newest_place s) →
+        IsOn m past arrived out number e ⊎ IsOff m past number e
     on_or_off below false off at = inr ((carried.off tells place (below, λ on. absurd (cc))).at (number, e) stands)
     on_or_off below true on (inl here) = inl ((carried.on tells on).at (number, e) (ap (slice_get s.list) (sym here) ∙ stands))
     on_or_off below true on (inr apart) = inr ((carried.off tells place (below, λ _. apart)).at (number, e) stands)
@@ -72,21 +78,27 @@ module _ {E : Type 0} (m : Means E) (tells : m.tells ≡ true) where
         let nothing = (((kept.unused place unopened).at (number, e) stands).0 tells).0 in
         (written_bytes number past, ap (λ (l : List ℕ). l ++ written_bytes number past) (sym nothing))
 
-  module _ (past other_past : List Entry) (arrived other_arrived out other_out cuts other_cuts : List ℕ) (s other : StreamsView E) where
+  module _ (past other_past : List Entry) (arrived other_arrived out other_out cuts other_cuts : List ℕ) (s other : StreamsView E)
+      (carried : IsCarriedBy m past arrived out s cuts)
+      (other_carried : IsCarriedBy m other_past other_arrived other_out other other_cuts) where
     -- what one journal read is a beginning of what the other wrote
-    pub honest : IsCarriedBy m past arrived out s cuts → IsCarriedBy m other_past other_arrived other_out other other_cuts →
-        AreKept m other → IsLegal past → numbers other.list ≡ numbers s.list → AtEach (GotBeginning m) s.list other.list →
+    pub honest : AreKept m other → IsLegal past → numbers other.list ≡ numbers s.list →
+        AtEach (GotBeginning m) s.list other.list →
         (number : ℕ) → Begins (read_bytes number past) (written_bytes number other_past)
-    honest carried other_carried other_kept legal same got number = go (nil_or_not (read_bytes number past))
+    honest other_kept legal same got number = go (nil_or_not (read_bytes number past))
       where
-        go : (read_bytes number past ≡ []) ⊎ (read_bytes number past ≢ []) → Begins (read_bytes number past) (written_bytes number other_past)
+        go : (read_bytes number past ≡ []) ⊎ (read_bytes number past ≢ []) →
+            Begins (read_bytes number past) (written_bytes number other_past)
         go (inl none) = (written_bytes number other_past, ap (λ (l : List ℕ). l ++ written_bytes number other_past) (sym none))
         go (inr some) =
-            let found = subst (λ (ns : List ℕ). Contains ns number) (sym carried.opened) (read_was_opened number past legal some) in
+            let opened = read_was_opened number past legal some in
+            let found = subst (λ (ns : List ℕ). Contains ns number) (sym carried.opened) opened in
             let here = stands_opened s number found in
             let there = same_number s.list other.list same here.0 number here.1 here.3 in
-            let reads = read_begins past arrived out cuts s carried here.0 number here.1 here.3 (was_on past arrived out cuts s carried here.0 number here.1 here.3 here.2) in
+            let was = was_on past arrived out cuts s carried here.0 number here.1 here.3 here.2 in
+            let reads = read_begins past arrived out cuts s carried here.0 number here.1 here.3 was in
             let goes = got.at here.0 (number, here.1) (number, there.0) here.3 there.1 tells in
-            let sends = sent_at_all other_past other_arrived other_out other_cuts other other_carried here.0 number there.0 there.1 other_kept (cases_lt here.0 other.opened) in
+            let sent = sent_at_all other_past other_arrived other_out other_cuts other other_carried in
+            let sends = sent here.0 number there.0 there.1 other_kept (cases_lt here.0 other.opened) in
             begins_through (read_bytes number past) (m.got here.1) (written_bytes number other_past) reads
             (begins_through (m.got here.1) (m.sent there.0) (written_bytes number other_past) goes sends)

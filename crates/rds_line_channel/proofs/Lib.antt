@@ -1,6 +1,6 @@
-pub mod Carrying
-pub mod Going
-pub mod OpenEnd
+mod Carrying
+mod Going
+mod OpenEnd
 mod Restated
 mod Starting
 mod Ending

@@ -1,22 +1,23 @@
 -- The ends of all streams change, and none of them moves a byte.
-use Rattle.std.proofs.Common.{◌≡◌, ◌⊎◌, inl, inr, ℕ, ◌≤◌, if◌then◌else◌, true, Some, None, slice_get, List, ◌++◌, take, refl, sym, ap, subst, ◌∙◌}
+use Rattle.std.proofs.Common.{◌≡◌, inl, inr, ℕ, ◌≤◌, if◌then◌else◌, None, slice_get, List, ◌++◌, take, sym, ap, subst, ◌∙◌}
 use Rattle.rds_link.specs.Ends.{Means}
 use Rattle.rds_model.specs.declared.entry.Entry.{Entry}
-use Rattle.rds_model.specs.Streams.{written_bytes}
 use Rattle.rds_line_streams.specs.ChangeLaws.{same_length}
-use Rattle.rds_line_streams.specs.Meeting.{AtEach, Meets}
+use Rattle.rds_line_streams.specs.Meeting.{AtEach}
 use Rattle.rds_line_streams.specs.MeetingLaws.{MeetsSome}
 use Rattle.rds_line_streams.specs.NumberLaws.{same_number}
-use Rattle.rds_line_streams.specs.Streams.{StreamsView, HasSaidOver, numbers, newest_place, open_number, with_list}
+use Rattle.rds_line_streams.specs.Streams.{StreamsView, HasSaidOver, numbers, newest_place, with_list}
 use Rattle.rds_line_channel.specs.Carried.{StreamAt, IsOn, IsOff, HasCause, IsCarriedBy}
 
 -- what held of the number and the end of a stream holds of it still
-still_at : {E : Type 0} {Way : E → E → Type 0} {Was Is : ℕ → E → Type 0} (old new : List (ℕ × E)) → numbers new ≡ numbers old → AtEach Way old new →
-    ((number : ℕ) (x y : E) → Way x y → Was number x → Is number y) → (place : ℕ) → StreamAt Was place old → StreamAt Is place new
+still_at : {E : Type 0} {Way : E → E → Type 0} {Was Is : ℕ → E → Type 0} (old new : List (ℕ × E)) → numbers new ≡ numbers old →
+    AtEach Way old new → ((number : ℕ) (x y : E) → Way x y → Was number x → Is number y) →
+    (place : ℕ) → StreamAt Was place old → StreamAt Is place new
 still_at old new same each becomes place was = record {
   at = λ stream stands.
       let stood = same_number new old (sym same) place stream.0 stream.1 stands in
-      becomes stream.0 stood.0 stream.1 (each.at place (stream.0, stood.0) stream stood.1 stands) (was.at (stream.0, stood.0) stood.1);
+      becomes stream.0 stood.0 stream.1 (each.at place (stream.0, stood.0) stream stood.1 stands)
+      (was.at (stream.0, stood.0) stood.1);
 }
 
 module _ {E : Type 0} (m : Means E) where
@@ -43,7 +44,8 @@ module _ {E : Type 0} (m : Means E) where
     still_caused number x y met (inr (inr refused)) = inr (inr refused)
 
     -- the ends have met those of another line
-    pub carried_met : (s : StreamsView E) (new : List (ℕ × E)) → numbers new ≡ numbers s.list → AtEach (MeetsSome m) s.list new → IsCarriedBy m past arrived out s cuts → IsCarriedBy m past arrived out (with_list s new) cuts
+    pub carried_met : (s : StreamsView E) (new : List (ℕ × E)) → numbers new ≡ numbers s.list → AtEach (MeetsSome m) s.list new →
+        IsCarriedBy m past arrived out s cuts → IsCarriedBy m past arrived out (with_list s new) cuts
     carried_met s new same each carried = record {
       current = ap (λ (ns : List ℕ). if s.is_open then slice_get ns (newest_place s) else None) same ∙ carried.current;
       opened = ap (take s.opened) same ∙ carried.opened;

@@ -1,10 +1,10 @@
 -- What the calls of a channel do. Source: this project's own.
-use Rattle.std.specs.Prelude.{◌≡◌, ◌≢◌, ◌⊎◌, ℕ, ◌+◌, ◌≤◌, Bool, true, false, Option, Some, None, is_some, List, [], ◌∷◌, ◌++◌, length, drop, slice_get}
+use Rattle.std.specs.Prelude.{◌≡◌, ℕ, ◌+◌, Bool, true, false, Some, None, [], ◌∷◌, drop, slice_get}
 use Rattle.rds_wire.specs.declared.kind.Malformed.{Malformed}
 use Rattle.rds_link.specs.Ends.{Means}
 use Rattle.rds_model.specs.declared.entry.Entry.TheVariants as entry
 use Rattle.rds_conn.specs.declared.conn.Fed.{Fed}
-use Rattle.rds_conn.specs.Connection.{Connection, with_entries, stream_of}
+use Rattle.rds_conn.specs.Connection.{with_entries, stream_of}
 use Rattle.rds_conn.specs.Feeding.{Feeds, RefusesHeader}
 use Rattle.rds_line_streams.specs.Changes.{ChangesAt, IsShutDown}
 use Rattle.rds_line_streams.specs.Streams.{StreamsView, newest_place, numbers}

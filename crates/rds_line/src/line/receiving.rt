@@ -76,7 +76,7 @@ impl<E: End, M: MapWriter> Line<E, M> {
         requires open { self.old.channel.streams.is_open ≡ true }
         ensures stays { LineStays E.means M.pair self.old self.new }
         ensures orders { self.new.orders ≡ self.old.orders }
-        ensures ready { OnOk result (IsReady self.new.channel.conn) }
+        ensures ready { result ≡ Ok taken.Frame → IsReady self.new.channel.conn }
         ensures frame { result ≡ Ok taken.Frame → IsSome self.new.channel.conn.waiting }
         ensures part { result ≡ Ok taken.Part → (self.new.channel.conn.waiting ≡ None) × (self.new.channel.piece ≡ []) }
         ensures streams { result ≢ Ok taken.Refused → self.new.channel.streams ≡ self.old.channel.streams }
@@ -100,9 +100,12 @@ impl<E: End, M: MapWriter> Line<E, M> {
         ensures passed { OnOk result (PassesOne self.old.channel self.new.channel) }
         ensures err { IfErr result (λ error. error ≡ errors.Memory) }
     {
-        match self.channel.verdict() {
-            Some(Verdict::Deliver { dport }) => self.deliver(rt, dport),
-            Some(Verdict::Map) => self.publish(rt),
+        let Some(verdict) = self.channel.verdict() else {
+            unreachable!()
+        };
+        match verdict {
+            Verdict::Deliver { dport } => self.deliver(rt, dport),
+            Verdict::Map => self.publish(rt),
             _ => {
                 self.channel.pass(Found::Unasked);
                 Ok(())
@@ -119,6 +122,7 @@ impl<E: End, M: MapWriter> Line<E, M> {
         ensures passed { OnOk result (PassesOne self.old.channel self.new.channel) }
         ensures err { IfErr result (λ error. error ≡ errors.Memory) }
     {
+        self.channel.known();
         let Some(slot) = self.ports.look(port) else {
             self.channel.pass(Found::NoSocket);
             return Ok(());
@@ -145,6 +149,7 @@ impl<E: End, M: MapWriter> Line<E, M> {
         ensures passed { OnOk result (PassesOne self.old.channel self.new.channel) }
         ensures err { IfErr result (λ error. error ≡ errors.Memory) }
     {
+        self.channel.known();
         let Some(frame) = self.channel.waiting() else {
             unreachable!()
         };
