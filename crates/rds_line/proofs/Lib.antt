@@ -1,9 +1,11 @@
+mod Delivering
 mod Judging
 mod Keeping
+mod Passing
+mod Pulled
 mod Relieving
 mod Starting
 mod Staying
-mod Passing
-mod Delivering
 mod StaysPassed
 mod Taking
+mod Written
