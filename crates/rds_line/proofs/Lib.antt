@@ -1,10 +1,12 @@
 mod Delivering
 mod Fields
+mod Judging
 mod Keeping
 mod Longer
 mod Passing
 mod Pulled
 mod Relieving
+mod Starting
 mod Staying
 mod StaysPassed
 mod Taking
