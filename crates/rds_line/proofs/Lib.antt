@@ -1,7 +1,11 @@
-mod Keeping
-mod Relieving
-mod Staying
-mod Passing
 mod Delivering
+mod Judging
+mod Keeping
+mod Passing
+mod Pulled
+mod Relieving
+mod Starting
+mod Staying
 mod StaysPassed
 mod Taking
+mod Written

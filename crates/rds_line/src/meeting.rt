@@ -28,6 +28,8 @@ pub fn meet<W: Wire, M: MapWriter>(a: &mut Line<W::End, M>, b: &mut Line<W::End,
     ensures other { b.new ≡ record b.old { channel = record b.old.channel { streams = with_list b.old.channel.streams b.new.channel.streams.list } } }
 {
     rds_line_channel::meet::<W>(&mut a.channel, &mut b.channel);
+    a.channel.known();
+    b.channel.known();
     laws::headline_of_all();
     laws::no_bad_of_all();
 }

@@ -41,6 +41,7 @@ impl<E: End, M: MapWriter> Line<E, M> {
         match self.channel.receive() {
             Got::Nothing => Ok(Heard::Nothing),
             Got::Over => {
+                self.channel.known();
                 self.channel.end_over();
                 Ok(Heard::Ended)
             }

@@ -50,6 +50,7 @@ impl<E: End, M: MapWriter> Line<E, M> {
         ensures nothing { result ≡ Ok false → OwesNothing self.old self.new × (past_of self.new ≡ past_of self.old) }
         ensures err { IfErr result (λ error. error ≡ errors.Memory) }
     {
+        self.channel.known();
         if self.own.refresh(&mut self.words) {
             self.own_pulled = false;
         }
@@ -85,6 +86,7 @@ impl<E: End, M: MapWriter> Line<E, M> {
             Put::Took(_) => Ok(Sent::Bytes),
             Put::Full => Ok(Sent::Full),
             Put::Over => {
+                self.channel.known();
                 self.channel.end_over();
                 Ok(Sent::Ended)
             }
