@@ -1,4 +1,5 @@
 mod Delivering
+mod Feeding
 mod Judging
 mod Keeping
 mod Passing

@@ -1,12 +1,16 @@
 use Rattle.std.proofs.Common.{ℕ, ◌<◌, length, refl, ap, subst, ◌∙◌, arith}
 use Rattle.rds_bindtab.specs.Seats.{PortSeat}
+use Rattle.rds_model.specs.declared.entry.Outcome.TheVariants as outcome
+use Rattle.rds_model.specs.declared.entry.Verdict.{Verdict}
 use Rattle.rds_model.specs.declared.entry.TheConstants.{MAX_SLOTS}
 use Rattle.rds_model.specs.declared.order.Datagram.{Datagram}
+use Rattle.rds_conn.specs.declared.conn.Found.TheVariants as found
+use Rattle.rds_conn.specs.Passing.{outcome_of}
 use Rattle.rds_line_parts.specs.Boxes.{IsPutInto}
 use Rattle.rds_line_parts.specs.Delivery.{IsDelivery}
 use Rattle.rds_line.proofs.Staying.{boxes_same, channel_same}
 use Rattle.rds_line.proofs.Passing.{keeps_passed}
-use Rattle.rds_line.proofs.Delivering.{datagram_is, delivery_fits, passes_delivery, ready_inside, verdict_here, waits_inside}
+use Rattle.rds_line.proofs.Delivering.{datagram_is, delivery_fits, passes_delivery, passes_quietly, ready_inside, verdict_here, waits_inside}
 use Rattle.rds_line.proofs.StaysPassed.{at_err, at_ok, boxes_as, line_stays, passed_stays, put_same, same_seats}
 use Rattle.rds_line.proofs.line.Line.deliver.Goals as goal
 
@@ -15,6 +19,17 @@ returns-in_default-clause-stays g c =
     let table = ap (λ (h : PortSeat). h.table) c.look.ensures.seat in
     let passed = passed_stays c.pass.ensures.passes c.pass.ensures.rest in
     line_stays c.self.view_is passed refl (boxes_same c.self.inside.boxes) table refl refl refl
+
+pub invariant_of-self : goal.invariant_of-self
+invariant_of-self g c =
+    let published = g.M.MapWriter.published in
+    let p = c.pass.ensures.passes in
+    let is = verdict_here (waits_inside c.self.view_is c.requires.waits) p in
+    let none = ap (λ (v : Verdict). outcome_of v found.NoSocket) is in
+    let table = ap (λ (h : PortSeat). h.table) c.look.ensures.seat in
+    keeps_passed published c.self.inside.own_pulled
+    (passes_quietly published found.NoSocket _ _ p outcome.NoSocket none refl (λ payload earlier. refl) c.pass.ensures.rest table refl)
+    c.self.invariant
 
 pub returns-in_default-datagram-clause-stays : goal.returns-in_default-datagram-clause-stays
 returns-in_default-datagram-clause-stays g c =
