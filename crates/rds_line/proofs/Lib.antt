@@ -1,4 +1,5 @@
 mod Delivering
+mod Feeding
 mod Fields
 mod Judging
 mod Keeping
