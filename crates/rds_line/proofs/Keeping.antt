@@ -1,0 +1,152 @@
+-- What a line keeps, where its journal gets an entry that delivers nothing and is no map, or where all of it stays.
+use Rattle.std.proofs.Common.{◌≡◌, ℕ, ◌+◌, ◌<◌, Bool, true, List, [], ◌∷◌, Option, Some, None, slice_index, length, refl, sym, ap, subst, ◌∙◌}
+use Rattle.rds_model.specs.declared.entry.Entry.{Entry}
+use Rattle.rds_model.specs.declared.entry.Entry.TheVariants as entry
+use Rattle.rds_model.specs.declared.order.Datagram.{Datagram}
+use Rattle.rds_model.specs.declared.order.Order.{Order}
+use Rattle.rds_model.specs.Deliveries.{delivered_datagrams, put_bytes}
+use Rattle.rds_model.specs.Owed.{last_map}
+use Rattle.rds_model.specs.Past.{open_stream}
+use Rattle.rds_model.specs.Sums.{maps, orders}
+use Rattle.rds_mail.specs.Numbers.{bare_items}
+use Rattle.rds_mail.specs.Passes.{Getter}
+use Rattle.rds_meter.specs.declared.view.Check.{Check}
+use Rattle.rds_conn.specs.Connection.{Connection, freed_bytes_of, stream_of}
+use Rattle.rds_conn.specs.Released.{released_bytes}
+use Rattle.rds_line_parts.specs.Counted.{AreChecksOf}
+use Rattle.rds_line_parts.specs.CountedLaws.{freed_for_account}
+use Rattle.rds_line_channel.specs.Channel.{ChannelView}
+use Rattle.rds_line.specs.Keeps.{KeepsLine, IsPulled, uncut, cuts_among}
+use Rattle.rds_line.specs.Line.{LineView, past_of}
+
+-- nothing more was delivered, and no map was read
+pub record HasSameSums (past later : List Entry) : Type 0 where
+  pub maps : maps later ≡ maps past
+  pub delivered : (from slot : ℕ) → delivered_datagrams from slot later ≡ delivered_datagrams from slot past
+  pub bytes : (slot : ℕ) → put_bytes slot later ≡ put_bytes slot past
+  pub checks : (list : List Check) → AreChecksOf past list → AreChecksOf later list
+
+pub sums_same : (past : List Entry) → HasSameSums past past
+sums_same past = record { maps = refl; delivered = λ from slot. refl; bytes = λ slot. refl; checks = λ list are. are }
+
+pub sums_of : (past later middle : List Entry) → later ≡ middle → HasSameSums past middle → HasSameSums past later
+sums_of past later middle is same = subst (λ (l : List Entry). HasSameSums past l) (sym is) same
+
+-- the entry is no reading
+abbrev pub IsNoRead : Entry → Type 0
+IsNoRead (entry.Accept slot sport dport payload) = Unit {0}
+IsNoRead (entry.Cancel slot target) = Unit {0}
+IsNoRead (entry.Open stream) = Unit {0}
+IsNoRead (entry.Pull stream frame) = Unit {0}
+IsNoRead (entry.Read stream frame outcome) = ⊥
+IsNoRead (entry.Shut stream) = Unit {0}
+IsNoRead (entry.Bad stream header cause) = Unit {0}
+
+pub sums_more : (e : Entry) (past : List Entry) → IsNoRead e → HasSameSums past (e ∷ past)
+sums_more (entry.Accept slot sport dport payload) past no_read = record { maps = refl; delivered = λ from slot. refl; bytes = λ slot. refl; checks = λ list are. are }
+sums_more (entry.Cancel slot target) past no_read = record { maps = refl; delivered = λ from slot. refl; bytes = λ slot. refl; checks = λ list are. are }
+sums_more (entry.Open stream) past no_read = record { maps = refl; delivered = λ from slot. refl; bytes = λ slot. refl; checks = λ list are. are }
+sums_more (entry.Pull stream frame) past no_read = record { maps = refl; delivered = λ from slot. refl; bytes = λ slot. refl; checks = λ list are. are }
+sums_more (entry.Read stream frame outcome) past no_read = absurd no_read
+sums_more (entry.Shut stream) past no_read = record { maps = refl; delivered = λ from slot. refl; bytes = λ slot. refl; checks = λ list are. are }
+sums_more (entry.Bad stream header cause) past no_read = record { maps = refl; delivered = λ from slot. refl; bytes = λ slot. refl; checks = λ list are. are }
+
+-- for each slot the freed bytes that are held grew as the bytes did that aren't alive any more
+abbrev pub IsHeldFor : Connection → Connection → Type 0
+IsHeldFor old new = (slot : ℕ) → slot < old.slots →
+    freed_bytes_of slot new + released_bytes slot old.log.past ≡ freed_bytes_of slot old + released_bytes slot new.log.past
+
+-- none were freed
+pub held_same : (old new : Connection) → new.freed ≡ old.freed → ((slot : ℕ) → released_bytes slot new.log.past ≡ released_bytes slot old.log.past) → IsHeldFor old new
+held_same old new freed released slot small =
+    ap (λ (f : List ℕ). slice_index f slot + released_bytes slot old.log.past) freed ∙ ap (λ (n : ℕ). freed_bytes_of slot old + n) (sym (released slot))
+
+-- the entry neither frees nor takes an order
+abbrev pub IsPlain : Entry → Type 0
+IsPlain (entry.Accept slot sport dport payload) = ⊥
+IsPlain (entry.Cancel slot target) = ⊥
+IsPlain (entry.Open stream) = Unit {0}
+IsPlain (entry.Pull stream frame) = Unit {0}
+IsPlain (entry.Read stream frame outcome) = ⊥
+IsPlain (entry.Shut stream) = Unit {0}
+IsPlain (entry.Bad stream header cause) = Unit {0}
+
+plain_reads : (e : Entry) → IsPlain e → IsNoRead e
+plain_reads (entry.Accept slot sport dport payload) plain = absurd plain
+plain_reads (entry.Cancel slot target) plain = absurd plain
+plain_reads (entry.Open stream) plain = tt
+plain_reads (entry.Pull stream frame) plain = tt
+plain_reads (entry.Read stream frame outcome) plain = absurd plain
+plain_reads (entry.Shut stream) plain = tt
+plain_reads (entry.Bad stream header cause) plain = tt
+
+pub plain_orders : (e : Entry) (past : List Entry) → IsPlain e → orders (e ∷ past) ≡ orders past
+plain_orders (entry.Accept slot sport dport payload) past plain = absurd plain
+plain_orders (entry.Cancel slot target) past plain = absurd plain
+plain_orders (entry.Open stream) past plain = refl
+plain_orders (entry.Pull stream frame) past plain = refl
+plain_orders (entry.Read stream frame outcome) past plain = absurd plain
+plain_orders (entry.Shut stream) past plain = refl
+plain_orders (entry.Bad stream header cause) past plain = refl
+
+pub plain_released : (e : Entry) (past : List Entry) → IsPlain e → (slot : ℕ) → released_bytes slot (e ∷ past) ≡ released_bytes slot past
+plain_released (entry.Accept slot sport dport payload) past plain owner = absurd plain
+plain_released (entry.Cancel slot target) past plain owner = absurd plain
+plain_released (entry.Open stream) past plain owner = refl
+plain_released (entry.Pull stream frame) past plain owner = refl
+plain_released (entry.Read stream frame outcome) past plain owner = absurd plain
+plain_released (entry.Shut stream) past plain owner = refl
+plain_released (entry.Bad stream header cause) past plain owner = refl
+
+module _ {E M : Type 0} (published : M → List (List ℕ)) where
+  -- the channel and the getter of the orders changed
+  pub keeps_taken : (v : LineView E M) (channel : ChannelView E) (getter : Getter Order) → HasSameSums (past_of v) channel.conn.log.past
+      → channel.conn.peer ≡ v.channel.conn.peer → channel.conn.slots ≡ v.channel.conn.slots → IsHeldFor v.channel.conn channel.conn
+      → uncut (bare_items getter.got) ≡ orders channel.conn.log.past → cuts_among (bare_items getter.got) ≡ length channel.cuts.numbers
+      → KeepsLine published v → KeepsLine published (record v { channel = channel; orders = getter })
+  keeps_taken v channel getter sums peer slots held taken cuts k = record {
+    taken = taken;
+    cuts = cuts;
+    put = λ slot box at.
+        k.put slot box at ∙ (sym (sums.delivered v.channel.conn.peer slot) ∙ ap (λ (from : ℕ). delivered_datagrams from slot channel.conn.log.past) (sym peer));
+    counted = record {
+      put = λ slot small. k.counted.put slot small ∙ sym (sums.bytes slot);
+      checks = sums.checks v.words.view.checks k.counted.checks;
+    };
+    freed = freed_for_account v.channel.conn channel.conn v.words.view slots held k.freed;
+    maps = k.maps ∙ sym sums.maps;
+    read = k.read;
+    boxes = k.boxes;
+    few = k.few;
+    slots = slots ∙ k.slots;
+  }
+
+  -- nothing that it keeps of its channel changed
+  pub keeps_still : (v : LineView E M) (channel : ChannelView E) → channel.conn.log.past ≡ past_of v → channel.conn.peer ≡ v.channel.conn.peer
+      → channel.conn.slots ≡ v.channel.conn.slots → channel.conn.freed ≡ v.channel.conn.freed → channel.cuts.numbers ≡ v.channel.cuts.numbers
+      → KeepsLine published v → KeepsLine published (record v { channel = channel })
+  keeps_still v channel past peer slots freed cuts k =
+      keeps_taken v channel v.orders (sums_of (past_of v) channel.conn.log.past (past_of v) past (sums_same (past_of v))) peer slots
+      (held_same v.channel.conn channel.conn freed (λ slot. ap (released_bytes slot) past))
+      (k.taken ∙ sym (ap orders past)) (k.cuts ∙ sym (ap (λ (l : List ℕ). length l) cuts)) k
+
+  -- the journal has one entry more that neither frees nor takes an order
+  pub keeps_plain : (e : Entry) → IsPlain e → (v : LineView E M) (channel : ChannelView E) → channel.conn.log.past ≡ e ∷ past_of v → channel.conn.peer ≡ v.channel.conn.peer
+      → channel.conn.slots ≡ v.channel.conn.slots → channel.conn.freed ≡ v.channel.conn.freed → channel.cuts.numbers ≡ v.channel.cuts.numbers
+      → KeepsLine published v → KeepsLine published (record v { channel = channel })
+  keeps_plain e plain v channel past peer slots freed cuts k =
+      keeps_taken v channel v.orders (sums_of (past_of v) channel.conn.log.past (e ∷ past_of v) past (sums_more e (past_of v) (plain_reads e plain))) peer slots
+      (held_same v.channel.conn channel.conn freed (λ slot. ap (released_bytes slot) past ∙ plain_released e (past_of v) plain slot))
+      (k.taken ∙ (sym (plain_orders e (past_of v) plain) ∙ sym (ap orders past))) (k.cuts ∙ sym (ap (λ (l : List ℕ). length l) cuts)) k
+
+-- the map that was pulled last, where the open stream and the host's own map are as they were
+pub pulled_still : {E M : Type 0} (pulled : Bool) (v w : LineView E M) → open_stream (past_of w) ≡ open_stream (past_of v)
+    → ((s : ℕ) → last_map s (past_of w) ≡ last_map s (past_of v)) → w.own.map ≡ v.own.map → IsPulled pulled v → IsPulled pulled w
+pulled_still pulled v w stream last own was yes_pulled s on = last s ∙ (was yes_pulled s (sym stream ∙ on) ∙ ap Some (sym own))
+
+-- where no stream is open there is none
+pub pulled_off : {E M : Type 0} (pulled : Bool) (w : LineView E M) → stream_of w.channel.conn ≡ None → IsPulled pulled w
+pulled_off pulled w off is_pulled s on = absurd (none_some (sym off ∙ on))
+  where
+    none_some : {s : ℕ} → None ≡ Some s → ⊥
+    none_some e = absurd (cc)

@@ -1,0 +1,14 @@
+mod Delivering
+mod Feeding
+mod Fields
+mod Judging
+mod Keeping
+mod Longer
+mod Passing
+mod Pulled
+mod Relieving
+mod Starting
+mod Staying
+mod StaysPassed
+mod Taking
+mod Written

@@ -1,0 +1,342 @@
+-- What a line keeps when it reads its host's own map and pulls the frame that is owed.
+use Rattle.std.proofs.Common.{◌≡◌, ◌≢◌, ℕ, ◌+◌, Bool, true, false, Option, Some, None, IfSome, IsSome, IfOk, OnOk, Result, Ok, List, [], ◌∷◌, refl, sym, ap, subst, ◌∙◌}
+use Rattle.std.proofs.lemmas.Option.{same_Some}
+use Rattle.std.proofs.lemmas.Result.{IfOk-at_ok}
+use Rattle.rds_wire.specs.declared.frame.Frame.{Frame}
+use Rattle.rds_wire.specs.declared.memory.Memory.{Memory}
+use Rattle.rds_wire.specs.declared.kind.Kind.{Kind}
+use Rattle.rds_wire.specs.declared.kind.Kind.TheVariants as kind
+use Rattle.rds_wire.specs.Kinds.{kind_of}
+use Rattle.rds_link.specs.Ends.{Means}
+use Rattle.rds_model.specs.declared.entry.Entry.TheVariants.{Pull}
+use Rattle.rds_model.specs.Owed.{last_map, owed_frame}
+use Rattle.rds_model.specs.Past.{Moment, now, before}
+use Rattle.rds_model.specs.SumLaws.{same_list}
+use Rattle.rds_meter.specs.Places.{put_word, freed_word}
+use Rattle.rds_meter.specs.Seats.{MeterSeat}
+use Rattle.rds_conn.specs.declared.conn.Pulled.{Pulled}
+use Rattle.rds_conn.specs.Connection.{Connection, freed_bytes_of, stream_of, with_entries}
+use Rattle.rds_conn.specs.declared.conn.Pulled.TheVariants as pulled
+use Rattle.rds_conn.specs.Pulling.{Pulls, is_frame, name_of_pull}
+use Rattle.rds_line_parts.specs.CountedLaws.{counted_for_steps}
+use Rattle.rds_line_parts.specs.Own.{Own, IsRefresh}
+use Rattle.rds_line_parts.specs.OwnLaws.{refreshed}
+use Rattle.rds_line_parts.specs.Words.{AddsNothing}
+use Rattle.rds_line_channel.specs.Channel.{ChannelView}
+use Rattle.rds_line.specs.Keeps.{IsPulled, KeepsLine}
+use Rattle.rds_line.specs.Line.{LineView, past_of}
+use Rattle.rds_line.specs.Stays.{LineStays}
+use Rattle.rds_line.specs.Turns.{LeavesNothing, OwesNothing}
+use Rattle.rds_line.proofs.Staying.{boxes_same, streams_same}
+
+-- what a pull leaves of the connection
+pub record LeavesConn (old new : Connection) : Type 0 where
+  pub me : new.me ≡ old.me
+  pub peer : new.peer ≡ old.peer
+  pub slots : new.slots ≡ old.slots
+  pub limit : new.log.limit ≡ old.log.limit
+  pub past : Moment old.log.past new.log.past
+  pub waiting : new.waiting ≡ old.waiting
+  pub stream : stream_of new ≡ stream_of old
+
+pub leaves_same : (conn : Connection) → LeavesConn conn conn
+leaves_same conn = record { me = refl; peer = refl; slots = refl; limit = refl; past = now; waiting = refl; stream = refl }
+
+leaves_pulled : (s : ℕ) (f : Frame) (conn : Connection) → LeavesConn conn (with_entries (Pull s f ∷ []) conn)
+leaves_pulled s f conn = record {
+  me = refl;
+  peer = refl;
+  slots = refl;
+  limit = refl;
+  past = before now;
+  waiting = refl;
+  stream = refl;
+}
+
+pub pull_leaves : (s : ℕ) (owed : Option Frame) (old new : Connection) (out out_new : List ℕ) (came : Pulled) →
+    Pulls s owed old new out out_new came → LeavesConn old new
+pull_leaves s None old new out out_new came did = subst (LeavesConn old) (sym did.same) (leaves_same old)
+pull_leaves s (Some f) old new out out_new came did = subst (LeavesConn old) (sym did.entry) (leaves_pulled s f old)
+
+module _ {E M : Type 0} where
+  -- the line with another connection and other bytes on their way
+  abbrev pub with_pull : LineView E M → Connection → List ℕ → LineView E M
+  with_pull v conn out = record v { channel = record v.channel { conn = conn; out = out } }
+
+  -- the line with another own map and other counts
+  abbrev pub with_own : LineView E M → Own → MeterSeat → LineView E M
+  with_own v own words = record v { own = own; words = words }
+
+  keeps_same : (published : M → List (List ℕ)) (v : LineView E M) (out : List ℕ) → KeepsLine published v →
+      KeepsLine published (with_pull v v.channel.conn out)
+  keeps_same published v out k = record {
+    taken = k.taken;
+    cuts = k.cuts;
+    put = k.put;
+    counted = k.counted;
+    freed = k.freed;
+    maps = k.maps;
+    read = k.read;
+    boxes = k.boxes;
+    few = k.few;
+    slots = k.slots;
+  }
+
+  keeps_entry : (published : M → List (List ℕ)) (v : LineView E M) (out : List ℕ) (s : ℕ) (f : Frame) → KeepsLine published v →
+      KeepsLine published (with_pull v (with_entries (Pull s f ∷ []) v.channel.conn) out)
+  keeps_entry published v out s f k = record {
+    taken = k.taken;
+    cuts = k.cuts;
+    put = k.put;
+    counted = record { put = k.counted.put; checks = k.counted.checks };
+    freed = k.freed;
+    maps = k.maps;
+    read = k.read;
+    boxes = k.boxes;
+    few = k.few;
+    slots = k.slots;
+  }
+
+  -- a pull changes nothing of what a line keeps
+  pub keeps_pull : (published : M → List (List ℕ)) (v : LineView E M) (s : ℕ) (owed : Option Frame) (conn : Connection)
+      (out : List ℕ) (came : Pulled) →
+      Pulls s owed v.channel.conn conn v.channel.out out came → KeepsLine published v → KeepsLine published (with_pull v conn out)
+  keeps_pull published v s None conn out came did k =
+      subst (λ (c : Connection). KeepsLine published (with_pull v c out)) (sym did.same) (keeps_same published v out k)
+  keeps_pull published v s (Some f) conn out came did k =
+      subst (λ (c : Connection). KeepsLine published (with_pull v c out)) (sym did.entry) (keeps_entry published v out s f k)
+
+  -- nor does a reading of the own map
+  pub keeps_own : (published : M → List (List ℕ)) (v : LineView E M) (own : Own) (words : MeterSeat) (read : Bool) →
+      IsRefresh v.own own v.words words read → AddsNothing v.words.view words.view → KeepsLine published v →
+      KeepsLine published (with_own v own words)
+  keeps_own published v own words read r nothing k = record {
+    taken = k.taken;
+    cuts = k.cuts;
+    put = k.put;
+    counted = counted_for_steps (past_of v) v.words.view words.view (λ slot small. nothing (put_word slot))
+        (ap (λ (h : MeterSeat). h.view.checks) r.steps) k.counted;
+    freed = λ slot small. ap (λ n. n + freed_bytes_of slot v.channel.conn) (nothing (freed_word slot)) ∙ k.freed slot small;
+    maps = k.maps;
+    read = refreshed v.own own v.words words read r k.read;
+    boxes = k.boxes;
+    few = k.few;
+    slots = k.slots;
+  }
+
+  -- what the line is over both
+  pub pull_stays : {Name : Type 0} (m : Means E) (pair : M → Name) (v : LineView E M) (own : Own) (words : MeterSeat)
+      (read : Bool) (conn : Connection) (out : List ℕ) →
+      IsRefresh v.own own v.words words read → LeavesConn v.channel.conn conn →
+      LineStays m pair v (with_pull (with_own v own words) conn out)
+  pull_stays m pair v own words read conn out r leaves = record {
+    channel = record {
+      me = leaves.me;
+      peer = leaves.peer;
+      slots = leaves.slots;
+      limit = leaves.limit;
+      past = leaves.past;
+      streams = streams_same m v.channel.streams;
+      cuts = same_list v.channel.cuts.numbers;
+    };
+    mail = refl;
+    told = refl;
+    joined = refl;
+    got = same_list v.orders.got;
+    boxes = boxes_same v.boxes;
+    ports = refl;
+    words = ap (λ (h : MeterSeat). h.table) r.steps;
+    slot = ap (λ (h : MeterSeat). h.slot) r.steps;
+    map = refl;
+  }
+
+  -- The own map was read or looked at, and nothing else changed. Where it is noted as pulled, it is the one that was pulled last.
+  pub record ReadsOwn (noted : Bool) (old new : LineView E M) : Type 0 where
+    pub read : Bool
+    pub refresh : IsRefresh old.own new.own old.words new.words read
+    pub nothing : AddsNothing old.words.view new.words.view
+    pub is : new ≡ with_own old new.own new.words
+    pub behind : IsPulled noted new
+
+  pub read_anew : (v : LineView E M) (own : Own) (words : MeterSeat) (read : Bool) → IsRefresh v.own own v.words words read →
+      AddsNothing v.words.view words.view → ReadsOwn false v (with_own v own words)
+  read_anew v own words read r nothing = record {
+    read = read;
+    refresh = r;
+    nothing = nothing;
+    is = refl;
+    behind = λ noted s on. absurd (cc);
+  }
+
+  pub read_same : (v : LineView E M) (own : Own) (words : MeterSeat) (noted read : Bool) →
+      IsRefresh v.own own v.words words read →
+      AddsNothing v.words.view words.view → read ≡ false → IsPulled noted v → ReadsOwn noted v (with_own v own words)
+  read_same v own words noted read r nothing none was = record {
+    read = read;
+    refresh = r;
+    nothing = nothing;
+    is = refl;
+    behind = λ is s on. was is s on ∙ ap Some (sym (r.same none).2);
+  }
+
+module _ {E : Type 0} where
+  -- the frame was pulled that is owed to the open stream where the own map is this, and it is then the one that was pulled last
+  pub record PullsOwed (map : List ℕ) (came : Pulled) (old new : ChannelView E) : Type 0 where
+    pub stream : ℕ
+    pub on : stream_of old.conn ≡ Some stream
+    pub pulls : Pulls stream (owed_frame stream old.conn.log.past map) old.conn new.conn old.out new.out came
+    pub behind : last_map stream new.conn.log.past ≡ Some map
+    pub some : is_frame came ≡ true → new.out ≢ []
+    pub rest : new ≡ record old { conn = new.conn; out = new.out }
+
+  -- what was pulled where the own map was looked at
+  pub owed_of_map : (old new : ChannelView E) (map : List ℕ) (result : Result Pulled Memory) (came : Pulled) → result ≡ Ok came →
+      IsSome (stream_of old.conn) →
+      IfSome (stream_of old.conn) (λ s.
+      IfOk result (Pulls s (owed_frame s old.conn.log.past map) old.conn new.conn old.out new.out)) →
+      IfOk result (λ came. is_frame came ≡ true → new.out ≢ []) →
+      IfSome (stream_of old.conn) (λ s. OnOk result (last_map s new.conn.log.past ≡ Some map)) →
+      new ≡ record old { conn = new.conn; out = new.out } → PullsOwed map came old new
+  owed_of_map old new map result came ok has owed some behind rest = go (stream_of old.conn) refl has owed behind
+    where
+      go : (o : Option ℕ) → stream_of old.conn ≡ o → IsSome o →
+          IfSome o (λ s. IfOk result (Pulls s (owed_frame s old.conn.log.past map) old.conn new.conn old.out new.out)) →
+          IfSome o (λ s. OnOk result (last_map s new.conn.log.past ≡ Some map)) → PullsOwed map came old new
+      go None is has owed behind = absurd (cc)
+      go (Some s) is has owed behind = record {
+        stream = s;
+        on = is;
+        pulls = IfOk-at_ok (Pulls s (owed_frame s old.conn.log.past map) old.conn new.conn old.out new.out) ok owed;
+        behind = IfOk-at_ok (λ (c : Pulled). last_map s new.conn.log.past ≡ Some map) ok behind;
+        some = IfOk-at_ok (λ (c : Pulled). is_frame c ≡ true → new.out ≢ []) ok some;
+        rest = rest;
+      }
+
+  -- what was pulled where it was pulled before
+  pub owed_of_last : (old new : ChannelView E) (map : List ℕ) (result : Result Pulled Memory) (came : Pulled) → result ≡ Ok came →
+      IsSome (stream_of old.conn) → ((s : ℕ) → stream_of old.conn ≡ Some s → last_map s old.conn.log.past ≡ Some map) →
+      ((s : ℕ) (map : List ℕ) → stream_of old.conn ≡ Some s → last_map s old.conn.log.past ≡ Some map →
+      IfOk result (Pulls s (owed_frame s old.conn.log.past map) old.conn new.conn old.out new.out)) →
+      IfOk result (λ came. is_frame came ≡ true → new.out ≢ []) →
+      ((s : ℕ) → stream_of old.conn ≡ Some s → last_map s new.conn.log.past ≡ last_map s old.conn.log.past) →
+      new ≡ record old { conn = new.conn; out = new.out } → PullsOwed map came old new
+  owed_of_last old new map result came ok has was owed some same rest = go (stream_of old.conn) refl has
+    where
+      go : (o : Option ℕ) → stream_of old.conn ≡ o → IsSome o → PullsOwed map came old new
+      go None is has = absurd (cc)
+      go (Some s) is has = record {
+        stream = s;
+        on = is;
+        pulls = IfOk-at_ok (Pulls s (owed_frame s old.conn.log.past map) old.conn new.conn old.out new.out) ok
+        (owed s map is (was s is));
+        behind = same s is ∙ was s is;
+        some = IfOk-at_ok (λ (c : Pulled). is_frame c ≡ true → new.out ≢ []) ok some;
+        rest = rest;
+      }
+
+  pub owed_leaves : (map : List ℕ) (came : Pulled) (old new : ChannelView E) → PullsOwed map came old new →
+      LeavesConn old.conn new.conn
+  owed_leaves map came old new p =
+      pull_leaves p.stream (owed_frame p.stream old.conn.log.past map) old.conn new.conn old.out new.out came p.pulls
+
+-- which frame was pulled
+named_frame : (k : Kind) → is_frame (name_of_pull k) ≡ true
+named_frame kind.Data = refl
+named_frame kind.Ack = refl
+named_frame kind.Map = refl
+named_frame kind.OddMap = refl
+
+frame_or_nothing : (s : ℕ) (owed : Option Frame) (old new : Connection) (out out_new : List ℕ) (came : Pulled) →
+    Pulls s owed old new out out_new came → came ≢ pulled.Nothing → is_frame came ≡ true
+frame_or_nothing s None old new out out_new came did some = absurd (some did.named)
+frame_or_nothing s (Some f) old new out out_new came did some = ap is_frame did.named ∙ named_frame (kind_of f.header)
+
+nothing_owed : (s : ℕ) (owed : Option Frame) (old new : Connection) (out out_new : List ℕ) (came : Pulled) →
+    Pulls s owed old new out out_new came → came ≡ pulled.Nothing → (owed ≡ None) × (new ≡ old) × (out_new ≡ out)
+nothing_owed s None old new out out_new came did none = (refl, did.same, did.no_bytes)
+nothing_owed s (Some f) old new out out_new came did none =
+    let frame = named_frame (kind_of f.header) in
+    let same : is_frame (name_of_pull (kind_of f.header)) ≡ false = ap is_frame (sym did.named ∙ none) in
+    absurd (cc)
+
+module _ {E M : Type 0} (noted : Bool) (v w : LineView E M) (reads : ReadsOwn noted v w) where
+  keeps_reading : (published : M → List (List ℕ)) → KeepsLine published v → KeepsLine published w
+  keeps_reading published k =
+      subst (KeepsLine published) (sym reads.is) (keeps_own published v w.own w.words reads.read reads.refresh reads.nothing k)
+
+  pub same_channel : w.channel ≡ v.channel
+  same_channel = ap (λ (l : LineView E M). l.channel) reads.is
+
+  -- where memory ran out
+  module _ (u : LineView E M) (same_line : u ≡ w) where
+    pub keeps_failed : (published : M → List (List ℕ)) → KeepsLine published v → KeepsLine published u × IsPulled noted u
+    keeps_failed published k = (
+      subst (KeepsLine published) (sym same_line) (keeps_reading published k),
+      subst (IsPulled noted) (sym same_line) reads.behind,
+    )
+
+    pub failed_stays : {Name : Type 0} (m : Means E) (pair : M → Name) → LineStays m pair v u
+    failed_stays m pair =
+        subst (LineStays m pair v) (sym (same_line ∙ reads.is))
+        (pull_stays m pair v w.own w.words reads.read v.channel.conn v.channel.out reads.refresh (leaves_same v.channel.conn))
+
+  -- where a frame was pulled, or none is owed
+  module _ (u : LineView E M) (came : Pulled) (is : u ≡ record w { channel = u.channel })
+      (p : PullsOwed w.own.map came w.channel u.channel) where
+    is_pulled : u ≡ with_pull w u.channel.conn u.channel.out
+    is_pulled = is ∙ ap (λ (c : ChannelView E). record w { channel = c }) p.rest
+
+    leaves : LeavesConn v.channel.conn u.channel.conn
+    leaves =
+        subst (λ (c : ChannelView E). LeavesConn c.conn u.channel.conn) same_channel
+        (owed_leaves w.own.map came w.channel u.channel p)
+
+    same_own : u.own ≡ w.own
+    same_own = ap (λ (l : LineView E M). l.own) is
+
+    pub keeps_pulled : (published : M → List (List ℕ)) → KeepsLine published v → KeepsLine published u × IsPulled true u
+    keeps_pulled published k = (
+      subst (KeepsLine published) (sym is_pulled)
+      (keeps_pull published w p.stream (owed_frame p.stream w.channel.conn.log.past w.own.map) u.channel.conn u.channel.out came
+      p.pulls
+      (keeps_reading published k)),
+      λ noted_it s on.
+          let there = (owed_leaves w.own.map came w.channel u.channel p).stream in
+          let same : p.stream ≡ s = same_Some p.stream s (sym p.on ∙ sym there ∙ on) in
+          ap (λ n. last_map n (past_of u)) (sym same) ∙ p.behind ∙ ap (λ (o : Own). Some o.map) (sym same_own),
+    )
+
+    pub pulled_stays : {Name : Type 0} (m : Means E) (pair : M → Name) → LineStays m pair v u
+    pulled_stays m pair =
+        subst (LineStays m pair v)
+        (sym (is_pulled ∙ ap (λ (l : LineView E M). with_pull l u.channel.conn u.channel.out) reads.is))
+        (pull_stays m pair v w.own w.words reads.read u.channel.conn u.channel.out reads.refresh leaves)
+
+    pub pulled_leaves : LeavesNothing v.channel u.channel
+    pulled_leaves none left = (
+      leaves.waiting ∙ none,
+      ap (λ (c : ChannelView E). c.piece) p.rest ∙ ap (λ (c : ChannelView E). c.piece) same_channel ∙ left,
+    )
+
+    pub pulled_some : came ≢ pulled.Nothing → u.channel.out ≢ []
+    pulled_some some =
+        p.some (frame_or_nothing p.stream (owed_frame p.stream w.channel.conn.log.past w.own.map) w.channel.conn u.channel.conn
+        w.channel.out u.channel.out came p.pulls some)
+
+    pub pulled_nothing : came ≡ pulled.Nothing → v.channel.out ≡ [] → OwesNothing v u × (past_of u ≡ past_of v)
+    pulled_nothing none empty =
+        let owes = nothing_owed p.stream (owed_frame p.stream w.channel.conn.log.past w.own.map) w.channel.conn u.channel.conn
+        w.channel.out u.channel.out came p.pulls none in
+        let past : past_of u ≡ past_of w = ap (λ (c : Connection). c.log.past) owes.1 in
+        let out : w.channel.out ≡ v.channel.out = ap (λ (c : ChannelView E). c.out) same_channel in
+        (
+          record {
+            streams = ap (λ (c : ChannelView E). c.streams) p.rest ∙ ap (λ (c : ChannelView E). c.streams) same_channel;
+            none_left = owes.2 ∙ out ∙ empty;
+            none_owed = λ s on.
+                let same : s ≡ p.stream = same_Some s p.stream (sym on ∙ ap stream_of owes.1 ∙ p.on) in
+                ap (λ n. owed_frame n (past_of u) u.own.map) same ∙ ap (λ l. owed_frame p.stream l u.own.map) past
+                ∙ ap (λ (o : Own). owed_frame p.stream (past_of w) o.map) same_own ∙ owes.0;
+          },
+          past ∙ ap (λ (c : ChannelView E). c.conn.log.past) same_channel,
+        )

@@ -1,0 +1,27 @@
+use Rattle.std.proofs.Common.{◌≡◌, ◌≢◌, ℕ, suc, ◌<◌, IsSome, None, List, [], length}
+use Rattle.rds_conn.specs.Connection.{IsReady}
+use Rattle.rds_line_channel.specs.declared.channel.Taken.{Taken}
+use Rattle.rds_line_channel.specs.declared.channel.Taken.TheVariants as taken
+use Rattle.rds_line.specs.Line.{past_of}
+use Rattle.rds_line.specs.Stays.{LineStays}
+use Rattle.rds_line.proofs.line.Line.pass_all.Given as goal
+
+-- how much is left of what came, where a frame is to be passed
+abbrev left_after : Taken → List ℕ → ℕ
+left_after taken.Frame piece = suc (length piece)
+left_after taken.Part piece = 0
+left_after taken.Refused piece = 0
+
+abbrev pub invariant-loop-taken : goal.invariant-loop-taken
+invariant-loop-taken g l = record {
+  stays : LineStays g.E.End.means g.M.MapWriter.pair l.fn.self l.self;
+  orders : l.self.orders ≡ l.fn.self.orders;
+  streams : l.taken ≢ taken.Refused → l.self.channel.streams ≡ l.fn.self.channel.streams;
+  ready : l.taken ≡ taken.Frame → IsReady l.self.channel.conn;
+  frame : l.taken ≡ taken.Frame → IsSome l.self.channel.conn.waiting;
+  part : l.taken ≡ taken.Part → (l.self.channel.conn.waiting ≡ None) × (l.self.channel.piece ≡ []);
+  refused : l.taken ≡ taken.Refused → length (past_of l.fn.self) < length (past_of l.self);
+}
+
+abbrev pub decreases-loop-taken : goal.decreases-loop-taken
+decreases-loop-taken g l = left_after l.taken l.self.channel.piece

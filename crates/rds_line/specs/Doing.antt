@@ -1,0 +1,36 @@
+-- What the steps of a turn did, and what the turn answers for it. Source: this project's own.
+use Rattle.std.specs.Prelude.{◌≡◌, ◌⊎◌, ◌<◌, ◌||◌, ◌&&◌, not, if◌then◌else◌, ℕ, Bool, true, false, length}
+use Rattle.rds_link.specs.Ends.{Means}
+use Rattle.rds_mail.specs.Learning.{AllGot}
+use Rattle.rds_line_channel.specs.Channel.{with_conn}
+use Rattle.rds_line.specs.Line.{LineView, past_of}
+use Rattle.rds_line.specs.Turns.{GetsBytes, IsIdle, SendsBytes, TakesOrder, is_bytes_heard, is_bytes_sent}
+use Rattle.rds_line.specs.declared.outcome.Done.{Done}
+use Rattle.rds_line.specs.declared.outcome.Heard.TheVariants as heard
+use Rattle.rds_line.specs.declared.outcome.Sent.TheVariants as sent
+use Rattle.rds_line.specs.declared.outcome.Turn.{Turn}
+use Rattle.rds_line.specs.declared.outcome.Turn.TheVariants as turn
+
+-- what a turn answers for what it did, where a stream is open or not, one is left or not, and entries were appended or not
+abbrev pub answer_of : Done → (is_open has_next appended : Bool) → Turn
+answer_of done is_open has_next appended =
+    if not done.took && (not is_open && not has_next) then turn.Over
+    else if (done.took || (is_bytes_heard done.heard || is_bytes_sent done.sent)) || appended then turn.Moved
+    else turn.Idle
+
+module _ {E M : Type 0} where
+  -- all freed bytes were handed out and counted, and nothing else changed
+  pub record IsRelieved (old new : LineView E M) : Type 0 where
+    pub conn : new.channel.conn ≡ record old.channel.conn { freed = new.channel.conn.freed }
+    pub channel : new.channel ≡ with_conn old.channel new.channel.conn
+    pub rest : new ≡ record old { channel = new.channel; words = new.words }
+
+  -- what the steps of a turn did that came to its end
+  pub record Did (m : Means E) (old new : LineView E M) (done : Done) : Type 0 where
+    pub took : done.took ≡ true → TakesOrder old.orders new.orders
+    pub none : done.took ≡ false → (new.orders ≡ old.orders) × AllGot new.orders
+    pub got : done.heard ≡ heard.Bytes → (place : ℕ) × GetsBytes m place old.channel.streams.list new.channel.streams.list
+    pub sent : done.sent ≡ sent.Bytes → (place : ℕ) × SendsBytes m place old.channel.streams.list new.channel.streams.list
+    -- where nothing was taken, came or went, no entry was appended, and a stream is open or left, there was nothing to do
+    pub idle : done.took ≡ false → is_bytes_heard done.heard ≡ false → is_bytes_sent done.sent ≡ false → past_of new ≡ past_of old →
+        (new.channel.streams.is_open ≡ true) ⊎ (new.channel.streams.opened < length new.channel.streams.list) → IsIdle m old new

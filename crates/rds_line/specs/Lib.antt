@@ -1,0 +1,6 @@
+pub mod Line
+pub mod Keeps
+pub mod Stays
+pub mod Steps
+pub mod Turns
+pub mod Doing

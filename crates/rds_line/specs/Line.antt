@@ -1,0 +1,35 @@
+-- What contracts see of a line. Source: this project's own.
+use Rattle.std.specs.Prelude.{◌≡◌, ◌⊎◌, ℕ, ◌+◌, ◌<◌, true, List, length}
+use Rattle.rds_model.specs.declared.entry.Entry.{Entry}
+use Rattle.rds_model.specs.declared.order.Datagram.{Datagram}
+use Rattle.rds_model.specs.declared.order.Order.{Order}
+use Rattle.rds_mail.specs.Passes.{Getter, Putter}
+use Rattle.rds_bindtab.specs.Seats.{PortSeat}
+use Rattle.rds_meter.specs.Seats.{MeterSeat}
+use Rattle.rds_line_parts.specs.Own.{Own}
+use Rattle.rds_line_channel.specs.Channel.{ChannelView}
+
+-- its connection and its streams; the getter of its orders; its putter at the mailbox of each slot; its seats at the host's port
+-- table and meter; the host's own map as it read that last; and who publishes the peer's map
+pub record LineView (E M : Type 0) : Type 0 where
+  pub channel : ChannelView E
+  pub orders : Getter Order
+  pub boxes : List (Putter Datagram)
+  pub ports : PortSeat
+  pub words : MeterSeat
+  pub own : Own
+  pub map : M
+
+module _ {E M : Type 0} where
+  -- its journal, the newest entry first
+  abbrev pub past_of : LineView E M → List Entry
+  past_of v = v.channel.conn.log.past
+
+  -- a stream is open, or there is none that wasn't opened
+  abbrev pub IsOpenOrLast : LineView E M → Type 0
+  IsOpenOrLast v = (v.channel.streams.is_open ≡ true) ⊎ (v.channel.streams.opened ≡ length v.channel.streams.list)
+
+  -- its journal has so many entries, and two more would pass its limit
+  pub record IsFull (entries : ℕ) (v : LineView E M) : Type 0 where
+    pub count : entries ≡ length (past_of v)
+    pub most : v.channel.conn.log.limit < length (past_of v) + 2

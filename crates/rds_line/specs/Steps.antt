@@ -1,0 +1,26 @@
+-- What the steps of a turn do with the frames that came. Source: this project's own.
+use Rattle.std.specs.Prelude.{◌≡◌, ℕ, ◌+◌, ◌*◌, if◌then◌else◌, Option, Some, is_some, List, length}
+use Rattle.rds_wire.specs.declared.frame.Frame.{Frame}
+use Rattle.rds_model.specs.declared.entry.Verdict.{Verdict}
+use Rattle.rds_model.specs.Reading.{verdict_of}
+use Rattle.rds_conn.specs.declared.conn.Found.{Found}
+use Rattle.rds_conn.specs.Connection.{Connection}
+use Rattle.rds_conn.specs.Passing.{Passes}
+use Rattle.rds_line_channel.specs.Channel.{ChannelView, with_conn}
+
+-- a frame waits of which this has to become
+pub record IsWaiting (verdict : Verdict) (c : Connection) : Type 0 where
+  pub frame : Frame
+  pub waits : c.waiting ≡ Some frame
+  pub is : verdict_of c.log.past frame.header ≡ verdict
+
+module _ {E : Type 0} where
+  -- the frame that waited was passed
+  pub record PassesOne (old new : ChannelView E) : Type 0 where
+    pub found : Found
+    pub passes : Passes found old.conn new.conn
+    pub rest : new ≡ with_conn old new.conn
+
+  -- how much is left of what came: it falls with each frame that is passed
+  abbrev pub left_to_take : ChannelView E → ℕ
+  left_to_take c = 2 * length c.piece + (if is_some c.conn.waiting then 1 else 0)

@@ -1,0 +1,107 @@
+-- What a turn of a line did, where it answers so. Source: this project's own.
+use Rattle.std.specs.Prelude.{◌≡◌, ◌≢◌, ◌⊎◌, ℕ, ◌<◌, Bool, true, false, Some, None, List, [], ◌∷◌, ◌++◌, length, slice_get}
+use Rattle.rds_link.specs.Ends.{Means}
+use Rattle.rds_link.specs.declared.end.Got.TheVariants as got
+use Rattle.rds_link.specs.declared.end.Put.TheVariants as put
+use Rattle.rds_model.specs.declared.order.Order.{Order}
+use Rattle.rds_model.specs.Owed.{owed_frame}
+use Rattle.rds_mail.specs.Learning.{AllGot}
+use Rattle.rds_mail.specs.Numbers.{Number}
+use Rattle.rds_mail.specs.Passes.{Getter, after_get}
+use Rattle.rds_conn.specs.Connection.{stream_of}
+use Rattle.rds_line_streams.specs.Changes.{ChangesAt, Receives, Sends}
+use Rattle.rds_line_streams.specs.Streams.{newest_place}
+use Rattle.rds_line_channel.specs.Channel.{ChannelView}
+use Rattle.rds_line.specs.Line.{LineView, past_of}
+use Rattle.rds_line.specs.declared.outcome.Heard.{Heard}
+use Rattle.rds_line.specs.declared.outcome.Heard.TheVariants as heard
+use Rattle.rds_line.specs.declared.outcome.Sent.{Sent}
+use Rattle.rds_line.specs.declared.outcome.Sent.TheVariants as sent
+
+-- bytes came
+abbrev pub is_bytes_heard : Heard → Bool
+is_bytes_heard heard.Bytes = true
+is_bytes_heard heard.Nothing = false
+is_bytes_heard heard.Ended = false
+is_bytes_heard heard.Closed = false
+
+-- bytes went
+abbrev pub is_bytes_sent : Sent → Bool
+is_bytes_sent sent.Bytes = true
+is_bytes_sent sent.Nothing = false
+is_bytes_sent sent.Full = false
+is_bytes_sent sent.Ended = false
+is_bytes_sent sent.Closed = false
+
+-- one order was taken
+abbrev pub TakesOrder : Getter Order → Getter Order → Type 0
+TakesOrder old new = (number : Number) × (order : Order) × (new ≡ after_get old number order)
+
+module _ {E : Type 0} where
+  -- where no frame waits and no byte that came is left, that stays
+  abbrev pub LeavesNothing : ChannelView E → ChannelView E → Type 0
+  LeavesNothing old new = old.conn.waiting ≡ None → old.piece ≡ [] → (new.conn.waiting ≡ None) × (new.piece ≡ [])
+
+  module _ (m : Means E) where
+    -- The end of the open stream answered that no bytes are there. No frame waits, and no byte that came is left.
+    pub record HearsNothing (old new : ChannelView E) : Type 0 where
+      pub answer : ChangesAt (Receives m got.Nothing []) (newest_place old.streams) old.streams.list new.streams.list
+      pub none_waits : new.conn.waiting ≡ None
+      pub none_left : new.piece ≡ []
+
+    -- bytes are to be written, and the end of the open stream answered that there is no room for them
+    pub record FindsNoRoom (old new : ChannelView E) : Type 0 where
+      pub answer : ChangesAt (Sends m put.Full []) (newest_place old.streams) old.streams.list new.streams.list
+      pub on : new.streams.is_open ≡ true
+      pub left : new.out ≢ []
+
+    -- the end at this place got more bytes
+    pub record GetsBytes (place : ℕ) (old new : List (ℕ × E)) : Type 0 where
+      pub before_it : ℕ × E
+      pub after_it : ℕ × E
+      pub stood : slice_get old place ≡ Some before_it
+      pub stands : slice_get new place ≡ Some after_it
+      pub more : m.tells ≡ true → (piece : List ℕ) × (piece ≢ []) × (m.got after_it.1 ≡ m.got before_it.1 ++ piece)
+
+    -- the end at this place sent more bytes
+    pub record SendsBytes (place : ℕ) (old new : List (ℕ × E)) : Type 0 where
+      pub before_it : ℕ × E
+      pub after_it : ℕ × E
+      pub stood : slice_get old place ≡ Some before_it
+      pub stands : slice_get new place ≡ Some after_it
+      pub more : m.tells ≡ true → (piece : List ℕ) × (piece ≢ []) × (m.sent after_it.1 ≡ m.sent before_it.1 ++ piece)
+
+module _ {E M : Type 0} where
+  -- nothing is to be written, and no frame is owed
+  pub record OwesNothing (old new : LineView E M) : Type 0 where
+    pub streams : new.channel.streams ≡ old.channel.streams
+    pub none_left : new.channel.out ≡ []
+    pub none_owed : (s : ℕ) → stream_of new.channel.conn ≡ Some s → owed_frame s (past_of new) new.own.map ≡ None
+
+  -- there was no order, no stream is open, and none is left
+  pub record IsOver (old new : LineView E M) : Type 0 where
+    pub orders : new.orders ≡ old.orders
+    pub all_got : AllGot new.orders
+    pub closed : new.channel.streams.is_open ≡ false
+    pub last : new.channel.streams.opened ≡ length new.channel.streams.list
+
+  module _ (m : Means E) where
+    -- There was nothing to do: the queue of orders was empty, nothing came, nothing went, and no entry was appended. Either no
+    -- frame is owed, or there is no room for what is to be written.
+    pub record IsIdle (old new : LineView E M) : Type 0 where
+      pub orders : new.orders ≡ old.orders
+      pub all_got : AllGot new.orders
+      pub past : past_of new ≡ past_of old
+      pub on : new.channel.streams.is_open ≡ true
+      pub middle : LineView E M
+      pub hears : HearsNothing m old.channel middle.channel
+      pub none_waits : new.channel.conn.waiting ≡ None
+      pub none_left : new.channel.piece ≡ []
+      pub sends : OwesNothing middle new ⊎ FindsNoRoom m middle.channel new.channel
+
+    -- an order was taken, the journal has more entries, or an end got or sent bytes
+    abbrev pub HasMoved : LineView E M → LineView E M → Type 0
+    HasMoved old new =
+        TakesOrder old.orders new.orders ⊎ ((length (past_of old) < length (past_of new))
+        ⊎ (((place : ℕ) × GetsBytes m place old.channel.streams.list new.channel.streams.list)
+        ⊎ ((place : ℕ) × SendsBytes m place old.channel.streams.list new.channel.streams.list)))

@@ -1,0 +1,26 @@
+ghost use Rattle.std.specs.Prelude.{◌≡◌, ℕ, Err, OnErr, OnOk};
+ghost use Rattle.rds_model.specs.declared.journal.JournalError.TheVariants as errors;
+ghost use Rattle.rds_line.specs.Line.{IsFull, IsOpenOrLast};
+ghost use Rattle.rds_line.specs.Stays.{LineStays};
+
+use super::Line;
+use rds_fmap::MapWriter;
+use rds_link::End;
+use rds_model::JournalError;
+
+impl<E: End, M: MapWriter> Line<E, M> {
+    // Opens the next stream, where none is open. After it one is open, or none is left.
+    pub(super) fn open_next(&mut self) -> Result<(), JournalError>
+        ensures stays { LineStays E.means M.pair self.old self.new }
+        ensures alone { self.new ≡ record self.old { channel = self.new.channel } }
+        ensures open { OnOk result (IsOpenOrLast self.new) }
+        ensures same { OnErr result (self.new ≡ self.old) }
+        ensures spent { (entries : ℕ) → result ≡ Err (errors.Spent entries) → IsFull entries self.new }
+    {
+        self.channel.reserve()?;
+        if !self.channel.is_open() && self.channel.open_next() {
+            self.own_pulled = false;
+        }
+        Ok(())
+    }
+}

@@ -1,0 +1,95 @@
+ghost use Rattle.std.specs.Prelude.{◌≡◌, ◌≢◌, ◌<◌, ℕ, true, false, Ok, Err, IfErr, IfSome, OnOk, OnErr, [], length};
+ghost use Rattle.rds_model.specs.declared.journal.JournalError.TheVariants as errors;
+ghost use Rattle.rds_conn.specs.Connection.{IsReady};
+ghost use Rattle.rds_line_streams.specs.Streams.{newest_place};
+ghost use Rattle.rds_line.specs.Line.{IsFull, past_of};
+ghost use Rattle.rds_line.specs.Stays.{LineStays};
+ghost use Rattle.rds_line.specs.Turns.{FindsNoRoom, LeavesNothing, OwesNothing, SendsBytes};
+ghost use Rattle.rds_line.specs.declared.outcome.Sent.TheVariants as sent;
+
+use super::Line;
+use crate::outcome::Sent;
+use rds_conn::Pulled;
+use rds_fmap::MapWriter;
+use rds_link::{End, Put};
+use rds_model::JournalError;
+
+impl<E: End, M: MapWriter> Line<E, M> {
+    // Writes what is to be written. Where that is nothing, it pulls the frame that is owed and writes that.
+    pub(super) fn send(&mut self) -> Result<Sent, JournalError>
+        ensures stays { LineStays E.means M.pair self.old self.new }
+        ensures orders { self.new.orders ≡ self.old.orders }
+        ensures came { OnOk result (LeavesNothing self.old.channel self.new.channel) }
+        ensures closed { result ≡ Ok sent.Closed → (self.old.channel.streams.is_open ≡ false) × (self.new ≡ self.old) }
+        ensures nothing { result ≡ Ok sent.Nothing → OwesNothing self.old self.new × (past_of self.new ≡ past_of self.old) }
+        ensures full { result ≡ Ok sent.Full → FindsNoRoom E.means self.old.channel self.new.channel }
+        ensures bytes { result ≡ Ok sent.Bytes → SendsBytes E.means (newest_place self.old.channel.streams) self.old.channel.streams.list self.new.channel.streams.list }
+        ensures ended { result ≡ Ok sent.Ended → length (past_of self.old) < length (past_of self.new) }
+        ensures spent { (entries : ℕ) → result ≡ Err (errors.Spent entries) → IsFull entries self.new }
+    {
+        if !self.channel.is_open() {
+            return Ok(Sent::Closed);
+        }
+        self.channel.reserve()?;
+        if self.channel.unwritten() == 0 && !self.pull()? {
+            return Ok(Sent::Nothing);
+        }
+        self.write()
+    }
+
+    // Pulls the frame that is owed, and answers whether one is. Before it the host's own map is read, if it may have changed.
+    fn pull(&mut self) -> Result<bool, JournalError>
+        requires ready { IsReady self.old.channel.conn }
+        requires open { self.old.channel.streams.is_open ≡ true }
+        requires none { self.old.channel.out ≡ [] }
+        ensures stays { LineStays E.means M.pair self.old self.new }
+        ensures orders { self.new.orders ≡ self.old.orders }
+        ensures came { LeavesNothing self.old.channel self.new.channel }
+        ensures streams { self.new.channel.streams ≡ self.old.channel.streams }
+        ensures some { result ≡ Ok true → self.new.channel.out ≢ [] }
+        ensures nothing { result ≡ Ok false → OwesNothing self.old self.new × (past_of self.new ≡ past_of self.old) }
+        ensures err { IfErr result (λ error. error ≡ errors.Memory) }
+    {
+        self.channel.known();
+        if self.own.refresh(&mut self.words) {
+            self.own_pulled = false;
+        }
+        let pulled = if self.own_pulled {
+            self.channel.pull_behind()
+        } else {
+            self.channel.pull(self.own.map())
+        };
+        match pulled {
+            Ok(pulled) => {
+                self.own_pulled = true;
+                Ok(pulled != Pulled::Nothing)
+            }
+            Err(_) => Err(JournalError::Memory),
+        }
+    }
+
+    // Writes what is to be written.
+    fn write(&mut self) -> Result<Sent, JournalError>
+        requires open { self.old.channel.streams.is_open ≡ true }
+        requires some { self.old.channel.out ≢ [] }
+        ensures stays { LineStays E.means M.pair self.old self.new }
+        ensures orders { self.new.orders ≡ self.old.orders }
+        ensures came { OnOk result (LeavesNothing self.old.channel self.new.channel) }
+        ensures written { (result ≢ Ok sent.Closed) × (result ≢ Ok sent.Nothing) }
+        ensures full { result ≡ Ok sent.Full → FindsNoRoom E.means self.old.channel self.new.channel }
+        ensures bytes { result ≡ Ok sent.Bytes → SendsBytes E.means (newest_place self.old.channel.streams) self.old.channel.streams.list self.new.channel.streams.list }
+        ensures ended { result ≡ Ok sent.Ended → length (past_of self.old) < length (past_of self.new) }
+        ensures spent { (entries : ℕ) → result ≡ Err (errors.Spent entries) → IsFull entries self.new }
+    {
+        self.channel.reserve()?;
+        match self.channel.write() {
+            Put::Took(_) => Ok(Sent::Bytes),
+            Put::Full => Ok(Sent::Full),
+            Put::Over => {
+                self.channel.known();
+                self.channel.end_over();
+                Ok(Sent::Ended)
+            }
+        }
+    }
+}

@@ -1,0 +1,76 @@
+ghost use Rattle.std.specs.Prelude.{◌≡◌, ◌⊎◌, ◌<◌, nat_lt, ℕ, true, Err, IfOk, OnOk, length, sum};
+ghost use Rattle.rds_model.specs.declared.journal.JournalError.TheVariants as errors;
+ghost use Rattle.rds_line.specs.Line.{IsFull, past_of};
+ghost use Rattle.rds_line.specs.Stays.{LineStays};
+ghost use Rattle.rds_line.specs.Turns.{HasMoved, IsIdle, IsOver, TakesOrder};
+ghost use Rattle.rds_line.specs.Doing.{Did, IsRelieved, answer_of};
+ghost use Rattle.rds_line.specs.declared.outcome.Turn.TheVariants as turn;
+
+use super::Line;
+use crate::outcome::{Done, Turn};
+use rds_fmap::MapWriter;
+use rds_link::End;
+use rds_model::JournalError;
+use std::sync::Wait;
+
+impl<E: End, M: MapWriter> Line<E, M> {
+    /// Does what there is to do, once: opens the next stream where none is open, takes one order, reads at most 65,536 bytes and
+    /// passes every whole frame, writes what is to be written or else pulls a frame and writes that, and counts all freed bytes.
+    /// After `Spent` and `Memory` nothing is lost.
+    pub fn turn<W: Wait>(&mut self, rt: &W) -> Turn
+        ensures stays { LineStays E.means M.pair self.old self.new }
+        ensures moved { result ≡ turn.Moved → HasMoved E.means self.old self.new }
+        ensures idle { result ≡ turn.Idle → IsIdle E.means self.old self.new }
+        ensures over { result ≡ turn.Over → IsOver self.old self.new }
+        ensures goes_on { (result ≡ turn.Moved) ⊎ (result ≡ turn.Idle) →
+            TakesOrder self.old.orders self.new.orders ⊎ ((self.new.channel.streams.is_open ≡ true)
+            ⊎ (self.new.channel.streams.opened < length self.new.channel.streams.list)) }
+        ensures spent { (entries : ℕ) → result ≡ turn.Spent entries → IsFull entries self.new }
+        ensures freed { (result ≡ turn.Moved) ⊎ ((result ≡ turn.Idle) ⊎ (result ≡ turn.Over)) → sum self.new.channel.conn.freed ≡ 0 }
+    {
+        let before = self.channel.journal().len();
+        match self.steps(rt) {
+            Ok(done) => self.judged(done, before),
+            Err(JournalError::Spent { entries }) => Turn::Spent { entries },
+            Err(JournalError::Memory) => Turn::Memory,
+        }
+    }
+
+    // The steps of a turn, in their order.
+    fn steps<W: Wait>(&mut self, rt: &W) -> Result<Done, JournalError>
+        ensures stays { LineStays E.means M.pair self.old self.new }
+        ensures did { IfOk result (Did E.means self.old self.new) }
+        ensures spent { (entries : ℕ) → result ≡ Err (errors.Spent entries) → IsFull entries self.new }
+        ensures freed { OnOk result (sum self.new.channel.conn.freed ≡ 0) }
+    {
+        self.open_next()?;
+        let took = self.take_order(rt)?;
+        let heard = self.receive(rt)?;
+        let sent = self.send()?;
+        self.relieve();
+        Ok(Done { took, heard, sent })
+    }
+
+    // Counts all freed bytes.
+    fn relieve(&mut self)
+        ensures stays { LineStays E.means M.pair self.old self.new }
+        ensures freed { sum self.new.channel.conn.freed ≡ 0 }
+        ensures alone { IsRelieved self.old self.new }
+    {
+        self.channel.known();
+        self.channel.relieve(&mut self.words);
+    }
+
+    // What a turn answers that did this, where the journal had so many entries before it.
+    fn judged(&self, done: Done, before: u32) -> Turn
+        ensures { result ≡ answer_of done (self.now.channel.streams.is_open) (nat_lt self.now.channel.streams.opened (length self.now.channel.streams.list)) (nat_lt before (length (past_of self.now))) }
+    {
+        if !done.took && !self.channel.is_open() && !self.channel.has_next() {
+            return Turn::Over;
+        }
+        if done.moved() || self.channel.journal().len() > before {
+            return Turn::Moved;
+        }
+        Turn::Idle
+    }
+}

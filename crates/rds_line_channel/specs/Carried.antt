@@ -1,0 +1,43 @@
+-- How the streams of a line stand to its journal. Source: this project's own.
+use Rattle.std.specs.Prelude.{◌≡◌, ◌≢◌, ◌⊎◌, ℕ, true, false, Some, List, [], ◌++◌, length, slice_get, Contains}
+use Rattle.rds_link.specs.Ends.{Means}
+use Rattle.rds_model.specs.declared.entry.Entry.{Entry}
+use Rattle.rds_model.specs.Honest.{Begins}
+use Rattle.rds_model.specs.Past.{open_stream}
+use Rattle.rds_model.specs.Streams.{read_bytes, refused_bytes, written_bytes}
+use Rattle.rds_model.specs.Sums.{opens}
+use Rattle.rds_line_streams.specs.Streams.{StreamsView, HasSaidOver, IsEndedAt, newest_place, open_number, opened_numbers}
+
+module _ {E : Type 0} where
+  -- this holds of the number and the end of the stream at this place
+  pub record StreamAt (Holds : ℕ → E → Type 0) (place : ℕ) (list : List (ℕ × E)) : Type 0 where
+    pub at : (stream : ℕ × E) → slice_get list place ≡ Some stream → Holds stream.0 stream.1
+
+  module _ (m : Means E) (past : List Entry) where
+    -- Of the open stream: what its end sent, and then what is still to be written, is what was written; and what it got is what
+    -- was read, and then what has arrived since.
+    pub record IsOn (arrived out : List ℕ) (number : ℕ) (e : E) : Type 0 where
+      pub sends : m.sent e ++ out ≡ written_bytes number past
+      pub gets : m.got e ≡ read_bytes number past ++ arrived
+
+    -- Of a stream that was opened and isn't open any more: its end sent a beginning of what was written, and what was read is a
+    -- beginning of what it got.
+    pub record IsOff (number : ℕ) (e : E) : Type 0 where
+      pub sends : Begins (m.sent e) (written_bytes number past)
+      pub gets : Begins (read_bytes number past) (m.got e)
+
+    -- such a stream was cut, or its end had said that it is over, or a header that came on it was refused
+    abbrev pub HasCause : List ℕ → ℕ → E → Type 0
+    HasCause cuts number e = Contains cuts number ⊎ (HasSaidOver m e ⊎ (refused_bytes number past ≢ []))
+
+    -- The stream that is open in the journal is the open one, and the journal opened those that were opened, in that order. The
+    -- bytes that the ends tell of are those of the journal. No stream was ended without a cause.
+    pub record IsCarriedBy (arrived out : List ℕ) (s : StreamsView E) (cuts : List ℕ) : Type 0 where
+      pub current : open_number s ≡ open_stream past
+      pub opened : opened_numbers s ≡ opens past
+      pub on : m.tells ≡ true → s.is_open ≡ true → StreamAt (IsOn arrived out) (newest_place s) s.list
+      pub off : m.tells ≡ true → (place : ℕ) → IsEndedAt s place → StreamAt IsOff place s.list
+      pub idle : s.is_open ≡ false → (arrived ≡ []) × (out ≡ [])
+      pub causes : (place : ℕ) → IsEndedAt s place → StreamAt (HasCause cuts) place s.list
+      -- a cut that found no stream open was taken where no further one was left
+      pub late : Contains cuts 0 → s.opened ≡ length s.list

@@ -1,0 +1,3 @@
+pub mod Channel
+pub mod Carried
+pub mod Changes
