@@ -58,7 +58,7 @@ fn measure<R: Print + Threads + Wait + Clock + Sync>(
     total: u64,
 ) -> anyhow::Result<()>
 where
-    R: Net<Listener = TcpListener, StreamEnd = TcpStream>,
+    R: Net<Listener = TcpListener, Stream = TcpStream>,
 {
     for two in [false, true] {
         for size in [48, 1500, 65_536] {
@@ -76,7 +76,7 @@ fn compare<R: Print + Threads + Wait + Clock + Sync>(
     load: Load,
 ) -> anyhow::Result<()>
 where
-    R: Net<Listener = TcpListener, StreamEnd = TcpStream>,
+    R: Net<Listener = TcpListener, Stream = TcpStream>,
     requires { 0 < load.size }
 {
     let start = Instant::now(rt)?;
@@ -123,7 +123,7 @@ fn ring<R: Threads + Wait + Sync>(rt: &R, alloc: Global, load: Load) -> Option<u
 
 fn socket<R: Threads + Wait + Sync>(rt: &R, alloc: Global, load: Load) -> anyhow::Result<u64>
 where
-    R: Net<Listener = TcpListener, StreamEnd = TcpStream>,
+    R: Net<Listener = TcpListener, Stream = TcpStream>,
     requires { 0 < load.size }
 {
     let (from, to) = sockets(rt)?;
@@ -131,7 +131,7 @@ where
     Ok(done)
 }
 
-fn sockets<R: Net<Listener = TcpListener, StreamEnd = TcpStream>>(
+fn sockets<R: Net<Listener = TcpListener, Stream = TcpStream>>(
     rt: &R,
 ) -> io::Result<(TcpStream, TcpStream)> {
     let listener = TcpListener::bind(rt, "127.0.0.1:0")?;
