@@ -22,7 +22,7 @@ use Rattle.rds_history.specs.Journals.{journal, own_map}
 use Rattle.rds_history.specs.Open.{open_both, open_one}
 use Rattle.rds_history.specs.Drain.{HostPair, pairs, open_if_closed, round, rounds, drain}
 use Rattle.rds_history.specs.History.{history}
-use Rattle.rds_history.specs.Limits.{IsDrained, OwesNothing}
+use Rattle.rds_history.specs.Limits.{IsDrained, HasNothingToSend}
 use Rattle.rds_history.proofs.EventInvariants.{Holds, holds_weaker, holds_then, holds_appends, holds_each, holds_again, keeps_after}
 use Rattle.rds_history.proofs.OnlyWritten.{only_history}
 use Rattle.rds_history.proofs.Rounds.{AllResting, IsSwept, swept, resting_drained}
@@ -162,7 +162,7 @@ module _ (limit : ℕ) where
       (λ later round_so. (now.0, round_so.steady.streams h k ∙ now.1))))
       (λ later now. now))
 
-nothing_owed : (h k stream : ℕ) (past : List Event) → open_stream (journal h k past) ≡ Some stream → OwesNothing h k past →
+nothing_owed : (h k stream : ℕ) (past : List Event) → open_stream (journal h k past) ≡ Some stream → HasNothingToSend h k past →
     owed_frame stream (journal h k past) (own_map h past) ≡ None
 nothing_owed h k stream past is idle =
     sym (ap (option_and_then (λ s. owed_frame s (journal h k past) (own_map h past))) is) ∙ idle.nothing_owed

@@ -15,7 +15,7 @@ use Rattle.rds_history.specs.Courses.{and_then, if_room, again}
 use Rattle.rds_history.specs.Journals.{journal, moved_count, moved_in_all, written_to_open, in_flight, own_map}
 use Rattle.rds_history.specs.PullAndRead.{pull, pull_on}
 use Rattle.rds_history.specs.Move.{move_piece, pull_if_idle, arrive, portion, turn, bytes_left, move_up_to}
-use Rattle.rds_history.specs.Limits.{MovesOnlyWritten, OwesNothing, IsMoved, owed_to, turn_up_to}
+use Rattle.rds_history.specs.Limits.{MovesOnlyWritten, HasNothingToSend, IsMoved, owed_to, turn_up_to}
 use Rattle.rds_history.proofs.EventInvariants.{Holds, holds_then, keeps_turn}
 use Rattle.rds_history.proofs.OnlyWritten.{only_written_is_kept}
 use Rattle.rds_history.proofs.Again.{Ends, ends_from, ends_again, IsLast, last_step}
@@ -39,7 +39,7 @@ gains (Some (suc m)) n some asked = omega (arith, some)
 
 -- nothing flies and nothing is owed, and the journal has room
 pub record IsResting (limit h k : ℕ) (past : List Event) : Type 0 where
-  pub idle : OwesNothing h k past
+  pub idle : HasNothingToSend h k past
   pub room : length (journal h k past) + 2 ≤ limit
 
 -- a turn moved nothing

@@ -25,13 +25,13 @@ owed_to h k past =
     option_and_then (λ stream. owed_frame stream (journal h k past) (own_map h past)) (open_stream (journal h k past))
 
 -- host h has nothing to send to k: nothing is in flight, and no frame is owed
-pub record OwesNothing (h k : ℕ) (past : List Event) : Type 0 where
+pub record HasNothingToSend (h k : ℕ) (past : List Event) : Type 0 where
   pub nothing_flies : in_flight h k past ≡ []
   pub nothing_owed : owed_to h k past ≡ None
 
 -- a move until `most` bytes were moved in all has come to its end: they were moved, or there is nothing to send
 abbrev pub IsMoved : (h k : ℕ) → (most : Option ℕ) → List Event → Type 0
-IsMoved h k most past = (bytes_left most past ≡ Some 0) ⊎ OwesNothing h k past
+IsMoved h k most past = (bytes_left most past ≡ Some 0) ⊎ HasNothingToSend h k past
 
 -- What a drain leaves between hosts h and k: one stream is open at both ends, nothing is in flight either way, neither owes
 -- a frame for its own map, and this was the last map that it sent.

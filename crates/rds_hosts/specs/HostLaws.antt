@@ -20,7 +20,7 @@ use Rattle.rds_history.specs.Sockets.{next_slot, holder, of_bind, delivery, arri
 use Rattle.rds_hosts.specs.declared.host.ScriptHost.{ScriptHost}
 use Rattle.rds_hosts.specs.declared.host.ScriptSocket.{ScriptSocket}
 use Rattle.rds_hosts.specs.Elsewhere.{IsElsewhere, delivers}
-use Rattle.rds_hosts.specs.Telling.{TellsHost, TellsSocket, IsFresh}
+use Rattle.rds_hosts.specs.Telling.{TellsHost, TellsSocket, IsFreshSlot}
 
 -- two numbers are theirs, or one isn't
 pub same_pair : (h k : ℕ) → (h == h && (k == k)) ≡ true
@@ -65,7 +65,7 @@ socket_same h slot past later s same t = record {
     waits = ap (λ (ds : List Datagram). drop (length ds) (arrived_datagrams h slot later)) same.left
         ∙ ap (λ (ds : List Datagram). drop (length (handed_out h slot past)) ds) same.came
 
-pub fresh_same : (h slot : ℕ) (past later : List Event) → IsSameSocket h slot past later → IsFresh h slot past → IsFresh h slot later
+pub fresh_same : (h slot : ℕ) (past later : List Event) → IsSameSocket h slot past later → IsFreshSlot h slot past → IsFreshSlot h slot later
 fresh_same h slot past later same f = record { none_came = same.came ∙ f.none_came; none_left = same.left ∙ f.none_left }
 
 pub host_same : (h : ℕ) (past later : List Event) (x : ScriptHost) → IsSameHost h past later → TellsHost h past x → TellsHost h later x

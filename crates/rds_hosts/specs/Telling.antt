@@ -22,7 +22,7 @@ pub record TellsSocket (h slot : ℕ) (past : List Event) (s : ScriptSocket) : T
   pub within : length (handed_out h slot past) ≤ length (arrived_datagrams h slot past)
 
 -- nothing came to the socket of a slot, or left it
-pub record IsFresh (h slot : ℕ) (past : List Event) : Type 0 where
+pub record IsFreshSlot (h slot : ℕ) (past : List Event) : Type 0 where
   pub none_came : arrived_datagrams h slot past ≡ []
   pub none_left : handed_out h slot past ≡ []
 
@@ -34,4 +34,4 @@ pub record TellsHost (h : ℕ) (past : List Event) (x : ScriptHost) : Type 0 whe
   pub marks_are : (port : ℕ) → has_port x.map port ≡ is_marked h port past
   pub sockets_are : (slot : ℕ) → slot < next_slot h past → (s : ScriptSocket) → s ≡ get_or x.sockets.items slot s →
       TellsSocket h slot past s
-  pub fresh : (slot : ℕ) → next_slot h past ≤ slot → IsFresh h slot past
+  pub fresh : (slot : ℕ) → next_slot h past ≤ slot → IsFreshSlot h slot past

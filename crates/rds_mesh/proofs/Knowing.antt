@@ -3,9 +3,9 @@ use Rattle.std.proofs.Common.{◌≡◌, sym, subst}
 use Rattle.rds_pair.specs.declared.step.PairEnd.{PairEnd}
 use Rattle.rds_pair.specs.declared.step.PairEnd.TheVariants.{First, Second}
 use Rattle.rds_joint.specs.Ends.{JointEnd, JointEnds, of_end, other_end}
-use Rattle.rds_mesh.specs.Known.{IsKnown}
+use Rattle.rds_mesh.specs.Known.{KnownOfEnds}
 
-turned : (a b : JointEnd) → IsKnown a b → IsKnown b a
+turned : (a b : JointEnd) → KnownOfEnds a b → KnownOfEnds b a
 turned a b k = record {
   streams = sym k.streams;
   newest = sym k.newest;
@@ -22,10 +22,10 @@ turned a b k = record {
 }
 
 pub known_of : (x : PairEnd) (q : JointEnds) (here there : JointEnd) → of_end x q ≡ here → of_end (other_end x) q ≡ there →
-    IsKnown q.first q.second → IsKnown here there
+    KnownOfEnds q.first q.second → KnownOfEnds here there
 known_of x q here there here_is there_is known =
-    subst (λ e. IsKnown e there) here_is (subst (λ e. IsKnown (of_end x q) e) there_is (seen x))
+    subst (λ e. KnownOfEnds e there) here_is (subst (λ e. KnownOfEnds (of_end x q) e) there_is (seen x))
   where
-    seen : (x : PairEnd) → IsKnown (of_end x q) (of_end (other_end x) q)
+    seen : (x : PairEnd) → KnownOfEnds (of_end x q) (of_end (other_end x) q)
     seen First = known
     seen Second = turned q.first q.second known

@@ -9,7 +9,7 @@ use Rattle.rds_joint.specs.Ends.{JointEnd}
 use Rattle.rds_joint.specs.OnTheWay.{ReadsAll, SendsOneByOne}
 
 -- of one end and the end that it faces
-pub record IsKnown (here there : JointEnd) : Type 0 where
+pub record KnownOfEnds (here there : JointEnd) : Type 0 where
   pub streams : open_stream here.past ≡ open_stream there.past
   pub newest : newest_stream here.past ≡ newest_stream there.past
   pub one_forth : SendsOneByOne here there

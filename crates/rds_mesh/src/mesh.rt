@@ -52,7 +52,7 @@ impl Mesh {
     ghost use Rattle.rds_model.specs.Reading.{verdict_of};
     ghost use Rattle.rds_model.specs.Streams.{was_pulled};
     ghost use Rattle.rds_mesh.specs.Ends.{IsNewMesh, end_at, joint_of};
-    ghost use Rattle.rds_mesh.specs.Known.{IsKnown};
+    ghost use Rattle.rds_mesh.specs.Known.{KnownOfEnds};
 
     /// The connections between so many hosts, of which nothing has happened. Each journal may have `limit` entries.
     ///
@@ -207,7 +207,7 @@ impl Mesh {
         requires host { host < self.now.count }
         requires peer { peer < self.now.count }
         requires apart { peer ≢ host }
-        ensures { IsKnown (end_at host peer self.now) (end_at peer host self.now) }
+        ensures { KnownOfEnds (end_at host peer self.now) (end_at peer host self.now) }
     {
         self.joint(host, peer).known();
     }

@@ -42,16 +42,16 @@ abbrev pub HasTakenNothing : SinkSeen → Type 0
 HasTakenNothing sink = sink.held_after ≡ sink.held_before
 
 -- these bytes are all that the source had left, where it tells
-abbrev pub AreAll : (left : Option (List ℕ)) → List ℕ → Type 0
-AreAll left bytes = MatchOption left (Unit {0}) (λ all. bytes ≡ all)
+abbrev pub AreAllLeft : (left : Option (List ℕ)) → List ℕ → Type 0
+AreAllLeft left bytes = MatchOption left (Unit {0}) (λ all. bytes ≡ all)
 
 -- the source's bytes spell the script
 abbrev pub IsSpelled : (left : Option (List ℕ)) → Meaning → Type 0
-IsSpelled left s = (bytes : List ℕ) × AreAll left bytes × Spells bytes s
+IsSpelled left s = (bytes : List ℕ) × AreAllLeft left bytes × Spells bytes s
 
 -- the source's bytes are refused at this line for this cause
 abbrev pub IsRefusedAt : (left : Option (List ℕ)) → (line : ℕ) → Cause → Type 0
-IsRefusedAt left line cause = (bytes : List ℕ) × AreAll left bytes × Refused bytes line cause
+IsRefusedAt left line cause = (bytes : List ℕ) × AreAllLeft left bytes × Refused bytes line cause
 
 -- the source tells its bytes, and they spell the script
 abbrev pub IsToldSpelled : (left : Option (List ℕ)) → Meaning → Type 0

@@ -11,7 +11,7 @@ use Rattle.rds_socket.specs.declared.error.SendError.{SendError}
 use Rattle.rds_socket.specs.declared.error.SendError.TheVariants as refusal
 use Rattle.rds_socket.specs.Holding.{Open, IsOpen}
 use Rattle.rds_socket.specs.Calls.{with_own, with_routes, with_total, after_freed}
-use Rattle.rds_socket.specs.Sends.{limit_of, order_of, IsClear, RefusalFits, SendFits, after_freed_load}
+use Rattle.rds_socket.specs.Sends.{limit_of, order_of, FindsPortClear, RefusalFits, SendFits, after_freed_load}
 use Rattle.rds_socket.proofs.Quiet.{quiet_load}
 use Rattle.rds_socket.proofs.Kept.{moved, open_on}
 
@@ -39,11 +39,11 @@ module _ {R : Type 0} (looks : R → R → ℕ → Seen → Type 0) (peer dport 
     pub congested : seen.set ≡ true → RefusalFits looks peer dport payload z (refusal.Congested dport seen.version) (with_own v (moved v.own v.own.words v.own.inbox routes v.own.total))
     congested set = fits_on (refusal.Congested dport seen.version) _ (short, refl, look_with true set, refl)
 
-    clear : seen.set ≡ false → IsClear looks peer dport payload v routes
+    clear : seen.set ≡ false → FindsPortClear looks peer dport payload v routes
     clear set = record { short = short; version = seen.version; look = look_with false set }
 
-    pub clear_at : seen.set ≡ false → IsClear looks peer dport payload z routes
-    clear_at set = subst (λ (o : Open R). IsClear looks peer dport payload o routes) view_is (clear set)
+    pub clear_at : seen.set ≡ false → FindsPortClear looks peer dport payload z routes
+    clear_at set = subst (λ (o : Open R). FindsPortClear looks peer dport payload o routes) view_is (clear set)
 
     pub leads_still : LeadsTo routes peer place
     leads_still =
@@ -70,7 +70,7 @@ module _ {R : Type 0} (v : Open R) (words : Purse) (freed : ℕ) (routes : List 
   loaded_open orders same k = open_on v words _ v.own.inbox routes v.own.total loaded (quiet_load v.own.words.slot v.own.words.seat.view (freed_word v.own.words.slot) freed k.held.quiet) orders same k.held.total k
 
 -- what a send answers, by what it found and whether the order was put
-module _ {R : Type 0} (looks : R → R → ℕ → Seen → Type 0) (peer dport place freed : ℕ) (payload : List ℕ) (old mid : Open R) (clear : IsClear looks peer dport payload old mid.own.routes)
+module _ {R : Type 0} (looks : R → R → ℕ → Seen → Type 0) (peer dport place freed : ℕ) (payload : List ℕ) (old mid : Open R) (clear : FindsPortClear looks peer dport payload old mid.own.routes)
     (leads : LeadsTo mid.own.routes peer place) (room : old.own.total - freed + length payload ≤ old.sndbuf) (is : mid ≡ after_freed_load old mid.own.routes freed) where
   pub send_answer : (r : Result (Unit {0}) (List ℕ × SendError)) (new : Open R)
       → OnOk r (IsPutAt place (order_of mid dport payload) mid.own.routes new.own.routes)

@@ -31,7 +31,7 @@ module _ {R : Type 0} where
 
   module _ (looks : R → R → ℕ → Seen → Type 0) (peer dport : ℕ) (payload : List ℕ) where
     -- the datagram is short enough, and a look at the peer's map found its port clear
-    pub record IsClear (old : Open R) (routes : List (Lane R)) : Type 0 where
+    pub record FindsPortClear (old : Open R) (routes : List (Lane R)) : Type 0 where
       pub short : length payload ≤ limit_of old
       pub version : ℕ
       pub look : IsLookTo looks peer dport (record { version = version; set = false }) old.own.routes routes
@@ -42,13 +42,13 @@ module _ {R : Type 0} where
     RefusalFits old (NoRoute named) new = (length payload ≤ limit_of old) × (named ≡ peer) × NoneTo old.own.routes peer × (new ≡ old)
     RefusalFits old (Congested port version) new = (length payload ≤ limit_of old) × (port ≡ dport)
         × IsLookTo looks peer dport (record { version = version; set = true }) old.own.routes new.own.routes × (new ≡ after_route_look old new.own.routes)
-    RefusalFits old (SendFull queued len limit) new = IsClear old new.own.routes × ((freed : ℕ) × (queued ≡ old.own.total - freed)
+    RefusalFits old (SendFull queued len limit) new = FindsPortClear old new.own.routes × ((freed : ℕ) × (queued ≡ old.own.total - freed)
         × (len ≡ length payload) × (limit ≡ old.sndbuf) × (limit < queued + len) × (new ≡ after_freed_load old new.own.routes freed))
-    RefusalFits old Memory new = IsClear old new.own.routes × ((freed : ℕ) × (old.own.total - freed + length payload ≤ old.sndbuf) × (new ≡ after_freed_load old new.own.routes freed))
+    RefusalFits old Memory new = FindsPortClear old new.own.routes × ((freed : ℕ) × (old.own.total - freed + length payload ≤ old.sndbuf) × (new ≡ after_freed_load old new.own.routes freed))
 
     -- it was found short enough, clear and within the send buffer, and was put
     abbrev pub IsSent : Open R → Open R → Type 0
-    IsSent old new = (routes : List (Lane R)) × (freed : ℕ) × IsClear old routes × (old.own.total - freed + length payload ≤ old.sndbuf)
+    IsSent old new = (routes : List (Lane R)) × (freed : ℕ) × FindsPortClear old routes × (old.own.total - freed + length payload ≤ old.sndbuf)
         × IsPutTo peer (order_of old dport payload) routes new.own.routes × (new ≡ after_send old new.own.routes freed (length payload))
 
     -- what a send answers

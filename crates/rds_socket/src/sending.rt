@@ -1,7 +1,7 @@
 //! How a datagram is sent.
 ghost use Rattle.std.specs.Prelude.{◌≡◌, ◌+◌, ◌-◌, ◌<◌, ◌≤◌, ℕ, length, None, IfOk, IfErr, OnOk, OnErr};
 ghost use Rattle.rds_parts.specs.Lanes.{LeadsTo, IsPutAt};
-ghost use Rattle.rds_socket.specs.Sends.{SendFits, RefusalFits, IsClear, after_freed_load, order_of, IsSend, IsSendOf};
+ghost use Rattle.rds_socket.specs.Sends.{SendFits, RefusalFits, FindsPortClear, after_freed_load, order_of, IsSend, IsSendOf};
 ghost use Rattle.rds_socket.specs.Calls.{with_own, with_routes, with_total};
 ghost use Rattle.rds_socket.specs.Stays.{Stays};
 ghost use Rattle.rds_socket.specs.declared.error.SendError.TheVariants as refusal;
@@ -38,7 +38,7 @@ impl<R: MapReader> Socket<R> {
 
     // The place of the peer's route, where a datagram to the port would be accepted.
     fn check(&mut self, peer: u32, dport: u16, payload: &Payload) -> Result<usize, SendError>
-        ensures clear { IfOk result (λ place. IsClear R.is_look peer dport payload.now self.old self.new.own.routes) }
+        ensures clear { IfOk result (λ place. FindsPortClear R.is_look peer dport payload.now self.old self.new.own.routes) }
         ensures place { IfOk result (λ place. LeadsTo self.new.own.routes peer place) }
         ensures fits { IfOk result (λ place. (freed : ℕ) × (self.old.own.total - freed + length payload.now ≤ self.old.sndbuf) × (self.new.own.total + length payload.now ≤ 18442240474098958336) × (self.new ≡ after_freed_load self.old self.new.own.routes freed)) }
         ensures refused { IfErr result (λ e. RefusalFits R.is_look peer dport payload.now self.old e self.new) }

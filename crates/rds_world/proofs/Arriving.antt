@@ -14,7 +14,7 @@ use Rattle.rds_joint.specs.OnTheWay.{HasAtMostOne}
 use Rattle.rds_joint.specs.Steps.{came, came_from, went}
 use Rattle.rds_pair.specs.declared.error.PairError.{PairError}
 use Rattle.rds_mesh.specs.Ends.{ChangesPair, MeshView, end_at}
-use Rattle.rds_mesh.specs.Known.{IsKnown}
+use Rattle.rds_mesh.specs.Known.{KnownOfEnds}
 use Rattle.rds_history.specs.Events.{Event, Moved}
 use Rattle.rds_history.specs.Journals.{journal, moved_count, in_flight, written_to_open}
 use Rattle.rds_history.specs.Move.{move_piece}
@@ -83,7 +83,7 @@ came_is count writer reader some none = go writer.flying (drop count writer.flyi
 -- the world after it
 pub tells_fed : (limit hosts h k count : ℕ) (past : List Event) (s t : State) → k ≢ h → s.mesh.count ≡ hosts → h < hosts → k < hosts →
     Tells limit hosts past s → 0 < length (in_flight h k past) → count ≤ length (in_flight h k past) →
-    IsKnown (end_at h k s.mesh) (end_at k h s.mesh) →
+    KnownOfEnds (end_at h k s.mesh) (end_at k h s.mesh) →
     ChangesPair h k (went count (end_at h k s.mesh)) (came count (end_at h k s.mesh) (end_at k h s.mesh)) s.mesh t.mesh →
     t ≡ record s { mesh = t.mesh } → BytesCame limit hosts h k (Moved h k count ∷ past) t
 tells_fed limit hosts h k count past s t apart count_is h_in k_in told some most known changed rest = record {

@@ -10,7 +10,7 @@ use Rattle.rds_pair.specs.declared.error.PairError.{PairError}
 use Rattle.rds_joint.specs.Ends.{JointEnd}
 use Rattle.rds_joint.specs.Steps.{opened, opened_from, shut_from, stream_shut}
 use Rattle.rds_mesh.specs.Ends.{ChangesPair, IsOtherPair, MeshView, end_at}
-use Rattle.rds_mesh.specs.Known.{IsKnown}
+use Rattle.rds_mesh.specs.Known.{KnownOfEnds}
 use Rattle.rds_history.specs.Events.{Event, Appended}
 use Rattle.rds_history.specs.Journals.{journal, maps_read}
 use Rattle.rds_history.specs.Transcript.{entry_line, lines}
@@ -58,7 +58,7 @@ peer_quiet h k a b e past p no_map none_more t =
 -- both ends opened their next stream
 pub tells_opened : {B F : Type 0} (limit hosts h k : ℕ) (past : List Event) (s : State) (m : MeshView) (t u : State) (last : Result B F) →
     Tells limit hosts past s → s.mesh.count ≡ hosts → h < s.count → k < s.count → k ≢ h → open_stream (journal h k past) ≡ None →
-    IsKnown (end_at h k s.mesh) (end_at k h s.mesh) →
+    KnownOfEnds (end_at h k s.mesh) (end_at k h s.mesh) →
     ChangesPair h k (opened (end_at h k s.mesh)) (opened (end_at k h s.mesh)) s.mesh m →
     ((e : Entry) (before : List Entry) → (end_at h k m).past ≡ e ∷ before →
     PrintsAlone (accepted (e ∷ before)) before e → t ≡ record s { mesh = m; text = s.text ++ entry_line h k before e }) →
@@ -166,7 +166,7 @@ shut_is e s on = ap (λ o. shut_from o e) on
 -- both ends shut their stream
 pub tells_shut : {B F : Type 0} (limit hosts h k n : ℕ) (past : List Event) (s : State) (m : MeshView) (t u : State) (last : Result B F) →
     Tells limit hosts past s → s.mesh.count ≡ hosts → h < s.count → k < s.count → k ≢ h → open_stream (journal h k past) ≡ Some n →
-    IsKnown (end_at h k s.mesh) (end_at k h s.mesh) →
+    KnownOfEnds (end_at h k s.mesh) (end_at k h s.mesh) →
     ChangesPair h k (stream_shut (end_at h k s.mesh)) (stream_shut (end_at k h s.mesh)) s.mesh m →
     ((e : Entry) (before : List Entry) → (end_at h k m).past ≡ e ∷ before →
     PrintsAlone (accepted (e ∷ before)) before e → t ≡ record s { mesh = m; text = s.text ++ entry_line h k before e }) →
@@ -252,7 +252,7 @@ tells_shut limit hosts h k n past s m t u (Ok x) told count h_in k_in apart on k
 
 -- the peer has the same stream
 pub same_stream : (limit hosts h k n : ℕ) (past : List Event) (s : State) → Tells limit hosts past s → h < s.count → k < s.count → k ≢ h →
-    open_stream (journal h k past) ≡ Some n → IsKnown (end_at h k s.mesh) (end_at k h s.mesh) → open_stream (journal k h past) ≡ Some n
+    open_stream (journal h k past) ≡ Some n → KnownOfEnds (end_at h k s.mesh) (end_at k h s.mesh) → open_stream (journal k h past) ≡ Some n
 same_stream limit hosts h k n past s told h_in k_in apart on known =
     let h_at : h < hosts = subst (λ n. h < n) told.count_is h_in in
     let k_at : k < hosts = subst (λ n. k < n) told.count_is k_in in
