@@ -2,6 +2,8 @@
 #![tactic(auto)]
 
 #[cfg(test)]
+mod driving;
+#[cfg(test)]
 mod host;
 #[cfg(test)]
 mod talking;

@@ -34,8 +34,8 @@ pub fn hosts<W: Wire, R: Threads + Wait + Net>(
     Some((first, second))
 }
 
-// A datagram from the host's slot to the peer's port.
-fn send<E: End>(rt: &impl Wait, alloc: Global, host: &mut TestHost<E>, bytes: &[u8]) -> bool {
+/// A datagram from the host's slot to the peer's port.
+pub fn send<E: End>(rt: &impl Wait, alloc: Global, host: &mut TestHost<E>, bytes: &[u8]) -> bool {
     let Ok(payload) = Payload::copy_of(alloc, bytes) else {
         return false;
     };
@@ -48,8 +48,8 @@ fn send<E: End>(rt: &impl Wait, alloc: Global, host: &mut TestHost<E>, bytes: &[
     host.ask(rt, order)
 }
 
-// Turns both lines so many times, and answers what the last turns answered.
-fn turns<E: End>(rt: &impl Wait, both: &mut Both<E>, count: u32) -> (Turn, Turn) {
+/// Turns both lines so many times, and answers what the last turns answered.
+pub fn turns<E: End>(rt: &impl Wait, both: &mut Both<E>, count: u32) -> (Turn, Turn) {
     let mut last = (Turn::Idle, Turn::Idle);
     for _ in 0..count {
         last = (both.0.turn(rt), both.1.turn(rt));
