@@ -27,16 +27,15 @@ impl Seed {
     }
 }
 
-/// How many datagrams went one way and how many came: each has its number as its bytes. The line that came last is kept, so that
-/// one which comes twice or too early shows.
+/// How many datagrams went one way and how many came, and whether each that came was the next: each has its number as its bytes.
 #[derive(Clone, Copy, Debug, PartialEq, Eq)]
-struct Way {
-    sent: u32,
-    came: u32,
-    in_order: bool,
+pub struct Way {
+    pub sent: u32,
+    pub came: u32,
+    pub in_order: bool,
 }
 
-const NEW: Way = Way {
+pub const NEW: Way = Way {
     sent: 0,
     came: 0,
     in_order: true,
@@ -50,8 +49,8 @@ impl Way {
     }
 }
 
-// The host sends the next datagram of its way.
-fn send_next<E: End>(rt: &impl Wait, alloc: Global, host: &mut TestHost<E>, way: &mut Way) {
+/// The host sends the next datagram of its way.
+pub fn send_next<E: End>(rt: &impl Wait, alloc: Global, host: &mut TestHost<E>, way: &mut Way) {
     if way.sent < 60_000 && send(rt, alloc, host, &way.sent.to_be_bytes()) {
         way.sent += 1;
     }
@@ -105,10 +104,10 @@ fn drive<E: End>(rt: &impl Wait, alloc: Global, both: &mut Both<E>, seed: &mut S
     ways
 }
 
-// Both lines turn until all that can move has moved, and both hosts take all that came.
-fn settle<E: End>(rt: &impl Wait, both: &mut Both<E>, ways: &mut [Way; 2]) {
+/// Both lines turn until all that can move has moved, and both hosts take all that came.
+pub fn settle<E: End>(rt: &impl Wait, both: &mut Both<E>, ways: &mut [Way; 2]) {
     turns(rt, both, 400);
-    for _ in 0..120 {
+    for _ in 0..200 {
         take_next(rt, &mut both.1, &mut ways[0]);
         take_next(rt, &mut both.0, &mut ways[1]);
     }

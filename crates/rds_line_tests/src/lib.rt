@@ -7,3 +7,5 @@ mod driving;
 mod host;
 #[cfg(test)]
 mod talking;
+#[cfg(test)]
+mod threads;
