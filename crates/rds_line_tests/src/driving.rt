@@ -1,7 +1,7 @@
 //! Two lines that are driven by a seed: datagrams both ways, turns, receipts and a cut, in any order, over ends of which some
 //! calls fail.
-use crate::host::TestHost;
 use crate::talking::{Both, hosts, send, turns};
+use rds_line_hosts::LineHost;
 use rds_link::{End, MemWire, Wire};
 use rds_model::Order;
 use std::alloc::Global;
@@ -50,14 +50,14 @@ impl Way {
 }
 
 /// The host sends the next datagram of its way.
-pub fn send_next<E: End>(rt: &impl Wait, alloc: Global, host: &mut TestHost<E>, way: &mut Way) {
+pub fn send_next<E: End>(rt: &impl Wait, alloc: Global, host: &mut LineHost<E>, way: &mut Way) {
     if way.sent < 60_000 && send(rt, alloc, host, &way.sent.to_be_bytes()) {
         way.sent += 1;
     }
 }
 
 // The host takes the datagram that waits first.
-fn take_next<E: End>(rt: &impl Wait, host: &mut TestHost<E>, way: &mut Way) -> bool {
+fn take_next<E: End>(rt: &impl Wait, host: &mut LineHost<E>, way: &mut Way) -> bool {
     match host.next(rt) {
         Some(datagram) => {
             way.note(datagram.payload.as_slice());

@@ -4,8 +4,6 @@
 #[cfg(test)]
 mod driving;
 #[cfg(test)]
-mod host;
-#[cfg(test)]
 mod talking;
 #[cfg(test)]
 mod threads;

@@ -1,6 +1,6 @@
 //! Two lines that talk.
-use crate::host::{PORT, TestHost};
 use rds_line::Turn;
+use rds_line_hosts::{LineHost, PORT};
 use rds_link::{End, MemWire, Wire};
 use rds_model::Order;
 use rds_wire::{Memory, Payload};
@@ -10,8 +10,11 @@ use std::sync::Wait;
 use std::test::Fail;
 use std::thread::Threads;
 
+/// How many entries a journal may have.
+const LIMIT: u32 = 100_000;
+
 /// Two hosts and their lines.
-pub type Both<E> = (TestHost<E>, TestHost<E>);
+pub type Both<E> = (LineHost<E>, LineHost<E>);
 
 // The streams of a line, with the numbers 1 and 3.
 fn two<E: End>(alloc: Global, first: E, second: E) -> Result<Vec<(u32, E)>, Memory> {
@@ -29,13 +32,13 @@ pub fn hosts<W: Wire, R: Threads + Wait + Net>(
 ) -> Option<Both<W::End>> {
     let (a, b) = wire.open(rt, 1, 2, 1).ok()?;
     let (c, d) = wire.open(rt, 1, 2, 3).ok()?;
-    let first = TestHost::new(alloc, 1, 2, two(alloc, a, c).ok()?).ok()?;
-    let second = TestHost::new(alloc, 2, 1, two(alloc, b, d).ok()?).ok()?;
+    let first = LineHost::new(alloc, 1, 2, two(alloc, a, c).ok()?, LIMIT).ok()?;
+    let second = LineHost::new(alloc, 2, 1, two(alloc, b, d).ok()?, LIMIT).ok()?;
     Some((first, second))
 }
 
 /// A datagram from the host's slot to the peer's port.
-pub fn send<E: End>(rt: &impl Wait, alloc: Global, host: &mut TestHost<E>, bytes: &[u8]) -> bool {
+pub fn send<E: End>(rt: &impl Wait, alloc: Global, host: &mut LineHost<E>, bytes: &[u8]) -> bool {
     let Ok(payload) = Payload::copy_of(alloc, bytes) else {
         return false;
     };

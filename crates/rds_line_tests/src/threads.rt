@@ -1,7 +1,7 @@
 //! Two lines that two threads turn at once.
 use crate::driving::{NEW, Way, send_next, settle};
-use crate::host::TestHost;
 use crate::talking::{Both, hosts};
+use rds_line_hosts::LineHost;
 use rds_link::{MemEnd, MemWire};
 use std::alloc::Global;
 use std::net::Net;
@@ -11,7 +11,7 @@ use std::thread;
 use std::thread::Threads;
 
 // A host whose line has turned many times.
-fn turned<R: Wait>(rt: &R, mut host: TestHost<MemEnd>) -> TestHost<MemEnd> {
+fn turned<R: Wait>(rt: &R, mut host: LineHost<MemEnd>) -> LineHost<MemEnd> {
     for _ in 0..2_000 {
         host.turn(rt);
     }

@@ -1,8 +1,12 @@
-//! A host of one slot, whose socket is the test.
-ghost use Rattle.std.specs.Prelude.{◌≡◌, ◌≤◌, ◌<◌, All, IfOk, length, []};
+//! A host of one slot, whose socket is whoever holds the host.
+ghost use Rattle.std.specs.Prelude.{◌≡◌, ◌≤◌, All, IfOk};
 ghost use Rattle.std.specs.Arc.{arc_value};
 ghost use Rattle.rds_line_streams.specs.Streams.{AreNumbered, IsUnused};
 ghost use Rattle.rds_mail.specs.Orders.{IsAsked};
+ghost use Rattle.rds_model.specs.declared.entry.TheConstants.{MAX_SLOTS};
+ghost use Rattle.rds_model.specs.declared.journal.TheConstants.{MAX_ENTRIES, MIN_ENTRIES};
+ghost use Rattle.rds_line_channel.specs.Channel.{new_channel};
+ghost use Rattle.rds_line.specs.Stays.{ChannelStays};
 
 use rds_bindtab::BindTable;
 use rds_fmap::{Writer, pair};
@@ -19,8 +23,8 @@ use std::sync::{Arc, Wait};
 /// The port that a host's only slot holds.
 pub const PORT: u16 = 4001;
 
-/// What the test has of a host: its line, the right to give it orders, and its mailbox.
-pub struct TestHost<E: End> {
+/// A host: its line, the right to give it orders, and the mailbox of its slot, which holds the port `PORT`.
+pub struct LineHost<E: End> {
     pub line: Line<E, Writer>,
     queue: Arc<Mail<Asked>>,
     asks: PutPass<Asked>,
@@ -31,7 +35,7 @@ pub struct TestHost<E: End> {
 }
 
 // By hand, so that one call drops it wherever it is let go, and no function that owns one drops each field.
-impl<E: End> Drop for TestHost<E> {
+impl<E: End> Drop for LineHost<E> {
     fn drop(self) {
         let Self {
             line: _line,
@@ -43,16 +47,24 @@ impl<E: End> Drop for TestHost<E> {
     }
 }
 
-impl<E: End> TestHost<E> {
-    /// A host with this address and peer, and these streams to it.
+impl<E: End> LineHost<E> {
+    /// A host with this address and peer, and these streams to it. Its journal may have `limit` entries.
+    ///
+    /// # Errors
+    ///
+    /// Where there is no memory for its tables.
     pub fn new(
         alloc: Global,
         me: u32,
         peer: u32,
         streams: Vec<(u32, E)>,
-    ) -> Result<TestHost<E>, Memory>
+        limit: u32,
+    ) -> Result<LineHost<E>, Memory>
+        requires least { MIN_ENTRIES ≤ limit }
+        requires most { limit ≤ MAX_ENTRIES }
         requires numbered { AreNumbered streams.items }
         requires unused { All (λ stream. IsUnused E.means stream.1) streams.items }
+        ensures { IfOk result (λ host. host.line.channel ≡ new_channel me peer MAX_SLOTS limit streams.items) }
     {
         let (queue, asks, orders) = orders(alloc)?;
         let (mailbox, gets, boxes) = boxes(alloc)?;
@@ -67,8 +79,8 @@ impl<E: End> TestHost<E> {
             words: words(alloc)?,
             map,
         };
-        Ok(TestHost {
-            line: Line::new(alloc, parts, 100_000)?,
+        Ok(LineHost {
+            line: Line::new(alloc, parts, limit)?,
             queue,
             asks,
             mailbox,
@@ -79,6 +91,7 @@ impl<E: End> TestHost<E> {
     /// Gives the line an order. `false` where there is no memory for it.
     pub fn ask(&mut self, rt: &impl Wait, order: Order) -> bool
         requires { IsAsked order }
+        ensures { self.new.line ≡ self.old.line }
     {
         self.queue
             .put(rt, &mut self.asks, Asked::new(order))
@@ -86,12 +99,16 @@ impl<E: End> TestHost<E> {
     }
 
     /// The datagram that waits first in the mailbox.
-    pub fn next(&mut self, rt: &impl Wait) -> Option<Datagram> {
+    pub fn next(&mut self, rt: &impl Wait) -> Option<Datagram>
+        ensures { self.new.line ≡ self.old.line }
+    {
         self.mailbox.get(rt, &mut self.gets)
     }
 
     /// One turn of the line.
-    pub fn turn(&mut self, rt: &impl Wait) -> Turn {
+    pub fn turn(&mut self, rt: &impl Wait) -> Turn
+        ensures { ChannelStays E.means self.old.line.channel self.new.line.channel }
+    {
         self.line.turn(rt)
     }
 }
