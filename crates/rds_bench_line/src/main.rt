@@ -1,0 +1,76 @@
+//! What a datagram costs on its way through two lines, from the queue of orders at one host to the mailbox at the other, on one
+//! thread and on two. By itself the program moves a few and writes one line; with a number of datagrams it measures them.
+#![tactic(auto)]
+
+mod hosts;
+mod moving;
+
+use hosts::Sender;
+use std::alloc::{AllocError, Global};
+use std::env;
+use std::io::Print;
+use std::net::Net;
+use std::sync::Wait;
+use std::thread::Threads;
+use std::time::{Clock, CpuClock, Instant};
+
+/// How many datagrams are moved where no word says it.
+const FEW: u32 = 1_000;
+
+/// The payloads that are measured, in bytes.
+const LENGTHS: [usize; 3] = [8, 60, 1_024];
+
+fn main(rt: HostRuntime) -> anyhow::Result<()> {
+    let mut words = env::args(&rt)?;
+    words.next();
+    match words.next() {
+        None => show(&rt, rt.alloc()),
+        Some(count) => measure(&rt, rt.alloc(), count.parse()?),
+    }
+}
+
+// How many of a few came.
+fn show<R: Print + Threads + Wait + Net + Sync>(rt: &R, alloc: Global) -> anyhow::Result<()> {
+    let one = one(rt, alloc, FEW, 60).ok_or(AllocError)?;
+    let two = two(rt, alloc, FEW, 60).ok_or(AllocError)?;
+    println!(rt; "{one} came by one thread, {two} by two")?;
+    Ok(())
+}
+
+fn measure<R: Print + Threads + Wait + Net + Sync + Clock + CpuClock>(
+    rt: &R,
+    alloc: Global,
+    count: u32,
+) -> anyhow::Result<()> {
+    for length in LENGTHS {
+        let start = rt.thread_cpu_time()?;
+        let came = one(rt, alloc, count, length).ok_or(AllocError)?;
+        let spent = rt.thread_cpu_time()?.saturating_sub(start);
+        let each = spent.as_nanos() / u128::from(came.max(1));
+        println!(rt; "{came} of {length} bytes by one thread: {each} ns of processor time each")?;
+        let start = Instant::now(rt)?;
+        let came = two(rt, alloc, count, length).ok_or(AllocError)?;
+        let each = start.elapsed(rt)?.as_nanos() / u128::from(came.max(1));
+        println!(rt; "{came} of {length} bytes by two threads: {each} ns each")?;
+    }
+    Ok(())
+}
+
+// How many came that one thread moved.
+fn one<R: Threads + Wait + Net>(rt: &R, alloc: Global, count: u32, length: usize) -> Option<u32> {
+    let mut both = hosts::two(rt, alloc)?;
+    let mut sender = Sender::new(alloc, length)?;
+    moving::by_one(rt, &mut both, &mut sender, count)
+}
+
+// How many came that two threads moved.
+fn two<R: Threads + Wait + Net + Sync>(
+    rt: &R,
+    alloc: Global,
+    count: u32,
+    length: usize,
+) -> Option<u32> {
+    let both = hosts::two(rt, alloc)?;
+    let sender = Sender::new(alloc, length)?;
+    moving::by_two(rt, both, sender, count)
+}

@@ -1,0 +1,100 @@
+//! How datagrams are moved, by one thread and by two.
+use crate::hosts::{Both, Sender};
+use rds_line::Turn;
+use rds_line_hosts::LineHost;
+use rds_link::MemEnd;
+use std::sync::Wait;
+use std::thread;
+use std::thread::Threads;
+
+/// How many datagrams are sent before the lines turn.
+const BATCH: u32 = 64;
+
+/// Sends so many datagrams, in batches, each of which is moved before the next, and answers how many came.
+pub fn by_one<R: Wait>(rt: &R, both: &mut Both, sender: &mut Sender, count: u32) -> Option<u32> {
+    let mut came = 0u32;
+    for _ in 0..count / BATCH {
+        batch(rt, both, sender)?;
+        came = came.wrapping_add(settle(rt, both));
+    }
+    Some(came)
+}
+
+fn batch<R: Wait>(rt: &R, both: &mut Both, sender: &mut Sender) -> Option<()> {
+    for _ in 0..BATCH {
+        if !sender.send(rt, &mut both.0) {
+            return None;
+        }
+    }
+    Some(())
+}
+
+// Both lines turn until neither has anything to do. Answers how many datagrams came.
+fn settle<R: Wait>(rt: &R, both: &mut Both) -> u32 {
+    let mut came = 0u32;
+    for _ in 0..u32::MAX {
+        let first = both.0.turn(rt);
+        let second = both.1.turn(rt);
+        came = came.wrapping_add(take_all(rt, &mut both.1));
+        if first == Turn::Idle && second == Turn::Idle {
+            break;
+        }
+    }
+    came
+}
+
+// Takes all datagrams that came, and answers how many.
+fn take_all<R: Wait>(rt: &R, host: &mut LineHost<MemEnd>) -> u32 {
+    for came in 0..u32::MAX {
+        if host.next(rt).is_none() {
+            return came;
+        }
+    }
+    u32::MAX
+}
+
+/// Sends so many datagrams by one thread, while another takes them, and answers how many came.
+pub fn by_two<R: Threads + Wait + Sync>(
+    rt: &R,
+    both: Both,
+    sender: Sender,
+    count: u32,
+) -> Option<u32> {
+    let (first, second) = both;
+    let (_, came) = thread::join(
+        rt,
+        move || sends(rt, first, sender, count),
+        move || takes(rt, second, count),
+    );
+    Some(came)
+}
+
+// Sends so many datagrams, and turns the line until all are acknowledged.
+fn sends<R: Wait>(rt: &R, mut host: LineHost<MemEnd>, mut sender: Sender, count: u32) -> bool {
+    for _ in 0..count / BATCH {
+        for _ in 0..BATCH {
+            sender.send(rt, &mut host);
+            host.turn(rt);
+        }
+    }
+    for _ in 0..u32::MAX {
+        if host.line.unacked() == 0 {
+            return true;
+        }
+        host.turn(rt);
+    }
+    false
+}
+
+// Turns the line until so many datagrams came, and all is acknowledged.
+fn takes<R: Wait>(rt: &R, mut host: LineHost<MemEnd>, count: u32) -> u32 {
+    let mut came = 0u32;
+    for _ in 0..u32::MAX {
+        let turn = host.turn(rt);
+        came = came.wrapping_add(take_all(rt, &mut host));
+        if came >= count / BATCH * BATCH && turn == Turn::Idle {
+            break;
+        }
+    }
+    came
+}
