@@ -8,3 +8,6 @@ mod piece;
 
 pub use channel::{Channel, Taken};
 pub use meeting::meet;
+
+#[cfg(test)]
+mod tests;

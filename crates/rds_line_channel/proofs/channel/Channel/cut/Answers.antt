@@ -25,9 +25,10 @@ invariant_of-self g c =
     let is_open = ended_is_open m past arrived inside.out cuts s c.self.invariant kept on now given.streams in
     let number_is : c.in-Some.number ≡ number = same_Some c.in-Some.number number (stream_is ∙ is_open) in
     let conn_is = is_shut inside.conn c.shut.new.self number is_open c.shut.ensures in
+    let noted : c.push.new.self.numbers ≡ cuts ++ c.in-Some.number ∷ [] = ap (λ (v : CutsView). v.numbers) c.push.ensures in
     restated m (ap (λ (conn : Connection). conn.log.past) conn_is)
     (ap (λ (conn : Connection). taken_bytes conn ++ piece) conn_is ∙ given.piece) given.out refl
-    (ap (λ (v : CutsView). v.numbers) c.push.ensures ∙ ap (λ (n : ℕ). cuts ++ n ∷ []) number_is)
+    (noted ∙ ap (λ (n : ℕ). cuts ++ n ∷ []) number_is)
     (carried_cut m past arrived inside.out cuts s c.self.invariant kept on now given.streams)
 
 pub invariant_of-self-in-None : goal.invariant_of-self-in-None

@@ -1,4 +1,4 @@
-use Rattle.std.proofs.Common.{◌≡◌, true, ◌++◌, take, ap, ◌∙◌}
+use Rattle.std.proofs.Common.{◌≡◌, true, ◌++◌, take, drop, ap, ◌∙◌}
 use Rattle.std.proofs.lemmas.List.{take-append-drop}
 use Rattle.rds_link.specs.declared.end.Put.TheVariants as put
 use Rattle.rds_link.specs.Answers.{bytes_put}
@@ -19,7 +19,8 @@ invariant_of-self g c =
     let n = c.in-Took.n in
     let sent = take n c.rest.result.now in
     let rest = c.took.new.self in
-    let left = ap (λ l. take n i.out ++ l) c.took.ensures ∙ take-append-drop n i.out in
+    let behind : rest ≡ drop n i.out = c.took.ensures in
+    let left = ap (λ l. take n i.out ++ l) behind ∙ take-append-drop n i.out in
     let whole : sent ++ rest ≡ i.out = ap (λ l. take n l ++ rest) c.rest.ensures ∙ left in
     let new = c.send-put.new.self in
     carried_moved m i.streams past arrived arrived i.out rest i.cuts.numbers new c.send-put.ensures.same on c.in-Took.ensures.sent
