@@ -7,6 +7,7 @@ use Rattle.rds_wire.specs.declared.frame.Frame.{Frame}
 use Rattle.rds_wire.specs.declared.header.Header.{Header}
 use Rattle.rds_wire.specs.declared.kind.Kind.{Kind}
 use Rattle.rds_wire.specs.declared.kind.Kind.TheVariants.{Data, Ack, Map, OddMap}
+use Rattle.rds_wire.specs.declared.kind.TheConstants.{MAP_LENGTH}
 use Rattle.rds_wire.specs.Kinds.{kind_of}
 use Rattle.rds_bindtab.specs.Seats.{PortSeat}
 use Rattle.rds_model.specs.declared.entry.Entry.{Entry}
@@ -42,20 +43,38 @@ use Rattle.rds_line.specs.Line.{LineView, past_of}
 use Rattle.rds_line.specs.Steps.{IsWaiting}
 use Rattle.rds_line.proofs.Passing.{PassesWith, passes_reads}
 
+-- what a step asks of the view of a line is known of its parts
+pub ready_inside : {E M : Type 0} {inside old : LineView E M} → inside ≡ old →
+    IsReady old.channel.conn → IsReady inside.channel.conn
+ready_inside {E} {M} is ready = subst (λ (v : LineView E M). IsReady v.channel.conn) (sym is) ready
+
+pub waits_inside : {E M : Type 0} {inside old : LineView E M} {v : Verdict} → inside ≡ old →
+    IsWaiting v old.channel.conn → IsWaiting v inside.channel.conn
+waits_inside {E} {M} {inside} {old} {v} is waits = subst (λ (l : LineView E M). IsWaiting v l.channel.conn) (sym is) waits
+
 -- the verdict of the frame that waited
-pub verdict_here : {v : Verdict} {old new : Connection} {came : Found} → IsWaiting v old → (p : Passes came old new) → verdict_of old.log.past p.frame.header ≡ v
+pub verdict_here : {v : Verdict} {old new : Connection} {came : Found} → IsWaiting v old → (p : Passes came old new) →
+    verdict_of old.log.past p.frame.header ≡ v
 verdict_here {v} {old} {new} {came} w p =
     subst (λ (f : Frame). verdict_of old.log.past f.header ≡ v) (same_Some w.frame p.frame (sym w.waits ∙ p.waits)) w.is
 
 -- a verdict is that of the frame that waited
-pub verdict_there : (past : List Entry) (o : Option Frame) (v : Verdict) (f : Frame) → Some v ≡ option_map (λ (g : Frame). verdict_of past g.header) o →
-    o ≡ Some f → v ≡ verdict_of past f.header
+pub verdict_there : (past : List Entry) (o : Option Frame) (v : Verdict) (f : Frame) →
+    Some v ≡ option_map (λ (g : Frame). verdict_of past g.header) o → o ≡ Some f → v ≡ verdict_of past f.header
 verdict_there past o v f is there =
     same_Some v (verdict_of past f.header) (is ∙ ap (option_map (λ (g : Frame). verdict_of past g.header)) there)
 
 -- the datagram of the frame that waited
-pub datagram_is : {from : ℕ} {frame : Frame} (d : Datagram) (waiting : Option Frame) → IfSome waiting (λ f. d ≡ datagram_from from f) → waiting ≡ Some frame → d ≡ datagram_from from frame
+pub datagram_is : {from : ℕ} {frame : Frame} (d : Datagram) (waiting : Option Frame) →
+    IfSome waiting (λ f. d ≡ datagram_from from f) → waiting ≡ Some frame → d ≡ datagram_from from frame
 datagram_is {from} {frame} d waiting is waits = subst (λ (o : Option Frame). IfSome o (λ f. d ≡ datagram_from from f)) waits is
+
+-- a map that waited has so many bytes
+pub map_length : {frame : Frame} (past : List Entry) (waiting : Option Frame) →
+    IfSome waiting (λ f. verdict_of past f.header ≡ verdict.Map → length f.payload ≡ MAP_LENGTH) → waiting ≡ Some frame →
+    verdict_of past frame.header ≡ verdict.Map → length frame.payload ≡ MAP_LENGTH
+map_length {frame} past waiting is waits =
+    subst (λ (o : Option Frame). IfSome o (λ f. verdict_of past f.header ≡ verdict.Map → length f.payload ≡ MAP_LENGTH)) waits is
 
 -- the bytes that were published are those of the frame
 pub map_is : (payload xs ys : List ℕ) (n : ℕ) → xs ≡ payload → length payload ≡ n → ys ≡ take n xs → ys ≡ payload
@@ -67,7 +86,8 @@ map_is payload xs ys n is long front =
 pub port_is : (past : List Entry) (h : Header) (port : ℕ) → verdict_of past h ≡ verdict.Deliver port → h.dport ≡ port
 port_is past h port is = go (kind_of h) is
   where
-    ports : (a b : Bool) → cond a (cond b verdict.Void verdict.Ping) (verdict.Deliver h.dport) ≡ verdict.Deliver port → h.dport ≡ port
+    ports : (a b : Bool) →
+        cond a (cond b verdict.Void verdict.Ping) (verdict.Deliver h.dport) ≡ verdict.Deliver port → h.dport ≡ port
     ports true true e = cc
     ports true false e = cc
     ports false b e = cc
@@ -93,7 +113,8 @@ unasked_kept verdict.Map = refl
 unasked_kept verdict.OddMap = refl
 
 -- and only a map is published
-pub unmapped : (v : Verdict) → v ≢ verdict.Map → (payload : List ℕ) (earlier : List (List ℕ)) → with_map (outcome_of v found.Unasked) payload earlier ≡ earlier
+pub unmapped : (v : Verdict) → v ≢ verdict.Map → (payload : List ℕ) (earlier : List (List ℕ)) →
+    with_map (outcome_of v found.Unasked) payload earlier ≡ earlier
 unmapped (verdict.Deliver port) other payload earlier = refl
 unmapped verdict.Old other payload earlier = refl
 unmapped verdict.Ping other payload earlier = refl
@@ -103,13 +124,15 @@ unmapped verdict.Map other payload earlier = absurd (other refl)
 unmapped verdict.OddMap other payload earlier = refl
 
 -- the bytes of a datagram that is delivered may be counted
-pub delivery_fits : {slot : ℕ} {old new : Connection} {v : View} (p : Passes (found.Slot slot) old new) (port : ℕ) → verdict_of old.log.past p.frame.header ≡ verdict.Deliver port →
+pub delivery_fits : {slot : ℕ} {old new : Connection} {v : View} (p : Passes (found.Slot slot) old new) (port : ℕ) →
+    verdict_of old.log.past p.frame.header ≡ verdict.Deliver port →
     slot < MAX_SLOTS → IsReady old → length old.log.past + old.log.spare ≤ old.log.limit → old.log.limit ≤ MAX_ENTRIES →
     IsCountedFor old.log.past v → part (put_word slot) v.steps + length p.frame.payload ≤ 2 ^ 52
 delivery_fits {slot} {old} {new} {v} p port is small ready room most counted =
     let past = old.log.past in
     let next : List Entry = Read p.stream p.frame (outcome.Slot slot) ∷ past in
-    let r = passes_reads (found.Slot slot) old new p (outcome.Slot slot) (ap (λ (k : Verdict). outcome_of k (found.Slot slot)) is) in
+    let r = passes_reads (found.Slot slot) old new p (outcome.Slot slot)
+    (ap (λ (k : Verdict). outcome_of k (found.Slot slot)) is) in
     let legal : IsLegal next = subst IsLegal r.past p.legal.legal in
     let bound = put_bound slot next legal in
     let here = put_here slot p.stream p.frame past in
@@ -134,8 +157,12 @@ module _ {E M : Type 0} (published : M → List (List ℕ)) where
         accounts = p.accounts;
         rest = rest;
         orders = ap (λ (v : LineView E M). v.orders) same;
-        put = λ was. subst (IsPutFor old.channel.conn.peer (Read p.stream p.frame o ∷ past)) (sym boxes) (put_for_read p.stream p.frame o old.channel.conn.peer past old.boxes kept was);
-        counted = λ was. subst (IsCountedFor (Read p.stream p.frame o ∷ past)) (sym words) (counted_for_read p.stream p.frame o past old.words.view kept was);
+        put = λ was.
+            subst (IsPutFor old.channel.conn.peer (Read p.stream p.frame o ∷ past)) (sym boxes)
+            (put_for_read p.stream p.frame o old.channel.conn.peer past old.boxes kept was);
+        counted = λ was.
+            subst (IsCountedFor (Read p.stream p.frame o ∷ past)) (sym words)
+            (counted_for_read p.stream p.frame o past old.words.view kept was);
         freed = λ slot small. ap (λ (v : View). part (freed_word slot) v.steps) words;
         maps = λ was. ap (λ (v : LineView E M). published v.map) same ∙ was ∙ sym (unread p.frame.payload (maps past));
         own = ap (λ (v : LineView E M). v.own) same;
@@ -154,12 +181,18 @@ module _ {E M : Type 0} (published : M → List (List ℕ)) where
       let words = ap (λ (v : LineView E M). v.words.view) same in
       let boxes = ap (λ (v : LineView E M). v.boxes) same in
       record {
-        reads = passes_reads found.Unasked old.channel.conn new.channel.conn p outcome.Map (ap (λ (k : Verdict). outcome_of k found.Unasked) is);
+        reads =
+            passes_reads found.Unasked old.channel.conn new.channel.conn p outcome.Map
+            (ap (λ (k : Verdict). outcome_of k found.Unasked) is);
         accounts = p.accounts;
         rest = rest;
         orders = ap (λ (v : LineView E M). v.orders) same;
-        put = λ was. subst (IsPutFor old.channel.conn.peer (Read p.stream p.frame outcome.Map ∷ past)) (sym boxes) (put_for_read p.stream p.frame outcome.Map old.channel.conn.peer past old.boxes refl was);
-        counted = λ was. subst (IsCountedFor (Read p.stream p.frame outcome.Map ∷ past)) (sym words) (counted_for_read p.stream p.frame outcome.Map past old.words.view refl was);
+        put = λ was.
+            subst (IsPutFor old.channel.conn.peer (Read p.stream p.frame outcome.Map ∷ past)) (sym boxes)
+            (put_for_read p.stream p.frame outcome.Map old.channel.conn.peer past old.boxes refl was);
+        counted = λ was.
+            subst (IsCountedFor (Read p.stream p.frame outcome.Map ∷ past)) (sym words)
+            (counted_for_read p.stream p.frame outcome.Map past old.words.view refl was);
         freed = λ slot small. ap (λ (v : View). part (freed_word slot) v.steps) words;
         maps = λ was. did ∙ ap (λ (l : List (List ℕ)). l ++ p.frame.payload ∷ []) was;
         own = ap (λ (v : LineView E M). v.own) same;
@@ -169,29 +202,36 @@ module _ {E M : Type 0} (published : M → List (List ℕ)) where
       }
 
   -- its datagram was put into the box of a slot, and counted
-  pub passes_delivery : (slot port : ℕ) (old new : LineView E M) (p : Passes (found.Slot slot) old.channel.conn new.channel.conn) →
+  pub passes_delivery : (slot port : ℕ) (old new : LineView E M) →
+      (p : Passes (found.Slot slot) old.channel.conn new.channel.conn) →
       verdict_of (past_of old) p.frame.header ≡ verdict.Deliver port → slot < MAX_SLOTS →
       IsPutInto slot (datagram_from old.channel.conn.peer p.frame) old.boxes new.boxes →
-      (ports : PortSeat) → new.ports.table ≡ old.ports.table → IsDelivery slot port (length p.frame.payload) old.words new.words ports new.ports →
+      (ports : PortSeat) → new.ports.table ≡ old.ports.table →
+      IsDelivery slot port (length p.frame.payload) old.words new.words ports new.ports →
       new.channel ≡ with_conn old.channel new.channel.conn →
       new ≡ record old { channel = new.channel; boxes = new.boxes; ports = new.ports; words = new.words } →
       PassesWith published None p.stream p.frame (outcome.Slot slot) old new
   passes_delivery slot port old new p is small put ports table delivery rest same =
       let past = past_of old in
       let named : IsDelivery slot p.frame.header.dport (length p.frame.payload) old.words new.words ports new.ports =
-      subst (λ (k : ℕ). IsDelivery slot k (length p.frame.payload) old.words new.words ports new.ports) (sym (port_is past p.frame.header port is)) delivery in
+      subst (λ (k : ℕ). IsDelivery slot k (length p.frame.payload) old.words new.words ports new.ports)
+      (sym (port_is past p.frame.header port is)) delivery in
       record {
-        reads = passes_reads (found.Slot slot) old.channel.conn new.channel.conn p (outcome.Slot slot) (ap (λ (k : Verdict). outcome_of k (found.Slot slot)) is);
+        reads =
+            passes_reads (found.Slot slot) old.channel.conn new.channel.conn p (outcome.Slot slot)
+            (ap (λ (k : Verdict). outcome_of k (found.Slot slot)) is);
         accounts = p.accounts;
         rest = rest;
         orders = ap (λ (v : LineView E M). v.orders) same;
         put = put_for_more p.stream slot p.frame past old.channel.conn.peer old.boxes new.boxes put;
         counted = counted_for_more p.stream slot p.frame past old.words new.words ports new.ports named;
         freed = λ s below.
-            let more = delivery_part slot port (length p.frame.payload) old.words new.words ports new.ports delivery (freed_word s) in
+            let n = length p.frame.payload in
+            let before_it = part (freed_word s) old.words.view.steps in
+            let more = delivery_part slot port n old.words new.words ports new.ports delivery (freed_word s) in
             let apart : put_word slot ≢ freed_word s = λ e. absurd (omega arith) in
-            let none : part (freed_word s) old.words.view.steps + 0 ≡ part (freed_word s) old.words.view.steps = omega arith in
-            more ∙ ap (λ (b : Bool). part (freed_word s) old.words.view.steps + (if b then length p.frame.payload else 0)) (ne_eqb (put_word slot) (freed_word s) apart) ∙ none;
+            let none : before_it + 0 ≡ before_it = omega arith in
+            more ∙ ap (λ (b : Bool). before_it + (if b then n else 0)) (ne_eqb (put_word slot) (freed_word s) apart) ∙ none;
         maps = λ was. ap (λ (v : LineView E M). published v.map) same ∙ was;
         own = ap (λ (v : LineView E M). v.own) same;
         read = read_after_delivery old.own slot small port (length p.frame.payload) old.words new.words ports new.ports delivery;

@@ -1,6 +1,9 @@
 mod Delivering
+mod Feeding
+mod Fields
 mod Judging
 mod Keeping
+mod Longer
 mod Passing
 mod Pulled
 mod Relieving

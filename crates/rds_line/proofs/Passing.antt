@@ -48,27 +48,31 @@ pub record ReadsFrame (port : Option ℕ) (s : ℕ) (f : Frame) (o : Outcome) (o
   pub past : new.log.past ≡ read_past port s f o old.log.past
 
 reads_pong : (port : Option ℕ) (s : ℕ) (f : Frame) (o : Outcome) (c : Connection) (freed : List ℕ) →
-    ReadsFrame port s f o c (record (with_pong port (record (with_entries (Read s f o ∷ []) c) { waiting = None })) { freed = freed })
+    ReadsFrame port s f o c
+    (record (with_pong port (record (with_entries (Read s f o ∷ []) c) { waiting = None })) { freed = freed })
 reads_pong None s f o c freed = record { me = refl; peer = refl; slots = refl; limit = refl; past = refl }
 reads_pong (Some port) s f o c freed = record { me = refl; peer = refl; slots = refl; limit = refl; past = refl }
 
 -- a frame that is passed with this outcome
 pub passes_reads : (came : Found) (old new : Connection) (p : Passes came old new) (o : Outcome) →
-    outcome_of (verdict_of old.log.past p.frame.header) came ≡ o → ReadsFrame (pong_for o p.frame.header.sport) p.stream p.frame o old new
+    outcome_of (verdict_of old.log.past p.frame.header) came ≡ o →
+    ReadsFrame (pong_for o p.frame.header.sport) p.stream p.frame o old new
 passes_reads came old new p o is =
-    let was = outcome_of (verdict_of old.log.past p.frame.header) came in
-    let next = λ (k : Outcome).
-    let with_it : Connection = record (with_pong (pong_for k p.frame.header.sport) (record (with_entries (Read p.stream p.frame k ∷ []) old) { waiting = None })) { freed = new.freed } in
-    with_it in
-    subst (λ (c : Connection). ReadsFrame (pong_for o p.frame.header.sport) p.stream p.frame o old c) (sym {b = next o} (p.entry ∙ ap next is))
-    (reads_pong (pong_for o p.frame.header.sport) p.stream p.frame o old new.freed)
+    subst (λ (c : Connection). ReadsFrame (pong_for o p.frame.header.sport) p.stream p.frame o old c)
+    (sym {b = next o} (p.entry ∙ ap next is)) (reads_pong (pong_for o p.frame.header.sport) p.stream p.frame o old new.freed)
+  where
+    next : Outcome → Connection
+    next k =
+        let read : Connection = record (with_entries (Read p.stream p.frame k ∷ []) old) { waiting = None } in
+        record (with_pong (pong_for k p.frame.header.sport) read) { freed = new.freed }
 
 module _ (s : ℕ) (f : Frame) (o : Outcome) (past : List Entry) where
   -- a pong is no order
   orders_after : (port : Option ℕ) → orders (read_past port s f o past) ≡ orders past
   orders_after None = refl
   orders_after (Some port) =
-      cond-true (NO_SLOT == NO_SLOT) (orders past) (orders past ++ order.Send NO_SLOT 0 port [] ∷ []) (eq-eqb NO_SLOT NO_SLOT refl)
+      cond-true (NO_SLOT == NO_SLOT) (orders past) (orders past ++ order.Send NO_SLOT 0 port [] ∷ [])
+      (eq-eqb NO_SLOT NO_SLOT refl)
 
   maps_after : (port : Option ℕ) → maps (read_past port s f o past) ≡ with_map o f.payload (maps past)
   maps_after None = refl
@@ -87,7 +91,8 @@ module _ (s : ℕ) (f : Frame) (o : Outcome) (past : List Entry) where
   moment_after (Some port) = before (before now)
 
   -- nor is it a delivery
-  put_after : (port : Option ℕ) (from : ℕ) (boxes : List (Putter Datagram)) → IsPutFor from (Read s f o ∷ past) boxes → IsPutFor from (read_past port s f o past) boxes
+  put_after : (port : Option ℕ) (from : ℕ) (boxes : List (Putter Datagram)) →
+      IsPutFor from (Read s f o ∷ past) boxes → IsPutFor from (read_past port s f o past) boxes
   put_after None from boxes was = was
   put_after (Some port) from boxes was = was
 
@@ -97,7 +102,8 @@ module _ (s : ℕ) (f : Frame) (o : Outcome) (past : List Entry) where
 
 -- the bytes that are freed or released are accounted for
 abbrev pub AccountsFreed : Connection → Connection → Type 0
-AccountsFreed old new = (slot : ℕ) → slot < old.slots → freed_bytes_of slot new + released_bytes slot old.log.past ≡ freed_bytes_of slot old + released_bytes slot new.log.past
+AccountsFreed old new = (slot : ℕ) → slot < old.slots →
+    freed_bytes_of slot new + released_bytes slot old.log.past ≡ freed_bytes_of slot old + released_bytes slot new.log.past
 
 module _ {E M : Type 0} (published : M → List (List ℕ)) where
   -- A frame was passed, and what had to be done with it was done: a datagram was put and counted where it was delivered, and a
@@ -107,9 +113,11 @@ module _ {E M : Type 0} (published : M → List (List ℕ)) where
     pub accounts : AccountsFreed old.channel.conn new.channel.conn
     pub rest : new.channel ≡ with_conn old.channel new.channel.conn
     pub orders : new.orders ≡ old.orders
-    pub put : IsPutFor old.channel.conn.peer (past_of old) old.boxes → IsPutFor old.channel.conn.peer (Read s f o ∷ past_of old) new.boxes
+    pub put : IsPutFor old.channel.conn.peer (past_of old) old.boxes →
+        IsPutFor old.channel.conn.peer (Read s f o ∷ past_of old) new.boxes
     pub counted : IsCountedFor (past_of old) old.words.view → IsCountedFor (Read s f o ∷ past_of old) new.words.view
-    pub freed : (slot : ℕ) → slot < MAX_SLOTS → part (freed_word slot) new.words.view.steps ≡ part (freed_word slot) old.words.view.steps
+    pub freed : (slot : ℕ) → slot < MAX_SLOTS →
+        part (freed_word slot) new.words.view.steps ≡ part (freed_word slot) old.words.view.steps
     pub maps : published old.map ≡ maps (past_of old) → published new.map ≡ with_map o f.payload (maps (past_of old))
     pub own : new.own ≡ old.own
     pub read : IsAsRead old.own old.words.view.steps → IsAsRead old.own new.words.view.steps
@@ -117,7 +125,8 @@ module _ {E M : Type 0} (published : M → List (List ℕ)) where
     pub ports : new.ports.table ≡ old.ports.table
 
   -- the line keeps all that it keeps
-  keeps_passed_line : {port : Option ℕ} {s : ℕ} {f : Frame} {o : Outcome} {old new : LineView E M} → PassesWith port s f o old new → KeepsLine published old → KeepsLine published new
+  keeps_passed_line : {port : Option ℕ} {s : ℕ} {f : Frame} {o : Outcome} {old new : LineView E M} →
+      PassesWith port s f o old new → KeepsLine published old → KeepsLine published new
   keeps_passed_line {port} {s} {f} {o} {old} {new} p was =
       let r = p.reads in
       let past = past_of old in
@@ -147,8 +156,9 @@ module _ {E M : Type 0} (published : M → List (List ℕ)) where
         slots = r.slots ∙ was.slots;
       }
 
-  pub keeps_passed : {port : Option ℕ} {s : ℕ} {f : Frame} {o : Outcome} {old new : LineView E M} (pulled : Bool) → PassesWith port s f o old new →
-      KeepsLine published old × IsPulled pulled old → KeepsLine published new × IsPulled pulled new
+  pub keeps_passed : {port : Option ℕ} {s : ℕ} {f : Frame} {o : Outcome} {old new : LineView E M} (pulled : Bool) →
+      PassesWith port s f o old new → KeepsLine published old × IsPulled pulled old →
+      KeepsLine published new × IsPulled pulled new
   keeps_passed {port} {s} {f} {o} {old} {new} pulled p was = (
     keeps_passed_line p was.0,
     λ is t on.
@@ -160,7 +170,8 @@ module _ {E M : Type 0} (published : M → List (List ℕ)) where
   )
 
   -- a publication that failed changes none of it
-  pub keeps_unpublished : {old : LineView E M} (pulled : Bool) (map : M) → published map ≡ published old.map → KeepsLine published old × IsPulled pulled old →
+  pub keeps_unpublished : {old : LineView E M} (pulled : Bool) (map : M) → published map ≡ published old.map →
+      KeepsLine published old × IsPulled pulled old →
       KeepsLine published (record old { map = map }) × IsPulled pulled (record old { map = map })
   keeps_unpublished {old} pulled map same was = (
     record {

@@ -48,7 +48,8 @@ pub boxes_as : (old new : List (Putter Datagram)) → new ≡ old → AreSameBox
 boxes_as old new is = subst (AreSameBoxes old) (sym is) (boxes_same old)
 
 -- a datagram was put into one box
-pub put_same : (slot : ℕ) (item : Datagram) (old new : List (Putter Datagram)) → IsPutInto slot item old new → AreSameBoxes old new
+pub put_same : (slot : ℕ) (item : Datagram) (old new : List (Putter Datagram)) → IsPutInto slot item old new →
+    AreSameBoxes old new
 put_same slot item old new put =
     let grown : Putter Datagram = after_put put.0 item in
     record {
@@ -58,15 +59,19 @@ put_same slot item old new put =
           elim (cases_eq s slot) [
             | inl same ↦
                 let was : box ≡ put.0 = same_Some box put.0 (sym stood ∙ (ap (slice_get old) same ∙ put.1)) in
+                let there = at_set old slot grown (slice_get_within old slot put.0 put.1) in
                 let is : after ≡ grown =
-                same_Some after grown (sym here ∙ (ap (λ k. slice_get (slice_set old slot grown) k) same ∙ at_set old slot grown (slice_get_within old slot put.0 put.1))) in (
+                same_Some after grown (sym here ∙ (ap (λ k. slice_get (slice_set old slot grown) k) same ∙ there)) in (
                   ap (λ (b : Putter Datagram). b.mail) is ∙ ap (λ (b : Putter Datagram). b.mail) (sym was),
                   ap (λ (b : Putter Datagram). b.number) is ∙ ap (λ (b : Putter Datagram). b.number) (sym was),
                   ap (λ (b : Putter Datagram). b.splits) is ∙ ap (λ (b : Putter Datagram). b.splits) (sym was),
                 )
             | inr apart ↦
-                let is : after ≡ box = same_Some after box (sym here ∙ (beside_set old slot s grown apart ∙ stood)) in
-                (ap (λ (b : Putter Datagram). b.mail) is, ap (λ (b : Putter Datagram). b.number) is, ap (λ (b : Putter Datagram). b.splits) is)
+                let is : after ≡ box = same_Some after box (sym here ∙ (beside_set old slot s grown apart ∙ stood)) in (
+                  ap (λ (b : Putter Datagram). b.mail) is,
+                  ap (λ (b : Putter Datagram). b.number) is,
+                  ap (λ (b : Putter Datagram). b.splits) is,
+                )
           ];
     }
 
@@ -76,7 +81,8 @@ pub record SameSeats (old new : MeterSeat) (ports after : PortSeat) : Type 0 whe
   pub meter_slot : new.slot ≡ old.slot
   pub port_table : after.table ≡ ports.table
 
-pub same_seats : {slot port n : ℕ} {old new : MeterSeat} {ports after : PortSeat} → IsDelivery slot port n old new ports after → SameSeats old new ports after
+pub same_seats : {slot port n : ℕ} {old new : MeterSeat} {ports after : PortSeat} →
+    IsDelivery slot port n old new ports after → SameSeats old new ports after
 same_seats {slot} {port} {n} {old} {new} {ports} {after} d = go d.mark.set refl
   where
     go : (b : Bool) → d.mark.set ≡ b → SameSeats old new ports after
@@ -97,11 +103,13 @@ same_seats {slot} {port} {n} {old} {new} {ports} {after} d = go d.mark.set refl
 
 module _ {E : Type 0} {m : Means E} where
   -- the frame that waited was passed
-  pub passed_stays : {came : Found} {old new : ChannelView E} → Passes came old.conn new.conn → new ≡ with_conn old new.conn → ChannelStays m old new
+  pub passed_stays : {came : Found} {old new : ChannelView E} → Passes came old.conn new.conn →
+      new ≡ with_conn old new.conn → ChannelStays m old new
   passed_stays {came} {old} {new} p rest =
       let o = outcome_of (verdict_of old.conn.log.past p.frame.header) came in
       let r = passes_reads came old.conn new.conn p o refl in
-      let later = subst (λ (l : List Entry). Moment old.conn.log.past l) (sym r.past) (moment_after p.stream p.frame o old.conn.log.past _) in
+      let past = old.conn.log.past in
+      let later = subst (λ (l : List Entry). Moment past l) (sym r.past) (moment_after p.stream p.frame o past _) in
       channel_of m old new (with_conn old new.conn) rest (conn_stays m old new.conn r.me r.peer r.slots r.limit later)
 
   -- bytes were taken
@@ -109,7 +117,8 @@ module _ {E : Type 0} {m : Means E} where
   fed_stays waits old new took =
       let next : Connection = record old.conn { waiting = new.conn.waiting; rest = new.conn.rest } in
       let conn : ChannelStays m old (with_conn old new.conn) =
-      subst (λ (c : Connection). ChannelStays m old (with_conn old c)) (sym {b = next} took.feeds.rest_same) (conn_stays m old next refl refl refl refl now) in
+      subst (λ (c : Connection). ChannelStays m old (with_conn old c)) (sym {b = next} took.feeds.rest_same)
+      (conn_stays m old next refl refl refl refl now) in
       channel_of m old new (record old { conn = new.conn; piece = drop took.fed.used old.piece }) took.is (record {
         me = conn.me;
         peer = conn.peer;
@@ -144,9 +153,9 @@ module _ {E : Type 0} {m : Means E} where
 
   module _ {M Name : Type 0} {pair : M → Name} where
     -- the line took no order, and each of its parts stays the same one
-    pub line_stays : {old inside new : LineView E M} → inside ≡ old → ChannelStays m inside.channel new.channel → new.orders ≡ inside.orders →
-        AreSameBoxes inside.boxes new.boxes → new.ports.table ≡ inside.ports.table → new.words.table ≡ inside.words.table →
-        new.words.slot ≡ inside.words.slot → pair new.map ≡ pair inside.map → LineStays m pair old new
+    pub line_stays : {old inside new : LineView E M} → inside ≡ old → ChannelStays m inside.channel new.channel →
+        new.orders ≡ inside.orders → AreSameBoxes inside.boxes new.boxes → new.ports.table ≡ inside.ports.table →
+        new.words.table ≡ inside.words.table → new.words.slot ≡ inside.words.slot → pair new.map ≡ pair inside.map → LineStays m pair old new
     line_stays {old} {inside} {new} is channel orders boxes ports words slot map =
         subst (λ (v : LineView E M). LineStays m pair v new) is (record {
           channel = channel;

@@ -19,9 +19,11 @@ invariant_of-self g c =
     let there = verdict_there past i.channel.conn.waiting c.in-Some.verdict p.frame c.in-Some.ensures p.waits in
     let unread : v ≢ verdict.Map = λ is. c.in_default-verdict.not-Map (there ∙ is) in
     keeps_passed published i.own_pulled
-    (passes_quietly published found.Unasked _ _ p (outcome_of v found.Unasked) refl (unasked_kept v) (unmapped v unread) c.pass.ensures.rest refl refl)
+    (passes_quietly published found.Unasked _ _ p (outcome_of v found.Unasked) refl (unasked_kept v) (unmapped v unread)
+    c.pass.ensures.rest refl refl)
     c.self.invariant
 
 pub returns-in_default-verdict-clause-stays : goal.returns-in_default-verdict-clause-stays
 returns-in_default-verdict-clause-stays g c =
-    line_stays c.self.view_is (passed_stays c.pass.ensures.passes c.pass.ensures.rest) refl (boxes_same c.self.inside.boxes) refl refl refl refl
+    let passed = passed_stays c.pass.ensures.passes c.pass.ensures.rest in
+    line_stays c.self.view_is passed refl (boxes_same c.self.inside.boxes) refl refl refl refl

@@ -12,14 +12,14 @@ use Rattle.rds_conn.specs.declared.conn.Found.TheVariants as found
 use Rattle.rds_line.specs.Steps.{IsWaiting, PassesOne}
 use Rattle.rds_line.proofs.Staying.{boxes_same, channel_same}
 use Rattle.rds_line.proofs.Passing.{keeps_passed, keeps_unpublished}
-use Rattle.rds_line.proofs.Delivering.{map_is, passes_map, verdict_here}
+use Rattle.rds_line.proofs.Delivering.{map_is, map_length, passes_map, ready_inside, verdict_here, waits_inside}
 use Rattle.rds_line.proofs.StaysPassed.{at_err, at_value, line_stays, passed_stays}
 use Rattle.rds_line.proofs.line.Line.publish.Goals as goal
 
 pub publish-requires : goal.publish-requires
 publish-requires g c =
     let known = c.known.ensures in
-    let ready = subst (λ (v : LineView g.row.E.Denot g.row.M.Denot). IsReady v.channel.conn) (sym c.self.view_is) c.requires.ready in
+    let ready = ready_inside c.self.view_is c.requires.ready in
     let count = ap length c.self.invariant.0.maps in
     let few = few_maps c.self.inside.channel.conn.log.past in
     let spare = ready.entries in
@@ -34,25 +34,30 @@ invariant_of-self g c =
 
 pub returns-then-is_err-clause-stays : goal.returns-then-is_err-clause-stays
 returns-then-is_err-clause-stays g c =
-    line_stays c.self.view_is (channel_same g.E.End.means c.self.inside.channel) refl (boxes_same c.self.inside.boxes) refl refl refl c.publish.ensures.pair
+    let stays = channel_same g.E.End.means c.self.inside.channel in
+    line_stays c.self.view_is stays refl (boxes_same c.self.inside.boxes) refl refl refl c.publish.ensures.pair
 
 pub invariant_of-self-2 : goal.invariant_of-self-2
 invariant_of-self-2 g c =
     let i = c.self.inside in
     let published = g.M.MapWriter.published in
     let p = c.pass.ensures.passes in
-    let waits = subst (λ (v : LineView g.row.E.Denot g.row.M.Denot). IsWaiting verdict.Map v.channel.conn) (sym c.self.view_is) c.requires.waits in
+    let waits = waits_inside c.self.view_is c.requires.waits in
     let is = verdict_here waits p in
     let frame : c.in-Some.frame.now ≡ p.frame = same_Some c.in-Some.frame.now p.frame (c.in-Some.ensures ∙ p.waits) in
-    let long = subst (λ (o : Option Frame). IfSome o (λ f. verdict_of i.channel.conn.log.past f.header ≡ verdict.Map → length f.payload ≡ MAP_LENGTH)) p.waits c.known.ensures.map is in
-    let bytes = map_is p.frame.payload c.as_slice.result.now c.in-Some-first_chunk.bytes.now MAP_LENGTH (c.as_slice.ensures ∙ ap (λ (f : Frame). f.payload) frame) long c.in-Some-first_chunk.ensures.cases.same in
+    let payload = p.frame.payload in
+    let long = map_length i.channel.conn.log.past i.channel.conn.waiting c.known.ensures.map p.waits is in
+    let slice = c.as_slice.ensures ∙ ap (λ (f : Frame). f.payload) frame in
+    let first = c.in-Some-first_chunk.ensures.cases.same in
+    let bytes = map_is payload c.as_slice.result.now c.in-Some-first_chunk.bytes.now MAP_LENGTH slice long first in
     let did = at_value c.publish.result c.if-is_err.ensures.value c.publish.ensures.ok in
     let map = did ∙ ap (λ (l : List ℕ). published i.map ++ l ∷ []) (c.of_bytes.ensures ∙ bytes) in
     keeps_passed published i.own_pulled (passes_map published _ _ p is map c.pass.ensures.rest refl) c.self.invariant
 
 pub returns-clause-stays : goal.returns-clause-stays
 returns-clause-stays g c =
-    line_stays c.self.view_is (passed_stays c.pass.ensures.passes c.pass.ensures.rest) refl (boxes_same c.self.inside.boxes) refl refl refl c.publish.ensures.pair
+    let passed = passed_stays c.pass.ensures.passes c.pass.ensures.rest in
+    line_stays c.self.view_is passed refl (boxes_same c.self.inside.boxes) refl refl refl c.publish.ensures.pair
 
 pub returns-clause-passed : goal.returns-clause-passed
 returns-clause-passed g c =
