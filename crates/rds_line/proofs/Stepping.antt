@@ -1,5 +1,5 @@
 -- What the steps of a turn did together.
-use Rattle.std.proofs.Common.{◌≡◌, ◌≢◌, ◌⊎◌, inl, inr, ℕ, suc, ◌<◌, ◌≤◌, Bool, true, false, Some, None, slice_get, get_or, List, [], ◌∷◌, ◌++◌, length, append_assoc, refl, sym, ap, subst, ◌∙◌, arith}
+use Rattle.std.proofs.Common.{◌≡◌, ◌≢◌, ◌⊎◌, inl, inr, ℕ, suc, ◌<◌, ◌≤◌, Bool, true, false, Result, Ok, Err, Some, None, slice_get, get_or, List, [], ◌∷◌, ◌++◌, length, append_assoc, refl, sym, ap, subst, ◌∙◌, arith}
 use Rattle.std.proofs.lemmas.Bool.{false≢true}
 use Rattle.std.proofs.lemmas.Option.{slice_get_within, slice_get-get_or}
 use Rattle.rds_link.specs.declared.end.Got.TheVariants as got
@@ -39,7 +39,7 @@ moment_back (before {e} {j} m) small = let shorter = moment_longer m in absurd (
 
 some_between : (x y piece z w : List ℕ) → Begins x y → z ≡ y ++ piece → piece ≢ [] → Begins z w → (more : List ℕ) × (more ≢ []) × (w ≡ x ++ more)
 some_between x y piece z w first is some last =
-    let more = first.0 ++ piece ++ last.0 in (
+    let more = first.0 ++ (piece ++ last.0) in (
       more,
       λ none. some (empty_piece first.0 piece last.0 none),
       last.1 ∙ (ap (λ (l : List ℕ). l ++ last.0) is ∙ (ap (λ (l : List ℕ). (l ++ piece) ++ last.0) first.1 ∙ (append_assoc (x ++ first.0) piece last.0 ∙ append_assoc x first.0 (piece ++ last.0)))),
@@ -49,7 +49,7 @@ some_between x y piece z w first is some last =
     empty_front [] r e = refl
     empty_front (a ∷ l) r e = absurd (cc)
 
-    empty_piece : (l p r : List ℕ) → l ++ p ++ r ≡ [] → p ≡ []
+    empty_piece : (l p r : List ℕ) → l ++ (p ++ r) ≡ [] → p ≡ []
     empty_piece [] p r e = empty_front p r e
     empty_piece (a ∷ l) p r e = absurd (cc)
 
@@ -122,47 +122,59 @@ module _ {E M : Type 0} {old new : LineView E M} (relieved : IsRelieved old new)
   }
 
 -- what each step of a turn did, in their order
-module _ {E M : Type 0} (m : Means E) (a b c d e f : LineView E M) (done : Done)
-    (lengths : (length (past_of a) ≤ length (past_of b)) × (length (past_of b) ≤ length (past_of c)) × (length (past_of c) ≤ length (past_of d)) × (length (past_of d) ≤ length (past_of e)) × (length (past_of e) ≤ length (past_of f)))
-    (opened : past_of b ≡ past_of a → b.channel.streams ≡ a.channel.streams) (open_orders : b.orders ≡ a.orders) (open_last : IsOpenOrLast b)
-    (back : length (past_of b) ≤ length (past_of a) → past_of b ≡ past_of a)
-    (none : done.took ≡ false → (c.orders ≡ b.orders) × AllGot c.orders) (still : done.took ≡ false → c.channel.streams ≡ b.channel.streams)
-    (hear_orders : d.orders ≡ c.orders) (hear_closed : done.heard ≡ heard.Closed → (c.channel.streams.is_open ≡ false) × (d ≡ c))
-    (hear_nothing : done.heard ≡ heard.Nothing → HearsNothing m c.channel d.channel) (hear_open : done.heard ≡ heard.Nothing → d.channel.streams.is_open ≡ true)
-    (hear_ended : done.heard ≡ heard.Ended → length (past_of c) < length (past_of d))
-    (send_orders : e.orders ≡ d.orders) (send_came : LeavesNothing d.channel e.channel) (send_closed : done.sent ≡ sent.Closed → (d.channel.streams.is_open ≡ false) × (e ≡ d))
-    (send_open : d.channel.streams.is_open ≡ false → done.sent ≡ sent.Closed) (send_nothing : done.sent ≡ sent.Nothing → OwesNothing d e) (send_full : done.sent ≡ sent.Full → FindsNoRoom m d.channel e.channel)
-    (send_ended : done.sent ≡ sent.Ended → length (past_of d) < length (past_of e)) (relieved : IsRelieved e f) where
+pub record StepsDid {E M : Type 0} (m : Means E) (a b c d e f : LineView E M) (done : Done) : Type 0 where
+  pub lengths : (length (past_of a) ≤ length (past_of b)) × (length (past_of b) ≤ length (past_of c)) × (length (past_of c) ≤ length (past_of d)) × (length (past_of d) ≤ length (past_of e)) × (length (past_of e) ≤ length (past_of f))
+  pub opened : past_of b ≡ past_of a → b.channel.streams ≡ a.channel.streams
+  pub open_orders : b.orders ≡ a.orders
+  pub open_last : IsOpenOrLast b
+  pub back : length (past_of b) ≤ length (past_of a) → past_of b ≡ past_of a
+  pub none : done.took ≡ false → (c.orders ≡ b.orders) × AllGot c.orders
+  pub still : done.took ≡ false → c.channel.streams ≡ b.channel.streams
+  pub hear_orders : d.orders ≡ c.orders
+  pub hear_closed : done.heard ≡ heard.Closed → (c.channel.streams.is_open ≡ false) × (d ≡ c)
+  pub hear_nothing : done.heard ≡ heard.Nothing → HearsNothing m c.channel d.channel
+  pub hear_open : done.heard ≡ heard.Nothing → d.channel.streams.is_open ≡ true
+  pub hear_ended : done.heard ≡ heard.Ended → length (past_of c) < length (past_of d)
+  pub send_orders : e.orders ≡ d.orders
+  pub send_came : LeavesNothing d.channel e.channel
+  pub send_closed : done.sent ≡ sent.Closed → (d.channel.streams.is_open ≡ false) × (e ≡ d)
+  pub send_open : d.channel.streams.is_open ≡ false → done.sent ≡ sent.Closed
+  pub send_nothing : done.sent ≡ sent.Nothing → OwesNothing d e
+  pub send_full : done.sent ≡ sent.Full → FindsNoRoom m d.channel e.channel
+  pub send_ended : done.sent ≡ sent.Ended → length (past_of d) < length (past_of e)
+  pub relieved : IsRelieved e f
+
+module _ {E M : Type 0} {m : Means E} {a b c d e f : LineView E M} {done : Done} (s : StepsDid m a b c d e f done) where
   orders_after : f.orders ≡ c.orders
-  orders_after = relieved_orders relieved ∙ (send_orders ∙ hear_orders)
+  orders_after = relieved_orders s.relieved ∙ (s.send_orders ∙ s.hear_orders)
 
   pub did_took : (TakesOrder b.orders c.orders) → TakesOrder a.orders f.orders
-  did_took took = (took.0, took.1, orders_after ∙ (took.2 ∙ ap (λ (h : Getter Order). after_get h took.0 took.1) open_orders))
+  did_took took = (took.0, took.1, orders_after ∙ (took.2 ∙ ap (λ (h : Getter Order). after_get h took.0 took.1) s.open_orders))
 
   pub did_none : done.took ≡ false → (f.orders ≡ a.orders) × AllGot f.orders
   did_none not_taken =
-      let was = none not_taken in
-      (orders_after ∙ (was.0 ∙ open_orders), subst (λ (h : Getter Order). AllGot h) (sym orders_after) was.1)
+      let was = s.none not_taken in
+      (orders_after ∙ (was.0 ∙ s.open_orders), subst (λ (h : Getter Order). AllGot h) (sym orders_after) was.1)
 
   module _ (not_taken : done.took ≡ false) (past : past_of f ≡ past_of a) where
     as_long : length (past_of f) ≡ length (past_of a)
     as_long = ap (λ (l : List Entry). length l) past
 
     streams_before : c.channel.streams ≡ a.channel.streams
-    streams_before = still not_taken ∙ opened (back (let n = as_long in omega (arith, n, lengths.0, lengths.1, lengths.2, lengths.3, lengths.4)))
+    streams_before = s.still not_taken ∙ s.opened (s.back (let n = as_long in omega (arith, n, s.lengths.0, s.lengths.1, s.lengths.2, s.lengths.3, s.lengths.4)))
 
     -- no stream was open
     closed_contra : c.channel.streams.is_open ≡ false → d ≡ c → (f.channel.streams.is_open ≡ true) ⊎ (f.channel.streams.opened < length f.channel.streams.list) → ⊥
-    closed_contra off same left = go open_last left
+    closed_contra off same left = go s.open_last left
       where
         to_b : f.channel.streams ≡ b.channel.streams
         to_b =
-            relieved_streams relieved
-            ∙ (ap (λ (v : LineView E M). v.channel.streams) (send_closed (send_open (ap (λ (v : LineView E M). v.channel.streams.is_open) same ∙ off))).1
-            ∙ (ap (λ (v : LineView E M). v.channel.streams) same ∙ still not_taken))
+            relieved_streams s.relieved
+            ∙ (ap (λ (v : LineView E M). v.channel.streams) (s.send_closed (s.send_open (ap (λ (v : LineView E M). v.channel.streams.is_open) same ∙ off))).1
+            ∙ (ap (λ (v : LineView E M). v.channel.streams) same ∙ s.still not_taken))
 
         off_b : b.channel.streams.is_open ≡ false
-        off_b = ap (λ (s : StreamsView E). s.is_open) (sym (still not_taken)) ∙ off
+        off_b = ap (λ (s : StreamsView E). s.is_open) (sym (s.still not_taken)) ∙ off
 
         go : IsOpenOrLast b → (f.channel.streams.is_open ≡ true) ⊎ (f.channel.streams.opened < length f.channel.streams.list) → ⊥
         go (inl on) rest = false≢true (sym off_b ∙ on)
@@ -173,7 +185,7 @@ module _ {E M : Type 0} (m : Means E) (a b c d e f : LineView E M) (done : Done)
     -- nothing came
     idle_quiet : HearsNothing m c.channel d.channel → d.channel.streams.is_open ≡ true → f.channel.streams.is_open ≡ true → OwesNothing d f ⊎ FindsNoRoom m d.channel f.channel → IsIdle m a f
     idle_quiet hears on_d on sends =
-        let quiet = relieved_nothing relieved (send_came hears.none_waits hears.none_left) in record {
+        let quiet = relieved_nothing s.relieved (s.send_came hears.none_waits hears.none_left) in record {
           orders = (did_none not_taken).0;
           all_got = (did_none not_taken).1;
           past = past;
@@ -189,22 +201,29 @@ module _ {E M : Type 0} (m : Means E) (a b c d e f : LineView E M) (done : Done)
           sends = sends;
         }
 
-    by_sent : HearsNothing m c.channel d.channel → d.channel.streams.is_open ≡ true → (s : Sent) → done.sent ≡ s → is_bytes_sent done.sent ≡ false → IsIdle m a f
+    by_sent : HearsNothing m c.channel d.channel → d.channel.streams.is_open ≡ true → (answer : Sent) → done.sent ≡ answer → is_bytes_sent done.sent ≡ false → IsIdle m a f
     by_sent hears on sent.Bytes is no_bytes = absurd (false≢true (sym no_bytes ∙ ap is_bytes_sent is))
     by_sent hears on sent.Nothing is no_bytes =
-        let owes = send_nothing is in
-        idle_quiet hears on (ap (λ (s : StreamsView E). s.is_open) (relieved_streams relieved ∙ owes.streams) ∙ on) (inl (relieved_owes relieved d owes))
+        let owes = s.send_nothing is in
+        idle_quiet hears on (ap (λ (s : StreamsView E). s.is_open) (relieved_streams s.relieved ∙ owes.streams) ∙ on) (inl (relieved_owes s.relieved d owes))
     by_sent hears on sent.Full is no_bytes =
-        let full = send_full is in
-        idle_quiet hears on (ap (λ (s : StreamsView E). s.is_open) (relieved_streams relieved) ∙ full.on) (inr (relieved_full relieved m d full))
-    by_sent hears on sent.Ended is no_bytes = absurd (let more = send_ended is in let n = as_long in omega (arith, more, n, lengths.0, lengths.1, lengths.2, lengths.3, lengths.4))
-    by_sent hears on sent.Closed is no_bytes = absurd (false≢true (sym (send_closed is).0 ∙ on))
+        let full = s.send_full is in
+        idle_quiet hears on (ap (λ (s : StreamsView E). s.is_open) (relieved_streams s.relieved) ∙ full.on) (inr (relieved_full s.relieved m d full))
+    by_sent hears on sent.Ended is no_bytes = absurd (let more = s.send_ended is in let n = as_long in omega (arith, more, n, s.lengths.0, s.lengths.1, s.lengths.2, s.lengths.3, s.lengths.4))
+    by_sent hears on sent.Closed is no_bytes = absurd (false≢true (sym (s.send_closed is).0 ∙ on))
 
     by_heard : (h : Heard) → done.heard ≡ h → is_bytes_heard done.heard ≡ false → is_bytes_sent done.sent ≡ false → (f.channel.streams.is_open ≡ true) ⊎ (f.channel.streams.opened < length f.channel.streams.list) → IsIdle m a f
     by_heard heard.Bytes is no_bytes none_sent left = absurd (false≢true (sym no_bytes ∙ ap is_bytes_heard is))
-    by_heard heard.Nothing is no_bytes none_sent left = by_sent (hear_nothing is) (hear_open is) done.sent refl none_sent
-    by_heard heard.Ended is no_bytes none_sent left = absurd (let more = hear_ended is in let n = as_long in omega (arith, more, n, lengths.0, lengths.1, lengths.2, lengths.3, lengths.4))
-    by_heard heard.Closed is no_bytes none_sent left = absurd (closed_contra (hear_closed is).0 (hear_closed is).1 left)
+    by_heard heard.Nothing is no_bytes none_sent left = by_sent (s.hear_nothing is) (s.hear_open is) done.sent refl none_sent
+    by_heard heard.Ended is no_bytes none_sent left = absurd (let more = s.hear_ended is in let n = as_long in omega (arith, more, n, s.lengths.0, s.lengths.1, s.lengths.2, s.lengths.3, s.lengths.4))
+    by_heard heard.Closed is no_bytes none_sent left = absurd (closed_contra (s.hear_closed is).0 (s.hear_closed is).1 left)
 
     pub did_idle : is_bytes_heard done.heard ≡ false → is_bytes_sent done.sent ≡ false → (f.channel.streams.is_open ≡ true) ⊎ (f.channel.streams.opened < length f.channel.streams.list) → IsIdle m a f
     did_idle no_bytes none_sent left = by_heard done.heard refl no_bytes none_sent left
+
+abbrev the_sent : {X : Type 0} → Result Sent X → Sent
+the_sent (Ok answer) = answer
+the_sent (Err error) = sent.Closed
+
+pub same_sent : {X : Type 0} (answer other : Sent) → ◌≡◌ {A = Result Sent X} (Ok answer) (Ok other) → answer ≡ other
+same_sent {X} answer other is = ap (λ (r : Result Sent X). the_sent r) is
