@@ -1,17 +1,26 @@
 -- What a turn answers, for what its steps did.
-use Rattle.std.proofs.Common.{◌≡◌, ◌⊎◌, inl, inr, ◌&&◌, ◌||◌, not, if◌then◌else◌, Bool, true, false, refl}
+use Rattle.std.proofs.Common.{◌≡◌, ◌⊎◌, inl, inr, ℕ, ◌<◌, ◌≤◌, ◌&&◌, ◌||◌, not, nat_lt, if◌then◌else◌, Bool, true, false, length, refl, subst}
+use Rattle.std.proofs.lemmas.Bool.{ltb-true, ltb-false}
+use Rattle.rds_link.specs.Ends.{Means}
+use Rattle.rds_model.specs.Past.{Moment}
+use Rattle.rds_line.specs.declared.outcome.Done.{Done}
 use Rattle.rds_line.specs.declared.outcome.Heard.{Heard}
 use Rattle.rds_line.specs.declared.outcome.Heard.TheVariants as heard
 use Rattle.rds_line.specs.declared.outcome.Sent.{Sent}
 use Rattle.rds_line.specs.declared.outcome.Sent.TheVariants as sent
 use Rattle.rds_line.specs.declared.outcome.Turn.{Turn}
 use Rattle.rds_line.specs.declared.outcome.Turn.TheVariants as turn
-use Rattle.rds_line.specs.Turns.{is_bytes_heard, is_bytes_sent}
+use Rattle.rds_line.specs.Doing.{Did}
+use Rattle.rds_line.specs.Line.{LineView, past_of}
+use Rattle.rds_line.specs.Turns.{HasMoved, IsIdle, is_bytes_heard, is_bytes_sent}
+use Rattle.rds_line.proofs.Stepping.{moment_back}
 
+-- what isn't false, negated, is true
 pub not_false : (b : Bool) → not b ≡ false → b ≡ true
 not_false true e = refl
 not_false false e = absurd (cc)
 
+-- something was taken or appended, or came or went
 pub judged_moved : (took on has_next moved appended : Bool) → (took ≡ true) ⊎ ((on ≡ true) ⊎ (has_next ≡ true)) → (moved ≡ true) ⊎ (appended ≡ true)
     → turn.Moved ≡ (if not took && (not on && not has_next) then turn.Over else if moved || appended then turn.Moved else turn.Idle)
 judged_moved true on has_next true appended going did = refl
@@ -96,3 +105,34 @@ sent_bytes sent.Nothing e = absurd (cc)
 sent_bytes sent.Full e = absurd (cc)
 sent_bytes sent.Ended e = absurd (cc)
 sent_bytes sent.Closed e = absurd (cc)
+
+-- none is spent
+pub answer_unspent : (took h s on next appended : Bool) (entries : ℕ) → answer took h s on next appended ≡ turn.Spent entries → ⊥
+answer_unspent true true s on next appended entries e = absurd (cc)
+answer_unspent true false s on next appended entries e = absurd (cc)
+answer_unspent false h s false false appended entries e = absurd (cc)
+answer_unspent false true s true next appended entries e = absurd (cc)
+answer_unspent false true s false true appended entries e = absurd (cc)
+answer_unspent false false true true next appended entries e = absurd (cc)
+answer_unspent false false true false true appended entries e = absurd (cc)
+answer_unspent false false false true next true entries e = absurd (cc)
+answer_unspent false false false true next false entries e = absurd (cc)
+answer_unspent false false false false true true entries e = absurd (cc)
+answer_unspent false false false false true false entries e = absurd (cc)
+
+module _ {E M : Type 0} (m : Means E) (old new : LineView E M) (done : Done) (count : ℕ) (did : Did m old new done) (is : count ≡ length (past_of old)) where
+  pub moved_of : (done.took ≡ true) ⊎ ((is_bytes_heard done.heard ≡ true) ⊎ ((is_bytes_sent done.sent ≡ true) ⊎ (nat_lt count (length (past_of new)) ≡ true))) → HasMoved m old new
+  moved_of (inl took) = inl (did.took took)
+  moved_of (inr (inl came)) = inr (inr (inl (did.got (heard_bytes done.heard came))))
+  moved_of (inr (inr (inl went))) = inr (inr (inr (did.sent (sent_bytes done.sent went))))
+  moved_of (inr (inr (inr more))) = inr (inl (subst (λ (n : ℕ). n < length (past_of new)) is (ltb-true count (length (past_of new)) more)))
+
+  still_open : (b : Bool) → (b ≡ true) ⊎ (nat_lt new.channel.streams.opened (length new.channel.streams.list) ≡ true) → (b ≡ true) ⊎ (new.channel.streams.opened < length new.channel.streams.list)
+  still_open b (inl on) = inl on
+  still_open b (inr next) = inr (ltb-true new.channel.streams.opened (length new.channel.streams.list) next)
+
+  pub idle_of : Moment (past_of old) (past_of new) → (done.took ≡ false) × (is_bytes_heard done.heard ≡ false) × (is_bytes_sent done.sent ≡ false) × (nat_lt count (length (past_of new)) ≡ false)
+      × ((new.channel.streams.is_open ≡ true) ⊎ (nat_lt new.channel.streams.opened (length new.channel.streams.list) ≡ true)) → IsIdle m old new
+  idle_of past cases =
+      let small = subst (λ (n : ℕ). length (past_of new) ≤ n) is (ltb-false count (length (past_of new)) cases.3) in
+      did.idle cases.0 cases.1 cases.2 (moment_back past small) (still_open new.channel.streams.is_open cases.4)
