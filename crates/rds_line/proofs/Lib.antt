@@ -10,5 +10,6 @@ mod Relieving
 mod Starting
 mod Staying
 mod StaysPassed
+mod Stepping
 mod Taking
 mod Written

@@ -21,6 +21,7 @@ impl<E: End, M: MapWriter> Line<E, M> {
         ensures orders { self.new.orders ≡ self.old.orders }
         ensures came { OnOk result (LeavesNothing self.old.channel self.new.channel) }
         ensures closed { result ≡ Ok sent.Closed → (self.old.channel.streams.is_open ≡ false) × (self.new ≡ self.old) }
+        ensures shut { self.old.channel.streams.is_open ≡ false → result ≡ Ok sent.Closed }
         ensures nothing { result ≡ Ok sent.Nothing → OwesNothing self.old self.new × (past_of self.new ≡ past_of self.old) }
         ensures full { result ≡ Ok sent.Full → FindsNoRoom E.means self.old.channel self.new.channel }
         ensures bytes { result ≡ Ok sent.Bytes → SendsBytes E.means (newest_place self.old.channel.streams) self.old.channel.streams.list self.new.channel.streams.list }

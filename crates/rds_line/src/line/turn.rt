@@ -30,7 +30,10 @@ impl<E: End, M: MapWriter> Line<E, M> {
     {
         let before = self.channel.journal().len();
         match self.steps(rt) {
-            Ok(done) => self.judged(done, before),
+            Ok(done) => {
+                self.known();
+                self.judged(done, before)
+            }
             Err(JournalError::Spent { entries }) => Turn::Spent { entries },
             Err(JournalError::Memory) => Turn::Memory,
         }

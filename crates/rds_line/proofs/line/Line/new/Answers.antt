@@ -19,14 +19,14 @@ invariant_of-result-4 g c =
     let ports : v.ports ≡ parts.ports = c.ports.view_is in
     let words : v.words ≡ parts.words = c.words.view_is in (
       keeps_at_first g.M.MapWriter.published parts.me parts.peer c.args.limit parts.streams.items v (c.in_ok-new.ensures {u = tt})
-      (ap (λ (h : Getter Order). h.got) c.orders.view_is ∙ c.requires.got)
-      (subst (λ (l : List (Putter Datagram)). All (λ (box : Putter Datagram). box.put ≡ []) l) (sym boxes) c.requires.put)
-      (ap (λ (l : List (Putter Datagram)). length l) boxes ∙ (c.requires.boxes ∙ sym (ap (λ (h : PortSeat). h.table.slots) ports)))
-      (subst (λ (h : PortSeat). h.table.slots ≤ MAX_SLOTS) (sym ports) c.requires.few)
-      (ap (λ (h : MeterSeat). h.view.steps) words ∙ c.requires.steps)
-      (ap (λ (h : MeterSeat). h.view.checks) words ∙ c.requires.checks)
-      c.requires.published
-      (ap (λ (o : Own). o.change) (c.in_ok-new-2.ensures {u = tt})),
+          (ap (λ (h : Getter Order). h.got) c.orders.view_is ∙ c.requires.got)
+          (subst (λ (l : List (Putter Datagram)). All (λ (box : Putter Datagram). box.put ≡ []) l) (sym boxes) c.requires.put)
+          (ap (λ (l : List (Putter Datagram)). length l) boxes ∙ (c.requires.boxes ∙ sym (ap (λ (h : PortSeat). h.table.slots) ports)))
+          (subst (λ (h : PortSeat). h.table.slots ≤ MAX_SLOTS) (sym ports) c.requires.few)
+          (ap (λ (h : MeterSeat). h.view.steps) words ∙ c.requires.steps)
+          (ap (λ (h : MeterSeat). h.view.checks) words ∙ c.requires.checks)
+          c.requires.published
+          (ap (λ (o : Own). o.change) (c.in_ok-new-2.ensures {u = tt})),
       λ yes_pulled. absurd (cc),
     )
 

@@ -22,7 +22,7 @@ invariant_of-self g c =
     let w : LineView g.row.E.Denot g.row.M.Denot = record v { channel = c.relieve.new.self; words = c.relieve.new.words } in (
       keeps_relieved v c.relieve.new.self c.relieve.new.words did.rest did.words g.M.MapWriter.published did.none c.self.invariant.0,
       pulled_still inside.own_pulled v w (ap (λ (k : ChannelView g.row.E.Denot). open_stream k.conn.log.past) did.rest)
-      (λ s. ap (λ (k : ChannelView g.row.E.Denot). last_map s k.conn.log.past) did.rest) refl c.self.invariant.1,
+          (λ s. ap (λ (k : ChannelView g.row.E.Denot). last_map s k.conn.log.past) did.rest) refl c.self.invariant.1,
     )
 
 pub returns-clause-stays : goal.returns-clause-stays

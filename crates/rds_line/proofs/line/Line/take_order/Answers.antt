@@ -65,9 +65,9 @@ invariant_of-self-in_default-order g c =
     let o = c.in-Some.order in
     let did = c.order.ensures in (
       keeps_ordered mid c.order.new.self c.take_order.new.self told.got.0 o told.got.1 did.entry g.M.MapWriter.published (uncut_of o c.in_default-order.not-Cut) told.asked did.freed
-      (keeps_roomy v c.reserve.new.self c.reserve_cut.new.self first second g.M.MapWriter.published c.self.invariant.0),
+          (keeps_roomy v c.reserve.new.self c.reserve_cut.new.self first second g.M.MapWriter.published c.self.invariant.0),
       pulled_ordered mid c.order.new.self c.take_order.new.self told.got.0 o told.got.1 did.entry inside.own_pulled
-      (pulled_roomy v c.reserve.new.self c.reserve_cut.new.self first second inside.own_pulled c.self.invariant.1),
+          (pulled_roomy v c.reserve.new.self c.reserve_cut.new.self first second inside.own_pulled c.self.invariant.1),
     )
 
 pub returns-in-Cut-clause-stays : goal.returns-in-Cut-clause-stays

@@ -1,0 +1,88 @@
+use Rattle.std.proofs.Common.{◌≡◌, Ok, refl, ap}
+use Rattle.rds_line.specs.declared.outcome.Done.{Done}
+use Rattle.rds_line.specs.declared.outcome.Sent.TheVariants as sent
+use Rattle.rds_line.specs.Line.{LineView}
+use Rattle.rds_line.proofs.Staying.{line_through}
+use Rattle.rds_line.proofs.Stepping.{StepsDid, did_idle, did_none, did_took, gets_wider, sends_wider, moment_back, moment_longer, same_sent}
+use Rattle.rds_line.proofs.line.Line.steps.Goals as goal
+
+pub returns-in_err-took-clause-stays : goal.returns-in_err-took-clause-stays
+returns-in_err-took-clause-stays g c =
+    line_through g.E.End.means g.M.MapWriter.pair c.args.self.now c.open_next.new.self c.take_order.new.self c.open_next.ensures.stays c.take_order.ensures.stays
+
+pub returns-in_err-heard-clause-stays : goal.returns-in_err-heard-clause-stays
+returns-in_err-heard-clause-stays g c =
+    let m = g.E.End.means in
+    let pair = g.M.MapWriter.pair in
+    line_through m pair c.args.self.now c.take_order.new.self c.receive.new.self
+    (line_through m pair c.args.self.now c.open_next.new.self c.take_order.new.self c.open_next.ensures.stays c.take_order.ensures.stays) c.receive.ensures.stays
+
+pub returns-in_err-sent-clause-stays : goal.returns-in_err-sent-clause-stays
+returns-in_err-sent-clause-stays g c =
+    let m = g.E.End.means in
+    let pair = g.M.MapWriter.pair in
+    line_through m pair c.args.self.now c.take_order.new.self c.send.new.self
+    (line_through m pair c.args.self.now c.open_next.new.self c.take_order.new.self c.open_next.ensures.stays c.take_order.ensures.stays)
+    (line_through m pair c.take_order.new.self c.receive.new.self c.send.new.self c.receive.ensures.stays c.send.ensures.stays)
+
+pub returns-clause-stays : goal.returns-clause-stays
+returns-clause-stays g c =
+    let m = g.E.End.means in
+    let pair = g.M.MapWriter.pair in
+    line_through m pair c.args.self.now c.take_order.new.self c.relieve.new.self
+    (line_through m pair c.args.self.now c.open_next.new.self c.take_order.new.self c.open_next.ensures.stays c.take_order.ensures.stays)
+    (line_through m pair c.take_order.new.self c.receive.new.self c.relieve.new.self c.receive.ensures.stays
+    (line_through m pair c.receive.new.self c.send.new.self c.relieve.new.self c.send.ensures.stays c.relieve.ensures.stays))
+
+pub returns-clause-did : goal.returns-clause-did
+returns-clause-did g c =
+    let m = g.E.End.means in
+    let pair = g.M.MapWriter.pair in
+    let first = c.args.self.now in
+    let opened = c.open_next.new.self in
+    let taken = c.take_order.new.self in
+    let came = c.receive.new.self in
+    let went = c.send.new.self in
+    let last = c.relieve.new.self in
+    let opening = c.in_ok-open_next.ensures {u = tt} in
+    let taking = c.in_ok-took.ensures {u = tt} in
+    let hearing = c.in_ok-heard.ensures {u = tt} in
+    let sending = c.in_ok-sent.ensures {u = tt} in
+    let done : Done = record { took = c.in_ok-took.took; heard = c.in_ok-heard.heard; sent = c.in_ok-sent.sent } in
+    let steps : StepsDid m first opened taken came went last done = record {
+      lengths = (
+        moment_longer opening.stays.channel.past,
+        moment_longer taking.stays.channel.past,
+        moment_longer hearing.stays.channel.past,
+        moment_longer sending.stays.channel.past,
+        moment_longer c.relieve.ensures.stays.channel.past,
+      );
+      opened = opening.streams;
+      open_orders = ap (λ (v : LineView g.row.E.Denot g.row.M.Denot). v.orders) opening.alone;
+      open_last = opening.open;
+      back = moment_back opening.stays.channel.past;
+      none = λ e. taking.none (ap Ok e);
+      still = λ e. (taking.still (ap Ok e)).1;
+      hear_orders = hearing.orders;
+      hear_closed = λ e. hearing.closed (ap Ok e);
+      hear_nothing = λ e. hearing.nothing (ap Ok e);
+      hear_open = λ e. hearing.open (ap Ok e);
+      hear_ended = λ e. hearing.ended (ap Ok e);
+      send_orders = sending.orders;
+      send_came = sending.came;
+      send_closed = λ e. sending.closed (ap Ok e);
+      send_open = λ e. same_sent c.in_ok-sent.sent sent.Closed (sending.shut e);
+      send_nothing = λ e. (sending.nothing (ap Ok e)).0;
+      send_full = λ e. sending.full (ap Ok e);
+      send_ended = λ e. sending.ended (ap Ok e);
+      relieved = c.relieve.ensures.alone;
+    } in
+    let to_taken = line_through m pair first opened taken opening.stays taking.stays in
+    let to_came = line_through m pair first taken came to_taken hearing.stays in
+    let from_came = line_through m pair came went last sending.stays c.relieve.ensures.stays in record {
+      took = λ e. did_took steps (taking.took (ap Ok e));
+      none = did_none steps;
+      got = λ e. (_, gets_wider m _ first.channel.streams taken.channel.streams came.channel.streams last.channel.streams to_taken.channel.streams (hearing.bytes (ap Ok e)) from_came.channel.streams);
+      sent = λ e. (_, sends_wider m _ first.channel.streams came.channel.streams went.channel.streams last.channel.streams to_came.channel.streams (sending.bytes (ap Ok e)) c.relieve.ensures.stays.channel.streams);
+      idle = λ not_taken no_bytes none_sent past left. did_idle steps not_taken past no_bytes none_sent left;
+    }
