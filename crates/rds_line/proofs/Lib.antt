@@ -1,7 +1,9 @@
 mod Delivering
 mod Feeding
 mod Judging
+mod Fields
 mod Keeping
+mod Longer
 mod Passing
 mod Pulled
 mod Relieving

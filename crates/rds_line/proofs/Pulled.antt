@@ -1,5 +1,5 @@
 -- What a line keeps when it reads its host's own map and pulls the frame that is owed.
-use Rattle.std.proofs.Common.{◌≡◌, ◌≢◌, ℕ, ◌+◌, Bool, true, false, Option, Some, None, IfSome, IsSome, IfOk, OnOk, Result, Ok, Err, List, [], ◌∷◌, ◌++◌, refl, sym, ap, subst, ◌∙◌}
+use Rattle.std.proofs.Common.{◌≡◌, ◌≢◌, ℕ, ◌+◌, Bool, true, false, Option, Some, None, IfSome, IsSome, IfOk, OnOk, Result, Ok, List, [], ◌∷◌, refl, sym, ap, subst, ◌∙◌}
 use Rattle.std.proofs.lemmas.Option.{same_Some}
 use Rattle.std.proofs.lemmas.Result.{IfOk-at_ok}
 use Rattle.rds_wire.specs.declared.frame.Frame.{Frame}
@@ -8,7 +8,6 @@ use Rattle.rds_wire.specs.declared.kind.Kind.{Kind}
 use Rattle.rds_wire.specs.declared.kind.Kind.TheVariants as kind
 use Rattle.rds_wire.specs.Kinds.{kind_of}
 use Rattle.rds_link.specs.Ends.{Means}
-use Rattle.rds_model.specs.declared.entry.Entry.{Entry}
 use Rattle.rds_model.specs.declared.entry.Entry.TheVariants.{Pull}
 use Rattle.rds_model.specs.Owed.{last_map, owed_frame}
 use Rattle.rds_model.specs.Past.{Moment, now, before}
@@ -26,7 +25,7 @@ use Rattle.rds_line_parts.specs.Words.{AddsNothing}
 use Rattle.rds_line_channel.specs.Channel.{ChannelView}
 use Rattle.rds_line.specs.Keeps.{IsPulled, KeepsLine}
 use Rattle.rds_line.specs.Line.{LineView, past_of}
-use Rattle.rds_line.specs.Stays.{ChannelStays, LineStays}
+use Rattle.rds_line.specs.Stays.{LineStays}
 use Rattle.rds_line.specs.Turns.{LeavesNothing, OwesNothing}
 use Rattle.rds_line.proofs.Staying.{boxes_same, streams_same}
 
@@ -44,7 +43,15 @@ pub leaves_same : (conn : Connection) → LeavesConn conn conn
 leaves_same conn = record { me = refl; peer = refl; slots = refl; limit = refl; past = now; waiting = refl; stream = refl }
 
 leaves_pulled : (s : ℕ) (f : Frame) (conn : Connection) → LeavesConn conn (with_entries (Pull s f ∷ []) conn)
-leaves_pulled s f conn = record { me = refl; peer = refl; slots = refl; limit = refl; past = before now; waiting = refl; stream = refl }
+leaves_pulled s f conn = record {
+  me = refl;
+  peer = refl;
+  slots = refl;
+  limit = refl;
+  past = before now;
+  waiting = refl;
+  stream = refl;
+}
 
 pub pull_leaves : (s : ℕ) (owed : Option Frame) (old new : Connection) (out out_new : List ℕ) (came : Pulled) →
     Pulls s owed old new out out_new came → LeavesConn old new
@@ -91,7 +98,8 @@ module _ {E M : Type 0} where
   }
 
   -- a pull changes nothing of what a line keeps
-  pub keeps_pull : (published : M → List (List ℕ)) (v : LineView E M) (s : ℕ) (owed : Option Frame) (conn : Connection) (out : List ℕ) (came : Pulled) →
+  pub keeps_pull : (published : M → List (List ℕ)) (v : LineView E M) (s : ℕ) (owed : Option Frame) (conn : Connection)
+      (out : List ℕ) (came : Pulled) →
       Pulls s owed v.channel.conn conn v.channel.out out came → KeepsLine published v → KeepsLine published (with_pull v conn out)
   keeps_pull published v s None conn out came did k =
       subst (λ (c : Connection). KeepsLine published (with_pull v c out)) (sym did.same) (keeps_same published v out k)
@@ -117,8 +125,10 @@ module _ {E M : Type 0} where
   }
 
   -- what the line is over both
-  pub pull_stays : {Name : Type 0} (m : Means E) (pair : M → Name) (v : LineView E M) (own : Own) (words : MeterSeat) (read : Bool) (conn : Connection) (out : List ℕ) →
-      IsRefresh v.own own v.words words read → LeavesConn v.channel.conn conn → LineStays m pair v (with_pull (with_own v own words) conn out)
+  pub pull_stays : {Name : Type 0} (m : Means E) (pair : M → Name) (v : LineView E M) (own : Own) (words : MeterSeat)
+      (read : Bool) (conn : Connection) (out : List ℕ) →
+      IsRefresh v.own own v.words words read → LeavesConn v.channel.conn conn →
+      LineStays m pair v (with_pull (with_own v own words) conn out)
   pull_stays m pair v own words read conn out r leaves = record {
     channel = record {
       me = leaves.me;
@@ -158,7 +168,8 @@ module _ {E M : Type 0} where
     behind = λ noted s on. absurd (cc);
   }
 
-  pub read_same : (v : LineView E M) (own : Own) (words : MeterSeat) (noted read : Bool) → IsRefresh v.own own v.words words read →
+  pub read_same : (v : LineView E M) (own : Own) (words : MeterSeat) (noted read : Bool) →
+      IsRefresh v.own own v.words words read →
       AddsNothing v.words.view words.view → read ≡ false → IsPulled noted v → ReadsOwn noted v (with_own v own words)
   read_same v own words noted read r nothing none was = record {
     read = read;
@@ -181,7 +192,8 @@ module _ {E : Type 0} where
   -- what was pulled where the own map was looked at
   pub owed_of_map : (old new : ChannelView E) (map : List ℕ) (result : Result Pulled Memory) (came : Pulled) → result ≡ Ok came →
       IsSome (stream_of old.conn) →
-      IfSome (stream_of old.conn) (λ s. IfOk result (Pulls s (owed_frame s old.conn.log.past map) old.conn new.conn old.out new.out)) →
+      IfSome (stream_of old.conn) (λ s.
+      IfOk result (Pulls s (owed_frame s old.conn.log.past map) old.conn new.conn old.out new.out)) →
       IfOk result (λ came. is_frame came ≡ true → new.out ≢ []) →
       IfSome (stream_of old.conn) (λ s. OnOk result (last_map s new.conn.log.past ≡ Some map)) →
       new ≡ record old { conn = new.conn; out = new.out } → PullsOwed map came old new
@@ -215,13 +227,15 @@ module _ {E : Type 0} where
       go (Some s) is has = record {
         stream = s;
         on = is;
-        pulls = IfOk-at_ok (Pulls s (owed_frame s old.conn.log.past map) old.conn new.conn old.out new.out) ok (owed s map is (was s is));
+        pulls = IfOk-at_ok (Pulls s (owed_frame s old.conn.log.past map) old.conn new.conn old.out new.out) ok
+        (owed s map is (was s is));
         behind = same s is ∙ was s is;
         some = IfOk-at_ok (λ (c : Pulled). is_frame c ≡ true → new.out ≢ []) ok some;
         rest = rest;
       }
 
-  pub owed_leaves : (map : List ℕ) (came : Pulled) (old new : ChannelView E) → PullsOwed map came old new → LeavesConn old.conn new.conn
+  pub owed_leaves : (map : List ℕ) (came : Pulled) (old new : ChannelView E) → PullsOwed map came old new →
+      LeavesConn old.conn new.conn
   owed_leaves map came old new p =
       pull_leaves p.stream (owed_frame p.stream old.conn.log.past map) old.conn new.conn old.out new.out came p.pulls
 
@@ -267,12 +281,15 @@ module _ {E M : Type 0} (noted : Bool) (v w : LineView E M) (reads : ReadsOwn no
         (pull_stays m pair v w.own w.words reads.read v.channel.conn v.channel.out reads.refresh (leaves_same v.channel.conn))
 
   -- where a frame was pulled, or none is owed
-  module _ (u : LineView E M) (came : Pulled) (is : u ≡ record w { channel = u.channel }) (p : PullsOwed w.own.map came w.channel u.channel) where
+  module _ (u : LineView E M) (came : Pulled) (is : u ≡ record w { channel = u.channel })
+      (p : PullsOwed w.own.map came w.channel u.channel) where
     is_pulled : u ≡ with_pull w u.channel.conn u.channel.out
     is_pulled = is ∙ ap (λ (c : ChannelView E). record w { channel = c }) p.rest
 
     leaves : LeavesConn v.channel.conn u.channel.conn
-    leaves = subst (λ (c : ChannelView E). LeavesConn c.conn u.channel.conn) same_channel (owed_leaves w.own.map came w.channel u.channel p)
+    leaves =
+        subst (λ (c : ChannelView E). LeavesConn c.conn u.channel.conn) same_channel
+        (owed_leaves w.own.map came w.channel u.channel p)
 
     same_own : u.own ≡ w.own
     same_own = ap (λ (l : LineView E M). l.own) is
@@ -280,7 +297,8 @@ module _ {E M : Type 0} (noted : Bool) (v w : LineView E M) (reads : ReadsOwn no
     pub keeps_pulled : (published : M → List (List ℕ)) → KeepsLine published v → KeepsLine published u × IsPulled true u
     keeps_pulled published k = (
       subst (KeepsLine published) (sym is_pulled)
-      (keeps_pull published w p.stream (owed_frame p.stream w.channel.conn.log.past w.own.map) u.channel.conn u.channel.out came p.pulls
+      (keeps_pull published w p.stream (owed_frame p.stream w.channel.conn.log.past w.own.map) u.channel.conn u.channel.out came
+      p.pulls
       (keeps_reading published k)),
       λ noted_it s on.
           let there = (owed_leaves w.own.map came w.channel u.channel p).stream in
@@ -290,7 +308,8 @@ module _ {E M : Type 0} (noted : Bool) (v w : LineView E M) (reads : ReadsOwn no
 
     pub pulled_stays : {Name : Type 0} (m : Means E) (pair : M → Name) → LineStays m pair v u
     pulled_stays m pair =
-        subst (LineStays m pair v) (sym (is_pulled ∙ ap (λ (l : LineView E M). with_pull l u.channel.conn u.channel.out) reads.is))
+        subst (LineStays m pair v)
+        (sym (is_pulled ∙ ap (λ (l : LineView E M). with_pull l u.channel.conn u.channel.out) reads.is))
         (pull_stays m pair v w.own w.words reads.read u.channel.conn u.channel.out reads.refresh leaves)
 
     pub pulled_leaves : LeavesNothing v.channel u.channel
@@ -301,11 +320,13 @@ module _ {E M : Type 0} (noted : Bool) (v w : LineView E M) (reads : ReadsOwn no
 
     pub pulled_some : came ≢ pulled.Nothing → u.channel.out ≢ []
     pulled_some some =
-        p.some (frame_or_nothing p.stream (owed_frame p.stream w.channel.conn.log.past w.own.map) w.channel.conn u.channel.conn w.channel.out u.channel.out came p.pulls some)
+        p.some (frame_or_nothing p.stream (owed_frame p.stream w.channel.conn.log.past w.own.map) w.channel.conn u.channel.conn
+        w.channel.out u.channel.out came p.pulls some)
 
     pub pulled_nothing : came ≡ pulled.Nothing → v.channel.out ≡ [] → OwesNothing v u × (past_of u ≡ past_of v)
     pulled_nothing none empty =
-        let owes = nothing_owed p.stream (owed_frame p.stream w.channel.conn.log.past w.own.map) w.channel.conn u.channel.conn w.channel.out u.channel.out came p.pulls none in
+        let owes = nothing_owed p.stream (owed_frame p.stream w.channel.conn.log.past w.own.map) w.channel.conn u.channel.conn
+        w.channel.out u.channel.out came p.pulls none in
         let past : past_of u ≡ past_of w = ap (λ (c : Connection). c.log.past) owes.1 in
         let out : w.channel.out ≡ v.channel.out = ap (λ (c : ChannelView E). c.out) same_channel in
         (

@@ -1,23 +1,24 @@
 -- What a line keeps when it writes to its open stream or reads from it, and when that stream is over.
-use Rattle.std.proofs.Common.{◌≡◌, ◌≢◌, ℕ, zero, suc, ◌<◌, ◌≤◌, Bool, true, Option, Some, None, IsSome, List, [], ◌∷◌, take, length, refl, sym, ap, subst, ◌∙◌, arith}
+use Rattle.std.proofs.Common.{◌≡◌, ◌≢◌, ℕ, zero, suc, ◌<◌, ◌≤◌, Bool, Option, Some, None, IsSome, List, [], ◌∷◌, ◌++◌, append_assoc, take, length, refl, ap, ◌∙◌, arith}
 use Rattle.rds_link.specs.declared.end.Got.{Got}
 use Rattle.rds_link.specs.declared.end.Put.{Put}
-use Rattle.rds_link.specs.declared.end.Got.TheVariants as got
 use Rattle.rds_link.specs.declared.end.Put.TheVariants as put
 use Rattle.rds_link.specs.Ends.{Means}
 use Rattle.rds_model.specs.declared.entry.Entry.TheVariants as entry
 use Rattle.rds_conn.specs.Connection.{Connection, stream_of, with_entries, with_room}
 use Rattle.rds_line_streams.specs.Changes.{ChangesAt, Receives, Sends}
 use Rattle.rds_line_streams.specs.ChangeLaws.{changed_here}
-use Rattle.rds_line_streams.specs.Streams.{newest_place, with_list}
+use Rattle.rds_line_streams.specs.Meeting.{AtEach}
+use Rattle.rds_line_streams.specs.NumberLaws.{same_number}
+use Rattle.rds_line_streams.specs.Streams.{newest_place, numbers, with_list}
 use Rattle.rds_line_channel.specs.Channel.{ChannelView, CutsView, with_conn}
 use Rattle.rds_line_channel.specs.Changes.{ShutsStream}
 use Rattle.rds_line.specs.Keeps.{IsPulled, KeepsLine}
 use Rattle.rds_line.specs.Line.{LineView, past_of}
-use Rattle.rds_line.specs.Stays.{ChannelStays}
+use Rattle.rds_line.specs.Stays.{ChannelStays, GoesFurther, LineStays}
 use Rattle.rds_line.specs.Turns.{GetsBytes, SendsBytes}
 use Rattle.rds_line.proofs.Keeping.{keeps_plain, pulled_off}
-use Rattle.rds_line.proofs.Staying.{begins_of, channel_moved, channel_of, channel_through, read_stays, room_stays, shutting_stays, write_stays}
+use Rattle.rds_line.proofs.Staying.{begins_of, channel_moved, channel_of, channel_through, line_inside, line_through, read_stays, room_stays, shutting_stays, write_stays}
 
 -- what there is
 pub the_one : {A : Type 0} (o : Option A) → IsSome o → (a : A) × (o ≡ Some a)
@@ -28,6 +29,10 @@ taken_some : (n : ℕ) (l : List ℕ) → 1 ≤ n → n ≤ length l → take n 
 taken_some zero l some within e = absurd (omega arith)
 taken_some (suc n) [] some within e = absurd (omega arith)
 taken_some (suc n) (x ∷ l) some within e = absurd (cc)
+
+nil_front : (front back : List ℕ) → front ++ back ≡ [] → front ≡ []
+nil_front [] back e = refl
+nil_front (x ∷ front) back e = absurd (cc)
 
 module _ {E : Type 0} (m : Means E) where
   -- room was made for entries
@@ -40,7 +45,8 @@ module _ {E : Type 0} (m : Means E) where
       new ≡ record old { out = out; streams = with_list old.streams new.streams.list } → ChannelStays m old new
   wrote old new answer piece out change rest =
       channel_moved m old new (ap (λ (c : ChannelView E). c.conn) rest) (ap (λ (c : ChannelView E). c.cuts) rest)
-      (write_stays m answer piece (newest_place old.streams) old.streams new.streams change (ap (λ (c : ChannelView E). c.streams.opened) rest))
+      (write_stays m answer piece (newest_place old.streams) old.streams new.streams change
+      (ap (λ (c : ChannelView E). c.streams.opened) rest))
 
   -- the open end was read
   pub got_on : (old new : ChannelView E) (answer : Got) (piece : List ℕ) →
@@ -48,10 +54,23 @@ module _ {E : Type 0} (m : Means E) where
       new ≡ record old { piece = new.piece; streams = with_list old.streams new.streams.list } → ChannelStays m old new
   got_on old new answer piece change rest =
       channel_moved m old new (ap (λ (c : ChannelView E). c.conn) rest) (ap (λ (c : ChannelView E). c.cuts) rest)
-      (read_stays m answer piece (newest_place old.streams) old.streams new.streams change (ap (λ (c : ChannelView E). c.streams.opened) rest))
+      (read_stays m answer piece (newest_place old.streams) old.streams new.streams change
+      (ap (λ (c : ChannelView E). c.streams.opened) rest))
+
+  -- what a line is over a read, where it was the same so far
+  pub reads_line : {M Name : Type 0} (pair : M → Name) (start shown v : LineView E M) (ready new : ChannelView E) (answer : Got) →
+      v ≡ shown → LineStays m pair start shown → ready ≡ with_conn v.channel (with_room v.channel.conn) →
+      ChangesAt (Receives m answer new.piece) (newest_place ready.streams) ready.streams.list new.streams.list →
+      new ≡ record ready { piece = new.piece; streams = with_list ready.streams new.streams.list } →
+      LineStays m pair start (record v { channel = new })
+  reads_line pair start shown v ready new answer is stays room change rest =
+      line_through m pair start shown (record v { channel = new }) stays
+      (line_inside m pair v shown is new
+      (channel_through m v.channel ready new (made_room v.channel ready room) (got_on ready new answer new.piece change rest)))
 
   -- the open stream is over
-  pub over_stays : (number : ℕ) (old new : ChannelView E) → ShutsStream m number old new → new.cuts ≡ old.cuts → ChannelStays m old new
+  pub over_stays : (number : ℕ) (old new : ChannelView E) → ShutsStream m number old new → new.cuts ≡ old.cuts →
+      ChannelStays m old new
   over_stays number old new shuts cuts =
       shutting_stays m number old new shuts (begins_of old.cuts.numbers new.cuts.numbers (ap (λ (c : CutsView). c.numbers) cuts))
 
@@ -77,20 +96,47 @@ module _ {E : Type 0} (m : Means E) where
     more = λ tells. (piece, (λ none. let e = ap length none in absurd (omega arith)), change.way.got tells);
   }
 
+  -- and it got as much where the ends went further since
+  pub gets_still : (place : ℕ) (old middle new : List (ℕ × E)) → GetsBytes m place old middle → numbers new ≡ numbers middle →
+      AtEach (GoesFurther m) middle new → GetsBytes m place old new
+  gets_still place old middle new came same each =
+      let there = same_number middle new same place came.after_it.0 came.after_it.1 came.stands in
+      record {
+        before_it = came.before_it;
+        after_it = (came.after_it.0, there.0);
+        stood = came.stood;
+        stands = there.1;
+        more = λ tells.
+            let was = came.more tells in
+            let far = (each.at place came.after_it (came.after_it.0, there.0) came.stands there.1 tells).1 in
+            (
+              was.0 ++ far.0,
+              (λ none. was.1 (nil_front was.0 far.0 none)),
+              far.1 ∙ ap (λ (l : List ℕ). l ++ far.0) was.2 ∙ append_assoc (m.got came.before_it.1) was.0 far.0,
+            );
+      }
+
   module _ {M : Type 0} (v : LineView E M) (middle new : ChannelView E) (number : ℕ) (shuts : ShutsStream m number middle new)
     (conn : middle.conn ≡ with_room v.channel.conn) where
     -- the connection once its stream was shut
-    pub shut_conn : new.conn ≡ record (with_entries (entry.Shut number ∷ []) (with_room v.channel.conn)) { waiting = None; rest = [] }
-    shut_conn = shuts.conn ∙ ap (λ (c : Connection). record (with_entries (entry.Shut number ∷ []) c) { waiting = None; rest = [] }) conn
+    pub shut_conn :
+        new.conn ≡ record (with_entries (entry.Shut number ∷ []) (with_room v.channel.conn)) { waiting = None; rest = [] }
+    shut_conn =
+        shuts.conn
+        ∙ ap (λ (c : Connection). record (with_entries (entry.Shut number ∷ []) c) { waiting = None; rest = [] }) conn
 
     -- the line has one entry more
     pub more_entries : length (past_of v) < length new.conn.log.past
-    more_entries = let e : length new.conn.log.past ≡ suc (length (past_of v)) = ap (λ (c : Connection). length c.log.past) shut_conn in omega arith
+    more_entries =
+        let e : length new.conn.log.past ≡ suc (length (past_of v)) = ap (λ (c : Connection). length c.log.past) shut_conn in
+        omega arith
 
     pub keeps_over : (published : M → List (List ℕ)) (noted : Bool) → new.cuts ≡ v.channel.cuts → KeepsLine published v →
         KeepsLine published (record v { channel = new }) × IsPulled noted (record v { channel = new })
     keeps_over published noted cuts k = (
-      keeps_plain published (entry.Shut number) tt v new (ap (λ (c : Connection). c.log.past) shut_conn) (ap (λ (c : Connection). c.peer) shut_conn)
-      (ap (λ (c : Connection). c.slots) shut_conn) (ap (λ (c : Connection). c.freed) shut_conn) (ap (λ (c : CutsView). c.numbers) cuts) k,
+      keeps_plain published (entry.Shut number) tt v new (ap (λ (c : Connection). c.log.past) shut_conn)
+      (ap (λ (c : Connection). c.peer) shut_conn)
+      (ap (λ (c : Connection). c.slots) shut_conn) (ap (λ (c : Connection). c.freed) shut_conn)
+      (ap (λ (c : CutsView). c.numbers) cuts) k,
       pulled_off noted (record v { channel = new }) (ap stream_of shut_conn),
     )

@@ -1,21 +1,14 @@
-use Rattle.std.proofs.Common.{◌≡◌, ◌<◌, ℕ, Some, true, length, sym, ap, subst, ◌∙◌, refl}
-use Rattle.rds_link.specs.declared.end.Put.TheVariants as put
-use Rattle.rds_link.specs.Answers.{bytes_put}
+use Rattle.std.proofs.Common.{◌≡◌, ◌<◌, ℕ, Some, true, length, ap, subst, ◌∙◌, refl}
 use Rattle.rds_conn.specs.Connection.{Connection, stream_of, with_room}
 use Rattle.rds_line_streams.specs.Streams.{newest_place}
 use Rattle.rds_line_channel.specs.Channel.{ChannelView}
 use Rattle.rds_line.specs.Line.{LineView, past_of}
-use Rattle.rds_line.specs.Stays.{ChannelStays}
 use Rattle.rds_line.specs.Turns.{SendsBytes}
-use Rattle.rds_line.specs.declared.line.Line.TheInside.{Inside}
+use Rattle.rds_line.proofs.Fields.{view_in}
 use Rattle.rds_line.proofs.Staying.{channel_of, channel_same, channel_through, line_inside}
 use Rattle.rds_line.proofs.Written.{the_one, made_room, wrote, over_stays, sends_bytes, more_entries, keeps_over}
 use Rattle.rds_line.proofs.line.Line.write.Given as given
 use Rattle.rds_line.proofs.line.Line.write.Goals as goal
-
--- what contracts see of a line of these fields
-abbrev view_in : {E M : Type 0} → Inside E M → LineView E M
-view_in i = record { channel = i.channel; orders = i.orders; boxes = i.boxes; ports = i.ports; words = i.words; own = i.own; map = i.map }
 
 pub returns-in_err-reserve-clause-stays : goal.returns-in_err-reserve-clause-stays
 returns-in_err-reserve-clause-stays g c =
@@ -44,7 +37,8 @@ returns-in-Took-clause-bytes g c same =
     let streams = ap (λ (v : ChannelView g.row.E.Denot). v.streams) c.in_ok-reserve.ensures.ok
         ∙ ap (λ (v : LineView g.row.E.Denot g.row.M.Denot). v.channel.streams) c.self.view_is in
     subst (λ s. SendsBytes m (newest_place s) s.list c.write.new.self.streams.list) streams
-    (sends_bytes m (newest_place ready.streams) n ready.out ready.streams.list c.write.new.self.streams.list count.0 count.1 did.sent)
+    (sends_bytes m (newest_place ready.streams) n ready.out ready.streams.list c.write.new.self.streams.list count.0 count.1
+    did.sent)
 
 pub returns-in-Full-clause-stays : goal.returns-in-Full-clause-stays
 returns-in-Full-clause-stays g c =
@@ -68,13 +62,16 @@ module _ (g : given.Over) (c : goal.After-end_over g) where
 
 
   conn : c.write.new.self.conn ≡ with_room c.self.inside.channel.conn
-  conn = ap (λ (v : ChannelView g.row.E.Denot). v.conn) c.write.ensures.rest ∙ ap (λ (v : ChannelView g.row.E.Denot). v.conn) c.in_ok-reserve.ensures.ok
+  conn =
+      ap (λ (v : ChannelView g.row.E.Denot). v.conn) c.write.ensures.rest
+      ∙ ap (λ (v : ChannelView g.row.E.Denot). v.conn) c.in_ok-reserve.ensures.ok
 
 pub invariant_of-self-in-Over : goal.invariant_of-self-in-Over
 invariant_of-self-in-Over g c =
     let cuts = c.end_over.ensures.cuts ∙ ap (λ (v : ChannelView g.row.E.Denot). v.cuts) c.write.ensures.rest
         ∙ ap (λ (v : ChannelView g.row.E.Denot). v.cuts) c.in_ok-reserve.ensures.ok in
-    keeps_over g.E.End.means (view_in c.self.inside) c.write.new.self c.end_over.new.self (one g c).0 (c.end_over.ensures.shut (one g c).0 (one g c).1) (conn g c)
+    keeps_over g.E.End.means (view_in c.self.inside) c.write.new.self c.end_over.new.self (one g c).0
+    (c.end_over.ensures.shut (one g c).0 (one g c).1) (conn g c)
     g.M.MapWriter.published c.self.inside.own_pulled cuts c.self.invariant.0
 
 pub returns-in-Over-clause-stays : goal.returns-in-Over-clause-stays

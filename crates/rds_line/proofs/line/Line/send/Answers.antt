@@ -1,0 +1,76 @@
+use Rattle.std.proofs.Common.{◌≡◌, sym, ap, subst, ◌∙◌, arith}
+use Rattle.rds_line_streams.specs.Streams.{StreamsView, newest_place}
+use Rattle.rds_line_channel.specs.Channel.{ChannelView}
+use Rattle.rds_line.specs.Line.{LineView, past_of}
+use Rattle.rds_line.specs.Stays.{LineStays}
+use Rattle.rds_line.specs.Turns.{SendsBytes}
+use Rattle.rds_line.proofs.Fields.{view_in}
+use Rattle.rds_line.proofs.Longer.{longer}
+use Rattle.rds_line.proofs.Staying.{channel_of, channel_same, line_inside, line_same, line_through}
+use Rattle.rds_line.proofs.Written.{made_room}
+use Rattle.rds_line.proofs.line.Line.send.Given as given
+use Rattle.rds_line.proofs.line.Line.send.Goals as goal
+use Rattle.rds_line.proofs.line.Line.send.Goals.{else-unwritten-eq0-via-then-unwritten-eq0+in_ok-pull+else-not-branch, else-unwritten-eq0-via-else-unwritten-eq0}
+
+pub returns-then-not-is_open-clause-stays : goal.returns-then-not-is_open-clause-stays
+returns-then-not-is_open-clause-stays g c = line_same g.E.End.means g.M.MapWriter.pair c.args.self.now
+
+pub returns-in_err-reserve-clause-stays : goal.returns-in_err-reserve-clause-stays
+returns-in_err-reserve-clause-stays g c =
+    let m = g.E.End.means in
+    let i = c.self.inside.channel in
+    line_inside m g.M.MapWriter.pair (view_in c.self.inside) c.args.self.now c.self.view_is c.reserve.new.self
+    (channel_of m i c.reserve.new.self i c.in_err-reserve.ensures.err (channel_same m i))
+
+module _ (g : given.Over) (c : goal.After-write g) where
+  -- the line once it was ready
+  abbrev ready : LineView g.row.E.Denot g.row.M.Denot
+  ready = record (view_in c.self.inside) { channel = c.reserve.new.self }
+
+  ready_stays : LineStays g.E.End.means g.M.MapWriter.pair c.args.self.now ready
+  ready_stays =
+      let m = g.E.End.means in
+      line_inside m g.M.MapWriter.pair (view_in c.self.inside) c.args.self.now c.self.view_is c.reserve.new.self
+      (made_room m c.self.inside.channel c.reserve.new.self c.in_ok-reserve.ensures.ok)
+
+  middle_stays : LineStays g.E.End.means g.M.MapWriter.pair c.args.self.now c.else-unwritten-eq0.self
+  middle_stays = elim c.else-unwritten-eq0.branch [
+    | else-unwritten-eq0-via-then-unwritten-eq0+in_ok-pull+else-not-branch w ↦
+        subst (λ (v : LineView g.row.E.Denot g.row.M.Denot). LineStays g.E.End.means g.M.MapWriter.pair c.args.self.now v)
+        (sym w.self-is)
+        (line_through g.E.End.means g.M.MapWriter.pair c.args.self.now ready w.pull.new.self ready_stays w.pull.ensures.stays)
+    | else-unwritten-eq0-via-else-unwritten-eq0 w ↦
+        subst (λ (v : LineView g.row.E.Denot g.row.M.Denot). LineStays g.E.End.means g.M.MapWriter.pair c.args.self.now v)
+        (sym w.self-is)
+        ready_stays
+  ]
+
+  same_streams : c.else-unwritten-eq0.self.channel.streams ≡ c.args.self.now.channel.streams
+  same_streams =
+      let first : c.reserve.new.self.streams ≡ c.args.self.now.channel.streams =
+      ap (λ (v : ChannelView g.row.E.Denot). v.streams) c.in_ok-reserve.ensures.ok
+      ∙ ap (λ (v : LineView g.row.E.Denot g.row.M.Denot). v.channel.streams) c.self.view_is in
+      elim c.else-unwritten-eq0.branch [
+        | else-unwritten-eq0-via-then-unwritten-eq0+in_ok-pull+else-not-branch w ↦
+            ap (λ (v : LineView g.row.E.Denot g.row.M.Denot). v.channel.streams) w.self-is ∙ w.pull.ensures.streams ∙ first
+        | else-unwritten-eq0-via-else-unwritten-eq0 w ↦
+            ap (λ (v : LineView g.row.E.Denot g.row.M.Denot). v.channel.streams) w.self-is ∙ first
+      ]
+
+pub returns-clause-stays : goal.returns-clause-stays
+returns-clause-stays g c =
+    line_through g.E.End.means g.M.MapWriter.pair c.args.self.now c.else-unwritten-eq0.self c.write.new.self
+    (middle_stays g c) c.write.ensures.stays
+
+pub returns-clause-bytes : goal.returns-clause-bytes
+returns-clause-bytes g c same =
+    let m = g.E.End.means in
+    let new = c.write.new.self.channel.streams in
+    subst (λ (s : StreamsView g.row.E.Denot). SendsBytes m (newest_place s) s.list new.list) (same_streams g c)
+    (c.write.ensures.bytes same)
+
+pub returns-clause-ended : goal.returns-clause-ended
+returns-clause-ended g c same =
+    let more = c.write.ensures.ended same in
+    let long = longer (past_of c.args.self.now) (past_of c.else-unwritten-eq0.self) (middle_stays g c).channel.past in
+    omega arith
