@@ -1,5 +1,5 @@
 -- What a line keeps where bytes that came are taken.
-use Rattle.std.proofs.Common.{◌≡◌, ℕ, Bool, true, false, None, List, [], ◌∷◌, Result, Ok, Err, refl, ap, subst, sym, ◌∙◌}
+use Rattle.std.proofs.Common.{◌≡◌, ℕ, Bool, true, false, List, [], ◌∷◌, Result, Ok, Err, refl, ap, ◌∙◌}
 use Rattle.std.specs.Prelude.{OnErr}
 use Rattle.rds_link.specs.Ends.{Means}
 use Rattle.rds_wire.specs.declared.memory.Memory.{Memory}
@@ -28,13 +28,15 @@ module _ {E M : Type 0} (published : M → List (List ℕ)) (pulled : Bool) wher
     freed : new.conn.freed ≡ old.conn.freed
     cuts : new.cuts.numbers ≡ old.cuts.numbers
 
-  keeps_unread : (v : LineView E M) (channel : ChannelView E) → IsUnread v.channel channel → KeepsAll v → KeepsAll (record v { channel = channel })
+  keeps_unread : (v : LineView E M) (channel : ChannelView E) → IsUnread v.channel channel → KeepsAll v →
+      KeepsAll (record v { channel = channel })
   keeps_unread v channel u was = (
     keeps_still published v channel u.past u.peer u.slots u.freed u.cuts was.0,
     pulled_still pulled v (record v { channel = channel }) (ap open_stream u.past) (λ s. ap (last_map s) u.past) refl was.1,
   )
 
-  module _ (v : LineView E M) (ready new : ChannelView E) (is_ready : ready ≡ with_conn v.channel (with_room v.channel.conn)) where
+  module _ (v : LineView E M) (ready new : ChannelView E)
+      (is_ready : ready ≡ with_conn v.channel (with_room v.channel.conn)) where
     -- bytes were taken
     fed : (waits : Bool) → TakesBytes waits ready new → KeepsAll v → KeepsAll (record v { channel = new })
     fed waits took = keeps_unread v new (record {
@@ -50,19 +52,20 @@ module _ {E M : Type 0} (published : M → List (List ℕ)) (pulled : Bool) wher
     refused m ends was =
         let r = ends.refuses in
         let past : new.conn.log.past ≡ Bad r.s r.header ends.fault ∷ past_of v =
-        ap (λ (c : Connection). c.log.past) r.entry ∙ ap (λ (c : ChannelView E). Bad r.s r.header ends.fault ∷ c.conn.log.past) is_ready in
-        (
+        ap (λ (c : Connection). c.log.past) r.entry
+        ∙ ap (λ (c : ChannelView E). Bad r.s r.header ends.fault ∷ c.conn.log.past) is_ready in (
           keeps_plain published (Bad r.s r.header ends.fault) tt v new past
-          (ap (λ (c : Connection). c.peer) r.entry ∙ ap (λ (c : ChannelView E). c.conn.peer) is_ready)
-          (ap (λ (c : Connection). c.slots) r.entry ∙ ap (λ (c : ChannelView E). c.conn.slots) is_ready)
-          (ap (λ (c : Connection). c.freed) r.entry ∙ ap (λ (c : ChannelView E). c.conn.freed) is_ready)
-          (ap (λ (c : CutsView). c.numbers) ends.cuts ∙ ap (λ (c : ChannelView E). c.cuts.numbers) is_ready) was.0,
+              (ap (λ (c : Connection). c.peer) r.entry ∙ ap (λ (c : ChannelView E). c.conn.peer) is_ready)
+              (ap (λ (c : Connection). c.slots) r.entry ∙ ap (λ (c : ChannelView E). c.conn.slots) is_ready)
+              (ap (λ (c : Connection). c.freed) r.entry ∙ ap (λ (c : ChannelView E). c.conn.freed) is_ready)
+              (ap (λ (c : CutsView). c.numbers) ends.cuts ∙ ap (λ (c : ChannelView E). c.cuts.numbers) is_ready) was.0,
           pulled_off pulled (record v { channel = new }) (ap open_stream past),
         )
 
     -- whatever became of the bytes
     pub keeps_fed : (m : Means E) (came : Result Taken Memory) → (came ≡ Ok taken.Frame → TakesBytes true ready new) →
-        (came ≡ Ok taken.Part → TakesBytes false ready new × (new.piece ≡ [])) → (came ≡ Ok taken.Refused → EndsRefused m ready new) →
+        (came ≡ Ok taken.Part → TakesBytes false ready new × (new.piece ≡ [])) →
+        (came ≡ Ok taken.Refused → EndsRefused m ready new) →
         OnErr came (new ≡ ready) → KeepsAll v → KeepsAll (record v { channel = new })
     keeps_fed m (Ok taken.Frame) frame part over err = fed true (frame refl)
     keeps_fed m (Ok taken.Part) frame part over err = fed false (part refl).0

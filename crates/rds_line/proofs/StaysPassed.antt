@@ -155,7 +155,8 @@ module _ {E : Type 0} {m : Means E} where
     -- the line took no order, and each of its parts stays the same one
     pub line_stays : {old inside new : LineView E M} → inside ≡ old → ChannelStays m inside.channel new.channel →
         new.orders ≡ inside.orders → AreSameBoxes inside.boxes new.boxes → new.ports.table ≡ inside.ports.table →
-        new.words.table ≡ inside.words.table → new.words.slot ≡ inside.words.slot → pair new.map ≡ pair inside.map → LineStays m pair old new
+        new.words.table ≡ inside.words.table → new.words.slot ≡ inside.words.slot → pair new.map ≡ pair inside.map →
+        LineStays m pair old new
     line_stays {old} {inside} {new} is channel orders boxes ports words slot map =
         subst (λ (v : LineView E M). LineStays m pair v new) is (record {
           channel = channel;

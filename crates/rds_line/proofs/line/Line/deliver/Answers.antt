@@ -28,7 +28,8 @@ invariant_of-self g c =
     let none = ap (λ (v : Verdict). outcome_of v found.NoSocket) is in
     let table = ap (λ (h : PortSeat). h.table) c.look.ensures.seat in
     keeps_passed published c.self.inside.own_pulled
-    (passes_quietly published found.NoSocket _ _ p outcome.NoSocket none refl (λ payload earlier. refl) c.pass.ensures.rest table refl)
+    (passes_quietly published found.NoSocket _ _ p outcome.NoSocket none refl (λ payload earlier. refl)
+    c.pass.ensures.rest table refl)
     c.self.invariant
 
 pub returns-in_default-datagram-clause-stays : goal.returns-in_default-datagram-clause-stays

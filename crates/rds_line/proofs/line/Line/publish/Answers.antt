@@ -1,15 +1,11 @@
-use Rattle.std.proofs.Common.{◌≡◌, ℕ, ◌++◌, [], ◌∷◌, Option, List, length, refl, sym, ap, subst, ◌∙◌, arith}
-use Rattle.std.specs.Option.{IfSome}
+use Rattle.std.proofs.Common.{◌≡◌, ℕ, ◌++◌, [], ◌∷◌, List, length, refl, ap, subst, ◌∙◌, arith}
 use Rattle.std.proofs.lemmas.Option.{same_Some}
 use Rattle.rds_wire.specs.declared.frame.Frame.{Frame}
 use Rattle.rds_wire.specs.declared.kind.TheConstants.{MAP_LENGTH}
-use Rattle.rds_model.specs.Reading.{verdict_of}
-use Rattle.rds_model.specs.declared.entry.Verdict.TheVariants as verdict
 use Rattle.rds_model.specs.SumLaws.{few_maps}
-use Rattle.rds_conn.specs.Connection.{IsReady}
 use Rattle.rds_line.specs.Line.{LineView}
 use Rattle.rds_conn.specs.declared.conn.Found.TheVariants as found
-use Rattle.rds_line.specs.Steps.{IsWaiting, PassesOne}
+use Rattle.rds_line.specs.Steps.{PassesOne}
 use Rattle.rds_line.proofs.Staying.{boxes_same, channel_same}
 use Rattle.rds_line.proofs.Passing.{keeps_passed, keeps_unpublished}
 use Rattle.rds_line.proofs.Delivering.{map_is, map_length, passes_map, ready_inside, verdict_here, waits_inside}

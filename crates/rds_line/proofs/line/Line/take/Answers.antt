@@ -15,8 +15,9 @@ returns-in_err-reserve-clause-stays g c =
 
 pub invariant_of-self-2 : goal.invariant_of-self-2
 invariant_of-self-2 g c =
-    keeps_fed g.M.MapWriter.published c.self.inside.own_pulled _ c.reserve.new.self c.take.new.self c.in_ok-reserve.ensures.ok g.E.End.means
-    c.take.result c.take.ensures.frame c.take.ensures.part c.take.ensures.refused c.take.ensures.err c.self.invariant
+    keeps_fed g.M.MapWriter.published c.self.inside.own_pulled _ c.reserve.new.self c.take.new.self c.in_ok-reserve.ensures.ok
+    g.E.End.means c.take.result c.take.ensures.frame c.take.ensures.part c.take.ensures.refused c.take.ensures.err
+    c.self.invariant
 
 pub returns-clause-stays : goal.returns-clause-stays
 returns-clause-stays g c =
