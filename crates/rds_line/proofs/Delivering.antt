@@ -39,7 +39,7 @@ use Rattle.rds_line_parts.specs.Delivery.{IsDelivery}
 use Rattle.rds_line_parts.specs.DeliveryLaws.{delivery_part, read_after_delivery}
 use Rattle.rds_line_parts.specs.Own.{IsAsRead}
 use Rattle.rds_line_channel.specs.Channel.{with_conn}
-use Rattle.rds_line.specs.Line.{LineView, past_of}
+use Rattle.rds_line.specs.Line.{LineView, line_past}
 use Rattle.rds_line.specs.Steps.{IsWaiting}
 use Rattle.rds_line.proofs.Passing.{PassesWith, passes_reads}
 
@@ -143,13 +143,13 @@ delivery_fits {slot} {old} {new} {v} p port is small ready room most counted =
 module _ {E M : Type 0} (published : M → List (List ℕ)) where
   -- no more was done with the frame, but a look at the port table
   pub passes_quietly : (came : Found) (old new : LineView E M) (p : Passes came old.channel.conn new.channel.conn) (o : Outcome) →
-      outcome_of (verdict_of (past_of old) p.frame.header) came ≡ o →
+      outcome_of (verdict_of (line_past old) p.frame.header) came ≡ o →
       is_delivery o ≡ false → ((payload : List ℕ) (earlier : List (List ℕ)) → with_map o payload earlier ≡ earlier) →
       new.channel ≡ with_conn old.channel new.channel.conn → new.ports.table ≡ old.ports.table →
       new ≡ record old { channel = new.channel; ports = new.ports } →
       PassesWith published (pong_for o p.frame.header.sport) p.stream p.frame o old new
   passes_quietly came old new p o is kept unread rest ports same =
-      let past = past_of old in
+      let past = line_past old in
       let words = ap (λ (v : LineView E M). v.words.view) same in
       let boxes = ap (λ (v : LineView E M). v.boxes) same in
       record {
@@ -173,11 +173,11 @@ module _ {E M : Type 0} (published : M → List (List ℕ)) where
 
   -- its map was published
   pub passes_map : (old new : LineView E M) (p : Passes found.Unasked old.channel.conn new.channel.conn) →
-      verdict_of (past_of old) p.frame.header ≡ verdict.Map → published new.map ≡ published old.map ++ p.frame.payload ∷ [] →
+      verdict_of (line_past old) p.frame.header ≡ verdict.Map → published new.map ≡ published old.map ++ p.frame.payload ∷ [] →
       new.channel ≡ with_conn old.channel new.channel.conn →
       new ≡ record old { channel = new.channel; map = new.map } → PassesWith published None p.stream p.frame outcome.Map old new
   passes_map old new p is did rest same =
-      let past = past_of old in
+      let past = line_past old in
       let words = ap (λ (v : LineView E M). v.words.view) same in
       let boxes = ap (λ (v : LineView E M). v.boxes) same in
       record {
@@ -204,7 +204,7 @@ module _ {E M : Type 0} (published : M → List (List ℕ)) where
   -- its datagram was put into the box of a slot, and counted
   pub passes_delivery : (slot port : ℕ) (old new : LineView E M) →
       (p : Passes (found.Slot slot) old.channel.conn new.channel.conn) →
-      verdict_of (past_of old) p.frame.header ≡ verdict.Deliver port → slot < MAX_SLOTS →
+      verdict_of (line_past old) p.frame.header ≡ verdict.Deliver port → slot < MAX_SLOTS →
       IsPutInto slot (datagram_from old.channel.conn.peer p.frame) old.boxes new.boxes →
       (ports : PortSeat) → new.ports.table ≡ old.ports.table →
       IsDelivery slot port (length p.frame.payload) old.words new.words ports new.ports →
@@ -212,7 +212,7 @@ module _ {E M : Type 0} (published : M → List (List ℕ)) where
       new ≡ record old { channel = new.channel; boxes = new.boxes; ports = new.ports; words = new.words } →
       PassesWith published None p.stream p.frame (outcome.Slot slot) old new
   passes_delivery slot port old new p is small put ports table delivery rest same =
-      let past = past_of old in
+      let past = line_past old in
       let named : IsDelivery slot p.frame.header.dport (length p.frame.payload) old.words new.words ports new.ports =
       subst (λ (k : ℕ). IsDelivery slot k (length p.frame.payload) old.words new.words ports new.ports)
       (sym (port_is past p.frame.header port is)) delivery in

@@ -12,7 +12,7 @@ use Rattle.rds_line_channel.specs.Changes.{EndsRefused, TakesBytes}
 use Rattle.rds_line_channel.specs.declared.channel.Taken.{Taken}
 use Rattle.rds_line_channel.specs.declared.channel.Taken.TheVariants as taken
 use Rattle.rds_line.specs.Keeps.{KeepsLine, IsPulled}
-use Rattle.rds_line.specs.Line.{LineView, past_of}
+use Rattle.rds_line.specs.Line.{LineView, line_past}
 use Rattle.rds_line.proofs.Keeping.{keeps_plain, keeps_still, pulled_off, pulled_still}
 
 module _ {E M : Type 0} (published : M → List (List ℕ)) (pulled : Bool) where
@@ -51,7 +51,7 @@ module _ {E M : Type 0} (published : M → List (List ℕ)) (pulled : Bool) wher
     refused : (m : Means E) → EndsRefused m ready new → KeepsAll v → KeepsAll (record v { channel = new })
     refused m ends was =
         let r = ends.refuses in
-        let past : new.conn.log.past ≡ Bad r.s r.header ends.fault ∷ past_of v =
+        let past : new.conn.log.past ≡ Bad r.s r.header ends.fault ∷ line_past v =
         ap (λ (c : Connection). c.log.past) r.entry
         ∙ ap (λ (c : ChannelView E). Bad r.s r.header ends.fault ∷ c.conn.log.past) is_ready in (
           keeps_plain published (Bad r.s r.header ends.fault) tt v new past

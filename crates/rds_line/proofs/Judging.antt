@@ -11,8 +11,8 @@ use Rattle.rds_line.specs.declared.outcome.Sent.TheVariants as sent
 use Rattle.rds_line.specs.declared.outcome.Turn.{Turn}
 use Rattle.rds_line.specs.declared.outcome.Turn.TheVariants as turn
 use Rattle.rds_line.specs.Doing.{Did}
-use Rattle.rds_line.specs.Line.{LineView, past_of}
-use Rattle.rds_line.specs.Turns.{HasMoved, IsIdle, is_bytes_heard, is_bytes_sent}
+use Rattle.rds_line.specs.Line.{LineView, line_past}
+use Rattle.rds_line.specs.Turns.{HasMoved, IsIdleTurn, is_bytes_heard, is_bytes_sent}
 use Rattle.rds_line.proofs.Stepping.{moment_back}
 
 -- what isn't false, negated, is true
@@ -120,19 +120,19 @@ answer_unspent false false false true next false entries e = absurd (cc)
 answer_unspent false false false false true true entries e = absurd (cc)
 answer_unspent false false false false true false entries e = absurd (cc)
 
-module _ {E M : Type 0} (m : Means E) (old new : LineView E M) (done : Done) (count : ℕ) (did : Did m old new done) (is : count ≡ length (past_of old)) where
-  pub moved_of : (done.took ≡ true) ⊎ ((is_bytes_heard done.heard ≡ true) ⊎ ((is_bytes_sent done.sent ≡ true) ⊎ (nat_lt count (length (past_of new)) ≡ true))) → HasMoved m old new
+module _ {E M : Type 0} (m : Means E) (old new : LineView E M) (done : Done) (count : ℕ) (did : Did m old new done) (is : count ≡ length (line_past old)) where
+  pub moved_of : (done.took ≡ true) ⊎ ((is_bytes_heard done.heard ≡ true) ⊎ ((is_bytes_sent done.sent ≡ true) ⊎ (nat_lt count (length (line_past new)) ≡ true))) → HasMoved m old new
   moved_of (inl took) = inl (did.took took)
   moved_of (inr (inl came)) = inr (inr (inl (did.got (heard_bytes done.heard came))))
   moved_of (inr (inr (inl went))) = inr (inr (inr (did.sent (sent_bytes done.sent went))))
-  moved_of (inr (inr (inr more))) = inr (inl (subst (λ (n : ℕ). n < length (past_of new)) is (ltb-true count (length (past_of new)) more)))
+  moved_of (inr (inr (inr more))) = inr (inl (subst (λ (n : ℕ). n < length (line_past new)) is (ltb-true count (length (line_past new)) more)))
 
   still_open : (b : Bool) → (b ≡ true) ⊎ (nat_lt new.channel.streams.opened (length new.channel.streams.list) ≡ true) → (b ≡ true) ⊎ (new.channel.streams.opened < length new.channel.streams.list)
   still_open b (inl on) = inl on
   still_open b (inr next) = inr (ltb-true new.channel.streams.opened (length new.channel.streams.list) next)
 
-  pub idle_of : Moment (past_of old) (past_of new) → (done.took ≡ false) × (is_bytes_heard done.heard ≡ false) × (is_bytes_sent done.sent ≡ false) × (nat_lt count (length (past_of new)) ≡ false)
-      × ((new.channel.streams.is_open ≡ true) ⊎ (nat_lt new.channel.streams.opened (length new.channel.streams.list) ≡ true)) → IsIdle m old new
+  pub idle_of : Moment (line_past old) (line_past new) → (done.took ≡ false) × (is_bytes_heard done.heard ≡ false) × (is_bytes_sent done.sent ≡ false) × (nat_lt count (length (line_past new)) ≡ false)
+      × ((new.channel.streams.is_open ≡ true) ⊎ (nat_lt new.channel.streams.opened (length new.channel.streams.list) ≡ true)) → IsIdleTurn m old new
   idle_of past cases =
-      let small = subst (λ (n : ℕ). length (past_of new) ≤ n) is (ltb-false count (length (past_of new)) cases.3) in
+      let small = subst (λ (n : ℕ). length (line_past new) ≤ n) is (ltb-false count (length (line_past new)) cases.3) in
       did.idle cases.0 cases.1 cases.2 (moment_back past small) (still_open new.channel.streams.is_open cases.4)

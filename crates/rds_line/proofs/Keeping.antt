@@ -17,7 +17,7 @@ use Rattle.rds_line_parts.specs.Counted.{AreChecksOf}
 use Rattle.rds_line_parts.specs.CountedLaws.{freed_for_account}
 use Rattle.rds_line_channel.specs.Channel.{ChannelView}
 use Rattle.rds_line.specs.Keeps.{KeepsLine, IsPulled, uncut, cuts_among}
-use Rattle.rds_line.specs.Line.{LineView, past_of}
+use Rattle.rds_line.specs.Line.{LineView, line_past}
 
 -- nothing more was delivered, and no map was read
 pub record HasSameSums (past later : List Entry) : Type 0 where
@@ -100,7 +100,7 @@ plain_released (entry.Bad stream header cause) past plain owner = refl
 
 module _ {E M : Type 0} (published : M → List (List ℕ)) where
   -- the channel and the getter of the orders changed
-  pub keeps_taken : (v : LineView E M) (channel : ChannelView E) (getter : Getter Order) → HasSameSums (past_of v) channel.conn.log.past
+  pub keeps_taken : (v : LineView E M) (channel : ChannelView E) (getter : Getter Order) → HasSameSums (line_past v) channel.conn.log.past
       → channel.conn.peer ≡ v.channel.conn.peer → channel.conn.slots ≡ v.channel.conn.slots → IsHeldFor v.channel.conn channel.conn
       → uncut (bare_items getter.got) ≡ orders channel.conn.log.past → cuts_among (bare_items getter.got) ≡ length channel.cuts.numbers
       → KeepsLine published v → KeepsLine published (record v { channel = channel; orders = getter })
@@ -122,26 +122,26 @@ module _ {E M : Type 0} (published : M → List (List ℕ)) where
   }
 
   -- nothing that it keeps of its channel changed
-  pub keeps_still : (v : LineView E M) (channel : ChannelView E) → channel.conn.log.past ≡ past_of v → channel.conn.peer ≡ v.channel.conn.peer
+  pub keeps_still : (v : LineView E M) (channel : ChannelView E) → channel.conn.log.past ≡ line_past v → channel.conn.peer ≡ v.channel.conn.peer
       → channel.conn.slots ≡ v.channel.conn.slots → channel.conn.freed ≡ v.channel.conn.freed → channel.cuts.numbers ≡ v.channel.cuts.numbers
       → KeepsLine published v → KeepsLine published (record v { channel = channel })
   keeps_still v channel past peer slots freed cuts k =
-      keeps_taken v channel v.orders (sums_of (past_of v) channel.conn.log.past (past_of v) past (sums_same (past_of v))) peer slots
+      keeps_taken v channel v.orders (sums_of (line_past v) channel.conn.log.past (line_past v) past (sums_same (line_past v))) peer slots
       (held_same v.channel.conn channel.conn freed (λ slot. ap (released_bytes slot) past))
       (k.taken ∙ sym (ap orders past)) (k.cuts ∙ sym (ap (λ (l : List ℕ). length l) cuts)) k
 
   -- the journal has one entry more that neither frees nor takes an order
-  pub keeps_plain : (e : Entry) → IsPlain e → (v : LineView E M) (channel : ChannelView E) → channel.conn.log.past ≡ e ∷ past_of v → channel.conn.peer ≡ v.channel.conn.peer
+  pub keeps_plain : (e : Entry) → IsPlain e → (v : LineView E M) (channel : ChannelView E) → channel.conn.log.past ≡ e ∷ line_past v → channel.conn.peer ≡ v.channel.conn.peer
       → channel.conn.slots ≡ v.channel.conn.slots → channel.conn.freed ≡ v.channel.conn.freed → channel.cuts.numbers ≡ v.channel.cuts.numbers
       → KeepsLine published v → KeepsLine published (record v { channel = channel })
   keeps_plain e plain v channel past peer slots freed cuts k =
-      keeps_taken v channel v.orders (sums_of (past_of v) channel.conn.log.past (e ∷ past_of v) past (sums_more e (past_of v) (plain_reads e plain))) peer slots
-      (held_same v.channel.conn channel.conn freed (λ slot. ap (released_bytes slot) past ∙ plain_released e (past_of v) plain slot))
-      (k.taken ∙ (sym (plain_orders e (past_of v) plain) ∙ sym (ap orders past))) (k.cuts ∙ sym (ap (λ (l : List ℕ). length l) cuts)) k
+      keeps_taken v channel v.orders (sums_of (line_past v) channel.conn.log.past (e ∷ line_past v) past (sums_more e (line_past v) (plain_reads e plain))) peer slots
+      (held_same v.channel.conn channel.conn freed (λ slot. ap (released_bytes slot) past ∙ plain_released e (line_past v) plain slot))
+      (k.taken ∙ (sym (plain_orders e (line_past v) plain) ∙ sym (ap orders past))) (k.cuts ∙ sym (ap (λ (l : List ℕ). length l) cuts)) k
 
 -- the map that was pulled last, where the open stream and the host's own map are as they were
-pub pulled_still : {E M : Type 0} (pulled : Bool) (v w : LineView E M) → open_stream (past_of w) ≡ open_stream (past_of v)
-    → ((s : ℕ) → last_map s (past_of w) ≡ last_map s (past_of v)) → w.own.map ≡ v.own.map → IsPulled pulled v → IsPulled pulled w
+pub pulled_still : {E M : Type 0} (pulled : Bool) (v w : LineView E M) → open_stream (line_past w) ≡ open_stream (line_past v)
+    → ((s : ℕ) → last_map s (line_past w) ≡ last_map s (line_past v)) → w.own.map ≡ v.own.map → IsPulled pulled v → IsPulled pulled w
 pulled_still pulled v w stream last own was yes_pulled s on = last s ∙ (was yes_pulled s (sym stream ∙ on) ∙ ap Some (sym own))
 
 -- where no stream is open there is none

@@ -28,7 +28,7 @@ use Rattle.rds_line_parts.specs.CountedLaws.{freed_for_account}
 use Rattle.rds_line_parts.specs.Own.{Own, IsAsRead}
 use Rattle.rds_line_channel.specs.Channel.{ChannelView, with_conn}
 use Rattle.rds_line.specs.Keeps.{KeepsLine, IsPulled, cuts_among, uncut}
-use Rattle.rds_line.specs.Line.{LineView, past_of}
+use Rattle.rds_line.specs.Line.{LineView, line_past}
 
 -- the acceptance of a pong, if one is owed to a port
 abbrev pub pongs : Option ℕ → List Entry
@@ -113,12 +113,12 @@ module _ {E M : Type 0} (published : M → List (List ℕ)) where
     pub accounts : AccountsFreed old.channel.conn new.channel.conn
     pub rest : new.channel ≡ with_conn old.channel new.channel.conn
     pub orders : new.orders ≡ old.orders
-    pub put : IsPutFor old.channel.conn.peer (past_of old) old.boxes →
-        IsPutFor old.channel.conn.peer (Read s f o ∷ past_of old) new.boxes
-    pub counted : IsCountedFor (past_of old) old.words.view → IsCountedFor (Read s f o ∷ past_of old) new.words.view
+    pub put : IsPutFor old.channel.conn.peer (line_past old) old.boxes →
+        IsPutFor old.channel.conn.peer (Read s f o ∷ line_past old) new.boxes
+    pub counted : IsCountedFor (line_past old) old.words.view → IsCountedFor (Read s f o ∷ line_past old) new.words.view
     pub freed : (slot : ℕ) → slot < MAX_SLOTS →
         part (freed_word slot) new.words.view.steps ≡ part (freed_word slot) old.words.view.steps
-    pub maps : published old.map ≡ maps (past_of old) → published new.map ≡ with_map o f.payload (maps (past_of old))
+    pub maps : published old.map ≡ maps (line_past old) → published new.map ≡ with_map o f.payload (maps (line_past old))
     pub own : new.own ≡ old.own
     pub read : IsAsRead old.own old.words.view.steps → IsAsRead old.own new.words.view.steps
     pub boxes : length new.boxes ≡ length old.boxes
@@ -129,7 +129,7 @@ module _ {E M : Type 0} (published : M → List (List ℕ)) where
       PassesWith port s f o old new → KeepsLine published old → KeepsLine published new
   keeps_passed_line {port} {s} {f} {o} {old} {new} p was =
       let r = p.reads in
-      let past = past_of old in
+      let past = line_past old in
       record {
         taken =
             ap (λ (g : Getter Order). uncut (bare_items g.got)) p.orders ∙ was.taken
@@ -162,7 +162,7 @@ module _ {E M : Type 0} (published : M → List (List ℕ)) where
   keeps_passed {port} {s} {f} {o} {old} {new} pulled p was = (
     keeps_passed_line p was.0,
     λ is t on.
-        let past = past_of old in
+        let past = line_past old in
         let r = p.reads in
         ap (last_map t) r.past ∙ last_map_after s f o past port t
         ∙ was.1 is t (sym (ap open_stream r.past ∙ stream_after s f o past port) ∙ on)

@@ -24,9 +24,9 @@ use Rattle.rds_line_parts.specs.OwnLaws.{refreshed}
 use Rattle.rds_line_parts.specs.Words.{AddsNothing}
 use Rattle.rds_line_channel.specs.Channel.{ChannelView}
 use Rattle.rds_line.specs.Keeps.{IsPulled, KeepsLine}
-use Rattle.rds_line.specs.Line.{LineView, past_of}
+use Rattle.rds_line.specs.Line.{LineView, line_past}
 use Rattle.rds_line.specs.Stays.{LineStays}
-use Rattle.rds_line.specs.Turns.{LeavesNothing, OwesNothing}
+use Rattle.rds_line.specs.Turns.{LeavesNothing, FindsNothingOwed}
 use Rattle.rds_line.proofs.Staying.{boxes_same, streams_same}
 
 -- what a pull leaves of the connection
@@ -114,7 +114,7 @@ module _ {E M : Type 0} where
     taken = k.taken;
     cuts = k.cuts;
     put = k.put;
-    counted = counted_for_steps (past_of v) v.words.view words.view (λ slot small. nothing (put_word slot))
+    counted = counted_for_steps (line_past v) v.words.view words.view (λ slot small. nothing (put_word slot))
         (ap (λ (h : MeterSeat). h.view.checks) r.steps) k.counted;
     freed = λ slot small. ap (λ n. n + freed_bytes_of slot v.channel.conn) (nothing (freed_word slot)) ∙ k.freed slot small;
     maps = k.maps;
@@ -228,7 +228,7 @@ module _ {E : Type 0} where
         stream = s;
         on = is;
         pulls = IfOk-at_ok (Pulls s (owed_frame s old.conn.log.past map) old.conn new.conn old.out new.out) ok
-        (owed s map is (was s is));
+            (owed s map is (was s is));
         behind = same s is ∙ was s is;
         some = IfOk-at_ok (λ (c : Pulled). is_frame c ≡ true → new.out ≢ []) ok some;
         rest = rest;
@@ -297,13 +297,13 @@ module _ {E M : Type 0} (noted : Bool) (v w : LineView E M) (reads : ReadsOwn no
     pub keeps_pulled : (published : M → List (List ℕ)) → KeepsLine published v → KeepsLine published u × IsPulled true u
     keeps_pulled published k = (
       subst (KeepsLine published) (sym is_pulled)
-      (keeps_pull published w p.stream (owed_frame p.stream w.channel.conn.log.past w.own.map) u.channel.conn u.channel.out came
-      p.pulls
-      (keeps_reading published k)),
+          (keeps_pull published w p.stream (owed_frame p.stream w.channel.conn.log.past w.own.map) u.channel.conn u.channel.out came
+          p.pulls
+          (keeps_reading published k)),
       λ noted_it s on.
           let there = (owed_leaves w.own.map came w.channel u.channel p).stream in
           let same : p.stream ≡ s = same_Some p.stream s (sym p.on ∙ sym there ∙ on) in
-          ap (λ n. last_map n (past_of u)) (sym same) ∙ p.behind ∙ ap (λ (o : Own). Some o.map) (sym same_own),
+          ap (λ n. last_map n (line_past u)) (sym same) ∙ p.behind ∙ ap (λ (o : Own). Some o.map) (sym same_own),
     )
 
     pub pulled_stays : {Name : Type 0} (m : Means E) (pair : M → Name) → LineStays m pair v u
@@ -323,20 +323,19 @@ module _ {E M : Type 0} (noted : Bool) (v w : LineView E M) (reads : ReadsOwn no
         p.some (frame_or_nothing p.stream (owed_frame p.stream w.channel.conn.log.past w.own.map) w.channel.conn u.channel.conn
         w.channel.out u.channel.out came p.pulls some)
 
-    pub pulled_nothing : came ≡ pulled.Nothing → v.channel.out ≡ [] → OwesNothing v u × (past_of u ≡ past_of v)
+    pub pulled_nothing : came ≡ pulled.Nothing → v.channel.out ≡ [] → FindsNothingOwed v u × (line_past u ≡ line_past v)
     pulled_nothing none empty =
         let owes = nothing_owed p.stream (owed_frame p.stream w.channel.conn.log.past w.own.map) w.channel.conn u.channel.conn
         w.channel.out u.channel.out came p.pulls none in
-        let past : past_of u ≡ past_of w = ap (λ (c : Connection). c.log.past) owes.1 in
-        let out : w.channel.out ≡ v.channel.out = ap (λ (c : ChannelView E). c.out) same_channel in
-        (
+        let past : line_past u ≡ line_past w = ap (λ (c : Connection). c.log.past) owes.1 in
+        let out : w.channel.out ≡ v.channel.out = ap (λ (c : ChannelView E). c.out) same_channel in (
           record {
             streams = ap (λ (c : ChannelView E). c.streams) p.rest ∙ ap (λ (c : ChannelView E). c.streams) same_channel;
             none_left = owes.2 ∙ out ∙ empty;
             none_owed = λ s on.
                 let same : s ≡ p.stream = same_Some s p.stream (sym on ∙ ap stream_of owes.1 ∙ p.on) in
-                ap (λ n. owed_frame n (past_of u) u.own.map) same ∙ ap (λ l. owed_frame p.stream l u.own.map) past
-                ∙ ap (λ (o : Own). owed_frame p.stream (past_of w) o.map) same_own ∙ owes.0;
+                ap (λ n. owed_frame n (line_past u) u.own.map) same ∙ ap (λ l. owed_frame p.stream l u.own.map) past
+                ∙ ap (λ (o : Own). owed_frame p.stream (line_past w) o.map) same_own ∙ owes.0;
           },
           past ∙ ap (λ (c : ChannelView E). c.conn.log.past) same_channel,
         )

@@ -16,7 +16,7 @@ use Rattle.rds_line_parts.specs.ReliefLaws.{relieved_others, read_after_relief}
 use Rattle.rds_line_channel.specs.Channel.{ChannelView, with_conn}
 use Rattle.rds_link.specs.Ends.{Means}
 use Rattle.rds_line.specs.Keeps.{KeepsLine}
-use Rattle.rds_line.specs.Line.{LineView, past_of}
+use Rattle.rds_line.specs.Line.{LineView, line_past}
 use Rattle.rds_line.specs.Stays.{LineStays}
 use Rattle.rds_line.proofs.Staying.{boxes_same, relief_stays}
 
@@ -36,7 +36,7 @@ module _ {E M : Type 0} (v : LineView E M) (channel : ChannelView E) (words : Me
     put = subst (λ (c : ChannelView E). IsPutFor c.conn.peer c.conn.log.past v.boxes) (sym rest) k.put;
     counted =
         subst (λ (c : ChannelView E). IsCountedFor c.conn.log.past words.view) (sym rest)
-        (counted_for_steps (past_of v) v.words.view words.view (λ slot small. relieved_others v.channel.conn.freed v.words words relief (put_word slot) (inr (omega arith)))
+        (counted_for_steps (line_past v) v.words.view words.view (λ slot small. relieved_others v.channel.conn.freed v.words words relief (put_word slot) (inr (omega arith)))
         (ap (λ (h : MeterSeat). h.view.checks) relief.seat) k.counted);
     freed = freed_for_relief v.channel.conn channel.conn v.words words (ap (λ (c : ChannelView E). c.conn) rest) none relief k.freed;
     maps = k.maps ∙ sym (ap (λ (c : ChannelView E). maps c.conn.log.past) rest);

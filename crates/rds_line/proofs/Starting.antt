@@ -19,7 +19,7 @@ use Rattle.rds_line_parts.specs.Counted.{AreChecksOf, IsFreedFor}
 use Rattle.rds_line_parts.specs.Own.{Own}
 use Rattle.rds_line_channel.specs.Channel.{ChannelView, new_channel}
 use Rattle.rds_line.specs.Keeps.{KeepsLine, uncut, cuts_among}
-use Rattle.rds_line.specs.Line.{LineView, past_of}
+use Rattle.rds_line.specs.Line.{LineView, line_past}
 
 module _ {E M : Type 0} (published : M → List (List ℕ)) (me peer limit : ℕ) (streams : List (ℕ × E)) (v : LineView E M) (is : v.channel ≡ new_channel me peer MAX_SLOTS limit streams) where
   nothing_put : All (λ (box : Putter Datagram). box.put ≡ []) v.boxes → (slot : ℕ) (box : Putter Datagram) → Some box ≡ Some box → slot < length v.boxes → get_or v.boxes slot box ≡ box → box.put ≡ []

@@ -23,9 +23,9 @@ use Rattle.rds_line.specs.declared.outcome.Heard.TheVariants as heard
 use Rattle.rds_line.specs.declared.outcome.Sent.{Sent}
 use Rattle.rds_line.specs.declared.outcome.Sent.TheVariants as sent
 use Rattle.rds_line.specs.Doing.{Did, IsRelieved}
-use Rattle.rds_line.specs.Line.{LineView, IsOpenOrLast, past_of}
+use Rattle.rds_line.specs.Line.{LineView, IsOpenOrLast, line_past}
 use Rattle.rds_line.specs.Stays.{StreamsStay}
-use Rattle.rds_line.specs.Turns.{FindsNoRoom, GetsBytes, HearsNothing, IsIdle, LeavesNothing, OwesNothing, SendsBytes, TakesOrder, is_bytes_heard, is_bytes_sent}
+use Rattle.rds_line.specs.Turns.{FindsNoRoom, GetsBytes, HearsNothing, IsIdleTurn, LeavesNothing, FindsNothingOwed, SendsBytes, TakesOrder, is_bytes_heard, is_bytes_sent}
 
 -- a journal is at least as long as it was
 pub moment_longer : {p q : List Entry} → Moment p q → length p ≤ length q
@@ -98,19 +98,19 @@ module _ {E M : Type 0} {old new : LineView E M} (relieved : IsRelieved old new)
   pub relieved_orders : new.orders ≡ old.orders
   relieved_orders = ap (λ (v : LineView E M). v.orders) relieved.rest
 
-  pub relieved_past : past_of new ≡ past_of old
+  pub relieved_past : line_past new ≡ line_past old
   relieved_past = ap (λ (c : Connection). c.log.past) relieved.conn
 
   pub relieved_nothing : (old.channel.conn.waiting ≡ None) × (old.channel.piece ≡ []) → (new.channel.conn.waiting ≡ None) × (new.channel.piece ≡ [])
   relieved_nothing none = (ap (λ (c : Connection). c.waiting) relieved.conn ∙ none.0, ap (λ (c : ChannelView E). c.piece) relieved.channel ∙ none.1)
 
-  pub relieved_owes : (first : LineView E M) → OwesNothing first old → OwesNothing first new
+  pub relieved_owes : (first : LineView E M) → FindsNothingOwed first old → FindsNothingOwed first new
   relieved_owes first owes = record {
     streams = relieved_streams ∙ owes.streams;
     none_left = ap (λ (c : ChannelView E). c.out) relieved.channel ∙ owes.none_left;
     none_owed = λ s on.
         ap (λ (past : List Entry). owed_frame s past new.own.map) relieved_past
-        ∙ (ap (λ (v : LineView E M). owed_frame s (past_of old) v.own.map) relieved.rest
+        ∙ (ap (λ (v : LineView E M). owed_frame s (line_past old) v.own.map) relieved.rest
         ∙ owes.none_owed s (sym (ap (λ (c : Connection). stream_of c) relieved.conn) ∙ on));
   }
 
@@ -123,25 +123,25 @@ module _ {E M : Type 0} {old new : LineView E M} (relieved : IsRelieved old new)
 
 -- what each step of a turn did, in their order
 pub record StepsDid {E M : Type 0} (m : Means E) (a b c d e f : LineView E M) (done : Done) : Type 0 where
-  pub lengths : (length (past_of a) ≤ length (past_of b)) × (length (past_of b) ≤ length (past_of c)) × (length (past_of c) ≤ length (past_of d)) × (length (past_of d) ≤ length (past_of e)) × (length (past_of e) ≤ length (past_of f))
-  pub opened : past_of b ≡ past_of a → b.channel.streams ≡ a.channel.streams
+  pub lengths : (length (line_past a) ≤ length (line_past b)) × (length (line_past b) ≤ length (line_past c)) × (length (line_past c) ≤ length (line_past d)) × (length (line_past d) ≤ length (line_past e)) × (length (line_past e) ≤ length (line_past f))
+  pub opened : line_past b ≡ line_past a → b.channel.streams ≡ a.channel.streams
   pub open_orders : b.orders ≡ a.orders
   pub open_last : IsOpenOrLast b
-  pub back : length (past_of b) ≤ length (past_of a) → past_of b ≡ past_of a
+  pub back : length (line_past b) ≤ length (line_past a) → line_past b ≡ line_past a
   pub none : done.took ≡ false → (c.orders ≡ b.orders) × AllGot c.orders
   pub still : done.took ≡ false → c.channel.streams ≡ b.channel.streams
   pub hear_orders : d.orders ≡ c.orders
   pub hear_closed : done.heard ≡ heard.Closed → (c.channel.streams.is_open ≡ false) × (d ≡ c)
   pub hear_nothing : done.heard ≡ heard.Nothing → HearsNothing m c.channel d.channel
   pub hear_open : done.heard ≡ heard.Nothing → d.channel.streams.is_open ≡ true
-  pub hear_ended : done.heard ≡ heard.Ended → length (past_of c) < length (past_of d)
+  pub hear_ended : done.heard ≡ heard.Ended → length (line_past c) < length (line_past d)
   pub send_orders : e.orders ≡ d.orders
   pub send_came : LeavesNothing d.channel e.channel
   pub send_closed : done.sent ≡ sent.Closed → (d.channel.streams.is_open ≡ false) × (e ≡ d)
   pub send_open : d.channel.streams.is_open ≡ false → done.sent ≡ sent.Closed
-  pub send_nothing : done.sent ≡ sent.Nothing → OwesNothing d e
+  pub send_nothing : done.sent ≡ sent.Nothing → FindsNothingOwed d e
   pub send_full : done.sent ≡ sent.Full → FindsNoRoom m d.channel e.channel
-  pub send_ended : done.sent ≡ sent.Ended → length (past_of d) < length (past_of e)
+  pub send_ended : done.sent ≡ sent.Ended → length (line_past d) < length (line_past e)
   pub relieved : IsRelieved e f
 
 module _ {E M : Type 0} {m : Means E} {a b c d e f : LineView E M} {done : Done} (s : StepsDid m a b c d e f done) where
@@ -156,8 +156,8 @@ module _ {E M : Type 0} {m : Means E} {a b c d e f : LineView E M} {done : Done}
       let was = s.none not_taken in
       (orders_after ∙ (was.0 ∙ s.open_orders), subst (λ (h : Getter Order). AllGot h) (sym orders_after) was.1)
 
-  module _ (not_taken : done.took ≡ false) (past : past_of f ≡ past_of a) where
-    as_long : length (past_of f) ≡ length (past_of a)
+  module _ (not_taken : done.took ≡ false) (past : line_past f ≡ line_past a) where
+    as_long : length (line_past f) ≡ length (line_past a)
     as_long = ap (λ (l : List Entry). length l) past
 
     streams_before : c.channel.streams ≡ a.channel.streams
@@ -183,7 +183,7 @@ module _ {E M : Type 0} {m : Means E} {a b c d e f : LineView E M} {done : Done}
             let less = subst (λ (s : StreamsView E). s.opened < length s.list) to_b more in omega (arith, less, last)
 
     -- nothing came
-    idle_quiet : HearsNothing m c.channel d.channel → d.channel.streams.is_open ≡ true → f.channel.streams.is_open ≡ true → OwesNothing d f ⊎ FindsNoRoom m d.channel f.channel → IsIdle m a f
+    idle_quiet : HearsNothing m c.channel d.channel → d.channel.streams.is_open ≡ true → f.channel.streams.is_open ≡ true → FindsNothingOwed d f ⊎ FindsNoRoom m d.channel f.channel → IsIdleTurn m a f
     idle_quiet hears on_d on sends =
         let quiet = relieved_nothing s.relieved (s.send_came hears.none_waits hears.none_left) in record {
           orders = (did_none not_taken).0;
@@ -201,7 +201,7 @@ module _ {E M : Type 0} {m : Means E} {a b c d e f : LineView E M} {done : Done}
           sends = sends;
         }
 
-    by_sent : HearsNothing m c.channel d.channel → d.channel.streams.is_open ≡ true → (answer : Sent) → done.sent ≡ answer → is_bytes_sent done.sent ≡ false → IsIdle m a f
+    by_sent : HearsNothing m c.channel d.channel → d.channel.streams.is_open ≡ true → (answer : Sent) → done.sent ≡ answer → is_bytes_sent done.sent ≡ false → IsIdleTurn m a f
     by_sent hears on sent.Bytes is no_bytes = absurd (false≢true (sym no_bytes ∙ ap is_bytes_sent is))
     by_sent hears on sent.Nothing is no_bytes =
         let owes = s.send_nothing is in
@@ -212,13 +212,13 @@ module _ {E M : Type 0} {m : Means E} {a b c d e f : LineView E M} {done : Done}
     by_sent hears on sent.Ended is no_bytes = absurd (let more = s.send_ended is in let n = as_long in omega (arith, more, n, s.lengths.0, s.lengths.1, s.lengths.2, s.lengths.3, s.lengths.4))
     by_sent hears on sent.Closed is no_bytes = absurd (false≢true (sym (s.send_closed is).0 ∙ on))
 
-    by_heard : (h : Heard) → done.heard ≡ h → is_bytes_heard done.heard ≡ false → is_bytes_sent done.sent ≡ false → (f.channel.streams.is_open ≡ true) ⊎ (f.channel.streams.opened < length f.channel.streams.list) → IsIdle m a f
+    by_heard : (h : Heard) → done.heard ≡ h → is_bytes_heard done.heard ≡ false → is_bytes_sent done.sent ≡ false → (f.channel.streams.is_open ≡ true) ⊎ (f.channel.streams.opened < length f.channel.streams.list) → IsIdleTurn m a f
     by_heard heard.Bytes is no_bytes none_sent left = absurd (false≢true (sym no_bytes ∙ ap is_bytes_heard is))
     by_heard heard.Nothing is no_bytes none_sent left = by_sent (s.hear_nothing is) (s.hear_open is) done.sent refl none_sent
     by_heard heard.Ended is no_bytes none_sent left = absurd (let more = s.hear_ended is in let n = as_long in omega (arith, more, n, s.lengths.0, s.lengths.1, s.lengths.2, s.lengths.3, s.lengths.4))
     by_heard heard.Closed is no_bytes none_sent left = absurd (closed_contra (s.hear_closed is).0 (s.hear_closed is).1 left)
 
-    pub did_idle : is_bytes_heard done.heard ≡ false → is_bytes_sent done.sent ≡ false → (f.channel.streams.is_open ≡ true) ⊎ (f.channel.streams.opened < length f.channel.streams.list) → IsIdle m a f
+    pub did_idle : is_bytes_heard done.heard ≡ false → is_bytes_sent done.sent ≡ false → (f.channel.streams.is_open ≡ true) ⊎ (f.channel.streams.opened < length f.channel.streams.list) → IsIdleTurn m a f
     did_idle no_bytes none_sent left = by_heard done.heard refl no_bytes none_sent left
 
 abbrev the_sent : {X : Type 0} → Result Sent X → Sent

@@ -24,7 +24,7 @@ use Rattle.rds_line_channel.specs.Channel.{ChannelView, CutsView, with_conn}
 use Rattle.rds_line_streams.specs.Streams.{StreamsView}
 use Rattle.rds_line_channel.specs.Changes.{ShutsStream}
 use Rattle.rds_line.specs.Keeps.{KeepsLine, IsPulled, uncut, cuts_among}
-use Rattle.rds_line.specs.Line.{LineView, past_of}
+use Rattle.rds_line.specs.Line.{LineView, line_past}
 use Rattle.rds_line.specs.Stays.{StreamsStay, ChannelStays, LineStays}
 use Rattle.rds_line.proofs.Keeping.{HasSameSums, sums_same, sums_of, sums_more, IsHeldFor, held_same, keeps_taken, keeps_still, pulled_still, pulled_off, plain_released}
 use Rattle.rds_line.proofs.Staying.{boxes_same, channel_of, channel_through, room_stays, shutting_stays, streams_same}
@@ -145,22 +145,22 @@ module _ {E M : Type 0} (v : LineView E M) (channel : ChannelView E) (getter : G
         let before_it = k.cuts in
         omega arith
 
-    none_taken : (published : M → List (List ℕ)) → orders channel.conn.log.past ≡ orders (past_of v) → KeepsLine published v → uncut (bare_items getter.got) ≡ orders channel.conn.log.past
+    none_taken : (published : M → List (List ℕ)) → orders channel.conn.log.past ≡ orders (line_past v) → KeepsLine published v → uncut (bare_items getter.got) ≡ orders channel.conn.log.past
     none_taken published same k =
         ap (λ (h : Getter Order). uncut (bare_items h.got)) is ∙ (ap uncut (more_bare v.orders.got number order.Cut) ∙ (cut_left_out (bare_items v.orders.got) ∙ (k.taken ∙ sym same)))
 
     pub keeps_cut : (published : M → List (List ℕ)) → TakesCut m → KeepsLine published v → KeepsLine published (record v { channel = channel; orders = getter })
     keeps_cut published (inl did) k =
         let conn = did.1.conn in
-        let past : channel.conn.log.past ≡ entry.Shut did.0 ∷ past_of v = ap (λ (c : Connection). c.log.past) conn in
-        keeps_taken published v channel getter (sums_of (past_of v) channel.conn.log.past (entry.Shut did.0 ∷ past_of v) past (sums_more (entry.Shut did.0) (past_of v) tt))
+        let past : channel.conn.log.past ≡ entry.Shut did.0 ∷ line_past v = ap (λ (c : Connection). c.log.past) conn in
+        keeps_taken published v channel getter (sums_of (line_past v) channel.conn.log.past (entry.Shut did.0 ∷ line_past v) past (sums_more (entry.Shut did.0) (line_past v) tt))
         (ap (λ (c : Connection). c.peer) conn) (ap (λ (c : Connection). c.slots) conn)
-        (held_same v.channel.conn channel.conn (ap (λ (c : Connection). c.freed) conn) (λ slot. ap (released_bytes slot) past ∙ plain_released (entry.Shut did.0) (past_of v) tt slot))
+        (held_same v.channel.conn channel.conn (ap (λ (c : Connection). c.freed) conn) (λ slot. ap (released_bytes slot) past ∙ plain_released (entry.Shut did.0) (line_past v) tt slot))
         (none_taken published (ap orders past) k) (noted published did.0 did.2 k) k
     keeps_cut published (inr did) k =
         let conn = did.0 in
-        let past : channel.conn.log.past ≡ past_of v = ap (λ (c : Connection). c.log.past) conn in
-        keeps_taken published v channel getter (sums_of (past_of v) channel.conn.log.past (past_of v) past (sums_same (past_of v)))
+        let past : channel.conn.log.past ≡ line_past v = ap (λ (c : Connection). c.log.past) conn in
+        keeps_taken published v channel getter (sums_of (line_past v) channel.conn.log.past (line_past v) past (sums_same (line_past v)))
         (ap (λ (c : Connection). c.peer) conn) (ap (λ (c : Connection). c.slots) conn)
         (held_same v.channel.conn channel.conn (ap (λ (c : Connection). c.freed) conn) (λ slot. ap (released_bytes slot) past))
         (none_taken published (ap orders past) k) (noted published 0 did.2 k) k
@@ -176,7 +176,7 @@ module _ {E M : Type 0} (v : LineView E M) (channel : ChannelView E) (getter : G
       peer = ap (λ (c : Connection). c.peer) did.0;
       slots = ap (λ (c : Connection). c.slots) did.0;
       limit = ap (λ (c : Connection). c.log.limit) did.0;
-      past = subst (λ (c : Connection). Moment (past_of v) c.log.past) (sym did.0) now;
+      past = subst (λ (c : Connection). Moment (line_past v) c.log.past) (sym did.0) now;
       streams = subst (λ (s : StreamsView E). StreamsStay m v.channel.streams s) (sym did.1) (streams_same m v.channel.streams);
       cuts = (0 ∷ [], did.2);
     }
@@ -235,7 +235,7 @@ module _ {E M : Type 0} (v : LineView E M) (roomy new : ChannelView E) (first : 
         cuts = same_list roomy.cuts.numbers;
       }))
 
-  roomy_past : new.conn.log.past ≡ past_of v
+  roomy_past : new.conn.log.past ≡ line_past v
   roomy_past = ap (λ (c : ChannelView E). c.conn.log.past) second ∙ ap (λ (c : ChannelView E). c.conn.log.past) first
 
   pub keeps_roomy : (published : M → List (List ℕ)) → KeepsLine published v → KeepsLine published (record v { channel = new })

@@ -14,7 +14,7 @@ use Rattle.rds_line_streams.specs.Streams.{newest_place, numbers, with_list}
 use Rattle.rds_line_channel.specs.Channel.{ChannelView, CutsView, with_conn}
 use Rattle.rds_line_channel.specs.Changes.{ShutsStream}
 use Rattle.rds_line.specs.Keeps.{IsPulled, KeepsLine}
-use Rattle.rds_line.specs.Line.{LineView, past_of}
+use Rattle.rds_line.specs.Line.{LineView, line_past}
 use Rattle.rds_line.specs.Stays.{ChannelStays, GoesFurther, LineStays}
 use Rattle.rds_line.specs.Turns.{GetsBytes, SendsBytes}
 use Rattle.rds_line.proofs.Keeping.{keeps_plain, pulled_off}
@@ -108,8 +108,7 @@ module _ {E : Type 0} (m : Means E) where
         stands = there.1;
         more = λ tells.
             let was = came.more tells in
-            let far = (each.at place came.after_it (came.after_it.0, there.0) came.stands there.1 tells).1 in
-            (
+            let far = (each.at place came.after_it (came.after_it.0, there.0) came.stands there.1 tells).1 in (
               was.0 ++ far.0,
               (λ none. was.1 (nil_front was.0 far.0 none)),
               far.1 ∙ ap (λ (l : List ℕ). l ++ far.0) was.2 ∙ append_assoc (m.got came.before_it.1) was.0 far.0,
@@ -117,7 +116,7 @@ module _ {E : Type 0} (m : Means E) where
       }
 
   module _ {M : Type 0} (v : LineView E M) (middle new : ChannelView E) (number : ℕ) (shuts : ShutsStream m number middle new)
-    (conn : middle.conn ≡ with_room v.channel.conn) where
+      (conn : middle.conn ≡ with_room v.channel.conn) where
     -- the connection once its stream was shut
     pub shut_conn :
         new.conn ≡ record (with_entries (entry.Shut number ∷ []) (with_room v.channel.conn)) { waiting = None; rest = [] }
@@ -126,17 +125,17 @@ module _ {E : Type 0} (m : Means E) where
         ∙ ap (λ (c : Connection). record (with_entries (entry.Shut number ∷ []) c) { waiting = None; rest = [] }) conn
 
     -- the line has one entry more
-    pub more_entries : length (past_of v) < length new.conn.log.past
+    pub more_entries : length (line_past v) < length new.conn.log.past
     more_entries =
-        let e : length new.conn.log.past ≡ suc (length (past_of v)) = ap (λ (c : Connection). length c.log.past) shut_conn in
+        let e : length new.conn.log.past ≡ suc (length (line_past v)) = ap (λ (c : Connection). length c.log.past) shut_conn in
         omega arith
 
     pub keeps_over : (published : M → List (List ℕ)) (noted : Bool) → new.cuts ≡ v.channel.cuts → KeepsLine published v →
         KeepsLine published (record v { channel = new }) × IsPulled noted (record v { channel = new })
     keeps_over published noted cuts k = (
       keeps_plain published (entry.Shut number) tt v new (ap (λ (c : Connection). c.log.past) shut_conn)
-      (ap (λ (c : Connection). c.peer) shut_conn)
-      (ap (λ (c : Connection). c.slots) shut_conn) (ap (λ (c : Connection). c.freed) shut_conn)
-      (ap (λ (c : CutsView). c.numbers) cuts) k,
+          (ap (λ (c : Connection). c.peer) shut_conn)
+          (ap (λ (c : Connection). c.slots) shut_conn) (ap (λ (c : Connection). c.freed) shut_conn)
+          (ap (λ (c : CutsView). c.numbers) cuts) k,
       pulled_off noted (record v { channel = new }) (ap stream_of shut_conn),
     )

@@ -3,8 +3,8 @@ use Rattle.std.specs.Prelude.{◌≡◌, ◌⊎◌, ◌<◌, ◌||◌, ◌&&◌,
 use Rattle.rds_link.specs.Ends.{Means}
 use Rattle.rds_mail.specs.Learning.{AllGot}
 use Rattle.rds_line_channel.specs.Channel.{with_conn}
-use Rattle.rds_line.specs.Line.{LineView, past_of}
-use Rattle.rds_line.specs.Turns.{GetsBytes, IsIdle, SendsBytes, TakesOrder, is_bytes_heard, is_bytes_sent}
+use Rattle.rds_line.specs.Line.{LineView, line_past}
+use Rattle.rds_line.specs.Turns.{GetsBytes, IsIdleTurn, SendsBytes, TakesOrder, is_bytes_heard, is_bytes_sent}
 use Rattle.rds_line.specs.declared.outcome.Done.{Done}
 use Rattle.rds_line.specs.declared.outcome.Heard.TheVariants as heard
 use Rattle.rds_line.specs.declared.outcome.Sent.TheVariants as sent
@@ -32,5 +32,5 @@ module _ {E M : Type 0} where
     pub got : done.heard ≡ heard.Bytes → (place : ℕ) × GetsBytes m place old.channel.streams.list new.channel.streams.list
     pub sent : done.sent ≡ sent.Bytes → (place : ℕ) × SendsBytes m place old.channel.streams.list new.channel.streams.list
     -- where nothing was taken, came or went, no entry was appended, and a stream is open or left, there was nothing to do
-    pub idle : done.took ≡ false → is_bytes_heard done.heard ≡ false → is_bytes_sent done.sent ≡ false → past_of new ≡ past_of old →
-        (new.channel.streams.is_open ≡ true) ⊎ (new.channel.streams.opened < length new.channel.streams.list) → IsIdle m old new
+    pub idle : done.took ≡ false → is_bytes_heard done.heard ≡ false → is_bytes_sent done.sent ≡ false → line_past new ≡ line_past old →
+        (new.channel.streams.is_open ≡ true) ⊎ (new.channel.streams.opened < length new.channel.streams.list) → IsIdleTurn m old new

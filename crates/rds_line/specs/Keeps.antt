@@ -9,7 +9,7 @@ use Rattle.rds_mail.specs.Numbers.{bare_items}
 use Rattle.rds_conn.specs.Connection.{stream_of}
 use Rattle.rds_line_parts.specs.Counted.{IsCountedFor, IsFreedFor, IsPutFor}
 use Rattle.rds_line_parts.specs.Own.{IsAsRead}
-use Rattle.rds_line.specs.Line.{LineView, past_of}
+use Rattle.rds_line.specs.Line.{LineView, line_past}
 
 -- the orders that aren't cuts
 abbrev pub uncut : List Order → List Order
@@ -26,17 +26,17 @@ cuts_among (other ∷ list) = cuts_among list
 module _ {E M : Type 0} where
   pub record KeepsLine (published : M → List (List ℕ)) (v : LineView E M) : Type 0 where
     -- the orders that its getter took, cuts left out, are those of the journal, in order
-    pub taken : uncut (bare_items v.orders.got) ≡ orders (past_of v)
+    pub taken : uncut (bare_items v.orders.got) ≡ orders (line_past v)
     -- and each cut was noted
     pub cuts : cuts_among (bare_items v.orders.got) ≡ length v.channel.cuts.numbers
     -- what it put into the mailbox of each slot is what the journal delivered to the slot, in order
-    pub put : IsPutFor v.channel.conn.peer (past_of v) v.boxes
+    pub put : IsPutFor v.channel.conn.peer (line_past v) v.boxes
     -- for each slot it counted the delivered bytes, with one check a delivery
-    pub counted : IsCountedFor (past_of v) v.words.view
+    pub counted : IsCountedFor (line_past v) v.words.view
     -- for each slot, what it counted as freed and what the connection still holds are the bytes that aren't alive any more
     pub freed : IsFreedFor v.channel.conn v.words.view
     -- the maps that it published are those that the journal read, in order
-    pub maps : published v.map ≡ maps (past_of v)
+    pub maps : published v.map ≡ maps (line_past v)
     -- the host's own map has in each word what the last load of it found
     pub read : IsAsRead v.own v.words.view.steps
     -- there is a mailbox for each slot of the port table
@@ -46,4 +46,4 @@ module _ {E M : Type 0} where
 
   -- where the line notes that, the host's own map as it read that last is the one that was pulled last on the open stream
   abbrev pub IsPulled : Bool → LineView E M → Type 0
-  IsPulled pulled v = pulled ≡ true → (s : ℕ) → stream_of v.channel.conn ≡ Some s → last_map s (past_of v) ≡ Some v.own.map
+  IsPulled pulled v = pulled ≡ true → (s : ℕ) → stream_of v.channel.conn ≡ Some s → last_map s (line_past v) ≡ Some v.own.map

@@ -22,8 +22,8 @@ pub record LineView (E M : Type 0) : Type 0 where
 
 module _ {E M : Type 0} where
   -- its journal, the newest entry first
-  abbrev pub past_of : LineView E M → List Entry
-  past_of v = v.channel.conn.log.past
+  abbrev pub line_past : LineView E M → List Entry
+  line_past v = v.channel.conn.log.past
 
   -- a stream is open, or there is none that wasn't opened
   abbrev pub IsOpenOrLast : LineView E M → Type 0
@@ -31,5 +31,5 @@ module _ {E M : Type 0} where
 
   -- its journal has so many entries, and two more would pass its limit
   pub record IsFull (entries : ℕ) (v : LineView E M) : Type 0 where
-    pub count : entries ≡ length (past_of v)
-    pub most : v.channel.conn.log.limit < length (past_of v) + 2
+    pub count : entries ≡ length (line_past v)
+    pub most : v.channel.conn.log.limit < length (line_past v) + 2

@@ -12,7 +12,7 @@ use Rattle.rds_conn.specs.Connection.{stream_of}
 use Rattle.rds_line_streams.specs.Changes.{ChangesAt, Receives, Sends}
 use Rattle.rds_line_streams.specs.Streams.{newest_place}
 use Rattle.rds_line_channel.specs.Channel.{ChannelView}
-use Rattle.rds_line.specs.Line.{LineView, past_of}
+use Rattle.rds_line.specs.Line.{LineView, line_past}
 use Rattle.rds_line.specs.declared.outcome.Heard.{Heard}
 use Rattle.rds_line.specs.declared.outcome.Heard.TheVariants as heard
 use Rattle.rds_line.specs.declared.outcome.Sent.{Sent}
@@ -73,13 +73,13 @@ module _ {E : Type 0} where
 
 module _ {E M : Type 0} where
   -- nothing is to be written, and no frame is owed
-  pub record OwesNothing (old new : LineView E M) : Type 0 where
+  pub record FindsNothingOwed (old new : LineView E M) : Type 0 where
     pub streams : new.channel.streams ≡ old.channel.streams
     pub none_left : new.channel.out ≡ []
-    pub none_owed : (s : ℕ) → stream_of new.channel.conn ≡ Some s → owed_frame s (past_of new) new.own.map ≡ None
+    pub none_owed : (s : ℕ) → stream_of new.channel.conn ≡ Some s → owed_frame s (line_past new) new.own.map ≡ None
 
   -- there was no order, no stream is open, and none is left
-  pub record IsOver (old new : LineView E M) : Type 0 where
+  pub record IsOverTurn (old new : LineView E M) : Type 0 where
     pub orders : new.orders ≡ old.orders
     pub all_got : AllGot new.orders
     pub closed : new.channel.streams.is_open ≡ false
@@ -88,20 +88,20 @@ module _ {E M : Type 0} where
   module _ (m : Means E) where
     -- There was nothing to do: the queue of orders was empty, nothing came, nothing went, and no entry was appended. Either no
     -- frame is owed, or there is no room for what is to be written.
-    pub record IsIdle (old new : LineView E M) : Type 0 where
+    pub record IsIdleTurn (old new : LineView E M) : Type 0 where
       pub orders : new.orders ≡ old.orders
       pub all_got : AllGot new.orders
-      pub past : past_of new ≡ past_of old
+      pub past : line_past new ≡ line_past old
       pub on : new.channel.streams.is_open ≡ true
       pub middle : LineView E M
       pub hears : HearsNothing m old.channel middle.channel
       pub none_waits : new.channel.conn.waiting ≡ None
       pub none_left : new.channel.piece ≡ []
-      pub sends : OwesNothing middle new ⊎ FindsNoRoom m middle.channel new.channel
+      pub sends : FindsNothingOwed middle new ⊎ FindsNoRoom m middle.channel new.channel
 
     -- an order was taken, the journal has more entries, or an end got or sent bytes
     abbrev pub HasMoved : LineView E M → LineView E M → Type 0
     HasMoved old new =
-        TakesOrder old.orders new.orders ⊎ ((length (past_of old) < length (past_of new))
+        TakesOrder old.orders new.orders ⊎ ((length (line_past old) < length (line_past new))
         ⊎ (((place : ℕ) × GetsBytes m place old.channel.streams.list new.channel.streams.list)
         ⊎ ((place : ℕ) × SendsBytes m place old.channel.streams.list new.channel.streams.list)))

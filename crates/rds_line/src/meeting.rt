@@ -5,7 +5,7 @@ ghost use Rattle.rds_model.specs.Fifo.{HasNoBad};
 ghost use Rattle.rds_model.specs.Pairs.{IsDeliveredOnce};
 ghost use Rattle.rds_line_streams.specs.Meeting.{AreMet, AtEach};
 ghost use Rattle.rds_line_streams.specs.Streams.{numbers, with_list};
-ghost use Rattle.rds_line.specs.Line.{past_of};
+ghost use Rattle.rds_line.specs.Line.{line_past};
 
 use crate::Line;
 use rds_fmap::MapWriter;
@@ -18,10 +18,10 @@ use rds_model::laws;
 pub fn meet<W: Wire, M: MapWriter>(a: &mut Line<W::End, M>, b: &mut Line<W::End, M>)
     requires numbers { numbers b.old.channel.streams.list ≡ numbers a.old.channel.streams.list }
     requires pairs { AtEach W.End.means.meets a.old.channel.streams.list b.old.channel.streams.list }
-    ensures honest { W.End.means.tells ≡ true → IsHonest (past_of a.new) (past_of b.new) }
-    ensures no_bad { W.End.means.tells ≡ true → HasNoBad (past_of a.new) × HasNoBad (past_of b.new) }
-    ensures forth { W.End.means.tells ≡ true → (sport dport : ℕ) → IsDeliveredOnce sport dport (past_of a.new) (past_of b.new) }
-    ensures back { W.End.means.tells ≡ true → (sport dport : ℕ) → IsDeliveredOnce sport dport (past_of b.new) (past_of a.new) }
+    ensures honest { W.End.means.tells ≡ true → IsHonest (line_past a.new) (line_past b.new) }
+    ensures no_bad { W.End.means.tells ≡ true → HasNoBad (line_past a.new) × HasNoBad (line_past b.new) }
+    ensures forth { W.End.means.tells ≡ true → (sport dport : ℕ) → IsDeliveredOnce sport dport (line_past a.new) (line_past b.new) }
+    ensures back { W.End.means.tells ≡ true → (sport dport : ℕ) → IsDeliveredOnce sport dport (line_past b.new) (line_past a.new) }
     ensures met { AreMet W.End.means a.old.channel.streams.list a.new.channel.streams.list b.old.channel.streams.list b.new.channel.streams.list }
     ensures pairs { AtEach W.End.means.meets a.new.channel.streams.list b.new.channel.streams.list }
     ensures one { a.new ≡ record a.old { channel = record a.old.channel { streams = with_list a.old.channel.streams a.new.channel.streams.list } } }

@@ -1,6 +1,6 @@
 ghost use Rattle.std.specs.Prelude.{◌≡◌, ℕ, Err, OnErr, OnOk};
 ghost use Rattle.rds_model.specs.declared.journal.JournalError.TheVariants as errors;
-ghost use Rattle.rds_line.specs.Line.{IsFull, IsOpenOrLast, past_of};
+ghost use Rattle.rds_line.specs.Line.{IsFull, IsOpenOrLast, line_past};
 ghost use Rattle.rds_line.specs.Stays.{LineStays};
 
 use super::Line;
@@ -13,7 +13,7 @@ impl<E: End, M: MapWriter> Line<E, M> {
     pub(super) fn open_next(&mut self) -> Result<(), JournalError>
         ensures stays { LineStays E.means M.pair self.old self.new }
         ensures alone { self.new ≡ record self.old { channel = self.new.channel } }
-        ensures streams { past_of self.new ≡ past_of self.old → self.new.channel.streams ≡ self.old.channel.streams }
+        ensures streams { line_past self.new ≡ line_past self.old → self.new.channel.streams ≡ self.old.channel.streams }
         ensures open { OnOk result (IsOpenOrLast self.new) }
         ensures same { OnErr result (self.new ≡ self.old) }
         ensures spent { (entries : ℕ) → result ≡ Err (errors.Spent entries) → IsFull entries self.new }

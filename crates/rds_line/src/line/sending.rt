@@ -2,9 +2,9 @@ ghost use Rattle.std.specs.Prelude.{◌≡◌, ◌≢◌, ◌<◌, ℕ, true, fa
 ghost use Rattle.rds_model.specs.declared.journal.JournalError.TheVariants as errors;
 ghost use Rattle.rds_conn.specs.Connection.{IsReady};
 ghost use Rattle.rds_line_streams.specs.Streams.{newest_place};
-ghost use Rattle.rds_line.specs.Line.{IsFull, past_of};
+ghost use Rattle.rds_line.specs.Line.{IsFull, line_past};
 ghost use Rattle.rds_line.specs.Stays.{LineStays};
-ghost use Rattle.rds_line.specs.Turns.{FindsNoRoom, LeavesNothing, OwesNothing, SendsBytes};
+ghost use Rattle.rds_line.specs.Turns.{FindsNoRoom, LeavesNothing, FindsNothingOwed, SendsBytes};
 ghost use Rattle.rds_line.specs.declared.outcome.Sent.TheVariants as sent;
 
 use super::Line;
@@ -22,10 +22,10 @@ impl<E: End, M: MapWriter> Line<E, M> {
         ensures came { OnOk result (LeavesNothing self.old.channel self.new.channel) }
         ensures closed { result ≡ Ok sent.Closed → (self.old.channel.streams.is_open ≡ false) × (self.new ≡ self.old) }
         ensures shut { self.old.channel.streams.is_open ≡ false → result ≡ Ok sent.Closed }
-        ensures nothing { result ≡ Ok sent.Nothing → OwesNothing self.old self.new × (past_of self.new ≡ past_of self.old) }
+        ensures nothing { result ≡ Ok sent.Nothing → FindsNothingOwed self.old self.new × (line_past self.new ≡ line_past self.old) }
         ensures full { result ≡ Ok sent.Full → FindsNoRoom E.means self.old.channel self.new.channel }
         ensures bytes { result ≡ Ok sent.Bytes → SendsBytes E.means (newest_place self.old.channel.streams) self.old.channel.streams.list self.new.channel.streams.list }
-        ensures ended { result ≡ Ok sent.Ended → length (past_of self.old) < length (past_of self.new) }
+        ensures ended { result ≡ Ok sent.Ended → length (line_past self.old) < length (line_past self.new) }
         ensures spent { (entries : ℕ) → result ≡ Err (errors.Spent entries) → IsFull entries self.new }
     {
         if !self.channel.is_open() {
@@ -48,7 +48,7 @@ impl<E: End, M: MapWriter> Line<E, M> {
         ensures came { LeavesNothing self.old.channel self.new.channel }
         ensures streams { self.new.channel.streams ≡ self.old.channel.streams }
         ensures some { result ≡ Ok true → self.new.channel.out ≢ [] }
-        ensures nothing { result ≡ Ok false → OwesNothing self.old self.new × (past_of self.new ≡ past_of self.old) }
+        ensures nothing { result ≡ Ok false → FindsNothingOwed self.old self.new × (line_past self.new ≡ line_past self.old) }
         ensures err { IfErr result (λ error. error ≡ errors.Memory) }
     {
         self.channel.known();
@@ -79,7 +79,7 @@ impl<E: End, M: MapWriter> Line<E, M> {
         ensures written { (result ≢ Ok sent.Closed) × (result ≢ Ok sent.Nothing) }
         ensures full { result ≡ Ok sent.Full → FindsNoRoom E.means self.old.channel self.new.channel }
         ensures bytes { result ≡ Ok sent.Bytes → SendsBytes E.means (newest_place self.old.channel.streams) self.old.channel.streams.list self.new.channel.streams.list }
-        ensures ended { result ≡ Ok sent.Ended → length (past_of self.old) < length (past_of self.new) }
+        ensures ended { result ≡ Ok sent.Ended → length (line_past self.old) < length (line_past self.new) }
         ensures spent { (entries : ℕ) → result ≡ Err (errors.Spent entries) → IsFull entries self.new }
     {
         self.channel.reserve()?;

@@ -1,7 +1,7 @@
 ghost use Rattle.std.specs.Prelude.{◌≡◌, ℕ, true, false, Ok, Err, OnErr};
 ghost use Rattle.rds_mail.specs.Learning.{AllGot};
 ghost use Rattle.rds_model.specs.declared.journal.JournalError.TheVariants as errors;
-ghost use Rattle.rds_line.specs.Line.{IsFull, IsOpenOrLast, past_of};
+ghost use Rattle.rds_line.specs.Line.{IsFull, IsOpenOrLast, line_past};
 ghost use Rattle.rds_line.specs.Stays.{LineStays};
 ghost use Rattle.rds_line.specs.Turns.{TakesOrder};
 
@@ -18,8 +18,8 @@ impl<E: End, M: MapWriter> Line<E, M> {
         ensures stays { LineStays E.means M.pair self.old self.new }
         ensures took { result ≡ Ok true → TakesOrder self.old.orders self.new.orders }
         ensures none { result ≡ Ok false → (self.new.orders ≡ self.old.orders) × AllGot self.new.orders }
-        ensures still { result ≡ Ok false → (past_of self.new ≡ past_of self.old) × (self.new.channel.streams ≡ self.old.channel.streams) }
-        ensures err { OnErr result ((self.new.orders ≡ self.old.orders) × (past_of self.new ≡ past_of self.old)) }
+        ensures still { result ≡ Ok false → (line_past self.new ≡ line_past self.old) × (self.new.channel.streams ≡ self.old.channel.streams) }
+        ensures err { OnErr result ((self.new.orders ≡ self.old.orders) × (line_past self.new ≡ line_past self.old)) }
         ensures spent { (entries : ℕ) → result ≡ Err (errors.Spent entries) → IsFull entries self.new }
     {
         self.channel.reserve()?;

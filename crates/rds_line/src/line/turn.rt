@@ -1,8 +1,8 @@
 ghost use Rattle.std.specs.Prelude.{◌≡◌, ◌⊎◌, ◌<◌, nat_lt, ℕ, true, Err, IfOk, OnOk, length, sum};
 ghost use Rattle.rds_model.specs.declared.journal.JournalError.TheVariants as errors;
-ghost use Rattle.rds_line.specs.Line.{IsFull, past_of};
+ghost use Rattle.rds_line.specs.Line.{IsFull, line_past};
 ghost use Rattle.rds_line.specs.Stays.{LineStays};
-ghost use Rattle.rds_line.specs.Turns.{HasMoved, IsIdle, IsOver, TakesOrder};
+ghost use Rattle.rds_line.specs.Turns.{HasMoved, IsIdleTurn, IsOverTurn, TakesOrder};
 ghost use Rattle.rds_line.specs.Doing.{Did, IsRelieved, answer_of};
 ghost use Rattle.rds_line.specs.declared.outcome.Turn.TheVariants as turn;
 
@@ -20,8 +20,8 @@ impl<E: End, M: MapWriter> Line<E, M> {
     pub fn turn<W: Wait>(&mut self, rt: &W) -> Turn
         ensures stays { LineStays E.means M.pair self.old self.new }
         ensures moved { result ≡ turn.Moved → HasMoved E.means self.old self.new }
-        ensures idle { result ≡ turn.Idle → IsIdle E.means self.old self.new }
-        ensures over { result ≡ turn.Over → IsOver self.old self.new }
+        ensures idle { result ≡ turn.Idle → IsIdleTurn E.means self.old self.new }
+        ensures over { result ≡ turn.Over → IsOverTurn self.old self.new }
         ensures goes_on { (result ≡ turn.Moved) ⊎ (result ≡ turn.Idle) →
             TakesOrder self.old.orders self.new.orders ⊎ ((self.new.channel.streams.is_open ≡ true)
             ⊎ (self.new.channel.streams.opened < length self.new.channel.streams.list)) }
@@ -66,7 +66,7 @@ impl<E: End, M: MapWriter> Line<E, M> {
 
     // What a turn answers that did this, where the journal had so many entries before it.
     fn judged(&self, done: Done, before: u32) -> Turn
-        ensures { result ≡ answer_of done (self.now.channel.streams.is_open) (nat_lt self.now.channel.streams.opened (length self.now.channel.streams.list)) (nat_lt before (length (past_of self.now))) }
+        ensures { result ≡ answer_of done (self.now.channel.streams.is_open) (nat_lt self.now.channel.streams.opened (length self.now.channel.streams.list)) (nat_lt before (length (line_past self.now))) }
     {
         if !done.took && !self.channel.is_open() && !self.channel.has_next() {
             return Turn::Over;

@@ -2,7 +2,7 @@ use Rattle.std.proofs.Common.{◌≡◌, List, length, ap, sym, refl, arith}
 use Rattle.rds_model.specs.declared.entry.Entry.{Entry}
 use Rattle.rds_conn.specs.Connection.{with_room}
 use Rattle.rds_line_channel.specs.Channel.{ChannelView, with_conn}
-use Rattle.rds_line.specs.Line.{LineView, past_of}
+use Rattle.rds_line.specs.Line.{LineView, line_past}
 use Rattle.rds_line.specs.Stays.{ChannelStays}
 use Rattle.rds_line.proofs.Staying.{channel_of, channel_same, channel_through, room_stays, opening_stays, line_inside, line_of}
 use Rattle.rds_line.proofs.line.Line.open_next.Goals as goal
@@ -47,6 +47,6 @@ pub returns-then-open_next-clause-streams : goal.returns-then-open_next-clause-s
 returns-then-open_next-clause-streams g c = λ same.
     let more = ap (λ (k : ChannelView g.row.E.Denot). length k.conn.log.past) ((c.if-open_next.ensures {u = tt}).opened refl).is in
     let room = ap (λ (k : ChannelView g.row.E.Denot). length k.conn.log.past) (c.in_ok-reserve.ensures {u = tt}).ok in
-    let shown = ap (λ (l : LineView g.row.E.Denot g.row.M.Denot). length (past_of l)) c.self.view_is in
+    let shown = ap (λ (l : LineView g.row.E.Denot g.row.M.Denot). length (line_past l)) c.self.view_is in
     let as_long = ap (λ (l : List Entry). length l) same in
     absurd (omega (arith, more, room, shown, as_long))

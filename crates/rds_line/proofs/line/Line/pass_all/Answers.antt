@@ -3,7 +3,7 @@ use denote.Enum.Bare.{same_true}
 use Rattle.rds_line_channel.specs.contracts.channel.Taken.{the_type}
 use Rattle.rds_line_channel.specs.declared.channel.Taken.TheVariants as taken
 use Rattle.rds_line_channel.specs.Channel.{ChannelView}
-use Rattle.rds_line.specs.Line.{past_of}
+use Rattle.rds_line.specs.Line.{line_past}
 use Rattle.rds_line.proofs.Longer.{longer}
 use Rattle.rds_line.proofs.Staying.{line_through}
 use Rattle.rds_line.proofs.line.Line.pass_all.Goals as goal
@@ -45,6 +45,6 @@ loop-taken-preserved g c =
       part = λ e. took.part (ap Ok e);
       refused = λ e.
           let more = took.refused (ap Ok e) in
-          let long = longer (past_of start) (past_of middle) passed.channel.past in
+          let long = longer (line_past start) (line_past middle) passed.channel.past in
           omega arith;
     }

@@ -2,7 +2,7 @@ use Rattle.std.proofs.Common.{◌≡◌, ◌≢◌, ℕ, suc, ◌<◌, IsSome, N
 use Rattle.rds_conn.specs.Connection.{IsReady}
 use Rattle.rds_line_channel.specs.declared.channel.Taken.{Taken}
 use Rattle.rds_line_channel.specs.declared.channel.Taken.TheVariants as taken
-use Rattle.rds_line.specs.Line.{past_of}
+use Rattle.rds_line.specs.Line.{line_past}
 use Rattle.rds_line.specs.Stays.{LineStays}
 use Rattle.rds_line.proofs.line.Line.pass_all.Given as goal
 
@@ -20,7 +20,7 @@ invariant-loop-taken g l = record {
   ready : l.taken ≡ taken.Frame → IsReady l.self.channel.conn;
   frame : l.taken ≡ taken.Frame → IsSome l.self.channel.conn.waiting;
   part : l.taken ≡ taken.Part → (l.self.channel.conn.waiting ≡ None) × (l.self.channel.piece ≡ []);
-  refused : l.taken ≡ taken.Refused → length (past_of l.fn.self) < length (past_of l.self);
+  refused : l.taken ≡ taken.Refused → length (line_past l.fn.self) < length (line_past l.self);
 }
 
 abbrev pub decreases-loop-taken : goal.decreases-loop-taken

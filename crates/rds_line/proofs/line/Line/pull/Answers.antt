@@ -7,9 +7,9 @@ use Rattle.rds_conn.specs.declared.conn.Pulled.TheVariants as pulled
 use Rattle.rds_conn.specs.Connection.{stream_of}
 use Rattle.rds_line_channel.specs.Channel.{ChannelView}
 use Rattle.rds_line.specs.Keeps.{IsPulled, KeepsLine}
-use Rattle.rds_line.specs.Line.{LineView, past_of}
+use Rattle.rds_line.specs.Line.{LineView, line_past}
 use Rattle.rds_line.specs.Stays.{LineStays}
-use Rattle.rds_line.specs.Turns.{LeavesNothing, OwesNothing}
+use Rattle.rds_line.specs.Turns.{LeavesNothing, FindsNothingOwed}
 use Rattle.rds_line.specs.declared.line.Line.TheInside.{Inside}
 use Rattle.rds_line.proofs.Fields.{view_in}
 use Rattle.rds_line.proofs.Pulled.{ReadsOwn, PullsOwed, read_anew, read_same, owed_of_map, owed_of_last, same_channel, keeps_failed, failed_stays, keeps_pulled, pulled_stays, pulled_leaves, pulled_some, pulled_nothing}
@@ -107,7 +107,7 @@ returns-in-Ok-clause-nothing g c same =
     let out : (start g c).channel.out ≡ [] =
     ap (λ (v : LineView g.row.E.Denot g.row.M.Denot). v.channel.out) c.self.view_is ∙ c.requires.none in
     let is_nothing = differs_false the_type tt c.in-Ok.pulled pulled.Nothing (sym c.ne.ensures ∙ frame) in
-    subst (λ (v : LineView g.row.E.Denot g.row.M.Denot). OwesNothing v (end g c) × (past_of (end g c) ≡ past_of v)) c.self.view_is
+    subst (λ (v : LineView g.row.E.Denot g.row.M.Denot). FindsNothingOwed v (end g c) × (line_past (end g c) ≡ line_past v)) c.self.view_is
     (pulled_nothing c.if-refresh.self-inside.own_pulled (start g c) (middle g c) (reads g c) (end g c) c.in-Ok.pulled (is g c)
     (owed g c)
     is_nothing out)

@@ -3,7 +3,7 @@ use Rattle.rds_link.specs.declared.end.Got.TheVariants as got
 use Rattle.rds_conn.specs.Connection.{stream_of, with_room}
 use Rattle.rds_line_streams.specs.Streams.{StreamsView, newest_place}
 use Rattle.rds_line_channel.specs.Channel.{ChannelView}
-use Rattle.rds_line.specs.Line.{LineView, past_of}
+use Rattle.rds_line.specs.Line.{LineView, line_past}
 use Rattle.rds_line.specs.Turns.{GetsBytes}
 use Rattle.rds_line.proofs.Fields.{view_in}
 use Rattle.rds_line.proofs.Longer.{longer}
@@ -42,7 +42,7 @@ module _ (g : given.Over) (c : goal.After-end_over g) where
 pub invariant_of-self-in-Over : goal.invariant_of-self-in-Over
 invariant_of-self-in-Over g c =
     let cuts = c.end_over.ensures.cuts ∙ ap (λ (v : ChannelView g.row.E.Denot). v.cuts) c.receive.ensures.rest
-        ∙ ap (λ (v : ChannelView g.row.E.Denot). v.cuts) c.in_ok-reserve.ensures.ok in
+    ∙ ap (λ (v : ChannelView g.row.E.Denot). v.cuts) c.in_ok-reserve.ensures.ok in
     keeps_over g.E.End.means (view_in c.self-2.inside) c.receive.new.self c.end_over.new.self (one g c).0
     (c.end_over.ensures.shut (one g c).0 (one g c).1) (conn g c) g.M.MapWriter.published c.self-2.inside.own_pulled cuts
     c.self-2.invariant.0
@@ -64,11 +64,11 @@ returns-in-Over-clause-stays g c =
 pub returns-in-Over-clause-ended : goal.returns-in-Over-clause-ended
 returns-in-Over-clause-ended g c same =
     let new = c.end_over.new.self in
-    let more : length (past_of c.pass_all.new.self) < length new.conn.log.past =
-    subst (λ (v : LineView g.row.E.Denot g.row.M.Denot). length (past_of v) < length new.conn.log.past) c.self-2.view_is
+    let more : length (line_past c.pass_all.new.self) < length new.conn.log.past =
+    subst (λ (v : LineView g.row.E.Denot g.row.M.Denot). length (line_past v) < length new.conn.log.past) c.self-2.view_is
     (more_entries g.E.End.means (view_in c.self-2.inside) c.receive.new.self new (one g c).0
     (c.end_over.ensures.shut (one g c).0 (one g c).1) (conn g c)) in
-    let long = longer (past_of c.args.self.now) (past_of c.pass_all.new.self) c.pass_all.ensures.stays.channel.past in
+    let long = longer (line_past c.args.self.now) (line_past c.pass_all.new.self) c.pass_all.ensures.stays.channel.past in
     omega arith
 
 pub returns-in_err-pass_all-in-Bytes-clause-stays : goal.returns-in_err-pass_all-in-Bytes-clause-stays
@@ -107,8 +107,8 @@ returns-in_ok-pass_all-in-Bytes-clause-bytes g c same =
     let some : 1 ≤ length new.piece = omega arith in
     let place = newest_place ready.streams in
     let streams = ap (λ (v : ChannelView g.row.E.Denot). v.streams) c.in_ok-reserve.ensures.ok
-        ∙ ap (λ (v : LineView g.row.E.Denot g.row.M.Denot). v.channel.streams) c.self-2.view_is
-        ∙ c.in_ok-pass_all.ensures.streams (ap Ok c.if-not-branch.false) in
+    ∙ ap (λ (v : LineView g.row.E.Denot g.row.M.Denot). v.channel.streams) c.self-2.view_is
+    ∙ c.in_ok-pass_all.ensures.streams (ap Ok c.if-not-branch.false) in
     let further = c.pass_all-in-Bytes.ensures.stays.channel.streams in
     subst (λ (s : StreamsView g.row.E.Denot). GetsBytes m (newest_place s) s.list later.channel.streams.list) streams
     (gets_still m place ready.streams.list new.streams.list later.channel.streams.list

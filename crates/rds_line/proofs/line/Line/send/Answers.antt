@@ -1,7 +1,7 @@
 use Rattle.std.proofs.Common.{◌≡◌, sym, ap, subst, ◌∙◌, arith}
 use Rattle.rds_line_streams.specs.Streams.{StreamsView, newest_place}
 use Rattle.rds_line_channel.specs.Channel.{ChannelView}
-use Rattle.rds_line.specs.Line.{LineView, past_of}
+use Rattle.rds_line.specs.Line.{LineView, line_past}
 use Rattle.rds_line.specs.Stays.{LineStays}
 use Rattle.rds_line.specs.Turns.{SendsBytes}
 use Rattle.rds_line.proofs.Fields.{view_in}
@@ -72,5 +72,5 @@ returns-clause-bytes g c same =
 pub returns-clause-ended : goal.returns-clause-ended
 returns-clause-ended g c same =
     let more = c.write.ensures.ended same in
-    let long = longer (past_of c.args.self.now) (past_of c.else-unwritten-eq0.self) (middle_stays g c).channel.past in
+    let long = longer (line_past c.args.self.now) (line_past c.else-unwritten-eq0.self) (middle_stays g c).channel.past in
     omega arith

@@ -1,6 +1,6 @@
 use Rattle.std.proofs.Common.{◌≡◌, nat_lt, List, length, sym, ap, ◌∙◌}
 use Rattle.rds_model.specs.declared.entry.Entry.{Entry}
-use Rattle.rds_line.specs.Line.{LineView, past_of}
+use Rattle.rds_line.specs.Line.{LineView, line_past}
 use Rattle.rds_line.specs.Turns.{is_bytes_heard, is_bytes_sent}
 use Rattle.rds_line.proofs.Judging.{answer_moved, answer_idle, answer_unspent, moved_of, idle_of}
 use Rattle.rds_line.proofs.line.Line.turn.Goals as goal
@@ -10,24 +10,24 @@ returns-in-Ok-clause-moved g c = λ is.
     let new = c.steps.new.self in
     let done = c.in-Ok.done in
     let streams = new.channel.streams in
-    let count : c.len-before.result ≡ length (past_of c.args.self.now) =
-    c.len-before.ensures.len ∙ (ap (λ (l : List Entry). length l) c.journal.ensures.past ∙ ap (λ (l : LineView g.row.E.Denot g.row.M.Denot). length (past_of l)) c.self.view_is) in
+    let count : c.len-before.result ≡ length (line_past c.args.self.now) =
+    c.len-before.ensures.len ∙ (ap (λ (l : List Entry). length l) c.journal.ensures.past ∙ ap (λ (l : LineView g.row.E.Denot g.row.M.Denot). length (line_past l)) c.self.view_is) in
     moved_of g.E.End.means c.args.self.now new done c.len-before.result (c.in-Ok.ensures {u = tt}).did count
-    (answer_moved done.took (is_bytes_heard done.heard) (is_bytes_sent done.sent) streams.is_open (nat_lt streams.opened (length streams.list)) (nat_lt c.len-before.result (length (past_of new))) (sym c.judged.ensures ∙ is))
+    (answer_moved done.took (is_bytes_heard done.heard) (is_bytes_sent done.sent) streams.is_open (nat_lt streams.opened (length streams.list)) (nat_lt c.len-before.result (length (line_past new))) (sym c.judged.ensures ∙ is))
 
 pub returns-in-Ok-clause-idle : goal.returns-in-Ok-clause-idle
 returns-in-Ok-clause-idle g c = λ is.
     let new = c.steps.new.self in
     let done = c.in-Ok.done in
     let streams = new.channel.streams in
-    let count : c.len-before.result ≡ length (past_of c.args.self.now) =
-    c.len-before.ensures.len ∙ (ap (λ (l : List Entry). length l) c.journal.ensures.past ∙ ap (λ (l : LineView g.row.E.Denot g.row.M.Denot). length (past_of l)) c.self.view_is) in
+    let count : c.len-before.result ≡ length (line_past c.args.self.now) =
+    c.len-before.ensures.len ∙ (ap (λ (l : List Entry). length l) c.journal.ensures.past ∙ ap (λ (l : LineView g.row.E.Denot g.row.M.Denot). length (line_past l)) c.self.view_is) in
     idle_of g.E.End.means c.args.self.now new done c.len-before.result (c.in-Ok.ensures {u = tt}).did count c.steps.ensures.stays.channel.past
-    (answer_idle done.took (is_bytes_heard done.heard) (is_bytes_sent done.sent) streams.is_open (nat_lt streams.opened (length streams.list)) (nat_lt c.len-before.result (length (past_of new))) (sym c.judged.ensures ∙ is))
+    (answer_idle done.took (is_bytes_heard done.heard) (is_bytes_sent done.sent) streams.is_open (nat_lt streams.opened (length streams.list)) (nat_lt c.len-before.result (length (line_past new))) (sym c.judged.ensures ∙ is))
 
 pub returns-in-Ok-clause-spent : goal.returns-in-Ok-clause-spent
 returns-in-Ok-clause-spent g c = λ entries is.
     let new = c.steps.new.self in
     let done = c.in-Ok.done in
     let streams = new.channel.streams in
-    absurd (answer_unspent done.took (is_bytes_heard done.heard) (is_bytes_sent done.sent) streams.is_open (nat_lt streams.opened (length streams.list)) (nat_lt c.len-before.result (length (past_of new))) entries (sym c.judged.ensures ∙ is))
+    absurd (answer_unspent done.took (is_bytes_heard done.heard) (is_bytes_sent done.sent) streams.is_open (nat_lt streams.opened (length streams.list)) (nat_lt c.len-before.result (length (line_past new))) entries (sym c.judged.ensures ∙ is))

@@ -2,7 +2,7 @@ use Rattle.std.proofs.Common.{◌≡◌, ◌<◌, ℕ, Some, true, length, ap, s
 use Rattle.rds_conn.specs.Connection.{Connection, stream_of, with_room}
 use Rattle.rds_line_streams.specs.Streams.{newest_place}
 use Rattle.rds_line_channel.specs.Channel.{ChannelView}
-use Rattle.rds_line.specs.Line.{LineView, past_of}
+use Rattle.rds_line.specs.Line.{LineView, line_past}
 use Rattle.rds_line.specs.Turns.{SendsBytes}
 use Rattle.rds_line.proofs.Fields.{view_in}
 use Rattle.rds_line.proofs.Staying.{channel_of, channel_same, channel_through, line_inside}
@@ -35,7 +35,7 @@ returns-in-Took-clause-bytes g c same =
     let did = c.in-Took.ensures in
     let count = did.count n refl in
     let streams = ap (λ (v : ChannelView g.row.E.Denot). v.streams) c.in_ok-reserve.ensures.ok
-        ∙ ap (λ (v : LineView g.row.E.Denot g.row.M.Denot). v.channel.streams) c.self.view_is in
+    ∙ ap (λ (v : LineView g.row.E.Denot g.row.M.Denot). v.channel.streams) c.self.view_is in
     subst (λ s. SendsBytes m (newest_place s) s.list c.write.new.self.streams.list) streams
     (sends_bytes m (newest_place ready.streams) n ready.out ready.streams.list c.write.new.self.streams.list count.0 count.1
     did.sent)
@@ -60,7 +60,6 @@ module _ (g : given.Over) (c : goal.After-end_over g) where
       ∙ ap (λ (v : LineView g.row.E.Denot g.row.M.Denot). v.channel.streams.is_open) c.self.view_is ∙ c.requires.open in
       the_one (stream_of c.write.new.self.conn) (c.known.ensures.open.0 on)
 
-
   conn : c.write.new.self.conn ≡ with_room c.self.inside.channel.conn
   conn =
       ap (λ (v : ChannelView g.row.E.Denot). v.conn) c.write.ensures.rest
@@ -69,7 +68,7 @@ module _ (g : given.Over) (c : goal.After-end_over g) where
 pub invariant_of-self-in-Over : goal.invariant_of-self-in-Over
 invariant_of-self-in-Over g c =
     let cuts = c.end_over.ensures.cuts ∙ ap (λ (v : ChannelView g.row.E.Denot). v.cuts) c.write.ensures.rest
-        ∙ ap (λ (v : ChannelView g.row.E.Denot). v.cuts) c.in_ok-reserve.ensures.ok in
+    ∙ ap (λ (v : ChannelView g.row.E.Denot). v.cuts) c.in_ok-reserve.ensures.ok in
     keeps_over g.E.End.means (view_in c.self.inside) c.write.new.self c.end_over.new.self (one g c).0
     (c.end_over.ensures.shut (one g c).0 (one g c).1) (conn g c)
     g.M.MapWriter.published c.self.inside.own_pulled cuts c.self.invariant.0
@@ -95,6 +94,6 @@ returns-in-Over-clause-came g c none left =
 pub returns-in-Over-clause-ended : goal.returns-in-Over-clause-ended
 returns-in-Over-clause-ended g c same =
     let new = c.end_over.new.self in
-    subst (λ (v : LineView g.row.E.Denot g.row.M.Denot). length (past_of v) < length new.conn.log.past) c.self.view_is
+    subst (λ (v : LineView g.row.E.Denot g.row.M.Denot). length (line_past v) < length new.conn.log.past) c.self.view_is
     (more_entries g.E.End.means (view_in c.self.inside) c.write.new.self new (one g c).0
     (c.end_over.ensures.shut (one g c).0 (one g c).1) (conn g c))
