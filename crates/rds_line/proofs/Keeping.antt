@@ -1,8 +1,7 @@
 -- What a line keeps, where its journal gets an entry that delivers nothing and is no map, or where all of it stays.
-use Rattle.std.proofs.Common.{◌≡◌, ℕ, ◌+◌, ◌<◌, Bool, true, List, [], ◌∷◌, Option, Some, None, slice_index, length, refl, sym, ap, subst, ◌∙◌}
+use Rattle.std.proofs.Common.{◌≡◌, ℕ, ◌+◌, ◌<◌, Bool, List, ◌∷◌, Some, None, slice_index, length, refl, sym, ap, subst, ◌∙◌}
 use Rattle.rds_model.specs.declared.entry.Entry.{Entry}
 use Rattle.rds_model.specs.declared.entry.Entry.TheVariants as entry
-use Rattle.rds_model.specs.declared.order.Datagram.{Datagram}
 use Rattle.rds_model.specs.declared.order.Order.{Order}
 use Rattle.rds_model.specs.Deliveries.{delivered_datagrams, put_bytes}
 use Rattle.rds_model.specs.Owed.{last_map}

@@ -1,14 +1,11 @@
 -- What a line keeps stays so where all freed bytes are counted.
-use Rattle.std.proofs.Common.{◌≡◌, ℕ, ◌+◌, ◌*◌, ◌<◌, ◌≤◌, inr, List, length, sum, refl, sym, ap, subst, ◌∙◌, arith}
-use Rattle.rds_wire.specs.declared.kind.TheConstants.{MAX_LENGTH}
-use Rattle.rds_model.specs.Deliveries.{delivered_datagrams, put_bytes}
+use Rattle.std.proofs.Common.{◌≡◌, ℕ, ◌+◌, ◌<◌, ◌≤◌, inr, List, length, sum, refl, sym, ap, subst, ◌∙◌, arith}
 use Rattle.rds_model.specs.Legal.{IsLegal}
 use Rattle.rds_model.specs.Sums.{maps, orders}
 use Rattle.rds_model.specs.SumLaws.{same_list}
 use Rattle.rds_meter.specs.Places.{part, freed_word, put_word}
 use Rattle.rds_meter.specs.Seats.{MeterSeat}
 use Rattle.rds_conn.specs.Connection.{Connection, freed_bytes_of}
-use Rattle.rds_conn.specs.Released.{released_bytes}
 use Rattle.rds_line_parts.specs.Counted.{IsCountedFor, IsFreedFor, IsPutFor}
 use Rattle.rds_line_parts.specs.CountedLaws.{counted_for_steps, freed_for_relief, released_bound}
 use Rattle.rds_line_parts.specs.Relief.{IsRelief}

@@ -1,5 +1,5 @@
 -- What a line keeps holds of one on which nothing has happened.
-use Rattle.std.proofs.Common.{◌≡◌, ℕ, ◌+◌, ◌<◌, ◌≤◌, All, List, [], get_or, slice_index, replicate, Some, None, length, refl, sym, ap, subst, ◌∙◌, arith}
+use Rattle.std.proofs.Common.{◌≡◌, ℕ, ◌<◌, ◌≤◌, All, List, [], get_or, Some, None, length, refl, sym, ap, subst, ◌∙◌, arith}
 use Rattle.std.proofs.lemmas.List.{get_or-replicate}
 use Rattle.std.proofs.lemmas.Option.{slice_get_within, get_or_from_slice_get}
 use Rattle.rds_model.specs.declared.entry.TheConstants.{MAX_SLOTS}
@@ -10,7 +10,6 @@ use Rattle.rds_model.specs.Sums.{maps, orders}
 use Rattle.rds_mail.specs.Numbers.{Numbered, bare_items}
 use Rattle.rds_mail.specs.Passes.{Getter, Putter}
 use Rattle.rds_bindtab.specs.Seats.{PortSeat}
-use Rattle.rds_meter.specs.declared.view.Step.{Step}
 use Rattle.rds_meter.specs.Places.{freed_word, put_word, part}
 use Rattle.rds_meter.specs.Seats.{MeterSeat}
 use Rattle.rds_conn.specs.Connection.{freed_bytes_of}
@@ -19,7 +18,7 @@ use Rattle.rds_line_parts.specs.Counted.{AreChecksOf, IsFreedFor}
 use Rattle.rds_line_parts.specs.Own.{Own}
 use Rattle.rds_line_channel.specs.Channel.{ChannelView, new_channel}
 use Rattle.rds_line.specs.Keeps.{KeepsLine, uncut, cuts_among}
-use Rattle.rds_line.specs.Line.{LineView, line_past}
+use Rattle.rds_line.specs.Line.{LineView}
 
 module _ {E M : Type 0} (published : M → List (List ℕ)) (me peer limit : ℕ) (streams : List (ℕ × E)) (v : LineView E M) (is : v.channel ≡ new_channel me peer MAX_SLOTS limit streams) where
   nothing_put : All (λ (box : Putter Datagram). box.put ≡ []) v.boxes → (slot : ℕ) (box : Putter Datagram) → Some box ≡ Some box → slot < length v.boxes → get_or v.boxes slot box ≡ box → box.put ≡ []

@@ -1,5 +1,5 @@
 -- What every turn of a line leaves as it was stays so over each call of its channel, and over several calls.
-use Rattle.std.proofs.Common.{◌≡◌, ℕ, ◌+◌, ◌≤◌, true, List, [], ◌∷◌, ◌++◌, length, get_or, append_assoc, refl, sym, ap, subst, ◌∙◌, arith}
+use Rattle.std.proofs.Common.{◌≡◌, ℕ, ◌+◌, true, List, [], ◌∷◌, ◌++◌, get_or, append_assoc, refl, sym, ap, subst, ◌∙◌, arith}
 use Rattle.std.proofs.lemmas.Option.{same_Some, slice_get_within, slice_get-get_or}
 use Rattle.rds_link.specs.declared.end.Got.{Got}
 use Rattle.rds_link.specs.declared.end.Put.{Put}
@@ -15,13 +15,12 @@ use Rattle.rds_model.specs.SumLaws.{same_list}
 use Rattle.rds_mail.specs.Passes.{Putter}
 use Rattle.rds_conn.specs.Connection.{Connection, with_entries, with_room}
 use Rattle.rds_conn.specs.Orders.{after_order}
-use Rattle.rds_line_parts.specs.Boxes.{IsBoxOf}
 use Rattle.rds_line_streams.specs.Changes.{ChangesAt, Receives, Sends, IsShutDown}
 use Rattle.rds_line_streams.specs.ChangeLaws.{same_length, each_through, changed_each, changed_numbers, changed_paired}
-use Rattle.rds_line_streams.specs.Meeting.{AtEach, StayPaired}
-use Rattle.rds_line_streams.specs.Streams.{StreamsView, numbers, with_list}
+use Rattle.rds_line_streams.specs.Meeting.{StayPaired}
+use Rattle.rds_line_streams.specs.Streams.{StreamsView}
 use Rattle.rds_line_channel.specs.Channel.{ChannelView, with_conn}
-use Rattle.rds_line_channel.specs.Changes.{OpensNext, EndsStream, ShutsStream, EndsRefused}
+use Rattle.rds_line_channel.specs.Changes.{OpensNext, EndsStream, ShutsStream}
 use Rattle.rds_line.specs.Line.{LineView}
 use Rattle.rds_line.specs.Stays.{AreSameBoxes, GoesFurther, StreamsStay, ChannelStays, LineStays}
 

@@ -1,5 +1,5 @@
 -- What the steps of a turn did together.
-use Rattle.std.proofs.Common.{◌≡◌, ◌≢◌, ◌⊎◌, inl, inr, ℕ, suc, ◌<◌, ◌≤◌, Bool, true, false, Result, Ok, Err, Some, None, slice_get, get_or, List, [], ◌∷◌, ◌++◌, length, append_assoc, refl, sym, ap, subst, ◌∙◌, arith}
+use Rattle.std.proofs.Common.{◌≡◌, ◌≢◌, ◌⊎◌, inl, inr, ℕ, ◌<◌, ◌≤◌, true, false, Result, Ok, Err, Some, None, slice_get, get_or, List, [], ◌∷◌, ◌++◌, length, append_assoc, refl, sym, ap, subst, ◌∙◌, arith}
 use Rattle.std.proofs.lemmas.Bool.{false≢true}
 use Rattle.std.proofs.lemmas.Option.{slice_get_within, slice_get-get_or}
 use Rattle.rds_link.specs.declared.end.Got.TheVariants as got
@@ -16,13 +16,13 @@ use Rattle.rds_conn.specs.Connection.{Connection, stream_of}
 use Rattle.rds_line_streams.specs.Changes.{ChangesAt, Receives, Sends}
 use Rattle.rds_line_streams.specs.ChangeLaws.{same_length}
 use Rattle.rds_line_streams.specs.Streams.{StreamsView, newest_place}
-use Rattle.rds_line_channel.specs.Channel.{ChannelView, with_conn}
+use Rattle.rds_line_channel.specs.Channel.{ChannelView}
 use Rattle.rds_line.specs.declared.outcome.Done.{Done}
 use Rattle.rds_line.specs.declared.outcome.Heard.{Heard}
 use Rattle.rds_line.specs.declared.outcome.Heard.TheVariants as heard
 use Rattle.rds_line.specs.declared.outcome.Sent.{Sent}
 use Rattle.rds_line.specs.declared.outcome.Sent.TheVariants as sent
-use Rattle.rds_line.specs.Doing.{Did, IsRelieved}
+use Rattle.rds_line.specs.Doing.{IsRelieved}
 use Rattle.rds_line.specs.Line.{LineView, IsOpenOrLast, line_past}
 use Rattle.rds_line.specs.Stays.{StreamsStay}
 use Rattle.rds_line.specs.Turns.{FindsNoRoom, GetsBytes, HearsNothing, IsIdleTurn, LeavesNothing, FindsNothingOwed, SendsBytes, TakesOrder, is_bytes_heard, is_bytes_sent}

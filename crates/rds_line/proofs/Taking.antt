@@ -3,17 +3,15 @@ use Rattle.std.proofs.Common.{◌≡◌, ◌≢◌, ◌⊎◌, ◌↔◌, inl, i
 use Rattle.std.proofs.lemmas.Bool.{false≢true}
 use Rattle.rds_link.specs.Ends.{Means}
 use Rattle.rds_wire.specs.declared.memory.Memory.{Memory}
-use Rattle.rds_model.specs.declared.entry.Entry.{Entry}
 use Rattle.rds_model.specs.declared.entry.Entry.TheVariants as entry
 use Rattle.rds_model.specs.declared.entry.Target.TheVariants as target
 use Rattle.rds_model.specs.declared.entry.TheConstants.{MAX_SLOTS, NO_SLOT}
 use Rattle.rds_model.specs.declared.order.Order.{Order}
 use Rattle.rds_model.specs.declared.order.Order.TheVariants as order
-use Rattle.rds_model.specs.Honest.{Begins}
 use Rattle.rds_model.specs.Owed.{last_map}
 use Rattle.rds_model.specs.Past.{Moment, now, open_stream}
 use Rattle.rds_model.specs.Sums.{orders}
-use Rattle.rds_model.specs.SumLaws.{one_more, same_list}
+use Rattle.rds_model.specs.SumLaws.{same_list}
 use Rattle.rds_mail.specs.Numbers.{Number, Numbered, bare_items}
 use Rattle.rds_mail.specs.Orders.{IsAsked}
 use Rattle.rds_mail.specs.Passes.{Getter, after_get}
@@ -26,7 +24,7 @@ use Rattle.rds_line_channel.specs.Changes.{ShutsStream}
 use Rattle.rds_line.specs.Keeps.{KeepsLine, IsPulled, uncut, cuts_among}
 use Rattle.rds_line.specs.Line.{LineView, line_past}
 use Rattle.rds_line.specs.Stays.{StreamsStay, ChannelStays, LineStays}
-use Rattle.rds_line.proofs.Keeping.{HasSameSums, sums_same, sums_of, sums_more, IsHeldFor, held_same, keeps_taken, keeps_still, pulled_still, pulled_off, plain_released}
+use Rattle.rds_line.proofs.Keeping.{HasSameSums, sums_same, sums_of, sums_more, held_same, keeps_taken, keeps_still, pulled_still, plain_released}
 use Rattle.rds_line.proofs.Staying.{boxes_same, channel_of, channel_through, room_stays, shutting_stays, streams_same}
 
 -- one order more

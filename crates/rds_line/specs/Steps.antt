@@ -1,5 +1,5 @@
 -- What the steps of a turn do with the frames that came. Source: this project's own.
-use Rattle.std.specs.Prelude.{◌≡◌, ℕ, ◌+◌, ◌*◌, if◌then◌else◌, Option, Some, is_some, List, length}
+use Rattle.std.specs.Prelude.{◌≡◌, ℕ, ◌+◌, ◌*◌, if◌then◌else◌, Some, is_some, length}
 use Rattle.rds_wire.specs.declared.frame.Frame.{Frame}
 use Rattle.rds_model.specs.declared.entry.Verdict.{Verdict}
 use Rattle.rds_model.specs.Reading.{verdict_of}

@@ -1,5 +1,4 @@
-use Rattle.std.proofs.Common.{◌≡◌, ◌≤◌, All, List, [], length, true, false, refl, sym, ap, subst, ◌∙◌}
-use Rattle.rds_cong.specs.Map.{no_ports}
+use Rattle.std.proofs.Common.{◌≡◌, ◌≤◌, All, List, [], length, refl, sym, ap, subst, ◌∙◌}
 use Rattle.rds_model.specs.declared.entry.TheConstants.{MAX_SLOTS}
 use Rattle.rds_model.specs.declared.order.Datagram.{Datagram}
 use Rattle.rds_model.specs.declared.order.Order.{Order}

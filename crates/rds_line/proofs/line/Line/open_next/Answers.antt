@@ -1,4 +1,4 @@
-use Rattle.std.proofs.Common.{◌≡◌, List, length, ap, sym, refl, arith}
+use Rattle.std.proofs.Common.{List, length, ap, refl, arith}
 use Rattle.rds_model.specs.declared.entry.Entry.{Entry}
 use Rattle.rds_conn.specs.Connection.{with_room}
 use Rattle.rds_line_channel.specs.Channel.{ChannelView, with_conn}

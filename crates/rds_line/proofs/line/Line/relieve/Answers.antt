@@ -1,4 +1,4 @@
-use Rattle.std.proofs.Common.{◌≡◌, refl, ap, arith}
+use Rattle.std.proofs.Common.{refl, ap, arith}
 use Rattle.rds_line.specs.Line.{LineView}
 use Rattle.rds_line.proofs.Keeping.{pulled_still}
 use Rattle.rds_line.proofs.Relieving.{room_to_relieve, keeps_relieved, stays_relieved}
