@@ -1,5 +1,7 @@
 //! Two hosts over one stream in memory, and what one of them sends.
-ghost use Rattle.std.specs.Prelude.{◌≡◌, ◌≤◌, IfOk, IfSome, length};
+ghost use Rattle.std.specs.Prelude.{◌≤◌, length};
+ghost use Rattle.rds_link.specs.Memory.{memory_means};
+ghost use Rattle.rds_line_streams.specs.Streams.{IsUnused};
 ghost use Rattle.rds_wire.specs.declared.kind.TheConstants.{MAX_LENGTH};
 
 use rds_line_hosts::{LineHost, PORT};
@@ -23,7 +25,9 @@ pub fn two<R: Threads + Wait + Net>(rt: &R, alloc: Global) -> Option<Both> {
     Some((first, second))
 }
 
-fn host(alloc: Global, me: u32, peer: u32, end: MemEnd) -> Result<LineHost<MemEnd>, Memory> {
+fn host(alloc: Global, me: u32, peer: u32, end: MemEnd) -> Result<LineHost<MemEnd>, Memory>
+    requires { IsUnused memory_means end }
+{
     let mut streams = Vec::with_capacity(alloc, 1)?;
     streams.push((1, end))?;
     LineHost::new(alloc, me, peer, streams, MAX_ENTRIES)

@@ -1,5 +1,5 @@
 //! A host of one slot, whose socket is whoever holds the host.
-ghost use Rattle.std.specs.Prelude.{◌≡◌, ◌≤◌, All, IfOk};
+ghost use Rattle.std.specs.Prelude.{◌≡◌, ◌≤◌, [], All, IfOk, length};
 ghost use Rattle.std.specs.Arc.{arc_value};
 ghost use Rattle.rds_line_streams.specs.Streams.{AreNumbered, IsUnused};
 ghost use Rattle.rds_mail.specs.Orders.{IsAsked};
@@ -114,7 +114,10 @@ impl<E: End> LineHost<E> {
 }
 
 // A queue of orders, the right to put there, and its getter.
-fn orders(alloc: Global) -> Result<(Arc<Mail<Asked>>, PutPass<Asked>, LineOrders), Memory> {
+fn orders(alloc: Global) -> Result<(Arc<Mail<Asked>>, PutPass<Asked>, LineOrders), Memory>
+    ensures tied { IfOk result (λ r. r.1.mail ≡ (arc_value r.0).line) }
+    ensures got { IfOk result (λ r. r.2.got ≡ []) }
+{
     let (mail, put, get) = Mail::new(alloc)?;
     let mail = Arc::new(alloc, mail)?;
     let orders = LineOrders::new(Arc::try_clone(&mail)?, get);
@@ -122,7 +125,11 @@ fn orders(alloc: Global) -> Result<(Arc<Mail<Asked>>, PutPass<Asked>, LineOrders
 }
 
 // A mailbox, the right to get from it, and the mailboxes of a line of which it is the only one.
-fn boxes(alloc: Global) -> Result<(Arc<Mail<Datagram>>, GetPass<Datagram>, Boxes), Memory> {
+fn boxes(alloc: Global) -> Result<(Arc<Mail<Datagram>>, GetPass<Datagram>, Boxes), Memory>
+    ensures tied { IfOk result (λ r. r.1.mail ≡ (arc_value r.0).line) }
+    ensures one { IfOk result (λ r. length r.2 ≡ 1) }
+    ensures put { IfOk result (λ r. All (λ box. box.put ≡ []) r.2) }
+{
     let (mail, put, get) = Mail::new(alloc)?;
     let mail = Arc::new(alloc, mail)?;
     let mut boxes = Vec::with_capacity(alloc, 1)?;
@@ -131,7 +138,9 @@ fn boxes(alloc: Global) -> Result<(Arc<Mail<Datagram>>, GetPass<Datagram>, Boxes
 }
 
 // A port table of one slot, which holds the port.
-fn ports(alloc: Global) -> Result<LinePorts, Memory> {
+fn ports(alloc: Global) -> Result<LinePorts, Memory>
+    ensures { IfOk result (λ p. p.table.slots ≡ 1) }
+{
     let (table, mut holder) = BindTable::new(alloc, 1)?;
     let looker = table.split(&mut holder);
     if table.draw(&mut holder).is_ok() {
@@ -141,7 +150,10 @@ fn ports(alloc: Global) -> Result<LinePorts, Memory> {
 }
 
 // A meter of one slot.
-fn words(alloc: Global) -> Result<LineWords, Memory> {
+fn words(alloc: Global) -> Result<LineWords, Memory>
+    ensures steps { IfOk result (λ w. w.view.steps ≡ []) }
+    ensures checks { IfOk result (λ w. w.view.checks ≡ []) }
+{
     let (meter, mut seat) = Meter::new(alloc, 1)?;
     let mut socket = meter.split(&mut seat);
     meter.own(&mut socket, 0);

@@ -1,4 +1,7 @@
 //! Two lines that talk.
+ghost use Rattle.std.specs.Prelude.{◌≤◌, All, IfOk, IfSome, length};
+ghost use Rattle.rds_line_streams.specs.Streams.{AreNumbered, IsUnused};
+
 use rds_line::Turn;
 use rds_line_hosts::{LineHost, PORT};
 use rds_link::{End, MemWire, Wire};
@@ -17,11 +20,37 @@ const LIMIT: u32 = 100_000;
 pub type Both<E> = (LineHost<E>, LineHost<E>);
 
 // The streams of a line, with the numbers 1 and 3.
-fn two<E: End>(alloc: Global, first: E, second: E) -> Result<Vec<(u32, E)>, Memory> {
+fn two<E: End>(alloc: Global, first: E, second: E) -> Result<Vec<(u32, E)>, Memory>
+    requires first { IsUnused E.means first }
+    requires second { IsUnused E.means second }
+    ensures numbered { IfOk result (λ streams. AreNumbered streams.items) }
+    ensures unused { IfOk result (λ streams. All (λ stream. IsUnused E.means stream.1) streams.items) }
+{
     let mut streams = Vec::with_capacity(alloc, 2)?;
     streams.push((1, first))?;
     streams.push((3, second))?;
     Ok(streams)
+}
+
+// A host with these ends of both streams.
+fn host<E: End>(alloc: Global, me: u32, peer: u32, first: E, second: E) -> Option<LineHost<E>>
+    requires first { IsUnused E.means first }
+    requires second { IsUnused E.means second }
+{
+    let streams = two(alloc, first, second).ok()?;
+    LineHost::new(alloc, me, peer, streams, LIMIT).ok()
+}
+
+// The two ends of a stream.
+fn opened<W: Wire, R: Threads + Wait + Net>(
+    rt: &R,
+    wire: &mut W,
+    number: u32,
+) -> Option<(W::End, W::End)>
+    ensures first { IfSome result (λ ends. IsUnused W.End.means ends.0) }
+    ensures second { IfSome result (λ ends. IsUnused W.End.means ends.1) }
+{
+    wire.open(rt, 1, 2, number).ok()
 }
 
 /// Two hosts over two streams.
@@ -30,15 +59,15 @@ pub fn hosts<W: Wire, R: Threads + Wait + Net>(
     alloc: Global,
     wire: &mut W,
 ) -> Option<Both<W::End>> {
-    let (a, b) = wire.open(rt, 1, 2, 1).ok()?;
-    let (c, d) = wire.open(rt, 1, 2, 3).ok()?;
-    let first = LineHost::new(alloc, 1, 2, two(alloc, a, c).ok()?, LIMIT).ok()?;
-    let second = LineHost::new(alloc, 2, 1, two(alloc, b, d).ok()?, LIMIT).ok()?;
-    Some((first, second))
+    let (a, b) = opened(rt, wire, 1)?;
+    let (c, d) = opened(rt, wire, 3)?;
+    Some((host(alloc, 1, 2, a, c)?, host(alloc, 2, 1, b, d)?))
 }
 
 /// A datagram from the host's slot to the peer's port.
-pub fn send<E: End>(rt: &impl Wait, alloc: Global, host: &mut LineHost<E>, bytes: &[u8]) -> bool {
+pub fn send<E: End>(rt: &impl Wait, alloc: Global, host: &mut LineHost<E>, bytes: &[u8]) -> bool
+    requires { length bytes.now ≤ 1048576 }
+{
     let Ok(payload) = Payload::copy_of(alloc, bytes) else {
         return false;
     };
