@@ -1,5 +1,5 @@
 //! Two hosts over one stream in memory, and what one of them sends.
-ghost use Rattle.std.specs.Prelude.{◌≤◌, length};
+ghost use Rattle.std.specs.Prelude.{◌≤◌, IfSome, length};
 ghost use Rattle.rds_link.specs.Memory.{memory_means};
 ghost use Rattle.rds_line_streams.specs.Streams.{IsUnused};
 ghost use Rattle.rds_wire.specs.declared.kind.TheConstants.{MAX_LENGTH};
@@ -18,11 +18,19 @@ pub type Both = (LineHost<MemEnd>, LineHost<MemEnd>);
 
 /// Two hosts over one stream.
 pub fn two<R: Threads + Wait + Net>(rt: &R, alloc: Global) -> Option<Both> {
-    let mut wire = MemWire::new(alloc, Vec::new(alloc), Vec::new(alloc));
-    let (a, b) = wire.open(rt, 1, 2, 1).ok()?;
+    let (a, b) = ends(rt, alloc)?;
     let first = host(alloc, 1, 2, a).ok()?;
     let second = host(alloc, 2, 1, b).ok()?;
     Some((first, second))
+}
+
+// The two ends of a stream in memory.
+fn ends<R: Threads + Wait + Net>(rt: &R, alloc: Global) -> Option<(MemEnd, MemEnd)>
+    ensures first { IfSome result (λ ends. IsUnused memory_means ends.0) }
+    ensures second { IfSome result (λ ends. IsUnused memory_means ends.1) }
+{
+    let mut wire = MemWire::new(alloc, Vec::new(alloc), Vec::new(alloc));
+    wire.open(rt, 1, 2, 1).ok()
 }
 
 fn host(alloc: Global, me: u32, peer: u32, end: MemEnd) -> Result<LineHost<MemEnd>, Memory>
