@@ -1,4 +1,4 @@
-ghost use Rattle.std.specs.Prelude.{◌≡◌, ◌≤◌, length, IsSome, IfSome};
+ghost use Rattle.std.specs.Prelude.{◌≡◌, ◌≤◌, true, length, IsSome, IfSome, IfOk, OnOk};
 ghost use Rattle.rds_wire.specs.declared.kind.TheConstants.{MAX_LENGTH};
 ghost use Rattle.rds_model.specs.Reading.{verdict_of};
 ghost use Rattle.rds_conn.specs.Connection.{IsReady};
@@ -22,11 +22,14 @@ pub struct BenchEnd {
     conn: Conn,
     map: PortMap,
     out: Out,
+    // Whether the map was pulled on the open stream.
+    mapped: bool,
     /// How many datagrams were delivered to its socket.
     pub delivered: u64,
     /// How many bytes of its socket's datagrams were acknowledged.
     pub freed: u64,
     ghost sockets: { conn.slots ≡ 1 },
+    ghost behind: { mapped ≡ true → IsBehind conn },
 }
 
 // By hand, so that one call drops it wherever it is let go, and no function that owns one drops each field.
@@ -36,6 +39,7 @@ impl Drop for BenchEnd {
             conn: _conn,
             map: _map,
             out: _out,
+            mapped: _,
             delivered: _,
             freed: _,
         } = self;
@@ -52,6 +56,7 @@ impl BenchEnd {
             conn,
             map,
             out,
+            mapped: false,
             delivered: 0,
             freed: 0,
         })
@@ -61,6 +66,7 @@ impl BenchEnd {
     pub fn open(&mut self) -> Result<(), Failure> {
         self.conn.reserve()?;
         if self.conn.journal().is_empty() {
+            self.mapped = false;
             self.conn.open(1);
         }
         Ok(())
@@ -83,10 +89,11 @@ impl BenchEnd {
 
     /// Pulls every frame that is owed. Answers whether bytes are in flight.
     pub fn pull_all(&mut self) -> Result<bool, Failure> {
-        self.conn.reserve()?;
-        match self.conn.pull(&self.map, &mut self.out)? {
-            Pulled::Nothing | Pulled::Down => {}
-            Pulled::Data | Pulled::Ack | Pulled::Map => pull_behind(&mut self.conn, &mut self.out)?,
+        if !self.mapped {
+            self.mapped = pull_map(&mut self.conn, &self.map, &mut self.out)?;
+        }
+        if self.mapped {
+            pull_behind(&mut self.conn, &mut self.out)?;
         }
         Ok(!self.out.rest().is_empty())
     }
@@ -99,7 +106,9 @@ impl BenchEnd {
     ) -> Result<(), Failure> {
         for _ in 0..=peer.out.rest().len() {
             self.conn.reserve()?;
-            if !feed(&mut self.conn, &mut peer.out)? {
+            let fed = feed(&mut self.conn, &mut peer.out);
+            self.mapped = self.mapped && fed.is_ok();
+            if !fed? {
                 break;
             }
             self.pass(steps)?;
@@ -135,10 +144,20 @@ impl BenchEnd {
     }
 }
 
+// Pulls the frame that is owed, the map first. Answers whether a stream is open.
+fn pull_map(conn: &mut Conn, map: &PortMap, out: &mut Out) -> Result<bool, Failure>
+    ensures slots { conn.new.slots ≡ conn.old.slots }
+    ensures behind { IfOk result (λ on. on ≡ true → IsBehind conn.new) }
+{
+    conn.reserve()?;
+    Ok(conn.pull(map, out)? != Pulled::Down)
+}
+
 // Pulls every frame that is owed behind the map, which was pulled.
 fn pull_behind(conn: &mut Conn, out: &mut Out) -> Result<(), Failure>
     requires { IsBehind conn.old }
-    ensures { conn.new.slots ≡ conn.old.slots }
+    ensures slots { conn.new.slots ≡ conn.old.slots }
+    ensures behind { IsBehind conn.new }
 {
     for _ in 0..u64::MAX {
         conn.reserve()?;
@@ -154,6 +173,7 @@ fn pull_behind(conn: &mut Conn, out: &mut Out) -> Result<(), Failure>
 fn feed(conn: &mut Conn, flying: &mut Out) -> Result<bool, Failure>
     requires { IsReady conn.old }
     ensures slots { conn.new.slots ≡ conn.old.slots }
+    ensures behind { OnOk result (IsBehind conn.old → IsBehind conn.new) }
 {
     let fed = conn.feed(flying.rest())?;
     flying.took(fed.used);
@@ -166,6 +186,7 @@ fn pass<L: Ledger>(conn: &mut Conn, found: Found, steps: &mut Steps<L>)
     requires waiting { IsSome conn.old.waiting }
     requires found { IfSome conn.old.waiting (λ f. Matches conn.old.slots (verdict_of conn.old.log.past f.header) found) }
     ensures slots { conn.new.slots ≡ conn.old.slots }
+    ensures behind { IsBehind conn.old → IsBehind conn.new }
 {
     conn.pass(found, steps);
 }

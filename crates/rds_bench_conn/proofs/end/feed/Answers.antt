@@ -1,4 +1,4 @@
-use Rattle.std.proofs.Common.{Err, ap}
+use Rattle.std.proofs.Common.{Err, ap, rules}
 use Rattle.rds_bench_conn.proofs.Slots.{slots_unfed}
 use Rattle.rds_bench_conn.proofs.end.feed.Goals as goal
 
@@ -10,4 +10,5 @@ returns-in_err-fed c = record {
       c.in_err-fed.ensures.closed_still
       (λ is. c.in_err-fed.ensures.memory (ap Err is))
       (λ entries is. c.in_err-fed.ensures.spent entries (ap Err is));
+  behind = search rules;
 }

@@ -1,7 +1,11 @@
 use Rattle.rds_bench_conn.proofs.Slots.{slots_read}
+use Rattle.rds_bench_conn.proofs.Mapped.{behind_read}
 use Rattle.rds_bench_conn.proofs.end.pass.Goals as goal
 
 pub returns : goal.returns
 returns g c =
     let p = c.pass.ensures.passes in
-    record { slots = slots_read c.args.conn.now c.pass.new.self p.stream p.frame _ p.entry }
+    record {
+      slots = slots_read c.args.conn.now c.pass.new.self p.stream p.frame _ p.entry;
+      behind = behind_read c.args.conn.now c.pass.new.self p.stream p.frame _ p.entry;
+    }
