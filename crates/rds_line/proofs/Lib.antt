@@ -4,6 +4,7 @@ mod Fields
 mod Judging
 mod Keeping
 mod Longer
+mod Looking
 mod Passing
 mod Pulled
 mod Relieving

@@ -1,5 +1,5 @@
 -- What a line keeps when it reads its host's own map and pulls the frame that is owed.
-use Rattle.std.proofs.Common.{◌≡◌, ◌≢◌, ℕ, ◌+◌, Bool, true, false, Option, Some, None, IfSome, IsSome, IfOk, OnOk, Result, Ok, List, [], ◌∷◌, refl, sym, ap, subst, ◌∙◌}
+use Rattle.std.proofs.Common.{◌≡◌, ◌≢◌, inl, inr, ℕ, suc, ◌+◌, Bool, true, false, Option, Some, None, IfSome, IsSome, IfOk, OnOk, Result, Ok, List, [], ◌∷◌, refl, sym, ap, subst, ◌∙◌}
 use Rattle.std.proofs.lemmas.Option.{same_Some}
 use Rattle.std.proofs.lemmas.Result.{IfOk-at_ok}
 use Rattle.rds_wire.specs.declared.frame.Frame.{Frame}
@@ -8,6 +8,7 @@ use Rattle.rds_wire.specs.declared.kind.Kind.{Kind}
 use Rattle.rds_wire.specs.declared.kind.Kind.TheVariants as kind
 use Rattle.rds_wire.specs.Kinds.{kind_of}
 use Rattle.rds_link.specs.Ends.{Means}
+use Rattle.rds_model.specs.declared.entry.Entry.{Entry}
 use Rattle.rds_model.specs.declared.entry.Entry.TheVariants.{Pull}
 use Rattle.rds_model.specs.Owed.{last_map, owed_frame}
 use Rattle.rds_model.specs.Past.{Moment, now, before}
@@ -24,10 +25,11 @@ use Rattle.rds_line_parts.specs.OwnLaws.{refreshed}
 use Rattle.rds_line_parts.specs.Words.{AddsNothing}
 use Rattle.rds_line_channel.specs.Channel.{ChannelView}
 use Rattle.rds_line.specs.Keeps.{IsPulled, KeepsLine}
-use Rattle.rds_line.specs.Line.{LineView, line_past}
+use Rattle.rds_line.specs.Line.{LineView, line_past, pulls_in}
 use Rattle.rds_line.specs.Stays.{LineStays}
-use Rattle.rds_line.specs.Turns.{LeavesNothing, FindsNothingOwed}
-use Rattle.rds_line.proofs.Staying.{boxes_same, streams_same}
+use Rattle.rds_line.specs.Turns.{LeavesNothing, LoadsOwn, FindsNothingOwed}
+use Rattle.rds_line.proofs.Looking.{PullsOrNone}
+use Rattle.rds_line.proofs.Staying.{begins_of, boxes_same, moment_of, streams_same}
 
 -- what a pull leaves of the connection
 pub record LeavesConn (old new : Connection) : Type 0 where
@@ -147,6 +149,7 @@ module _ {E M : Type 0} where
     ports = refl;
     words = ap (λ (h : MeterSeat). h.table) r.steps;
     slot = ap (λ (h : MeterSeat). h.slot) r.steps;
+    steps = (_, ap (λ (h : MeterSeat). h.view.steps) r.steps);
     map = refl;
   }
 
@@ -267,8 +270,27 @@ module _ {E M : Type 0} (noted : Bool) (v w : LineView E M) (reads : ReadsOwn no
   pub same_channel : w.channel ≡ v.channel
   same_channel = ap (λ (l : LineView E M). l.channel) reads.is
 
+  -- the own map was looked at
+  looked : (u : LineView E M) → u.own ≡ w.own → u.words ≡ w.words → LoadsOwn v u
+  looked u own words = record {
+    seat_before = v.words;
+    seat_after = w.words;
+    read = reads.read;
+    refresh = subst (λ (o : Own). IsRefresh v.own o v.words w.words reads.read) (sym own) reads.refresh;
+    grown = same_list v.words.view.steps;
+    goes_on = begins_of w.words.view.steps u.words.view.steps (ap (λ (h : MeterSeat). h.view.steps) words);
+  }
+
   -- where memory ran out
   module _ (u : LineView E M) (same_line : u ≡ w) where
+    pub failed_looked : LoadsOwn v u
+    failed_looked = looked u (ap (λ (l : LineView E M). l.own) same_line) (ap (λ (l : LineView E M). l.words) same_line)
+
+    pub failed_pulls : PullsOrNone v u
+    failed_pulls =
+        inl (ap (λ (l : LineView E M). pulls_in (line_past l)) same_line
+        ∙ ap (λ (c : ChannelView E). pulls_in c.conn.log.past) same_channel)
+
     pub keeps_failed : (published : M → List (List ℕ)) → KeepsLine published v → KeepsLine published u × IsPulled noted u
     keeps_failed published k = (
       subst (KeepsLine published) (sym same_line) (keeps_reading published k),
@@ -311,6 +333,31 @@ module _ {E M : Type 0} (noted : Bool) (v w : LineView E M) (reads : ReadsOwn no
         subst (LineStays m pair v)
         (sym (is_pulled ∙ ap (λ (l : LineView E M). with_pull l u.channel.conn u.channel.out) reads.is))
         (pull_stays m pair v w.own w.words reads.read u.channel.conn u.channel.out reads.refresh leaves)
+
+    pub pulled_looked : LoadsOwn v u
+    pulled_looked = looked u same_own (ap (λ (l : LineView E M). l.words) is)
+
+    pub pulled_owed : PullsOrNone v u
+    pulled_owed = go (owed_frame p.stream (line_past w) w.own.map) refl p.pulls
+      where
+        past : line_past w ≡ line_past v
+        past = ap (λ (c : ChannelView E). c.conn.log.past) same_channel
+
+        go : (o : Option Frame) → owed_frame p.stream (line_past w) w.own.map ≡ o →
+            Pulls p.stream o w.channel.conn u.channel.conn w.channel.out u.channel.out came → PullsOrNone v u
+        go None owes did = inl (ap (λ (c : Connection). pulls_in c.log.past) did.same ∙ ap pulls_in past)
+        go (Some f) owes did =
+            inr (record {
+              loads = pulled_looked;
+              one = ap (λ (c : Connection). pulls_in c.log.past) did.entry ∙ ap (λ (l : List Entry). suc (pulls_in l)) past;
+              stream = p.stream;
+              frame = f;
+              past = line_past w;
+              newer = [];
+              is = ap (λ (c : Connection). c.log.past) did.entry;
+              later = moment_of (line_past v) (line_past w) past;
+              owed = ap (λ (o : Own). owed_frame p.stream (line_past w) o.map) same_own ∙ owes;
+            })
 
     pub pulled_leaves : LeavesNothing v.channel u.channel
     pulled_leaves none left = (

@@ -54,5 +54,6 @@ module _ {E M : Type 0} (v : LineView E M) (channel : ChannelView E) (words : Me
     ports = refl;
     words = ap (λ (h : MeterSeat). h.table) relief.seat;
     slot = ap (λ (h : MeterSeat). h.slot) relief.seat;
+    steps = (relief.steps, ap (λ (h : MeterSeat). h.view.steps) relief.seat);
     map = refl;
   }

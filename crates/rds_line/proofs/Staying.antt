@@ -250,6 +250,7 @@ module _ {E : Type 0} (m : Means E) where
       ports = refl;
       words = refl;
       slot = refl;
+      steps = same_list old.words.view.steps;
       map = refl;
     }
 
@@ -278,5 +279,6 @@ module _ {E : Type 0} (m : Means E) where
       ports = second.ports ∙ first.ports;
       words = second.words ∙ first.words;
       slot = second.slot ∙ first.slot;
+      steps = begins_through old.words.view.steps middle.words.view.steps new.words.view.steps first.steps second.steps;
       map = second.map ∙ first.map;
     }

@@ -11,6 +11,7 @@ use Rattle.rds_meter.specs.Seats.{MeterSeat}
 use Rattle.rds_model.specs.declared.entry.Entry.{Entry}
 use Rattle.rds_model.specs.declared.order.Datagram.{Datagram}
 use Rattle.rds_model.specs.declared.order.Order.{Order}
+use Rattle.rds_model.specs.Honest.{Begins}
 use Rattle.rds_model.specs.Past.{Moment, now, before}
 use Rattle.rds_model.specs.Reading.{verdict_of}
 use Rattle.rds_mail.specs.Passes.{Getter, Putter, after_put}
@@ -28,7 +29,7 @@ use Rattle.rds_line_channel.specs.declared.channel.Taken.TheVariants as taken
 use Rattle.rds_line.specs.Line.{LineView}
 use Rattle.rds_line.specs.Stays.{AreSameBoxes, ChannelStays, LineStays}
 use Rattle.rds_line.proofs.Passing.{moment_after, passes_reads}
-use Rattle.rds_line.proofs.Staying.{begins_of, boxes_same, channel_of, channel_same, conn_stays, ending_stays}
+use Rattle.rds_line.proofs.Staying.{begins_of, begins_through, boxes_same, channel_of, channel_same, conn_stays, ending_stays}
 
 -- what holds on success and what holds on failure, where the test says which it was
 pub at_ok : {A F : Type 0} {P : Type 0} (r : Result A F) → false ≡ is_err r → OnOk r P → P
@@ -80,6 +81,7 @@ pub record SameSeats (old new : MeterSeat) (ports after : PortSeat) : Type 0 whe
   pub meter : new.table ≡ old.table
   pub meter_slot : new.slot ≡ old.slot
   pub port_table : after.table ≡ ports.table
+  pub meter_steps : Begins old.view.steps new.view.steps
 
 pub same_seats : {slot port n : ℕ} {old new : MeterSeat} {ports after : PortSeat} →
     IsDelivery slot port n old new ports after → SameSeats old new ports after
@@ -92,6 +94,9 @@ same_seats {slot} {port} {n} {old} {new} {ports} {after} d = go d.mark.set refl
           meter = ap (λ (h : MeterSeat). h.table) second.seat ∙ ap (λ (h : MeterSeat). h.table) d.counts.seat;
           meter_slot = ap (λ (h : MeterSeat). h.slot) second.seat ∙ ap (λ (h : MeterSeat). h.slot) d.counts.seat;
           port_table = ap (λ (h : PortSeat). h.table) second.ports;
+          meter_steps =
+              begins_through old.view.steps d.counted.view.steps new.view.steps
+              (_, ap (λ (h : MeterSeat). h.view.steps) d.counts.seat) (_, ap (λ (h : MeterSeat). h.view.steps) second.seat);
         }
     go false unset =
         let same = d.other unset in
@@ -99,6 +104,8 @@ same_seats {slot} {port} {n} {old} {new} {ports} {after} d = go d.mark.set refl
           meter = ap (λ (h : MeterSeat). h.table) same.0 ∙ ap (λ (h : MeterSeat). h.table) d.counts.seat;
           meter_slot = ap (λ (h : MeterSeat). h.slot) same.0 ∙ ap (λ (h : MeterSeat). h.slot) d.counts.seat;
           port_table = ap (λ (h : PortSeat). h.table) same.1;
+          meter_steps =
+              (_, ap (λ (h : MeterSeat). h.view.steps) same.0 ∙ ap (λ (h : MeterSeat). h.view.steps) d.counts.seat);
         }
 
 module _ {E : Type 0} {m : Means E} where
@@ -155,9 +162,10 @@ module _ {E : Type 0} {m : Means E} where
     -- the line took no order, and each of its parts stays the same one
     pub line_stays : {old inside new : LineView E M} → inside ≡ old → ChannelStays m inside.channel new.channel →
         new.orders ≡ inside.orders → AreSameBoxes inside.boxes new.boxes → new.ports.table ≡ inside.ports.table →
-        new.words.table ≡ inside.words.table → new.words.slot ≡ inside.words.slot → pair new.map ≡ pair inside.map →
+        new.words.table ≡ inside.words.table → new.words.slot ≡ inside.words.slot →
+        Begins inside.words.view.steps new.words.view.steps → pair new.map ≡ pair inside.map →
         LineStays m pair old new
-    line_stays {old} {inside} {new} is channel orders boxes ports words slot map =
+    line_stays {old} {inside} {new} is channel orders boxes ports words slot steps map =
         subst (λ (v : LineView E M). LineStays m pair v new) is (record {
           channel = channel;
           mail = ap (λ (g : Getter Order). g.mail) orders;
@@ -168,5 +176,6 @@ module _ {E : Type 0} {m : Means E} where
           ports = ports;
           words = words;
           slot = slot;
+          steps = steps;
           map = map;
         })

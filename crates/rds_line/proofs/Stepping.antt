@@ -25,7 +25,7 @@ use Rattle.rds_line.specs.declared.outcome.Sent.TheVariants as sent
 use Rattle.rds_line.specs.Doing.{IsRelieved}
 use Rattle.rds_line.specs.Line.{LineView, IsOpenOrLast, line_past}
 use Rattle.rds_line.specs.Stays.{StreamsStay}
-use Rattle.rds_line.specs.Turns.{FindsNoRoom, GetsBytes, HearsNothing, IsIdleTurn, LeavesNothing, FindsNothingOwed, SendsBytes, TakesOrder, is_bytes_heard, is_bytes_sent}
+use Rattle.rds_line.specs.Turns.{FindsNoRoom, GetsBytes, HearsNothing, IsIdleTurn, LeavesNothing, LoadsOwn, FindsNothingOwed, SendsBytes, TakesOrder, is_bytes_heard, is_bytes_sent}
 
 -- a journal is at least as long as it was
 pub moment_longer : {p q : List Entry} → Moment p q → length p ≤ length q
@@ -143,6 +143,7 @@ pub record StepsDid {E M : Type 0} (m : Means E) (a b c d e f : LineView E M) (d
   pub send_full : done.sent ≡ sent.Full → FindsNoRoom m d.channel e.channel
   pub send_ended : done.sent ≡ sent.Ended → length (line_past d) < length (line_past e)
   pub relieved : IsRelieved e f
+  pub send_looked : done.sent ≡ sent.Nothing → LoadsOwn a f
 
 module _ {E M : Type 0} {m : Means E} {a b c d e f : LineView E M} {done : Done} (s : StepsDid m a b c d e f done) where
   orders_after : f.orders ≡ c.orders
@@ -183,7 +184,7 @@ module _ {E M : Type 0} {m : Means E} {a b c d e f : LineView E M} {done : Done}
             let less = subst (λ (s : StreamsView E). s.opened < length s.list) to_b more in omega (arith, less, last)
 
     -- nothing came
-    idle_quiet : HearsNothing m c.channel d.channel → d.channel.streams.is_open ≡ true → f.channel.streams.is_open ≡ true → FindsNothingOwed d f ⊎ FindsNoRoom m d.channel f.channel → IsIdleTurn m a f
+    idle_quiet : HearsNothing m c.channel d.channel → d.channel.streams.is_open ≡ true → f.channel.streams.is_open ≡ true → (FindsNothingOwed d f × LoadsOwn a f) ⊎ FindsNoRoom m d.channel f.channel → IsIdleTurn m a f
     idle_quiet hears on_d on sends =
         let quiet = relieved_nothing s.relieved (s.send_came hears.none_waits hears.none_left) in record {
           orders = (did_none not_taken).0;
@@ -205,7 +206,7 @@ module _ {E M : Type 0} {m : Means E} {a b c d e f : LineView E M} {done : Done}
     by_sent hears on sent.Bytes is no_bytes = absurd (false≢true (sym no_bytes ∙ ap is_bytes_sent is))
     by_sent hears on sent.Nothing is no_bytes =
         let owes = s.send_nothing is in
-        idle_quiet hears on (ap (λ (s : StreamsView E). s.is_open) (relieved_streams s.relieved ∙ owes.streams) ∙ on) (inl (relieved_owes s.relieved d owes))
+        idle_quiet hears on (ap (λ (s : StreamsView E). s.is_open) (relieved_streams s.relieved ∙ owes.streams) ∙ on) (inl (relieved_owes s.relieved d owes, s.send_looked is))
     by_sent hears on sent.Full is no_bytes =
         let full = s.send_full is in
         idle_quiet hears on (ap (λ (s : StreamsView E). s.is_open) (relieved_streams s.relieved) ∙ full.on) (inr (relieved_full s.relieved m d full))

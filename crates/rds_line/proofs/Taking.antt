@@ -22,7 +22,7 @@ use Rattle.rds_line_channel.specs.Channel.{ChannelView, CutsView, with_conn}
 use Rattle.rds_line_streams.specs.Streams.{StreamsView}
 use Rattle.rds_line_channel.specs.Changes.{ShutsStream}
 use Rattle.rds_line.specs.Keeps.{KeepsLine, IsPulled, uncut, cuts_among}
-use Rattle.rds_line.specs.Line.{LineView, line_past}
+use Rattle.rds_line.specs.Line.{LineView, line_past, pulls_in}
 use Rattle.rds_line.specs.Stays.{StreamsStay, ChannelStays, LineStays}
 use Rattle.rds_line.proofs.Keeping.{HasSameSums, sums_same, sums_of, sums_more, held_same, keeps_taken, keeps_still, pulled_still, plain_released}
 use Rattle.rds_line.proofs.Staying.{boxes_same, channel_of, channel_through, room_stays, shutting_stays, streams_same}
@@ -179,6 +179,11 @@ module _ {E M : Type 0} (v : LineView E M) (channel : ChannelView E) (getter : G
       cuts = (0 ∷ [], did.2);
     }
 
+  -- a cut pulls no frame
+  pub cut_pulls : (m : Means E) → TakesCut m → pulls_in channel.conn.log.past ≡ pulls_in (line_past v)
+  cut_pulls m (inl did) = ap (λ (c : Connection). pulls_in c.log.past) did.1.conn
+  cut_pulls m (inr did) = ap (λ (c : Connection). pulls_in c.log.past) did.0
+
   -- what the cut of a channel did
   pub takes_cut : (m : Means E) → ((n : ℕ) → stream_of v.channel.conn ≡ Some n → ShutsStream m n v.channel channel × (channel.cuts ≡ record { numbers = v.channel.cuts.numbers ++ n ∷ []; has_room = false }))
       → (v.channel.streams.is_open ≡ false → channel ≡ record v.channel { cuts = record { numbers = v.channel.cuts.numbers ++ 0 ∷ []; has_room = false } })
@@ -195,6 +200,18 @@ module _ {E M : Type 0} (v : LineView E M) (channel : ChannelView E) (getter : G
       go (Some n) there = let did = on n there in inl (n, did.0, ap (λ (k : CutsView). k.numbers) did.1)
       go None none = shut v.channel.streams.is_open refl none
 
+-- an order pulls no frame
+order_pulls : (o : Order) (c : Connection) → pulls_in (after_order o c).log.past ≡ pulls_in c.log.past
+order_pulls (order.Send slot sport dport payload) c = refl
+order_pulls (order.Cancel slot dport) c = refl
+order_pulls (order.CloseSocket slot) c = refl
+order_pulls order.Cut c = refl
+
+pub ordered_pulls : {E : Type 0} (o : Order) (old new : ChannelView E) →
+    new ≡ with_conn old (record (after_order o old.conn) { freed = new.conn.freed }) →
+    pulls_in new.conn.log.past ≡ pulls_in old.conn.log.past
+ordered_pulls {E} o old new is = ap (λ (c : ChannelView E). pulls_in c.conn.log.past) is ∙ order_pulls o old.conn
+
 -- a line whose channel is the same, and whose getter got one order more
 pub stays_taken : {E M Name : Type 0} (m : Means E) (pair : M → Name) (v : LineView E M) (channel : ChannelView E) (getter : Getter Order) (number : Number) (o : Order) → getter ≡ after_get v.orders number o
     → ChannelStays m v.channel channel → LineStays m pair v (record v { channel = channel; orders = getter })
@@ -208,6 +225,7 @@ stays_taken m pair v channel getter number o is stays = record {
   ports = refl;
   words = refl;
   slot = refl;
+  steps = same_list v.words.view.steps;
   map = refl;
 }
 
@@ -233,7 +251,7 @@ module _ {E M : Type 0} (v : LineView E M) (roomy new : ChannelView E) (first : 
         cuts = same_list roomy.cuts.numbers;
       }))
 
-  roomy_past : new.conn.log.past ≡ line_past v
+  pub roomy_past : new.conn.log.past ≡ line_past v
   roomy_past = ap (λ (c : ChannelView E). c.conn.log.past) second ∙ ap (λ (c : ChannelView E). c.conn.log.past) first
 
   pub keeps_roomy : (published : M → List (List ℕ)) → KeepsLine published v → KeepsLine published (record v { channel = new })

@@ -1,4 +1,5 @@
--- What the steps of a turn did, and what the turn answers for it. Source: this project's own.
+-- Private: it serves the contracts of the private steps of a turn, and their proofs. What the steps did together, and what the
+-- turn answers for it. Source: this project's own.
 use Rattle.std.specs.Prelude.{◌≡◌, ◌⊎◌, ◌<◌, ◌||◌, ◌&&◌, not, if◌then◌else◌, ℕ, Bool, true, false, length}
 use Rattle.rds_link.specs.Ends.{Means}
 use Rattle.rds_mail.specs.Learning.{AllGot}

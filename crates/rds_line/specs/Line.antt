@@ -1,6 +1,7 @@
 -- What contracts see of a line. Source: this project's own.
-use Rattle.std.specs.Prelude.{◌≡◌, ◌⊎◌, ℕ, ◌+◌, ◌<◌, true, List, length}
+use Rattle.std.specs.Prelude.{◌≡◌, ◌⊎◌, ℕ, suc, ◌+◌, ◌<◌, true, List, [], ◌∷◌, length}
 use Rattle.rds_model.specs.declared.entry.Entry.{Entry}
+use Rattle.rds_model.specs.declared.entry.Entry.TheVariants.{Accept, Bad, Cancel, Open, Pull, Read, Shut}
 use Rattle.rds_model.specs.declared.order.Datagram.{Datagram}
 use Rattle.rds_model.specs.declared.order.Order.{Order}
 use Rattle.rds_mail.specs.Passes.{Getter, Putter}
@@ -19,6 +20,17 @@ pub record LineView (E M : Type 0) : Type 0 where
   pub words : MeterSeat
   pub own : Own
   pub map : M
+
+-- how many frames were pulled
+abbrev pub pulls_in : List Entry → ℕ
+pulls_in [] = 0
+pulls_in (Accept slot sport dport payload ∷ past) = pulls_in past
+pulls_in (Cancel slot target ∷ past) = pulls_in past
+pulls_in (Open stream ∷ past) = pulls_in past
+pulls_in (Pull stream frame ∷ past) = suc (pulls_in past)
+pulls_in (Read stream frame outcome ∷ past) = pulls_in past
+pulls_in (Shut stream ∷ past) = pulls_in past
+pulls_in (Bad stream header cause ∷ past) = pulls_in past
 
 module _ {E M : Type 0} where
   -- its journal, the newest entry first

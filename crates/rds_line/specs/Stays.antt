@@ -50,4 +50,5 @@ module _ {E : Type 0} (m : Means E) where
       pub ports : new.ports.table ≡ old.ports.table
       pub words : new.words.table ≡ old.words.table
       pub slot : new.words.slot ≡ old.words.slot
+      pub steps : Begins old.words.view.steps new.words.view.steps
       pub map : pair new.map ≡ pair old.map

@@ -1,4 +1,5 @@
--- What the steps of a turn do with the frames that came. Source: this project's own.
+-- Private: it serves the contracts of the private steps of a turn, and their proofs. What they do with the frames that came.
+-- Source: this project's own.
 use Rattle.std.specs.Prelude.{◌≡◌, ℕ, ◌+◌, ◌*◌, if◌then◌else◌, Some, is_some, length}
 use Rattle.rds_wire.specs.declared.frame.Frame.{Frame}
 use Rattle.rds_model.specs.declared.entry.Verdict.{Verdict}

@@ -1,18 +1,25 @@
 -- What a turn of a line did, where it answers so. Source: this project's own.
-use Rattle.std.specs.Prelude.{◌≡◌, ◌≢◌, ◌⊎◌, ℕ, ◌<◌, Bool, true, false, Some, None, List, [], ◌++◌, length, slice_get}
+use Rattle.std.specs.Prelude.{◌≡◌, ◌≢◌, ◌⊎◌, ℕ, suc, ◌<◌, Bool, true, false, Some, None, List, [], ◌∷◌, ◌++◌, length, slice_get}
 use Rattle.rds_link.specs.Ends.{Means}
 use Rattle.rds_link.specs.declared.end.Got.TheVariants as got
 use Rattle.rds_link.specs.declared.end.Put.TheVariants as put
+use Rattle.rds_wire.specs.declared.frame.Frame.{Frame}
+use Rattle.rds_model.specs.declared.entry.Entry.{Entry}
+use Rattle.rds_model.specs.declared.entry.Entry.TheVariants.{Pull}
 use Rattle.rds_model.specs.declared.order.Order.{Order}
+use Rattle.rds_model.specs.Honest.{Begins}
 use Rattle.rds_model.specs.Owed.{owed_frame}
+use Rattle.rds_model.specs.Past.{Moment}
 use Rattle.rds_mail.specs.Learning.{AllGot}
 use Rattle.rds_mail.specs.Numbers.{Number}
 use Rattle.rds_mail.specs.Passes.{Getter, after_get}
+use Rattle.rds_meter.specs.Seats.{MeterSeat}
 use Rattle.rds_conn.specs.Connection.{stream_of}
+use Rattle.rds_line_parts.specs.Own.{IsRefresh}
 use Rattle.rds_line_streams.specs.Changes.{ChangesAt, Receives, Sends}
 use Rattle.rds_line_streams.specs.Streams.{newest_place}
 use Rattle.rds_line_channel.specs.Channel.{ChannelView}
-use Rattle.rds_line.specs.Line.{LineView, line_past}
+use Rattle.rds_line.specs.Line.{LineView, line_past, pulls_in}
 use Rattle.rds_line.specs.declared.outcome.Heard.{Heard}
 use Rattle.rds_line.specs.declared.outcome.Heard.TheVariants as heard
 use Rattle.rds_line.specs.declared.outcome.Sent.{Sent}
@@ -72,6 +79,30 @@ module _ {E : Type 0} where
       pub more : m.tells ≡ true → (piece : List ℕ) × (piece ≢ []) × (m.sent after_it.1 ≡ m.sent before_it.1 ++ piece)
 
 module _ {E M : Type 0} where
+  -- The host's own map was looked at: the change number was loaded, and all words of the map where it isn't the number that was
+  -- found before the last reading. What the line did at the meter before and after that are its other steps.
+  pub record LoadsOwn (old new : LineView E M) : Type 0 where
+    pub seat_before : MeterSeat
+    pub seat_after : MeterSeat
+    pub read : Bool
+    pub refresh : IsRefresh old.own new.own seat_before seat_after read
+    pub grown : Begins old.words.view.steps seat_before.view.steps
+    pub goes_on : Begins seat_after.view.steps new.words.view.steps
+
+  -- One frame was pulled. The host's own map was looked at in this turn, and the frame is the one that was owed with the map as
+  -- it stands since.
+  pub record PullsOwn (old new : LineView E M) : Type 0 where
+    pub loads : LoadsOwn old new
+    pub one : pulls_in (line_past new) ≡ suc (pulls_in (line_past old))
+    -- the frame, and the journal before and after it
+    pub stream : ℕ
+    pub frame : Frame
+    pub past : List Entry
+    pub newer : List Entry
+    pub is : line_past new ≡ newer ++ Pull stream frame ∷ past
+    pub later : Moment (line_past old) past
+    pub owed : owed_frame stream past new.own.map ≡ Some frame
+
   -- nothing is to be written, and no frame is owed
   pub record FindsNothingOwed (old new : LineView E M) : Type 0 where
     pub streams : new.channel.streams ≡ old.channel.streams
@@ -87,7 +118,7 @@ module _ {E M : Type 0} where
 
   module _ (m : Means E) where
     -- There was nothing to do: the queue of orders was empty, nothing came, nothing went, and no entry was appended. Either no
-    -- frame is owed, or there is no room for what is to be written.
+    -- frame is owed, for which the host's own map was looked at, or there is no room for what is to be written.
     pub record IsIdleTurn (old new : LineView E M) : Type 0 where
       pub orders : new.orders ≡ old.orders
       pub all_got : AllGot new.orders
@@ -97,7 +128,7 @@ module _ {E M : Type 0} where
       pub hears : HearsNothing m old.channel middle.channel
       pub none_waits : new.channel.conn.waiting ≡ None
       pub none_left : new.channel.piece ≡ []
-      pub sends : FindsNothingOwed middle new ⊎ FindsNoRoom m middle.channel new.channel
+      pub sends : (FindsNothingOwed middle new × LoadsOwn old new) ⊎ FindsNoRoom m middle.channel new.channel
 
     -- an order was taken, the journal has more entries, or an end got or sent bytes
     abbrev pub HasMoved : LineView E M → LineView E M → Type 0

@@ -4,7 +4,7 @@ ghost use Rattle.rds_model.specs.declared.journal.JournalError.TheVariants as er
 ghost use Rattle.rds_conn.specs.Connection.{IsReady};
 ghost use Rattle.rds_line_streams.specs.Streams.{newest_place};
 ghost use Rattle.rds_line_channel.specs.declared.channel.Taken.TheVariants as taken;
-ghost use Rattle.rds_line.specs.Line.{IsFull, line_past};
+ghost use Rattle.rds_line.specs.Line.{IsFull, line_past, pulls_in};
 ghost use Rattle.rds_line.specs.Stays.{LineStays};
 ghost use Rattle.rds_line.specs.Steps.{IsWaiting, PassesOne, left_to_take};
 ghost use Rattle.rds_line.specs.Turns.{GetsBytes, HearsNothing};
@@ -23,6 +23,8 @@ impl<E: End, M: MapWriter> Line<E, M> {
     // Passes what came in earlier turns, reads once, and passes what came.
     pub(super) fn receive<W: Wait>(&mut self, rt: &W) -> Result<Heard, JournalError>
         ensures stays { LineStays E.means M.pair self.old self.new }
+        ensures own { self.new.own ≡ self.old.own }
+        ensures pulls { pulls_in (line_past self.new) ≡ pulls_in (line_past self.old) }
         ensures orders { self.new.orders ≡ self.old.orders }
         ensures closed { result ≡ Ok heard.Closed → (self.old.channel.streams.is_open ≡ false) × (self.new ≡ self.old) }
         ensures nothing { result ≡ Ok heard.Nothing → HearsNothing E.means self.old.channel self.new.channel }
@@ -57,6 +59,8 @@ impl<E: End, M: MapWriter> Line<E, M> {
     fn pass_all<W: Wait>(&mut self, rt: &W) -> Result<bool, JournalError>
         requires open { self.old.channel.streams.is_open ≡ true }
         ensures stays { LineStays E.means M.pair self.old self.new }
+        ensures own { self.new.own ≡ self.old.own }
+        ensures pulls { pulls_in (line_past self.new) ≡ pulls_in (line_past self.old) }
         ensures orders { self.new.orders ≡ self.old.orders }
         ensures streams { result ≡ Ok true → self.new.channel.streams ≡ self.old.channel.streams }
         ensures none_waits { result ≡ Ok true → self.new.channel.conn.waiting ≡ None }
@@ -76,6 +80,8 @@ impl<E: End, M: MapWriter> Line<E, M> {
     fn take(&mut self) -> Result<Taken, JournalError>
         requires open { self.old.channel.streams.is_open ≡ true }
         ensures stays { LineStays E.means M.pair self.old self.new }
+        ensures own { self.new.own ≡ self.old.own }
+        ensures pulls { pulls_in (line_past self.new) ≡ pulls_in (line_past self.old) }
         ensures orders { self.new.orders ≡ self.old.orders }
         ensures ready { result ≡ Ok taken.Frame → IsReady self.new.channel.conn }
         ensures frame { result ≡ Ok taken.Frame → IsSome self.new.channel.conn.waiting }
@@ -97,6 +103,8 @@ impl<E: End, M: MapWriter> Line<E, M> {
         requires ready { IsReady self.old.channel.conn }
         requires waits { IsSome self.old.channel.conn.waiting }
         ensures stays { LineStays E.means M.pair self.old self.new }
+        ensures own { self.new.own ≡ self.old.own }
+        ensures pulls { pulls_in (line_past self.new) ≡ pulls_in (line_past self.old) }
         ensures orders { self.new.orders ≡ self.old.orders }
         ensures passed { OnOk result (PassesOne self.old.channel self.new.channel) }
         ensures err { IfErr result (λ error. error ≡ errors.Memory) }
@@ -119,6 +127,8 @@ impl<E: End, M: MapWriter> Line<E, M> {
         requires ready { IsReady self.old.channel.conn }
         requires waits { IsWaiting (verdict.Deliver port) self.old.channel.conn }
         ensures stays { LineStays E.means M.pair self.old self.new }
+        ensures own { self.new.own ≡ self.old.own }
+        ensures pulls { pulls_in (line_past self.new) ≡ pulls_in (line_past self.old) }
         ensures orders { self.new.orders ≡ self.old.orders }
         ensures passed { OnOk result (PassesOne self.old.channel self.new.channel) }
         ensures err { IfErr result (λ error. error ≡ errors.Memory) }
@@ -146,6 +156,8 @@ impl<E: End, M: MapWriter> Line<E, M> {
         requires ready { IsReady self.old.channel.conn }
         requires waits { IsWaiting verdict.Map self.old.channel.conn }
         ensures stays { LineStays E.means M.pair self.old self.new }
+        ensures own { self.new.own ≡ self.old.own }
+        ensures pulls { pulls_in (line_past self.new) ≡ pulls_in (line_past self.old) }
         ensures orders { self.new.orders ≡ self.old.orders }
         ensures passed { OnOk result (PassesOne self.old.channel self.new.channel) }
         ensures err { IfErr result (λ error. error ≡ errors.Memory) }

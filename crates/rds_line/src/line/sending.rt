@@ -1,10 +1,10 @@
-ghost use Rattle.std.specs.Prelude.{◌≡◌, ◌≢◌, ◌<◌, ℕ, true, false, Ok, Err, IfErr, IfSome, OnOk, OnErr, [], length};
+ghost use Rattle.std.specs.Prelude.{◌≡◌, ◌≢◌, ◌⊎◌, ◌<◌, ℕ, true, false, Ok, Err, IfErr, IfSome, OnOk, OnErr, [], length};
 ghost use Rattle.rds_model.specs.declared.journal.JournalError.TheVariants as errors;
 ghost use Rattle.rds_conn.specs.Connection.{IsReady};
 ghost use Rattle.rds_line_streams.specs.Streams.{newest_place};
-ghost use Rattle.rds_line.specs.Line.{IsFull, line_past};
+ghost use Rattle.rds_line.specs.Line.{IsFull, line_past, pulls_in};
 ghost use Rattle.rds_line.specs.Stays.{LineStays};
-ghost use Rattle.rds_line.specs.Turns.{FindsNoRoom, LeavesNothing, FindsNothingOwed, SendsBytes};
+ghost use Rattle.rds_line.specs.Turns.{FindsNoRoom, LeavesNothing, LoadsOwn, FindsNothingOwed, PullsOwn, SendsBytes};
 ghost use Rattle.rds_line.specs.declared.outcome.Sent.TheVariants as sent;
 
 use super::Line;
@@ -25,6 +25,8 @@ impl<E: End, M: MapWriter> Line<E, M> {
         ensures nothing { result ≡ Ok sent.Nothing → FindsNothingOwed self.old self.new × (line_past self.new ≡ line_past self.old) }
         ensures full { result ≡ Ok sent.Full → FindsNoRoom E.means self.old.channel self.new.channel }
         ensures bytes { result ≡ Ok sent.Bytes → SendsBytes E.means (newest_place self.old.channel.streams) self.old.channel.streams.list self.new.channel.streams.list }
+        ensures looked { result ≡ Ok sent.Nothing → LoadsOwn self.old self.new }
+        ensures pulls { (pulls_in (line_past self.new) ≡ pulls_in (line_past self.old)) ⊎ PullsOwn self.old self.new }
         ensures ended { result ≡ Ok sent.Ended → length (line_past self.old) < length (line_past self.new) }
         ensures spent { (entries : ℕ) → result ≡ Err (errors.Spent entries) → IsFull entries self.new }
     {
@@ -49,6 +51,8 @@ impl<E: End, M: MapWriter> Line<E, M> {
         ensures streams { self.new.channel.streams ≡ self.old.channel.streams }
         ensures some { result ≡ Ok true → self.new.channel.out ≢ [] }
         ensures nothing { result ≡ Ok false → FindsNothingOwed self.old self.new × (line_past self.new ≡ line_past self.old) }
+        ensures looked { LoadsOwn self.old self.new }
+        ensures pulls { (pulls_in (line_past self.new) ≡ pulls_in (line_past self.old)) ⊎ PullsOwn self.old self.new }
         ensures err { IfErr result (λ error. error ≡ errors.Memory) }
     {
         self.channel.known();
@@ -74,6 +78,8 @@ impl<E: End, M: MapWriter> Line<E, M> {
         requires open { self.old.channel.streams.is_open ≡ true }
         requires some { self.old.channel.out ≢ [] }
         ensures stays { LineStays E.means M.pair self.old self.new }
+        ensures own { self.new.own ≡ self.old.own }
+        ensures pulls { pulls_in (line_past self.new) ≡ pulls_in (line_past self.old) }
         ensures orders { self.new.orders ≡ self.old.orders }
         ensures came { OnOk result (LeavesNothing self.old.channel self.new.channel) }
         ensures written { (result ≢ Ok sent.Closed) × (result ≢ Ok sent.Nothing) }

@@ -1,7 +1,7 @@
 ghost use Rattle.std.specs.Prelude.{◌≡◌, ℕ, true, false, Ok, Err, OnErr};
 ghost use Rattle.rds_mail.specs.Learning.{AllGot};
 ghost use Rattle.rds_model.specs.declared.journal.JournalError.TheVariants as errors;
-ghost use Rattle.rds_line.specs.Line.{IsFull, IsOpenOrLast, line_past};
+ghost use Rattle.rds_line.specs.Line.{IsFull, IsOpenOrLast, line_past, pulls_in};
 ghost use Rattle.rds_line.specs.Stays.{LineStays};
 ghost use Rattle.rds_line.specs.Turns.{TakesOrder};
 
@@ -16,6 +16,8 @@ impl<E: End, M: MapWriter> Line<E, M> {
     pub(super) fn take_order<W: Wait>(&mut self, rt: &W) -> Result<bool, JournalError>
         requires last { IsOpenOrLast self.old }
         ensures stays { LineStays E.means M.pair self.old self.new }
+        ensures own { self.new.own ≡ self.old.own }
+        ensures pulls { pulls_in (line_past self.new) ≡ pulls_in (line_past self.old) }
         ensures took { result ≡ Ok true → TakesOrder self.old.orders self.new.orders }
         ensures none { result ≡ Ok false → (self.new.orders ≡ self.old.orders) × AllGot self.new.orders }
         ensures still { result ≡ Ok false → (line_past self.new ≡ line_past self.old) × (self.new.channel.streams ≡ self.old.channel.streams) }

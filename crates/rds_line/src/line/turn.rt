@@ -1,8 +1,8 @@
 ghost use Rattle.std.specs.Prelude.{◌≡◌, ◌⊎◌, ◌<◌, nat_lt, ℕ, true, Err, IfOk, OnOk, length, sum};
 ghost use Rattle.rds_model.specs.declared.journal.JournalError.TheVariants as errors;
-ghost use Rattle.rds_line.specs.Line.{IsFull, line_past};
+ghost use Rattle.rds_line.specs.Line.{IsFull, line_past, pulls_in};
 ghost use Rattle.rds_line.specs.Stays.{LineStays};
-ghost use Rattle.rds_line.specs.Turns.{HasMoved, IsIdleTurn, IsOverTurn, TakesOrder};
+ghost use Rattle.rds_line.specs.Turns.{HasMoved, IsIdleTurn, IsOverTurn, PullsOwn, TakesOrder};
 ghost use Rattle.rds_line.specs.Doing.{Did, IsRelieved, answer_of};
 ghost use Rattle.rds_line.specs.declared.outcome.Turn.TheVariants as turn;
 
@@ -19,6 +19,7 @@ impl<E: End, M: MapWriter> Line<E, M> {
     /// After `Spent` and `Memory` nothing is lost.
     pub fn turn<W: Wait>(&mut self, rt: &W) -> Turn
         ensures stays { LineStays E.means M.pair self.old self.new }
+        ensures pulls { (pulls_in (line_past self.new) ≡ pulls_in (line_past self.old)) ⊎ PullsOwn self.old self.new }
         ensures moved { result ≡ turn.Moved → HasMoved E.means self.old self.new }
         ensures idle { result ≡ turn.Idle → IsIdleTurn E.means self.old self.new }
         ensures over { result ≡ turn.Over → IsOverTurn self.old self.new }
@@ -42,6 +43,7 @@ impl<E: End, M: MapWriter> Line<E, M> {
     // The steps of a turn, in their order.
     fn steps<W: Wait>(&mut self, rt: &W) -> Result<Done, JournalError>
         ensures stays { LineStays E.means M.pair self.old self.new }
+        ensures pulls { (pulls_in (line_past self.new) ≡ pulls_in (line_past self.old)) ⊎ PullsOwn self.old self.new }
         ensures did { IfOk result (Did E.means self.old self.new) }
         ensures spent { (entries : ℕ) → result ≡ Err (errors.Spent entries) → IsFull entries self.new }
         ensures freed { OnOk result (sum self.new.channel.conn.freed ≡ 0) }
@@ -57,6 +59,8 @@ impl<E: End, M: MapWriter> Line<E, M> {
     // Counts all freed bytes.
     fn relieve(&mut self)
         ensures stays { LineStays E.means M.pair self.old self.new }
+        ensures own { self.new.own ≡ self.old.own }
+        ensures pulls { pulls_in (line_past self.new) ≡ pulls_in (line_past self.old) }
         ensures freed { sum self.new.channel.conn.freed ≡ 0 }
         ensures alone { IsRelieved self.old self.new }
     {

@@ -8,6 +8,7 @@ use Rattle.rds_conn.specs.declared.conn.Found.TheVariants as found
 use Rattle.rds_conn.specs.Passing.{outcome_of}
 use Rattle.rds_line_parts.specs.Boxes.{IsPutInto}
 use Rattle.rds_line_parts.specs.Delivery.{IsDelivery}
+use Rattle.rds_model.specs.SumLaws.{same_list}
 use Rattle.rds_line.proofs.Staying.{boxes_same, channel_same}
 use Rattle.rds_line.proofs.Passing.{keeps_passed}
 use Rattle.rds_line.proofs.Delivering.{datagram_is, delivery_fits, passes_delivery, passes_quietly, ready_inside, verdict_here, waits_inside}
@@ -18,7 +19,7 @@ pub returns-in_default-clause-stays : goal.returns-in_default-clause-stays
 returns-in_default-clause-stays g c =
     let table = ap (λ (h : PortSeat). h.table) c.look.ensures.seat in
     let passed = passed_stays c.pass.ensures.passes c.pass.ensures.rest in
-    line_stays c.self.view_is passed refl (boxes_same c.self.inside.boxes) table refl refl refl
+    line_stays c.self.view_is passed refl (boxes_same c.self.inside.boxes) table refl refl (same_list _) refl
 
 pub invariant_of-self : goal.invariant_of-self
 invariant_of-self g c =
@@ -36,14 +37,14 @@ pub returns-in_default-datagram-clause-stays : goal.returns-in_default-datagram-
 returns-in_default-datagram-clause-stays g c =
     let table = ap (λ (h : PortSeat). h.table) c.look.ensures.seat in
     let stays = channel_same g.E.End.means c.self.inside.channel in
-    line_stays c.self.view_is stays refl (boxes_same c.self.inside.boxes) table refl refl refl
+    line_stays c.self.view_is stays refl (boxes_same c.self.inside.boxes) table refl refl (same_list _) refl
 
 pub returns-then-is_err-clause-stays : goal.returns-then-is_err-clause-stays
 returns-then-is_err-clause-stays g c =
     let table = ap (λ (h : PortSeat). h.table) c.look.ensures.seat in
     let same = at_err c.put.result c.if-is_err.ensures.value c.put.ensures.same in
     let stays = channel_same g.E.End.means c.self.inside.channel in
-    line_stays c.self.view_is stays refl (boxes_as c.self.inside.boxes c.put.new.self same) table refl refl refl
+    line_stays c.self.view_is stays refl (boxes_as c.self.inside.boxes c.put.new.self same) table refl refl (same_list _) refl
 
 pub deliver-requires-clause-part : goal.deliver-requires-clause-part
 deliver-requires-clause-part g c =
@@ -91,4 +92,4 @@ returns-clause-stays g c =
     let seats = same_seats c.deliver.ensures.delivery in
     let table = ap (λ (h : PortSeat). h.table) c.look.ensures.seat in
     let passed = passed_stays c.pass-2.ensures.passes c.pass-2.ensures.rest in
-    line_stays c.self.view_is passed refl (put_same _ _ _ _ put) (seats.port_table ∙ table) seats.meter seats.meter_slot refl
+    line_stays c.self.view_is passed refl (put_same _ _ _ _ put) (seats.port_table ∙ table) seats.meter seats.meter_slot seats.meter_steps refl

@@ -3,6 +3,7 @@ use Rattle.rds_model.specs.declared.entry.Verdict.TheVariants as verdict
 use Rattle.rds_model.specs.Reading.{verdict_of}
 use Rattle.rds_conn.specs.declared.conn.Found.TheVariants as found
 use Rattle.rds_conn.specs.Passing.{outcome_of}
+use Rattle.rds_model.specs.SumLaws.{same_list}
 use Rattle.rds_line.proofs.Staying.{boxes_same}
 use Rattle.rds_line.proofs.Passing.{keeps_passed}
 use Rattle.rds_line.proofs.Delivering.{passes_quietly, unasked_kept, unmapped, verdict_there}
@@ -26,4 +27,4 @@ invariant_of-self g c =
 pub returns-in_default-verdict-clause-stays : goal.returns-in_default-verdict-clause-stays
 returns-in_default-verdict-clause-stays g c =
     let passed = passed_stays c.pass.ensures.passes c.pass.ensures.rest in
-    line_stays c.self.view_is passed refl (boxes_same c.self.inside.boxes) refl refl refl refl
+    line_stays c.self.view_is passed refl (boxes_same c.self.inside.boxes) refl refl refl (same_list _) refl

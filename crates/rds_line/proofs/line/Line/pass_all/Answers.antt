@@ -37,6 +37,8 @@ loop-taken-preserved g c =
     record {
       stays = line_through m pair start middle new passed c.take-in-loop-taken.ensures.stays;
       orders = c.take-in-loop-taken.ensures.orders ∙ c.pass.ensures.orders ∙ was.orders;
+      own = c.take-in-loop-taken.ensures.own ∙ c.pass.ensures.own ∙ was.own;
+      pulls = c.take-in-loop-taken.ensures.pulls ∙ c.pass.ensures.pulls ∙ was.pulls;
       streams = λ other.
           took.streams (λ same. other (cc)) ∙ ap (λ (v : ChannelView g.row.E.Denot). v.streams) c.in_ok-pass.ensures.passed.rest
           ∙ was.streams (λ refused. absurd (cc));

@@ -6,6 +6,7 @@ use Rattle.rds_model.specs.SumLaws.{few_maps}
 use Rattle.rds_line.specs.Line.{LineView}
 use Rattle.rds_conn.specs.declared.conn.Found.TheVariants as found
 use Rattle.rds_line.specs.Steps.{PassesOne}
+use Rattle.rds_model.specs.SumLaws.{same_list}
 use Rattle.rds_line.proofs.Staying.{boxes_same, channel_same}
 use Rattle.rds_line.proofs.Passing.{keeps_passed, keeps_unpublished}
 use Rattle.rds_line.proofs.Delivering.{map_is, map_length, passes_map, ready_inside, verdict_here, waits_inside}
@@ -31,7 +32,7 @@ invariant_of-self g c =
 pub returns-then-is_err-clause-stays : goal.returns-then-is_err-clause-stays
 returns-then-is_err-clause-stays g c =
     let stays = channel_same g.E.End.means c.self.inside.channel in
-    line_stays c.self.view_is stays refl (boxes_same c.self.inside.boxes) refl refl refl c.publish.ensures.pair
+    line_stays c.self.view_is stays refl (boxes_same c.self.inside.boxes) refl refl refl (same_list _) c.publish.ensures.pair
 
 pub invariant_of-self-2 : goal.invariant_of-self-2
 invariant_of-self-2 g c =
@@ -53,7 +54,7 @@ invariant_of-self-2 g c =
 pub returns-clause-stays : goal.returns-clause-stays
 returns-clause-stays g c =
     let passed = passed_stays c.pass.ensures.passes c.pass.ensures.rest in
-    line_stays c.self.view_is passed refl (boxes_same c.self.inside.boxes) refl refl refl c.publish.ensures.pair
+    line_stays c.self.view_is passed refl (boxes_same c.self.inside.boxes) refl refl refl (same_list _) c.publish.ensures.pair
 
 pub returns-clause-passed : goal.returns-clause-passed
 returns-clause-passed g c =

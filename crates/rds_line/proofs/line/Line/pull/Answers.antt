@@ -9,10 +9,11 @@ use Rattle.rds_line_channel.specs.Channel.{ChannelView}
 use Rattle.rds_line.specs.Keeps.{IsPulled, KeepsLine}
 use Rattle.rds_line.specs.Line.{LineView, line_past}
 use Rattle.rds_line.specs.Stays.{LineStays}
-use Rattle.rds_line.specs.Turns.{LeavesNothing, FindsNothingOwed}
+use Rattle.rds_line.specs.Turns.{LeavesNothing, LoadsOwn, FindsNothingOwed}
 use Rattle.rds_line.specs.declared.line.Line.TheInside.{Inside}
 use Rattle.rds_line.proofs.Fields.{view_in}
-use Rattle.rds_line.proofs.Pulled.{ReadsOwn, PullsOwed, read_anew, read_same, owed_of_map, owed_of_last, same_channel, keeps_failed, failed_stays, keeps_pulled, pulled_stays, pulled_leaves, pulled_some, pulled_nothing}
+use Rattle.rds_line.proofs.Looking.{PullsOrNone}
+use Rattle.rds_line.proofs.Pulled.{ReadsOwn, PullsOwed, read_anew, read_same, owed_of_map, owed_of_last, same_channel, keeps_failed, failed_stays, keeps_pulled, pulled_stays, pulled_leaves, pulled_some, pulled_nothing, failed_looked, failed_pulls, pulled_looked, pulled_owed}
 use Rattle.rds_line.proofs.line.Line.pull.Given as given
 use Rattle.rds_line.proofs.line.Line.pull.Goals as goal
 use Rattle.rds_line.proofs.line.Line.pull.Goals.{then-refresh, else-refresh, then-self, else-self}
@@ -112,6 +113,18 @@ returns-in-Ok-clause-nothing g c same =
     (owed g c)
     is_nothing out)
 
+pub returns-in-Ok-clause-looked : goal.returns-in-Ok-clause-looked
+returns-in-Ok-clause-looked g c =
+    subst (λ (v : LineView g.row.E.Denot g.row.M.Denot). LoadsOwn v (end g c)) c.self.view_is
+    (pulled_looked c.if-refresh.self-inside.own_pulled (start g c) (middle g c) (reads g c) (end g c) c.in-Ok.pulled (is g c)
+    (owed g c))
+
+pub returns-in-Ok-clause-pulls : goal.returns-in-Ok-clause-pulls
+returns-in-Ok-clause-pulls g c =
+    subst (λ (v : LineView g.row.E.Denot g.row.M.Denot). PullsOrNone v (end g c)) c.self.view_is
+    (pulled_owed c.if-refresh.self-inside.own_pulled (start g c) (middle g c) (reads g c) (end g c) c.in-Ok.pulled (is g c)
+    (owed g c))
+
 module _ (g : given.Over) (c : goal.In-Err g) where
   abbrev first : LineView g.row.E.Denot g.row.M.Denot
   first = view_in c.self.inside
@@ -164,3 +177,15 @@ returns-in-Err-clause-stays g c =
     let new = view_in c.if-self.self-inside in
     subst (λ (v : LineView g.row.E.Denot g.row.M.Denot). LineStays m pair v new) c.self.view_is
     (failed_stays noted (first g c) (second g c) (reads_too g c) new (failed g c).0 m pair)
+
+pub returns-in-Err-clause-looked : goal.returns-in-Err-clause-looked
+returns-in-Err-clause-looked g c =
+    let new = view_in c.if-self.self-inside in
+    subst (λ (v : LineView g.row.E.Denot g.row.M.Denot). LoadsOwn v new) c.self.view_is
+    (failed_looked c.if-refresh.self-inside.own_pulled (first g c) (second g c) (reads_too g c) new (failed g c).0)
+
+pub returns-in-Err-clause-pulls : goal.returns-in-Err-clause-pulls
+returns-in-Err-clause-pulls g c =
+    let new = view_in c.if-self.self-inside in
+    subst (λ (v : LineView g.row.E.Denot g.row.M.Denot). PullsOrNone v new) c.self.view_is
+    (failed_pulls c.if-refresh.self-inside.own_pulled (first g c) (second g c) (reads_too g c) new (failed g c).0)

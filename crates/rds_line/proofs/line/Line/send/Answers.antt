@@ -1,4 +1,4 @@
-use Rattle.std.proofs.Common.{◌≡◌, sym, ap, subst, ◌∙◌, arith}
+use Rattle.std.proofs.Common.{◌≡◌, inl, refl, sym, ap, subst, ◌∙◌, arith}
 use Rattle.rds_line_streams.specs.Streams.{StreamsView, newest_place}
 use Rattle.rds_line_channel.specs.Channel.{ChannelView}
 use Rattle.rds_line.specs.Line.{LineView, line_past}
@@ -6,6 +6,7 @@ use Rattle.rds_line.specs.Stays.{LineStays}
 use Rattle.rds_line.specs.Turns.{SendsBytes}
 use Rattle.rds_line.proofs.Fields.{view_in}
 use Rattle.rds_line.proofs.Longer.{longer}
+use Rattle.rds_line.proofs.Looking.{LeavesOwn, leaves_of, leaves_same, loads_wider, pulls_wider, roomy_leaves}
 use Rattle.rds_line.proofs.Staying.{channel_of, channel_same, line_inside, line_same, line_through}
 use Rattle.rds_line.proofs.Written.{made_room}
 use Rattle.rds_line.proofs.line.Line.send.Given as given
@@ -74,3 +75,41 @@ returns-clause-ended g c same =
     let more = c.write.ensures.ended same in
     let long = longer (line_past c.args.self.now) (line_past c.else-unwritten-eq0.self) (middle_stays g c).channel.past in
     omega arith
+
+pub returns-in_err-pull-clause-pulls : goal.returns-in_err-pull-clause-pulls
+returns-in_err-pull-clause-pulls g c =
+    let now = c.args.self.now in
+    let ready : LineView g.row.E.Denot g.row.M.Denot = record (view_in c.self.inside) { channel = c.reserve.new.self } in
+    let new = c.pull.new.self in
+    pulls_wider now ready new new
+    (roomy_leaves (view_in c.self.inside) now c.reserve.new.self c.self.view_is c.in_ok-reserve.ensures.ok) (leaves_same new)
+    c.pull.ensures.pulls
+
+pub returns-then-not-branch-clause-looked : goal.returns-then-not-branch-clause-looked
+returns-then-not-branch-clause-looked g c same =
+    let now = c.args.self.now in
+    let ready : LineView g.row.E.Denot g.row.M.Denot = record (view_in c.self.inside) { channel = c.reserve.new.self } in
+    let new = c.pull.new.self in
+    loads_wider now ready new new
+    (roomy_leaves (view_in c.self.inside) now c.reserve.new.self c.self.view_is c.in_ok-reserve.ensures.ok) (leaves_same new)
+    c.pull.ensures.looked
+
+pub returns-clause-pulls : goal.returns-clause-pulls
+returns-clause-pulls g c =
+    let now = c.args.self.now in
+    let middle = c.else-unwritten-eq0.self in
+    let new = c.write.new.self in
+    let first : LeavesOwn now (ready g c) =
+    roomy_leaves (view_in c.self.inside) now c.reserve.new.self c.self.view_is c.in_ok-reserve.ensures.ok in
+    let last : LeavesOwn middle new =
+    leaves_of g.E.End.means g.M.MapWriter.pair middle new c.write.ensures.stays c.write.ensures.own c.write.ensures.pulls in
+    elim c.else-unwritten-eq0.branch [
+      | else-unwritten-eq0-via-then-unwritten-eq0+in_ok-pull+else-not-branch w ↦
+          let pulled = w.pull.new.self in
+          pulls_wider now (ready g c) pulled new first
+          (subst (λ (v : LineView g.row.E.Denot g.row.M.Denot). LeavesOwn v new) w.self-is last) w.pull.ensures.pulls
+      | else-unwritten-eq0-via-else-unwritten-eq0 w ↦
+          pulls_wider now (ready g c) (ready g c) new first
+          (subst (λ (v : LineView g.row.E.Denot g.row.M.Denot). LeavesOwn v new) w.self-is last)
+          (inl refl)
+    ]

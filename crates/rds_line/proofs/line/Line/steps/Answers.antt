@@ -2,6 +2,7 @@ use Rattle.std.proofs.Common.{Ok, ap}
 use Rattle.rds_line.specs.declared.outcome.Done.{Done}
 use Rattle.rds_line.specs.declared.outcome.Sent.TheVariants as sent
 use Rattle.rds_line.specs.Line.{LineView}
+use Rattle.rds_line.proofs.Looking.{leaves_of, leaves_none, leaves_same, leaves_through, loads_wider, pulls_wider}
 use Rattle.rds_line.proofs.Staying.{line_through}
 use Rattle.rds_line.proofs.Stepping.{StepsDid, did_idle, did_none, did_took, gets_wider, sends_wider, moment_back, moment_longer, same_sent}
 use Rattle.rds_line.proofs.line.Line.steps.Goals as goal
@@ -76,6 +77,14 @@ returns-clause-did g c =
       send_full = λ e. sending.full (ap Ok e);
       send_ended = λ e. sending.ended (ap Ok e);
       relieved = c.relieve.ensures.alone;
+      send_looked = λ e.
+          loads_wider first came went last
+          (leaves_through first opened came
+          (leaves_of m pair first opened opening.stays opening.own opening.pulls)
+          (leaves_through opened taken came (leaves_of m pair opened taken taking.stays taking.own taking.pulls)
+          (leaves_of m pair taken came hearing.stays hearing.own hearing.pulls)))
+          (leaves_of m pair went last c.relieve.ensures.stays c.relieve.ensures.own c.relieve.ensures.pulls)
+          (sending.looked (ap Ok e));
     } in
     let to_taken = line_through m pair first opened taken opening.stays taking.stays in
     let to_came = line_through m pair first taken came to_taken hearing.stays in
@@ -86,3 +95,67 @@ returns-clause-did g c =
       sent = λ e. (_, sends_wider m _ first.channel.streams came.channel.streams went.channel.streams last.channel.streams to_came.channel.streams (sending.bytes (ap Ok e)) c.relieve.ensures.stays.channel.streams);
       idle = λ not_taken no_bytes none_sent past left. did_idle steps not_taken past no_bytes none_sent left;
     }
+
+pub returns-in_err-took-clause-pulls : goal.returns-in_err-took-clause-pulls
+returns-in_err-took-clause-pulls g c =
+    let m = g.E.End.means in
+    let pair = g.M.MapWriter.pair in
+    let first = c.args.self.now in
+    let opened = c.open_next.new.self in
+    let taken = c.take_order.new.self in
+    leaves_none first taken
+    (leaves_through first opened taken
+    (leaves_of m pair first opened c.open_next.ensures.stays c.open_next.ensures.own c.open_next.ensures.pulls)
+    (leaves_of m pair opened taken c.take_order.ensures.stays c.take_order.ensures.own c.take_order.ensures.pulls))
+
+pub returns-in_err-heard-clause-pulls : goal.returns-in_err-heard-clause-pulls
+returns-in_err-heard-clause-pulls g c =
+    let m = g.E.End.means in
+    let pair = g.M.MapWriter.pair in
+    let first = c.args.self.now in
+    let opened = c.open_next.new.self in
+    let taken = c.take_order.new.self in
+    let came = c.receive.new.self in
+    leaves_none first came
+    (leaves_through first opened came
+    (leaves_of m pair first opened c.open_next.ensures.stays c.open_next.ensures.own c.open_next.ensures.pulls)
+    (leaves_through opened taken came
+    (leaves_of m pair opened taken c.take_order.ensures.stays c.take_order.ensures.own c.take_order.ensures.pulls)
+    (leaves_of m pair taken came c.receive.ensures.stays c.receive.ensures.own c.receive.ensures.pulls)))
+
+pub returns-in_err-sent-clause-pulls : goal.returns-in_err-sent-clause-pulls
+returns-in_err-sent-clause-pulls g c =
+    let m = g.E.End.means in
+    let pair = g.M.MapWriter.pair in
+    let first = c.args.self.now in
+    let opened = c.open_next.new.self in
+    let taken = c.take_order.new.self in
+    let came = c.receive.new.self in
+    let went = c.send.new.self in
+    pulls_wider first came went went
+    (leaves_through first opened came
+    (leaves_of m pair first opened c.open_next.ensures.stays c.open_next.ensures.own c.open_next.ensures.pulls)
+    (leaves_through opened taken came
+    (leaves_of m pair opened taken c.take_order.ensures.stays c.take_order.ensures.own c.take_order.ensures.pulls)
+    (leaves_of m pair taken came c.receive.ensures.stays c.receive.ensures.own c.receive.ensures.pulls)))
+    (leaves_same went)
+    c.send.ensures.pulls
+
+pub returns-clause-pulls : goal.returns-clause-pulls
+returns-clause-pulls g c =
+    let m = g.E.End.means in
+    let pair = g.M.MapWriter.pair in
+    let first = c.args.self.now in
+    let opened = c.open_next.new.self in
+    let taken = c.take_order.new.self in
+    let came = c.receive.new.self in
+    let went = c.send.new.self in
+    let last = c.relieve.new.self in
+    pulls_wider first came went last
+    (leaves_through first opened came
+    (leaves_of m pair first opened c.open_next.ensures.stays c.open_next.ensures.own c.open_next.ensures.pulls)
+    (leaves_through opened taken came
+    (leaves_of m pair opened taken c.take_order.ensures.stays c.take_order.ensures.own c.take_order.ensures.pulls)
+    (leaves_of m pair taken came c.receive.ensures.stays c.receive.ensures.own c.receive.ensures.pulls)))
+    (leaves_of m pair went last c.relieve.ensures.stays c.relieve.ensures.own c.relieve.ensures.pulls)
+    c.send.ensures.pulls

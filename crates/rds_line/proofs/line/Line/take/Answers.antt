@@ -1,6 +1,7 @@
 use Rattle.std.proofs.Common.{refl}
 use Rattle.rds_line_channel.specs.Channel.{with_conn}
 use Rattle.rds_conn.specs.Connection.{with_room}
+use Rattle.rds_model.specs.SumLaws.{same_list}
 use Rattle.rds_line.proofs.Staying.{boxes_same, channel_same, channel_of, channel_through, room_stays}
 use Rattle.rds_line.proofs.Feeding.{keeps_fed}
 use Rattle.rds_line.proofs.StaysPassed.{line_stays, taken_stays}
@@ -11,7 +12,7 @@ returns-in_err-reserve-clause-stays g c =
     let m = g.E.End.means in
     let i = c.self.inside.channel in
     let same = channel_of m i c.reserve.new.self i c.in_err-reserve.ensures.err (channel_same m i) in
-    line_stays c.self.view_is same refl (boxes_same c.self.inside.boxes) refl refl refl refl
+    line_stays c.self.view_is same refl (boxes_same c.self.inside.boxes) refl refl refl (same_list _) refl
 
 pub invariant_of-self-2 : goal.invariant_of-self-2
 invariant_of-self-2 g c =
@@ -26,4 +27,4 @@ returns-clause-stays g c =
     let ready = channel_of m i c.reserve.new.self (with_conn i (with_room i.conn)) c.in_ok-reserve.ensures.ok (room_stays m i) in
     let took = taken_stays c.take.result c.take.ensures.frame c.take.ensures.part c.take.ensures.refused c.take.ensures.err in
     let both = channel_through m i c.reserve.new.self c.take.new.self ready took in
-    line_stays c.self.view_is both refl (boxes_same c.self.inside.boxes) refl refl refl refl
+    line_stays c.self.view_is both refl (boxes_same c.self.inside.boxes) refl refl refl (same_list _) refl

@@ -2,9 +2,10 @@ use Rattle.std.proofs.Common.{ap, ◌∙◌}
 use Rattle.rds_model.specs.declared.order.Order.{Order}
 use Rattle.rds_model.specs.declared.order.Order.TheVariants as order
 use Rattle.rds_mail.specs.Passes.{Getter, after_get}
-use Rattle.rds_line.specs.Line.{LineView}
+use Rattle.rds_line.specs.Line.{LineView, line_past, pulls_in}
+use Rattle.rds_line.proofs.Fields.{view_in}
 use Rattle.rds_line.proofs.Keeping.{pulled_off}
-use Rattle.rds_line.proofs.Taking.{cut_room, roomy_stays, keeps_roomy, pulled_roomy, uncut_of, keeps_ordered, pulled_ordered, takes_cut, keeps_cut, cut_off, cut_stays, stays_taken}
+use Rattle.rds_line.proofs.Taking.{cut_room, roomy_stays, keeps_roomy, pulled_roomy, uncut_of, keeps_ordered, pulled_ordered, takes_cut, keeps_cut, cut_off, cut_stays, stays_taken, ordered_pulls, cut_pulls, roomy_past}
 use Rattle.rds_line.proofs.Staying.{channel_of, channel_same, order_stays, line_inside, line_of, line_shown, line_stays, line_through}
 use Rattle.rds_line.proofs.line.Line.take_order.Goals as goal
 
@@ -86,6 +87,18 @@ returns-in-Cut-clause-stays g c =
     (line_through m pair v mid new (line_stays m pair v mid.channel (roomy_stays v c.reserve.new.self mid.channel (c.in_ok-reserve.ensures {u = tt}).ok second m))
     (stays_taken m pair mid c.cut.new.self c.take_order.new.self got.0 order.Cut is (cut_stays mid c.cut.new.self c.take_order.new.self got.0 m is did)))
 
+pub returns-in-Cut-clause-pulls : goal.returns-in-Cut-clause-pulls
+returns-in-Cut-clause-pulls g c =
+    let m = g.E.End.means in
+    let v = view_in c.self.inside in
+    let second = cut_room c.reserve.new.self c.reserve_cut.new.self c.reserve_cut.result c.reserve_cut.ensures.ok c.reserve_cut.ensures.err in
+    let mid : LineView g.row.E.Denot g.row.M.Denot = record v { channel = c.reserve_cut.new.self } in
+    let got = (c.in-Some.ensures {u = tt}).got in
+    let did = takes_cut mid c.cut.new.self c.take_order.new.self got.0 m c.cut.ensures.on c.cut.ensures.off c.known.ensures.open in
+    cut_pulls mid c.cut.new.self c.take_order.new.self got.0 m did
+    ∙ ap pulls_in (roomy_past v c.reserve.new.self mid.channel (c.in_ok-reserve.ensures {u = tt}).ok second)
+    ∙ ap (λ (l : LineView g.row.E.Denot g.row.M.Denot). pulls_in (line_past l)) c.self.view_is
+
 pub returns-in_default-order : goal.returns-in_default-order
 returns-in_default-order g c =
     let m = g.E.End.means in
@@ -101,6 +114,11 @@ returns-in_default-order g c =
           line_shown m pair v c.args.self.now new c.self.view_is
           (line_through m pair v mid new (line_stays m pair v mid.channel (roomy_stays v c.reserve.new.self mid.channel (c.in_ok-reserve.ensures {u = tt}).ok second m))
           (stays_taken m pair mid c.order.new.self c.take_order.new.self got.0 o got.1 (order_stays m o mid.channel c.order.new.self c.order.ensures.entry)));
+      own = ap (λ (l : LineView g.row.E.Denot g.row.M.Denot). l.own) c.self.view_is;
+      pulls =
+          ordered_pulls o mid.channel c.order.new.self c.order.ensures.entry
+          ∙ ap pulls_in (roomy_past v c.reserve.new.self mid.channel (c.in_ok-reserve.ensures {u = tt}).ok second)
+          ∙ ap (λ (l : LineView g.row.E.Denot g.row.M.Denot). pulls_in (line_past l)) c.self.view_is;
       took = λ _. (got.0, o, got.1 ∙ ap (λ (w : LineView g.row.E.Denot g.row.M.Denot). after_get w.orders got.0 o) c.self.view_is);
       none = λ e. absurd (cc);
       still = λ e. absurd (cc);
