@@ -126,6 +126,11 @@ module _ {E M : Type 0} where
     slots = k.slots;
   }
 
+  -- and where no word was loaded, it is the map that it was
+  pub pulled_own : (v : LineView E M) (own : Own) (words : MeterSeat) (noted read : Bool) →
+      IsRefresh v.own own v.words words read → read ≡ false → IsPulled noted v → IsPulled noted (with_own v own words)
+  pulled_own v own words noted read r none was is s on = was is s on ∙ ap Some (sym (r.same none).2)
+
   -- what the line is over both
   pub pull_stays : {Name : Type 0} (m : Means E) (pair : M → Name) (v : LineView E M) (own : Own) (words : MeterSeat)
       (read : Bool) (conn : Connection) (out : List ℕ) →
@@ -157,30 +162,14 @@ module _ {E M : Type 0} where
   pub record ReadsOwn (noted : Bool) (old new : LineView E M) : Type 0 where
     pub read : Bool
     pub refresh : IsRefresh old.own new.own old.words new.words read
-    pub nothing : AddsNothing old.words.view new.words.view
     pub is : new ≡ with_own old new.own new.words
     pub behind : IsPulled noted new
 
-  pub read_anew : (v : LineView E M) (own : Own) (words : MeterSeat) (read : Bool) → IsRefresh v.own own v.words words read →
-      AddsNothing v.words.view words.view → ReadsOwn false v (with_own v own words)
-  read_anew v own words read r nothing = record {
-    read = read;
-    refresh = r;
-    nothing = nothing;
-    is = refl;
-    behind = λ noted s on. absurd (cc);
-  }
-
-  pub read_same : (v : LineView E M) (own : Own) (words : MeterSeat) (noted read : Bool) →
-      IsRefresh v.own own v.words words read →
-      AddsNothing v.words.view words.view → read ≡ false → IsPulled noted v → ReadsOwn noted v (with_own v own words)
-  read_same v own words noted read r nothing none was = record {
-    read = read;
-    refresh = r;
-    nothing = nothing;
-    is = refl;
-    behind = λ is s on. was is s on ∙ ap Some (sym (r.same none).2);
-  }
+  pub reads_of : (noted : Bool) (old middle new : LineView E M) → new ≡ middle → middle ≡ with_own old middle.own middle.words →
+      (read : Bool) × IsRefresh old.own middle.own old.words middle.words read → IsPulled noted new → ReadsOwn noted old new
+  reads_of noted old middle new same is r behind =
+      subst (λ (v : LineView E M). IsPulled noted v → ReadsOwn noted old v) (sym same)
+      (λ known. record { read = r.0; refresh = r.1; is = is; behind = known }) behind
 
 module _ {E : Type 0} where
   -- the frame was pulled that is owed to the open stream where the own map is this, and it is then the one that was pulled last
@@ -263,10 +252,6 @@ nothing_owed s (Some f) old new out out_new came did none =
     absurd (cc)
 
 module _ {E M : Type 0} (noted : Bool) (v w : LineView E M) (reads : ReadsOwn noted v w) where
-  keeps_reading : (published : M → List (List ℕ)) → KeepsLine published v → KeepsLine published w
-  keeps_reading published k =
-      subst (KeepsLine published) (sym reads.is) (keeps_own published v w.own w.words reads.read reads.refresh reads.nothing k)
-
   pub same_channel : w.channel ≡ v.channel
   same_channel = ap (λ (l : LineView E M). l.channel) reads.is
 
@@ -291,9 +276,9 @@ module _ {E M : Type 0} (noted : Bool) (v w : LineView E M) (reads : ReadsOwn no
         inl (ap (λ (l : LineView E M). pulls_in (line_past l)) same_line
         ∙ ap (λ (c : ChannelView E). pulls_in c.conn.log.past) same_channel)
 
-    pub keeps_failed : (published : M → List (List ℕ)) → KeepsLine published v → KeepsLine published u × IsPulled noted u
+    pub keeps_failed : (published : M → List (List ℕ)) → KeepsLine published w → KeepsLine published u × IsPulled noted u
     keeps_failed published k = (
-      subst (KeepsLine published) (sym same_line) (keeps_reading published k),
+      subst (KeepsLine published) (sym same_line) k,
       subst (IsPulled noted) (sym same_line) reads.behind,
     )
 
@@ -316,12 +301,11 @@ module _ {E M : Type 0} (noted : Bool) (v w : LineView E M) (reads : ReadsOwn no
     same_own : u.own ≡ w.own
     same_own = ap (λ (l : LineView E M). l.own) is
 
-    pub keeps_pulled : (published : M → List (List ℕ)) → KeepsLine published v → KeepsLine published u × IsPulled true u
+    pub keeps_pulled : (published : M → List (List ℕ)) → KeepsLine published w → KeepsLine published u × IsPulled true u
     keeps_pulled published k = (
       subst (KeepsLine published) (sym is_pulled)
           (keeps_pull published w p.stream (owed_frame p.stream w.channel.conn.log.past w.own.map) u.channel.conn u.channel.out came
-          p.pulls
-          (keeps_reading published k)),
+          p.pulls k),
       λ noted_it s on.
           let there = (owed_leaves w.own.map came w.channel u.channel p).stream in
           let same : p.stream ≡ s = same_Some p.stream s (sym p.on ∙ sym there ∙ on) in

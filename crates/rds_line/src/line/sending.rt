@@ -1,6 +1,7 @@
-ghost use Rattle.std.specs.Prelude.{◌≡◌, ◌≢◌, ◌⊎◌, ◌<◌, ℕ, true, false, Ok, Err, IfErr, IfSome, OnOk, OnErr, [], length};
+ghost use Rattle.std.specs.Prelude.{◌≡◌, ◌≢◌, ◌⊎◌, ◌<◌, ℕ, Bool, true, false, Ok, Err, IfErr, IfSome, OnOk, OnErr, [], length};
 ghost use Rattle.rds_model.specs.declared.journal.JournalError.TheVariants as errors;
 ghost use Rattle.rds_conn.specs.Connection.{IsReady};
+ghost use Rattle.rds_line_parts.specs.Own.{IsRefresh};
 ghost use Rattle.rds_line_streams.specs.Streams.{newest_place};
 ghost use Rattle.rds_line.specs.Line.{IsFull, line_past, pulls_in};
 ghost use Rattle.rds_line.specs.Stays.{LineStays};
@@ -40,7 +41,7 @@ impl<E: End, M: MapWriter> Line<E, M> {
         self.write()
     }
 
-    // Pulls the frame that is owed, and answers whether one is. Before it the host's own map is read, if it may have changed.
+    // Pulls the frame that is owed, and answers whether one is. Before it the host's own map is looked at.
     fn pull(&mut self) -> Result<bool, JournalError>
         requires ready { IsReady self.old.channel.conn }
         requires open { self.old.channel.streams.is_open ≡ true }
@@ -55,10 +56,8 @@ impl<E: End, M: MapWriter> Line<E, M> {
         ensures pulls { (pulls_in (line_past self.new) ≡ pulls_in (line_past self.old)) ⊎ PullsOwn self.old self.new }
         ensures err { IfErr result (λ error. error ≡ errors.Memory) }
     {
+        self.look();
         self.channel.known();
-        if self.own.refresh(&mut self.words) {
-            self.own_pulled = false;
-        }
         let pulled = if self.own_pulled {
             self.channel.pull_behind()
         } else {
@@ -70,6 +69,16 @@ impl<E: End, M: MapWriter> Line<E, M> {
                 Ok(pulled != Pulled::Nothing)
             }
             Err(_) => Err(JournalError::Memory),
+        }
+    }
+
+    // Looks at the host's own map: reads it, if it may have changed. It is to be pulled then.
+    fn look(&mut self)
+        ensures alone { self.new ≡ record self.old { own = self.new.own; words = self.new.words } }
+        ensures refresh { (read : Bool) × IsRefresh self.old.own self.new.own self.old.words self.new.words read }
+    {
+        if self.own.refresh(&mut self.words) {
+            self.own_pulled = false;
         }
     }
 
