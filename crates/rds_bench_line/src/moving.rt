@@ -78,7 +78,7 @@ fn sends<R: Wait>(rt: &R, mut host: LineHost<MemEnd>, mut sender: Sender, count:
         }
     }
     for _ in 0..u32::MAX {
-        if host.line.unacked() == 0 {
+        if host.unacked() == 0 {
             return true;
         }
         host.turn(rt);

@@ -104,7 +104,7 @@ fn told<E: End>(
     Some((
         last,
         came.payload.as_slice() == b"hello".as_slice(),
-        both.0.line.unacked(),
+        both.0.unacked(),
     ))
 }
 
