@@ -1,0 +1,16 @@
+use Rattle.std.proofs.Common.{◌≡◌, ◌+◌, All, length, map, drop}
+use Rattle.std.specs.Arc.{arc_value}
+use Rattle.rds_line_streams.specs.Streams.{AreNumbered, IsUnused}
+use Rattle.rds_host.specs.Ties.{AreLinesOf}
+use Rattle.rds_host.proofs.making.lines.Given as goal
+
+abbrev pub invariant-loop-column : goal.invariant-loop-column
+invariant-loop-column g l =
+    (arc_value l.seats.table ≡ arc_value l.fn.seats.table)
+    × (arc_value l.seats.meter ≡ arc_value l.fn.seats.meter)
+    × (l.seats.seat.view.splits + length l.yielded ≡ l.fn.seats.seat.view.splits)
+    × (l.seats.own.view.splits + length l.yielded ≡ l.fn.seats.own.view.splits)
+    × (l.streams.rest.items ≡ drop (length l.yielded) l.fn.streams.items)
+    × All (λ list. AreNumbered list.items) l.streams.rest.items
+    × All (λ list. All (λ stream. IsUnused g.E.End.means stream.1) list.items) l.streams.rest.items
+    × AreLinesOf l.fn.addr l.fn.limit (arc_value l.fn.seats.table) (arc_value l.fn.seats.meter) l.yielded (map (λ list. list.items) l.fn.streams.items) l.lines.items

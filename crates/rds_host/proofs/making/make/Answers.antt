@@ -1,0 +1,50 @@
+use Rattle.std.proofs.Common.{◌≡◌, ℕ, List, Vec, All, length, map, sym, ap, subst, ◌∙◌}
+use Rattle.std.specs.Arc.{arc_value}
+use Rattle.std.specs.Global.{Global}
+use Rattle.std.proofs.lemmas.List.{length-map}
+use Rattle.rds_host.specs.Ties.{AreLinesOf, ColumnView, IsSlotOf, peers_to, ways_of}
+use Rattle.rds_host.proofs.Columns.{all_at, count_of, lanes_peers, new_lines, of_host, same_count, written_back}
+use Rattle.rds_host.proofs.making.make.Goals as goal
+
+pub returns-clause-slots : goal.returns-clause-slots
+returns-clause-slots g c =
+    let old = c.in_ok-columns.columns.items in
+    let ways : ways_of c.deref_mut.result.now ≡ ways_of old = ap ways_of c.deref_mut.ensures.value in
+    record {
+      count = c.in_ok-vacants.ensures.count;
+      number = c.in_ok-vacants.ensures.number;
+      routes = λ place vacant stands.
+          let tied : IsSlotOf (ways_of c.deref_mut.result.now) (arc_value c.in_ok-seats.seats.table) (arc_value c.in_ok-seats.seats.meter) vacant =
+          all_at (IsSlotOf (ways_of c.deref_mut.result.now) (arc_value c.in_ok-seats.seats.table) (arc_value c.in_ok-seats.seats.meter)) c.in_ok-vacants.vacants.items vacant place c.in_ok-vacants.ensures.slot stands in
+          lanes_peers vacant.routes ∙ (ap peers_to tied.ways ∙ (ap peers_to ways ∙ c.in_ok-columns.ensures.peers));
+    }
+
+pub returns-clause-lines : goal.returns-clause-lines
+returns-clause-lines g c =
+    let old = c.in_ok-columns.columns.items in
+    let new = c.vacants.new.columns in
+    let ways : ways_of new ≡ ways_of old = c.in_ok-vacants.ensures.ways ∙ ap ways_of c.deref_mut.ensures.value in
+    let back = written_back old new c.in_ok-columns.columns.len c.in_ok-columns.columns.ok.0 (same_count old new ways) in
+    new_lines _ _ _ _ _ _ _ _ c.in_ok-lines.ensures (ap (λ (l : List ColumnView). peers_to (ways_of l)) back ∙ (ap peers_to ways ∙ c.in_ok-columns.ensures.peers))
+
+pub returns-clause-host : goal.returns-clause-host
+returns-clause-host g c =
+    let old = c.in_ok-columns.columns.items in
+    let new = c.vacants.new.columns in
+    let vacants = c.in_ok-vacants.vacants.items in
+    let table = arc_value c.vacants.new.seats.table in
+    let meter = arc_value c.vacants.new.seats.meter in
+    let made = c.in_ok-vacants.ensures in
+    let ways : ways_of new ≡ ways_of old = made.ways ∙ ap ways_of c.deref_mut.ensures.value in
+    let back = written_back old new c.in_ok-columns.columns.len c.in_ok-columns.columns.ok.0 (same_count old new ways) in
+    let streams : List (List (ℕ × g.row.E.Denot)) = map (λ (v : Vec (ℕ × g.row.E.Denot) Global). v.items) c.args.streams.items in
+    let lines : AreLinesOf c.args.addr c.args.limit table meter new streams c.in_ok-lines.lines.items =
+    subst (λ (l : List ColumnView). AreLinesOf c.args.addr c.args.limit table meter l streams c.in_ok-lines.lines.items) back c.in_ok-lines.ensures in
+    let slots : All (IsSlotOf (ways_of new) table meter) vacants =
+    λ k d small.
+    let tied = made.slot k d small in
+    record { ways = tied.ways ∙ sym made.ways; ports = tied.ports ∙ sym made.table; words = tied.words ∙ sym made.meter } in
+    let peers : length new ≡ length c.args.peers.now = same_count old new ways ∙ (count_of old ∙ ap length c.in_ok-columns.ensures.peers) in
+    of_host c.args.addr c.args.limit table meter new streams c.in_ok-lines.lines.items vacants lines
+    (length-map c.args.streams.items (λ (v : Vec (ℕ × g.row.E.Denot) Global). v.items) ∙ (c.requires.streams ∙ sym peers))
+    slots made.number made.boxes

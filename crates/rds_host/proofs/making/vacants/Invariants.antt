@@ -1,0 +1,20 @@
+use Rattle.std.proofs.Common.{◌≡◌, ◌+◌, All, length, map}
+use Rattle.std.specs.Arc.{arc_value}
+use Rattle.rds_host.specs.Slots.{AreInPlace}
+use Rattle.rds_host.specs.Ties.{IsSlotOf, inbox_of, ways_of}
+use Rattle.rds_host.proofs.making.vacants.Given as goal
+
+abbrev pub invariant-loop : goal.invariant-loop
+invariant-loop l =
+    (arc_value l.seats.table ≡ arc_value l.fn.seats.table)
+    × (arc_value l.seats.meter ≡ arc_value l.fn.seats.meter)
+    × (l.seats.seat.view.weight ≡ 1)
+    × (l.seats.seat.view.splits ≡ 4094)
+    × (l.seats.seat.view.draws ≡ l.counter)
+    × (l.seats.own.view.splits + l.counter ≡ 4094)
+    × (ways_of l.columns ≡ ways_of l.fn.columns)
+    × (length l.columns ≡ length l.fn.columns)
+    × All (λ c. c.boxes ≡ map inbox_of l.vacants.items) l.columns
+    × (length l.vacants.items ≡ l.counter)
+    × AreInPlace l.vacants.items
+    × All (IsSlotOf (ways_of l.fn.columns) (arc_value l.fn.seats.table) (arc_value l.fn.seats.meter)) l.vacants.items

@@ -1,0 +1,90 @@
+-- What ties the slots of a host to its lines. Source: this project's own.
+use Rattle.std.specs.Prelude.{◌≡◌, ℕ, List, [], ◌∷◌, ◌++◌, Some, All, length, map, slice_get}
+use Rattle.atomic_table.specs.Seated.{TableId}
+use Rattle.rds_views.specs.Views.{Table}
+use Rattle.rds_model.specs.declared.entry.TheConstants.{MAX_SLOTS}
+use Rattle.rds_model.specs.declared.order.Datagram.{Datagram}
+use Rattle.rds_model.specs.declared.order.Order.{Order}
+use Rattle.rds_mail.specs.Passes.{Getter, Putter, QueueId}
+use Rattle.rds_fmap.specs.Readers.{ReaderView, WriterView}
+use Rattle.rds_parts.specs.Lanes.{Lane, IsLaneAt}
+use Rattle.rds_line_parts.specs.Boxes.{IsBoxOf}
+use Rattle.rds_socket.specs.Holding.{Holding}
+use Rattle.rds_line_channel.specs.Channel.{new_channel}
+use Rattle.rds_line.specs.Line.{LineView}
+
+-- what a route and the line that it leads to have in common: the peer, the queue of orders, and the pair of the peer's map
+pub record Way : Type 0 where
+  pub peer : ℕ
+  pub mail : QueueId
+  pub pair : TableId
+
+-- what a host has for one peer: the way to it, and the mailboxes of the slots that were made
+pub record ColumnView : Type 0 where
+  pub way : Way
+  pub boxes : List QueueId
+
+-- the mailboxes of putters
+abbrev pub mails_of : List (Putter Datagram) → List QueueId
+mails_of boxes = map (λ b. b.mail) boxes
+
+abbrev pub with_box : QueueId → ColumnView → ColumnView
+with_box mail c = record c { boxes = c.boxes ++ mail ∷ [] }
+
+abbrev pub ways_of : List ColumnView → List Way
+ways_of columns = map (λ c. c.way) columns
+
+abbrev pub peers_to : List Way → List ℕ
+peers_to ways = map (λ way. way.peer) ways
+
+abbrev pub lane_way : Lane ReaderView → Way
+lane_way lane = record { peer = lane.peer; mail = lane.pass.mail; pair = lane.reader.pair }
+
+-- the mailbox of a slot
+abbrev pub inbox_of : {R : Type 0} → Holding R → QueueId
+inbox_of h = h.inbox.get.mail
+
+-- the parts of what a host has for one peer are of one queue and one map, and nothing was done with them
+pub record IsColumn (mail : QueueId) (orders : Getter Order) (passes : List (Putter Order)) (writer : WriterView) (readers : List ReaderView) (held : List (Putter Datagram)) : Type 0 where
+  pub orders_of : orders.mail ≡ mail
+  pub got : orders.got ≡ []
+  pub passes_of : All (λ p. p.mail ≡ mail) passes
+  pub put : All (λ p. p.put ≡ []) passes
+  pub published : writer.published ≡ []
+  pub readers_of : All (λ r. r.pair ≡ writer.pair) readers
+  pub boxes : All (λ b. b.put ≡ []) held
+
+-- a slot whose routes are these ways, at these tables
+pub record IsSlotOf (along : List Way) (table meter : Table) (h : Holding ReaderView) : Type 0 where
+  pub ways : map lane_way h.routes ≡ along
+  pub ports : h.ports.table ≡ table
+  pub words : h.words.seat.table ≡ meter
+
+module _ {E : Type 0} where
+  -- a new line of the host `me`, made of what the host has for one peer, over these streams, at these tables
+  pub record IsLineOf (me limit : ℕ) (table meter : Table) (column : ColumnView) (list : List (ℕ × E)) (line : LineView E WriterView) : Type 0 where
+    pub channel : line.channel ≡ new_channel me column.way.peer MAX_SLOTS limit list
+    pub mail : line.orders.mail ≡ column.way.mail
+    pub pair : line.map.pair ≡ column.way.pair
+    pub boxes : mails_of line.boxes ≡ column.boxes
+    pub ports : line.ports.table ≡ table
+    pub words : line.words.table ≡ meter
+
+  -- one such line of each column, over the streams in the same place
+  pub record AreLinesOf (me limit : ℕ) (table meter : Table) (columns : List ColumnView) (streams : List (List (ℕ × E))) (lines : List (LineView E WriterView)) : Type 0 where
+    pub count : length lines ≡ length columns
+    pub each : (place : ℕ) (column : ColumnView) (list : List (ℕ × E)) (line : LineView E WriterView) →
+        slice_get columns place ≡ Some column → slice_get streams place ≡ Some list → slice_get lines place ≡ Some line →
+        IsLineOf me limit table meter column list line
+
+  -- Slots and lines of one host: all are at the same tables, the route of each slot at each place leads to the line there, and
+  -- each line delivers to the mailbox of each slot.
+  pub record AreOfHost (vacants : List (Holding ReaderView)) (lines : List (LineView E WriterView)) : Type 0 where
+    pub ports : (slot place : ℕ) (h : Holding ReaderView) (line : LineView E WriterView) → slice_get vacants slot ≡ Some h → slice_get lines place ≡ Some line →
+        h.ports.table ≡ line.ports.table
+    pub words : (slot place : ℕ) (h : Holding ReaderView) (line : LineView E WriterView) → slice_get vacants slot ≡ Some h → slice_get lines place ≡ Some line →
+        h.words.seat.table ≡ line.words.table
+    pub routes : (slot place : ℕ) (h : Holding ReaderView) (lane : Lane ReaderView) (line : LineView E WriterView) → slice_get vacants slot ≡ Some h → IsLaneAt h.routes place lane →
+        slice_get lines place ≡ Some line → (lane.peer ≡ line.channel.conn.peer) × (lane.pass.mail ≡ line.orders.mail) × (lane.reader.pair ≡ line.map.pair)
+    pub boxes : (slot place : ℕ) (h : Holding ReaderView) (line : LineView E WriterView) (box : Putter Datagram) → slice_get vacants slot ≡ Some h → slice_get lines place ≡ Some line →
+        IsBoxOf line.boxes h.words.slot box → box.mail ≡ inbox_of h

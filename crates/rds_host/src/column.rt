@@ -1,0 +1,177 @@
+//! What a host has for one peer, while it is made.
+ghost use Rattle.std.specs.Prelude.{◌≡◌, ◌≤◌, ◌++◌, ◌∷◌, [], All, IfOk, OnOk, length};
+ghost use Rattle.std.specs.Arc.{arc_value};
+ghost use Rattle.rds_model.specs.declared.entry.TheConstants.{MAX_SLOTS};
+ghost use Rattle.rds_model.specs.declared.journal.TheConstants.{MAX_ENTRIES, MIN_ENTRIES};
+ghost use Rattle.rds_line_streams.specs.Streams.{AreNumbered, IsUnused};
+ghost use Rattle.rds_line_channel.specs.Channel.{new_channel};
+ghost use Rattle.rds_host.specs.Ties.{with_box, lane_way, mails_of};
+
+use crate::seats::Seats;
+use rds_fmap::{Reader, Writer, pair};
+use rds_line::{Line, LineParts};
+use rds_line_parts::{Boxes, LineOrders, SlotBox};
+use rds_link::End;
+use rds_mail::{Asked, Mail, PutPass};
+use rds_socket::Route;
+use rds_wire::Memory;
+use std::alloc::Global;
+use std::marker::Model;
+use std::sync::Arc;
+
+/// The queue of the orders for a peer with a putter for each slot, the peer's map with a reader for each slot, and the
+/// mailboxes of the slots as far as these are made. The putters and readers of later slots stand before those of earlier ones.
+/// Contracts see the way to the peer and the mailboxes.
+pub(crate) struct Column {
+    peer: u32,
+    queue: Arc<Mail<Asked>>,
+    orders: LineOrders,
+    passes: Vec<PutPass<Asked>>,
+    map: Writer,
+    readers: Vec<Reader>,
+    boxes: Vec<SlotBox>,
+}
+
+// By hand, so that one call drops it wherever it is let go, and no function that owns one drops each field.
+impl Drop for Column {
+    fn drop(self) {
+        let Self {
+            peer: _,
+            queue: _queue,
+            orders: _orders,
+            passes: _passes,
+            map: _map,
+            readers: _readers,
+            boxes: _boxes,
+        } = self;
+    }
+}
+
+impl Model for Column {
+    ghost use Rattle.std.specs.Arc.{arc_value};
+    ghost use Rattle.rds_host.specs.Ties.{ColumnView, IsColumn, mails_of};
+
+    ghost Value = { ColumnView };
+
+    ghost view = { λ c. record {
+      way = record { peer = c.peer; mail = (arc_value c.queue).line; pair = c.map.pair };
+      boxes = mails_of c.boxes.items;
+    } };
+
+    ghost invariant = { λ c. IsColumn (arc_value c.queue).line c.orders c.passes.items c.map c.readers.items c.boxes.items };
+}
+
+impl Column {
+    /// What a host of so many slots has for the peer before a slot is made.
+    pub(crate) fn new(alloc: Global, peer: u32, slots: u16) -> Result<Column, Memory>
+        requires { 1 ≤ slots }
+        ensures peer { IfOk result (λ c. c.way.peer ≡ peer) }
+        ensures boxes { IfOk result (λ c. c.boxes ≡ []) }
+    {
+        let (mail, put, get) = Mail::new(alloc)?;
+        let queue = Arc::new(alloc, mail)?;
+        let (map, readers) = pair(alloc, u32::from(slots))?;
+        Ok(Column {
+            peer,
+            orders: LineOrders::new(Arc::try_clone(&queue)?, get),
+            passes: passes(alloc, &queue, put, slots)?,
+            queue,
+            map,
+            readers,
+            boxes: Vec::with_capacity(alloc, usize::from(slots))?,
+        })
+    }
+
+    /// The route of the next slot to the peer.
+    pub(crate) fn route(&mut self) -> Result<Route<Reader>, Memory>
+        ensures same { self.new ≡ self.old }
+        ensures way { IfOk result (λ lane. lane_way lane ≡ self.old.way) }
+        ensures put { IfOk result (λ lane. lane.pass.put ≡ []) }
+    {
+        let Some(pass) = self.passes.pop() else {
+            return Err(Memory);
+        };
+        let Some(map) = self.readers.pop() else {
+            return Err(Memory);
+        };
+        Ok(Route {
+            peer: self.peer,
+            orders: Arc::try_clone(&self.queue)?,
+            pass,
+            map,
+        })
+    }
+
+    /// The mailbox of the next slot.
+    pub(crate) fn add_box(&mut self, held: SlotBox) -> Result<(), Memory>
+        requires { held.put ≡ [] }
+        ensures { OnOk result (self.new ≡ with_box held.mail self.old) }
+    {
+        self.boxes.push(held)?;
+        Ok(())
+    }
+
+    /// The line of the host `me` to the peer, over these streams.
+    pub(crate) fn into_line<E: End>(
+        self,
+        alloc: Global,
+        me: u32,
+        seats: Seats,
+        streams: Vec<(u32, E)>,
+        limit: u32,
+    ) -> Result<Line<E, Writer>, Memory>
+        requires boxes { length self.boxes ≡ (arc_value seats.table).slots }
+        requires numbered { AreNumbered streams.items }
+        requires unused { All (λ stream. IsUnused E.means stream.1) streams.items }
+        requires least { MIN_ENTRIES ≤ limit }
+        requires most { limit ≤ MAX_ENTRIES }
+        ensures channel { IfOk result (λ line. line.channel ≡ new_channel me self.way.peer MAX_SLOTS limit streams.items) }
+        ensures mail { IfOk result (λ line. line.orders.mail ≡ self.way.mail) }
+        ensures pair { IfOk result (λ line. line.map.pair ≡ self.way.pair) }
+        ensures mails { IfOk result (λ line. mails_of line.boxes ≡ self.boxes) }
+        ensures ports { IfOk result (λ line. line.ports.table ≡ arc_value seats.table) }
+        ensures words { IfOk result (λ line. line.words.table ≡ arc_value seats.meter) }
+    {
+        let Column {
+            peer,
+            queue: _queue,
+            orders,
+            passes: _passes,
+            map,
+            readers: _readers,
+            boxes,
+        } = self;
+        let (ports, words) = seats.into_line();
+        let parts = LineParts {
+            me,
+            peer,
+            streams,
+            orders,
+            inboxes: Boxes::new(boxes),
+            ports,
+            words,
+            map,
+        };
+        Line::new(alloc, parts, limit)
+    }
+}
+
+// A putter for each of so many slots. The last one is the queue's first.
+fn passes(
+    alloc: Global,
+    queue: &Mail<Asked>,
+    mut put: PutPass<Asked>,
+    slots: u16,
+) -> Result<Vec<PutPass<Asked>>, Memory>
+    requires mail { put.mail ≡ queue.now.line }
+    requires new { put.put ≡ [] }
+    ensures mail { IfOk result (λ passes. All (λ p. p.mail ≡ queue.now.line) passes.items) }
+    ensures put { IfOk result (λ passes. All (λ p. p.put ≡ []) passes.items) }
+{
+    let mut passes = Vec::with_capacity(alloc, usize::from(slots))?;
+    for _ in 1..slots {
+        passes.push(queue.split(&mut put))?;
+    }
+    passes.push(put)?;
+    Ok(passes)
+}

@@ -1,0 +1,43 @@
+//! The worker of a host.
+ghost use Rattle.rds_host.specs.Lines.{AreTurned, pair_of};
+
+use crate::stop::Stop;
+use rds_fmap::Writer;
+use rds_line::{Line, Turn};
+use rds_link::End;
+use std::sync::Wait;
+use std::thread;
+
+/// Turns each line in order, round after round, until the stop flag is set and no line moved in a whole round. After a round
+/// in which none moved it rests. The lines come back in the same order.
+pub fn work<E: End, R: Wait>(
+    rt: &R,
+    mut lines: Vec<Line<E, Writer>>,
+    stop: &Stop,
+) -> Vec<Line<E, Writer>>
+    ensures { AreTurned E.means pair_of lines.items result.items }
+{
+    for _ in rt.forever() {
+        let was_set = stop.is_set();
+        let moved = turn_all(rt, &mut lines);
+        if !moved && was_set {
+            break;
+        }
+        if !moved {
+            thread::yield_now();
+        }
+    }
+    lines
+}
+
+// Turns each line once, and answers whether one moved.
+fn turn_all<E: End, R: Wait>(rt: &R, lines: &mut [Line<E, Writer>]) -> bool
+    ensures { AreTurned E.means pair_of lines.old lines.new }
+{
+    let mut moved = false;
+    for i in 0..lines.len() {
+        let line = &mut lines[i];
+        moved = line.turn(rt) == Turn::Moved || moved;
+    }
+    moved
+}
