@@ -1,0 +1,95 @@
+-- What two lines that are done give the ends of a run.
+use Rattle.std.proofs.Common.{◌≡◌, ◌≢◌, ◌<◌, ℕ, Bool, List, [], ◌∷◌, Some, length, map, slice_get, Result, Ok, Err, IfOk, Vec, refl, sym, ap, subst, ◌∙◌, arith}
+use Rattle.std.specs.Global.{Global}
+use Rattle.std.proofs.lemmas.List.Elements.{All-nil, All-cons}
+use Rattle.std.proofs.lemmas.List.Kept.{AllPairs-cons}
+use Rattle.std.proofs.lemmas.Option.{same_Some}
+use Rattle.rds_wire.specs.declared.memory.Memory.{Memory}
+use Rattle.rds_link.specs.Ends.{Means}
+use Rattle.rds_model.specs.declared.entry.Entry.{Entry}
+use Rattle.rds_line.specs.Line.{LineView, line_past}
+use Rattle.rds_report.specs.FinalState.{FinalHost, FinalJournal}
+use Rattle.rds_report.specs.Hosts.{IsAddress, address_of}
+use Rattle.rds_report.specs.Views.{AreFinalHosts, AreSides, host_view, host_views, side_view}
+use Rattle.rds_report.specs.declared.final_state.HostEnd.{HostEnd}
+use Rattle.rds_host.specs.Lines.{side_of}
+use Rattle.rds_threads.specs.Done.{AreDone}
+use Rattle.rds_threads.specs.Ends.{AreEnds, AreSound, HasJournal}
+use Rattle.rds_threads.proofs.Connected.{first_of}
+
+-- they are sound seen from the other side, too
+pub sound_back : (tells : Bool) (low high : List Entry) → AreSound tells low high → AreSound tells high low
+sound_back tells low high s = record {
+  low_legal = s.high_legal;
+  high_legal = s.low_legal;
+  honest = λ told. record { forth = (s.honest told).back; back = (s.honest told).forth };
+  forth = s.back;
+  back = s.forth;
+}
+
+only_of : {T : Type 0} (xs : List T) (x : T) → length xs ≡ 1 → slice_get xs 0 ≡ Some x → xs ≡ x ∷ []
+only_of [] x one at = absurd (omega (arith, one))
+only_of (y ∷ []) x one at = ap (λ z. z ∷ []) (same_Some y x at)
+only_of (y ∷ z ∷ xs) x one at = absurd (omega (arith, one))
+
+module _ {E M : Type 0} (m : Means E) (limit : ℕ) (lows highs : List (LineView E M)) (done : AreDone m limit lows highs) where
+  pub ends_of : (first second : HostEnd) → first.addr ≡ address_of 0 → second.addr ≡ address_of 1 →
+      map side_view first.journals.items ≡ map side_of lows → map side_view second.journals.items ≡ map side_of highs →
+      AreEnds m.tells (host_views (first ∷ second ∷ []))
+  ends_of first second first_addr second_addr first_sides second_sides =
+      let low = first_of lows done.low_count in
+      let high = first_of highs done.high_count in
+      let hosts = done.hosts low.0 high.0 low.1 high.1 in record {
+        low = host_view first;
+        high = host_view second;
+        low_past = line_past low.0;
+        high_past = line_past high.0;
+        all = refl;
+        low_journal = (
+          first_addr,
+          first_sides ∙ (ap (map side_of) (only_of lows low.0 done.low_count low.1)
+              ∙ ap (λ (peer : ℕ). let j : FinalJournal = record { peer = peer; past = line_past low.0 } in j ∷ []) hosts.low_peer),
+        );
+        high_journal = (
+          second_addr,
+          second_sides ∙ (ap (map side_of) (only_of highs high.0 done.high_count high.1)
+              ∙ ap (λ (peer : ℕ). let j : FinalJournal = record { peer = peer; past = line_past high.0 } in j ∷ []) hosts.high_peer),
+        );
+        sound = done.sound low.0 high.0 low.1 high.1;
+      }
+
+is_address : (host addr : ℕ) → host < 8 → addr ≡ address_of host → IsAddress addr
+is_address host addr small is = record { least = omega (arith, is); most = omega (arith, is, small) }
+
+sides_of : (addr peer : ℕ) (past : List Entry) (host : FinalHost) → HasJournal addr peer past host → IsAddress peer → AreSides host.sides
+sides_of addr peer past host has known =
+    subst AreSides (sym has.1) (record {
+      once = λ i j d lt within. absurd (omega (arith, lt, within));
+      peers = All-cons (λ (s : FinalJournal). IsAddress s.peer) _ [] known (All-nil (λ (s : FinalJournal). IsAddress s.peer));
+    })
+
+pub final_of : (tells : Bool) (hosts : List FinalHost) → AreEnds tells hosts → AreFinalHosts hosts
+final_of tells hosts e =
+    let low_is = is_address 0 e.low.addr (omega arith) e.low_journal.0 in
+    let high_is = is_address 1 e.high.addr (omega arith) e.high_journal.0 in
+    let low_peer = is_address 1 (address_of 1) (omega arith) refl in
+    let high_peer = is_address 0 (address_of 0) (omega arith) refl in
+    let apart : e.low.addr ≢ e.high.addr = λ same. let a = e.low_journal.0 in let b = e.high_journal.0 in absurd (omega (arith, a, b, same)) in
+    subst AreFinalHosts (sym e.all) (record {
+      once =
+          AllPairs-cons (λ (a b : FinalHost). a.addr ≢ b.addr) e.low (e.high ∷ [])
+          (All-cons (λ (b : FinalHost). e.low.addr ≢ b.addr) e.high [] apart (All-nil (λ (b : FinalHost). e.low.addr ≢ b.addr)))
+          (λ i j d lt within. absurd (omega (arith, lt, within)));
+      addresses =
+          All-cons (λ (h : FinalHost). IsAddress h.addr) e.low (e.high ∷ []) low_is
+          (All-cons (λ (h : FinalHost). IsAddress h.addr) e.high [] high_is (All-nil (λ (h : FinalHost). IsAddress h.addr)));
+      sides =
+          All-cons (λ (h : FinalHost). AreSides h.sides) e.low (e.high ∷ []) (sides_of _ _ _ e.low e.low_journal low_peer)
+          (All-cons (λ (h : FinalHost). AreSides h.sides) e.high [] (sides_of _ _ _ e.high e.high_journal high_peer) (All-nil (λ (h : FinalHost). AreSides h.sides)));
+    })
+
+-- what is known of a list is known where it was made
+pub on_made : (P : List FinalHost → Type 0) (hosts : List HostEnd) (result : Result (Vec HostEnd Global) Memory) →
+    IfOk result (λ ends. ends.items ≡ hosts) → P (host_views hosts) → IfOk result (λ ends. P (host_views ends.items))
+on_made P hosts (Ok ends) made known = subst (λ (l : List HostEnd). P (host_views l)) (sym made) known
+on_made P hosts (Err e) made known = tt

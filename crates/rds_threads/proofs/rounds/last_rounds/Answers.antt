@@ -1,0 +1,38 @@
+use Rattle.rds_threads.proofs.Finishing.{at_first, done_first, full_first, full_kept}
+use Rattle.rds_threads.proofs.rounds.last_rounds.Goals as goal
+
+pub turn_until_quiet-end-requires : goal.turn_until_quiet-end-requires
+turn_until_quiet-end-requires g c =
+    let two = c.requires.1 in (
+      c.requires.0,
+      two.connected c.index_mut-low.result.now c.index_mut-high.result.now
+          (at_first c.args.lines.now.0.items c.index_mut-low.result.now two.low_count c.index_mut-low.ensures.value)
+          (at_first c.args.lines.now.1.items c.index_mut-high.result.now two.high_count c.index_mut-high.ensures.value),
+    )
+
+pub meet_lines-requires : goal.meet_lines-requires
+meet_lines-requires g c =
+    let two = c.requires.1 in (
+      c.requires.0,
+      c.turn_until_quiet-end.ensures.connected c.requires.0
+          (two.connected c.index_mut-low.result.now c.index_mut-high.result.now
+          (at_first c.args.lines.now.0.items c.index_mut-low.result.now two.low_count c.index_mut-low.ensures.value)
+          (at_first c.args.lines.now.1.items c.index_mut-high.result.now two.high_count c.index_mut-high.ensures.value)),
+    )
+
+pub returns-clause-done : goal.returns-clause-done
+returns-clause-done g c = λ limit two.
+    let connected =
+    c.turn_until_quiet-end.ensures.connected limit
+    (two.connected c.index_mut-low.result.now c.index_mut-high.result.now
+    (at_first c.args.lines.now.0.items c.index_mut-low.result.now two.low_count c.index_mut-low.ensures.value)
+    (at_first c.args.lines.now.1.items c.index_mut-high.result.now two.high_count c.index_mut-high.ensures.value)) in
+    done_first g.W.End.End.means limit c.args.lines.now.0.items c.args.lines.now.1.items c.meet_lines.new.low c.meet_lines.new.high
+    two.low_count two.high_count (c.meet_lines.ensures.hosts limit connected.hosts) c.meet_lines.ensures.sound
+
+pub returns-clause-spent : goal.returns-clause-spent
+returns-clause-spent g c = λ host entries is.
+    let two = c.requires.1 in
+    full_first c.args.lines.now.0.items c.args.lines.now.1.items c.meet_lines.new.low c.meet_lines.new.high host entries two.low_count two.high_count
+    (full_kept host entries c.turn_until_quiet-end.new.low c.turn_until_quiet-end.new.high c.meet_lines.new.low c.meet_lines.new.high
+    (c.meet_lines.ensures.low_full entries) (c.meet_lines.ensures.high_full entries) (c.turn_until_quiet-end.ensures.spent host entries is))

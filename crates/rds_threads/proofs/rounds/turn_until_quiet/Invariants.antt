@@ -1,0 +1,7 @@
+use Rattle.std.proofs.Common.{ℕ}
+use Rattle.rds_threads.specs.Connection.{AreConnected}
+use Rattle.rds_threads.proofs.rounds.turn_until_quiet.Given as goal
+
+abbrev pub invariant-loop : goal.invariant-loop
+invariant-loop g l =
+    (limit : ℕ) → AreConnected g.W.End.End.means limit l.fn.low l.fn.high → AreConnected g.W.End.End.means limit l.low l.high

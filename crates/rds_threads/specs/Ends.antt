@@ -1,0 +1,68 @@
+-- What a run comes to: what its hosts have in the end, and what was written. Source: this project's own.
+use Rattle.std.specs.Prelude.{◌≡◌, ◌⊎◌, ℕ, ◌+◌, ◌<◌, Bool, true, List, [], ◌∷◌, length, Option}
+use Rattle.rds_link.specs.Streaming.{HasRisen, SinkGained}
+use Rattle.rds_model.specs.declared.entry.Entry.{Entry}
+use Rattle.rds_model.specs.Legal.{IsWhole}
+use Rattle.rds_model.specs.Honest.{IsHonest}
+use Rattle.rds_model.specs.Pairs.{IsDeliveredOnce}
+use Rattle.rds_report.specs.FinalState.{FinalHost}
+use Rattle.rds_report.specs.Hosts.{address_of}
+use Rattle.rds_report.specs.Report.{report}
+use Rattle.rds_report.specs.Views.{host_views}
+use Rattle.rds_text.specs.Lines.{spent_line}
+use Rattle.rds_threads.specs.Texts.{fault_line, unfinished_line}
+use Rattle.rds_threads.specs.declared.form.RunEnd.{RunEnd}
+use Rattle.rds_threads.specs.declared.form.RunEnd.TheVariants as ended
+
+-- Both journals of the connection follow the rules. Where the ends of its streams tell their bytes, each host got a beginning of
+-- what the other wrote, and for each port pair the datagrams that were delivered are accepted ones, in order and each once, and each
+-- accepted one up to the last that arrived is accounted for.
+pub record AreSound (tells : Bool) (low high : List Entry) : Type 0 where
+  pub low_legal : IsWhole low
+  pub high_legal : IsWhole high
+  pub honest : tells ≡ true → IsHonest low high
+  pub forth : tells ≡ true → (sport dport : ℕ) → IsDeliveredOnce sport dport low high
+  pub back : tells ≡ true → (sport dport : ℕ) → IsDeliveredOnce sport dport high low
+
+-- the host has this address, and one journal, of its connection with this peer
+abbrev pub HasJournal : (addr peer : ℕ) → List Entry → FinalHost → Type 0
+HasJournal addr peer past host = (host.addr ≡ addr) × (host.sides ≡ record { peer = peer; past = past } ∷ [])
+
+-- there are two hosts, A and B, and their journals are sound
+pub record AreEnds (tells : Bool) (hosts : List FinalHost) : Type 0 where
+  pub low : FinalHost
+  pub high : FinalHost
+  pub low_past : List Entry
+  pub high_past : List Entry
+  pub all : hosts ≡ low ∷ high ∷ []
+  pub low_journal : HasJournal (address_of 0) (address_of 1) low_past low
+  pub high_journal : HasJournal (address_of 1) (address_of 0) high_past high
+  pub sound : AreSound tells low_past high_past
+
+-- what a run does to its sink: the bytes that it holds, where it tells them, and how often it has failed
+pub record Written : Type 0 where
+  pub held_before : Option (List ℕ)
+  pub held_after : Option (List ℕ)
+  pub faults_before : ℕ
+  pub faults_after : ℕ
+
+-- the whole text was written, and the run ended so; or the sink failed
+abbrev pub Writes : Written → List ℕ → (end result : RunEnd) → Type 0
+Writes sink text end result =
+    ((result ≡ end) × SinkGained sink.held_before sink.held_after text)
+    ⊎ ((result ≡ ended.WriteFault) × HasRisen sink.faults_before sink.faults_after)
+
+-- How a run ended. It wrote the report on what its hosts have in the end, which is sound; or its line; or the sink failed; or
+-- memory ran out, and nothing was written.
+abbrev pub IsEndOfRun : (tells : Bool) (limit : ℕ) → Written → RunEnd → Type 0
+IsEndOfRun tells limit sink (ended.Ok ends) =
+    AreEnds tells (host_views ends.items) × SinkGained sink.held_before sink.held_after (report (host_views ends.items))
+IsEndOfRun tells limit sink (ended.WireFault low high stream) =
+    SinkGained sink.held_before sink.held_after (fault_line low high stream)
+IsEndOfRun tells limit sink (ended.Spent host peer entries own other) =
+    (length own.past ≡ entries) × (limit < entries + 2) × AreSound tells own.past other.past
+    × SinkGained sink.held_before sink.held_after (spent_line host peer entries)
+IsEndOfRun tells limit sink (ended.Unfinished count ends) =
+    AreEnds tells (host_views ends.items) × SinkGained sink.held_before sink.held_after (unfinished_line count)
+IsEndOfRun tells limit sink ended.WriteFault = HasRisen sink.faults_before sink.faults_after
+IsEndOfRun tells limit sink ended.Memory = sink.held_after ≡ sink.held_before

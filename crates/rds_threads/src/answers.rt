@@ -1,0 +1,146 @@
+//! What a run writes at its end.
+ghost use Rattle.std.specs.Prelude.{◌≡◌, ◌≢◌, ◌<◌, ℕ, IfOk, OnErr, string_bytes};
+ghost use Rattle.rds_report.specs.Report.{report as text_of_report};
+ghost use Rattle.rds_report.specs.Views.{AreFinalHosts, host_views};
+ghost use Rattle.rds_text.specs.Lines.{spent_line as line_of_spent};
+ghost use Rattle.rds_threads.specs.Ends.{Writes};
+ghost use Rattle.rds_threads.specs.Texts.{fault_line, unfinished_line};
+ghost use Rattle.rds_threads.specs.declared.form.RunEnd.TheVariants as ended;
+
+use crate::form::{Form, RunEnd};
+use crate::verdict::last_stream;
+use rds_link::{Sink, write_all};
+use rds_model::Journal;
+use rds_report::{HostEnd, report};
+use rds_text::{HostName, spent_line};
+use rds_wire::Memory;
+use std::alloc::Global;
+
+/// Writes the text of a run that came to its end.
+pub(crate) fn end_by_report<K: Sink>(
+    alloc: Global,
+    form: Form,
+    ends: Vec<HostEnd>,
+    sink: &mut K,
+) -> Result<RunEnd, Memory>
+    requires { AreFinalHosts (host_views ends.items) }
+    ensures end { IfOk result (Writes
+        record { held_before = K.held sink.old; held_after = K.held sink.new; faults_before = K.faults sink.old; faults_after = K.faults sink.new }
+        (text_of_report (host_views ends.items)) (ended.Ok ends)) }
+    ensures memory { OnErr result (K.held sink.new ≡ K.held sink.old) }
+{
+    let text = text_of(alloc, form, &ends)?;
+    Ok(write(sink, text.as_str(), RunEnd::Ok { ends }))
+}
+
+// The text of a run that came to its end.
+fn text_of(alloc: Global, form: Form, ends: &[HostEnd]) -> Result<String, Memory>
+    requires { AreFinalHosts (host_views ends.now) }
+    ensures { IfOk result (λ text. string_bytes text ≡ text_of_report (host_views ends.now)) }
+{
+    let mut text = String::new(alloc);
+    match form {
+        Form::Report => report(alloc, &mut text, ends)?,
+    }
+    Ok(text)
+}
+
+/// Writes the line of a run some of whose datagrams aren't acknowledged.
+pub(crate) fn end_unfinished<K: Sink>(
+    alloc: Global,
+    count: u64,
+    ends: Vec<HostEnd>,
+    sink: &mut K,
+) -> Result<RunEnd, Memory>
+    ensures end { IfOk result (Writes
+        record { held_before = K.held sink.old; held_after = K.held sink.new; faults_before = K.faults sink.old; faults_after = K.faults sink.new }
+        (unfinished_line count) (ended.Unfinished count ends)) }
+    ensures memory { OnErr result (K.held sink.new ≡ K.held sink.old) }
+{
+    let text = format!(in alloc; "unfinished {count}\n")?;
+    Ok(write(sink, text.as_str(), RunEnd::Unfinished { count, ends }))
+}
+
+/// Writes the line of two hosts that lack a stream. The journal is that of the first.
+pub(crate) fn end_by_fault<K: Sink>(
+    alloc: Global,
+    low: &Journal,
+    sink: &mut K,
+) -> Result<RunEnd, Memory>
+    ensures end { (stream : ℕ) × IfOk result (Writes
+        record { held_before = K.held sink.old; held_after = K.held sink.new; faults_before = K.faults sink.old; faults_after = K.faults sink.new }
+        (fault_line 0 1 stream) (ended.WireFault 0 1 stream)) }
+    ensures memory { OnErr result (K.held sink.new ≡ K.held sink.old) }
+{
+    let stream = last_stream(low);
+    let text = fault_text(alloc, 0, 1, stream)?;
+    let end = RunEnd::WireFault {
+        low: 0,
+        high: 1,
+        stream,
+    };
+    Ok(write(sink, text.as_str(), end))
+}
+
+// The line of two hosts that lack a stream.
+fn fault_text(alloc: Global, low: u8, high: u8, stream: u32) -> Result<String, Memory>
+    requires low { low < 26 }
+    requires high { high < 26 }
+    ensures { IfOk result (λ text. string_bytes text ≡ fault_line low high stream) }
+{
+    let low = HostName::new(low);
+    let high = HostName::new(high);
+    Ok(format!(in alloc; "wire fault {low} {high} after k={stream}\n")?)
+}
+
+/// Writes the line of a journal that is full.
+pub(crate) fn end_by_spent<K: Sink>(
+    alloc: Global,
+    host: u8,
+    entries: u32,
+    low: Journal,
+    high: Journal,
+    sink: &mut K,
+) -> Result<RunEnd, Memory>
+    ensures low { host ≡ 0 → IfOk result (Writes
+        record { held_before = K.held sink.old; held_after = K.held sink.new; faults_before = K.faults sink.old; faults_after = K.faults sink.new }
+        (line_of_spent 0 1 entries) (ended.Spent 0 1 entries low high)) }
+    ensures high { host ≢ 0 → IfOk result (Writes
+        record { held_before = K.held sink.old; held_after = K.held sink.new; faults_before = K.faults sink.old; faults_after = K.faults sink.new }
+        (line_of_spent 1 0 entries) (ended.Spent 1 0 entries high low)) }
+    ensures memory { OnErr result (K.held sink.new ≡ K.held sink.old) }
+{
+    let mut text = String::new(alloc);
+    if host == 0 {
+        spent_line(&mut text, 0, 1, entries)?;
+        let end = spent(0, 1, entries, low, high);
+        return Ok(write(sink, text.as_str(), end));
+    }
+    spent_line(&mut text, 1, 0, entries)?;
+    let end = spent(1, 0, entries, high, low);
+    Ok(write(sink, text.as_str(), end))
+}
+
+fn spent(host: u8, peer: u8, entries: u32, own: Journal, other: Journal) -> RunEnd
+    ensures { result ≡ ended.Spent host peer entries own other }
+{
+    RunEnd::Spent {
+        host,
+        peer,
+        entries,
+        own,
+        other,
+    }
+}
+
+// Writes the whole text, and answers how that ended.
+fn write<K: Sink>(sink: &mut K, text: &str, end: RunEnd) -> RunEnd
+    ensures { Writes
+        record { held_before = K.held sink.old; held_after = K.held sink.new; faults_before = K.faults sink.old; faults_after = K.faults sink.new }
+        text.now end result }
+{
+    match write_all(sink, text.as_bytes()) {
+        Ok(()) => end,
+        Err(_) => RunEnd::WriteFault,
+    }
+}

@@ -1,0 +1,18 @@
+//! Scripts of two hosts, run by threads: a caller for each host beside a worker that turns its line.
+#![tactic(auto)]
+
+mod answers;
+mod ending;
+mod form;
+mod meeting;
+mod pair;
+mod playing;
+mod rounds;
+mod running;
+mod streams;
+#[cfg(test)]
+mod tests;
+mod verdict;
+
+pub use form::{Form, RunEnd};
+pub use running::run;

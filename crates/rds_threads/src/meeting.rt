@@ -1,0 +1,24 @@
+//! The meeting of the two lines of a run.
+ghost use Rattle.std.specs.Prelude.{◌≡◌, ℕ};
+ghost use Rattle.rds_line.specs.Line.{IsFull, line_past};
+ghost use Rattle.rds_threads.specs.Connection.{AreConnected, AreOfHosts};
+ghost use Rattle.rds_threads.specs.Ends.{AreSound};
+
+use rds_fmap::Writer;
+use rds_line::{Line, meet};
+use rds_link::Wire;
+
+/// The two lines of a connection meet: then what their journals have is sound.
+pub(crate) fn meet_lines<W: Wire>(low: &mut Line<W::End, Writer>, high: &mut Line<W::End, Writer>)
+    requires { (limit : ℕ) × AreConnected W.End.means limit low.old high.old }
+    ensures hosts { (limit : ℕ) → AreOfHosts limit low.old high.old → AreOfHosts limit low.new high.new }
+    ensures low_past { line_past low.new ≡ line_past low.old }
+    ensures high_past { line_past high.new ≡ line_past high.old }
+    ensures low_full { (entries : ℕ) → IsFull entries low.old → IsFull entries low.new }
+    ensures high_full { (entries : ℕ) → IsFull entries high.old → IsFull entries high.new }
+    ensures sound { AreSound W.End.means.tells (line_past low.new) (line_past high.new) }
+{
+    meet::<W, Writer>(low, high);
+    low.known();
+    high.known();
+}

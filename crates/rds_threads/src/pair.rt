@@ -1,0 +1,99 @@
+//! The two hosts of a run.
+ghost use Rattle.std.specs.Prelude.{◌≡◌, ◌≤◌, ◌<◌, All, IfOk, Some, length, slice_get};
+ghost use Rattle.rds_model.specs.declared.entry.TheConstants.{MAX_SLOTS};
+ghost use Rattle.rds_model.specs.declared.journal.TheConstants.{MAX_ENTRIES, MIN_ENTRIES};
+ghost use Rattle.rds_report.specs.Hosts.{address_of};
+ghost use Rattle.rds_script.specs.Script.{IsCommand};
+ghost use Rattle.rds_line.specs.Line.{LineView};
+ghost use Rattle.rds_line_streams.specs.Streams.{AreNumbered, IsUnused};
+ghost use Rattle.rds_host.specs.Lines.{IsNewLine};
+ghost use Rattle.rds_fmap.specs.Readers.{WriterView};
+
+use rds_callers::{Caller, host_of, is_bind};
+use rds_fmap::Writer;
+use rds_host::make;
+use rds_line::Line;
+use rds_link::End;
+use rds_model::MAX_SLOTS;
+use rds_report::address;
+use rds_script::{Placed, Script};
+use rds_wire::Memory;
+use std::alloc::Global;
+use std::sync::Wait;
+
+/// The lines of both hosts.
+pub(crate) type Lines<E> = (Vec<Line<E, Writer>>, Vec<Line<E, Writer>>);
+
+// How many slots a host gets: one for each socket that it may bind, but at least one and at most 1,024.
+fn slots(script: &Script, host: u8) -> u16
+    ensures { (1 ≤ result) × (result ≤ MAX_SLOTS) }
+{
+    let mut binds = 0u16;
+    for placed in &script.commands {
+        if is_bind(&placed.command) && host_of(&placed.command) == Some(host) {
+            binds = binds.saturating_add(1);
+        }
+    }
+    binds.max(1).min(MAX_SLOTS)
+}
+
+/// The caller of a host, and its line to the peer over these streams.
+pub(crate) fn party<E: End>(
+    alloc: Global,
+    script: &Script,
+    host: u8,
+    peer: u8,
+    streams: Vec<(u32, E)>,
+    limit: u32,
+) -> Result<(Caller, Vec<Line<E, Writer>>), Memory>
+    requires host { host < 2 }
+    requires peer { peer < 2 }
+    requires numbered { AreNumbered streams.items }
+    requires unused { All (λ stream. IsUnused E.means stream.1) streams.items }
+    requires least { MIN_ENTRIES ≤ limit }
+    requires most { limit ≤ MAX_ENTRIES }
+    ensures one { IfOk result (λ p. length p.1.items ≡ 1) }
+    ensures new { IfOk result (λ p. (line : LineView E WriterView) → slice_get p.1.items 0 ≡ Some line → IsNewLine (address_of host) (address_of peer) limit streams.items line) }
+{
+    let peers = [address(peer)];
+    let mut all = Vec::with_capacity(alloc, 1)?;
+    all.push(streams)?;
+    let slots = slots(script, host);
+    let (vacants, lines) = make(alloc, address(host), &peers, slots, all, limit)?;
+    Ok((Caller::new(alloc, host, vacants), lines))
+}
+
+/// Does the leading binds, and answers how many there are.
+pub(crate) fn bind_leading<R: Wait>(
+    rt: &R,
+    alloc: Global,
+    commands: &[Placed],
+    callers: &mut (Caller, Caller),
+) -> Result<usize, Memory>
+    requires { All (λ p. IsCommand 2 p.command) commands.now }
+    ensures { IfOk result (λ count. count ≤ length commands.now) }
+{
+    let mut count = 0;
+    for placed in commands {
+        if !is_bind(&placed.command) {
+            break;
+        }
+        if host_of(&placed.command) == Some(0) {
+            callers.0.obey(rt, alloc, &placed.command)?;
+        } else {
+            callers.1.obey(rt, alloc, &placed.command)?;
+        }
+        count += 1;
+    }
+    Ok(count)
+}
+
+/// The commands from this place on.
+pub(crate) fn commands_from(commands: &[Placed], place: usize) -> &[Placed]
+    requires place { place ≤ length commands.now }
+    requires each { All (λ p. IsCommand 2 p.command) commands.now }
+    ensures { All (λ p. IsCommand 2 p.command) result.now }
+{
+    let (_, rest) = commands.split_at(place);
+    rest
+}

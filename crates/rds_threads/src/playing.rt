@@ -1,0 +1,124 @@
+//! The threads of a run.
+ghost use Rattle.std.specs.Prelude.{All};
+ghost use Rattle.rds_script.specs.Script.{IsCommand};
+ghost use Rattle.rds_host.specs.Lines.{AreTurned, pair_of};
+
+use crate::pair::Lines;
+use rds_callers::{Caller, host_of};
+use rds_fmap::Writer;
+use rds_host::{Stop, work};
+use rds_line::Line;
+use rds_link::{End, Gate};
+use rds_script::Placed;
+use rds_wire::Memory;
+use std::alloc::Global;
+use std::sync::Wait;
+use std::thread;
+use std::thread::Threads;
+
+/// How often a gate is asked at most before a command.
+const ASKS: u32 = 50_000_000;
+
+// Asks the gate until it lets the caller go on.
+fn wait_at<G: Gate>(gate: &G, host: u8, turn: u32) {
+    for _ in 0..ASKS {
+        if gate.at(u32::from(host), turn) {
+            return;
+        }
+    }
+}
+
+// Does all of a host's commands in their order, each once the gate lets it. Where memory runs out, the caller is given up.
+fn call_all<R: Wait, G: Gate>(
+    rt: &R,
+    alloc: Global,
+    commands: &[Placed],
+    host: u8,
+    gate: &G,
+    mut caller: Caller,
+) -> Result<Caller, Memory>
+    requires { All (λ p. IsCommand 2 p.command) commands.now }
+{
+    let mut turn = 0u32;
+    for placed in commands {
+        if host_of(&placed.command) == Some(host) {
+            wait_at(gate, host, turn);
+            caller.obey(rt, alloc, &placed.command)?;
+            turn = turn.saturating_add(1);
+        }
+    }
+    Ok(caller)
+}
+
+// Both callers, beside each other. When they have ended, the workers are told to stop.
+fn call_both<R: Threads + Wait + Sync, G: Gate + Sync>(
+    rt: &R,
+    alloc: Global,
+    commands: &[Placed],
+    gate: &G,
+    callers: (Caller, Caller),
+    stop: &Stop,
+) -> Result<(Caller, Caller), Memory>
+    requires { All (λ p. IsCommand 2 p.command) commands.now }
+{
+    let (low, high) = callers;
+    let (low, high) = thread::join(
+        rt,
+        move || -> Result<Caller, Memory>
+            requires { All (λ p. IsCommand 2 p.command) commands.now }
+        { call_all(rt, alloc, commands, 0, gate, low) },
+        move || -> Result<Caller, Memory>
+            requires { All (λ p. IsCommand 2 p.command) commands.now }
+        { call_all(rt, alloc, commands, 1, gate, high) },
+    );
+    stop.set();
+    Ok((low?, high?))
+}
+
+/// Does the commands from this place on, while workers turn the lines.
+pub(crate) fn play_both<E: End + Send, R: Threads + Wait + Sync, G: Gate + Sync>(
+    rt: &R,
+    alloc: Global,
+    commands: &[Placed],
+    gate: &G,
+    callers: (Caller, Caller),
+    lines: Lines<E>,
+) -> (Result<(Caller, Caller), Memory>, Lines<E>)
+    requires { All (λ p. IsCommand 2 p.command) commands.now }
+    ensures low { AreTurned E.means pair_of lines.0.items result.1.0.items }
+    ensures high { AreTurned E.means pair_of lines.1.items result.1.1.items }
+{
+    let stop = Stop::new();
+    let stop = &stop;
+    thread::join(
+        rt,
+        move || -> Result<(Caller, Caller), Memory>
+            requires { All (λ p. IsCommand 2 p.command) commands.now }
+        { call_both(rt, alloc, commands, gate, callers, stop) },
+        move || -> Lines<E>
+            ensures low { AreTurned E.means pair_of lines.0.items result.0.items }
+            ensures high { AreTurned E.means pair_of lines.1.items result.1.items }
+        { work_both(rt, lines, stop) },
+    )
+}
+
+// Both workers, beside each other.
+fn work_both<E: End + Send, R: Threads + Wait + Sync>(
+    rt: &R,
+    lines: Lines<E>,
+    stop: &Stop,
+) -> Lines<E>
+    ensures low { AreTurned E.means pair_of lines.0.items result.0.items }
+    ensures high { AreTurned E.means pair_of lines.1.items result.1.items }
+{
+    let (low, high) = lines;
+    thread::join(
+        rt,
+        move || -> Vec<Line<E, Writer>>
+            ensures { AreTurned E.means pair_of low.items result.items }
+        { work(rt, low, stop) },
+        move || -> Vec<Line<E, Writer>>
+            ensures { AreTurned E.means pair_of high.items result.items }
+        { work(rt, high, stop) },
+    )
+}

@@ -1,0 +1,155 @@
+//! The last rounds of a run, on one thread.
+ghost use Rattle.std.specs.Prelude.{◌≡◌, ◌≢◌, ℕ, Some};
+ghost use Rattle.rds_line.specs.Stays.{LineStays};
+ghost use Rattle.rds_host.specs.Lines.{pair_of};
+ghost use Rattle.rds_threads.specs.Connection.{AreConnected, AreTwo, IsFullAt, IsFullHost};
+ghost use Rattle.rds_threads.specs.Done.{AreDone};
+ghost use Rattle.rds_threads.specs.declared.rounds.Rounds.TheVariants as ended;
+ghost use Rattle.rds_threads.specs.declared.verdict.Round.TheVariants as round;
+
+use crate::meeting::meet_lines;
+use crate::pair::Lines;
+use crate::verdict::{Round, Wanted, turn};
+use rds_fmap::Writer;
+use rds_line::Line;
+use rds_link::{End, Wire};
+use std::sync::Wait;
+
+/// How the last rounds ended.
+#[derive(Clone, Copy, Debug, PartialEq, Eq)]
+pub(crate) enum Rounds {
+    /// Nothing is left to move.
+    Done,
+    /// So many datagrams aren't acknowledged, and the budget of quiet rounds is spent.
+    Unfinished { count: u64 },
+    /// A line has no stream left that should have one.
+    Fault,
+    /// The journal of this host with the other is full.
+    Spent { host: u8, entries: u32 },
+    /// Memory ran out.
+    Memory,
+}
+
+// One round: a turn of each line.
+fn round<E: End, R: Wait>(
+    rt: &R,
+    wanted: Wanted,
+    low: &mut Line<E, Writer>,
+    high: &mut Line<E, Writer>,
+) -> Round
+    ensures low { LineStays E.means pair_of low.old low.new }
+    ensures high { LineStays E.means pair_of high.old high.new }
+    ensures spent { (host entries : ℕ) → result ≡ round.Spent host entries → IsFullAt host entries low.new high.new }
+{
+    let first = turn(rt, 0, wanted, low, high);
+    let second = turn(rt, 1, wanted, high, low);
+    if second == Round::Idle || (first != Round::Moved && first != Round::Idle) {
+        return first;
+    }
+    second
+}
+
+// How many datagrams aren't acknowledged.
+fn unacked<E: End>(low: &Line<E, Writer>, high: &Line<E, Writer>) -> u64 {
+    u64::from(low.unacked()) + u64::from(high.unacked())
+}
+
+/// Turns both lines in rounds, and lets them meet after the last. Over ends that tell their bytes they stop after
+/// an idle round that left nothing to be written. Over others they stop once rounds were quiet and all is acknowledged, or as many
+/// were quiet as the budget allows.
+pub(crate) fn last_rounds<W: Wire, R: Wait>(
+    rt: &R,
+    wire: &W,
+    wanted: Wanted,
+    budget: u64,
+    lines: &mut Lines<W::End>,
+) -> Rounds
+    requires { (limit : ℕ) × AreTwo W.End.means limit lines.old.0.items lines.old.1.items }
+    ensures done { (limit : ℕ) → AreTwo W.End.means limit lines.old.0.items lines.old.1.items → AreDone W.End.means limit lines.new.0.items lines.new.1.items }
+    ensures spent { (host entries : ℕ) → result ≡ ended.Spent host entries →
+        IsFullHost host entries lines.new.0.items lines.new.1.items }
+{
+    let tells = wire.tells();
+    let low = &mut lines.0[0];
+    let high = &mut lines.1[0];
+    let end = turn_until_quiet::<W, R>(rt, tells, wanted, budget, low, high);
+    meet_lines::<W>(low, high);
+    end
+}
+
+// The rounds alone, until they stop.
+fn turn_until_quiet<W: Wire, R: Wait>(
+    rt: &R,
+    tells: bool,
+    wanted: Wanted,
+    budget: u64,
+    low: &mut Line<W::End, Writer>,
+    high: &mut Line<W::End, Writer>,
+) -> Rounds
+    requires { (limit : ℕ) × AreConnected W.End.means limit low.old high.old }
+    ensures connected { (limit : ℕ) → AreConnected W.End.means limit low.old high.old → AreConnected W.End.means limit low.new high.new }
+    ensures spent { (host entries : ℕ) → result ≡ ended.Spent host entries → IsFullAt host entries low.new high.new }
+{
+    let mut quiet = 0u64;
+    for _ in rt.forever() {
+        let came = round(rt, wanted, low, high);
+        quiet = quiet_after(came, quiet);
+        if let Some(end) = end_after(came, tells, quiet, budget, low, high) {
+            return end;
+        }
+    }
+    unreachable!()
+}
+
+// How many rounds in a row were quiet.
+fn quiet_after(came: Round, quiet: u64) -> u64 {
+    if came == Round::Idle {
+        quiet.saturating_add(1)
+    } else {
+        0
+    }
+}
+
+// How the rounds end after this one, if they do.
+fn end_after<E: End>(
+    came: Round,
+    tells: bool,
+    quiet: u64,
+    budget: u64,
+    low: &Line<E, Writer>,
+    high: &Line<E, Writer>,
+) -> Option<Rounds>
+    ensures { (host entries : ℕ) → result ≡ Some (ended.Spent host entries) → came ≡ round.Spent host entries }
+{
+    match came {
+        Round::Moved => None,
+        Round::Idle => after_idle(tells, quiet, budget, low, high),
+        Round::Fault => Some(Rounds::Fault),
+        Round::Spent { host, entries } => Some(Rounds::Spent { host, entries }),
+        Round::Memory => Some(Rounds::Memory),
+    }
+}
+
+// Whether the rounds stop after so many quiet ones.
+fn after_idle<E: End>(
+    tells: bool,
+    quiet: u64,
+    budget: u64,
+    low: &Line<E, Writer>,
+    high: &Line<E, Writer>,
+) -> Option<Rounds>
+    ensures { (host entries : ℕ) → result ≢ Some (ended.Spent host entries) }
+{
+    if tells {
+        let is_written = low.unwritten() == 0 && high.unwritten() == 0;
+        return if is_written { Some(Rounds::Done) } else { None };
+    }
+    let count = unacked(low, high);
+    if count == 0 {
+        return Some(Rounds::Done);
+    }
+    if quiet >= budget {
+        return Some(Rounds::Unfinished { count });
+    }
+    None
+}

@@ -1,0 +1,96 @@
+//! What the turns of a round come to.
+ghost use Rattle.std.specs.Prelude.{◌≡◌, ℕ};
+ghost use Rattle.rds_line.specs.Line.{IsFull};
+ghost use Rattle.rds_line.specs.Stays.{LineStays};
+ghost use Rattle.rds_host.specs.Lines.{pair_of};
+ghost use Rattle.rds_threads.specs.declared.verdict.Round.TheVariants as round;
+
+use rds_fmap::Writer;
+use rds_line::{Line, Turn};
+use rds_link::End;
+use rds_model::{Entry, Journal};
+use std::sync::Wait;
+
+/// What a round came to.
+#[derive(Clone, Copy, Debug, PartialEq, Eq)]
+pub(crate) enum Round {
+    /// A line moved.
+    Moved,
+    /// None did.
+    Idle,
+    /// A line has no stream left that should have one.
+    Fault,
+    /// The journal of this host with the other has so many entries, and two more would pass its limit.
+    Spent { host: u8, entries: u32 },
+    /// Memory ran out.
+    Memory,
+}
+
+/// What is to be known beside the journals where a line is over.
+#[derive(Clone, Copy)]
+pub(crate) struct Wanted {
+    /// Whether some streams weren't opened.
+    pub(crate) lacks: bool,
+    /// How many cuts the script has.
+    pub(crate) cuts: u32,
+}
+
+// How many entries of a journal are shuts of streams.
+fn shuts(journal: &Journal) -> u32 {
+    let mut count = 0u32;
+    for i in 0..journal.len() {
+        if let Some(Entry::Shut { .. }) = journal.at(i) {
+            count = count.saturating_add(1);
+        }
+    }
+    count
+}
+
+// How many entries of a journal are refused headers.
+fn refusals(journal: &Journal) -> u32 {
+    let mut count = 0u32;
+    for i in 0..journal.len() {
+        if let Some(Entry::Bad { .. }) = journal.at(i) {
+            count = count.saturating_add(1);
+        }
+    }
+    count
+}
+
+// Whether a line that is over should have a stream left: one wasn't opened, or more were shut than cuts and refused headers say.
+fn is_fault<E: End>(wanted: Wanted, line: &Line<E, Writer>, other: &Line<E, Writer>) -> bool {
+    let causes = wanted.cuts.saturating_add(refusals(other.journal()));
+    wanted.lacks || shuts(line.journal()) > causes
+}
+
+/// One turn of a host's line, where `other` is the peer's.
+pub(crate) fn turn<E: End, R: Wait>(
+    rt: &R,
+    host: u8,
+    wanted: Wanted,
+    line: &mut Line<E, Writer>,
+    other: &Line<E, Writer>,
+) -> Round
+    ensures stays { LineStays E.means pair_of line.old line.new }
+    ensures spent { (at entries : ℕ) → result ≡ round.Spent at entries → (at ≡ host) × IsFull entries line.new }
+{
+    match line.turn(rt) {
+        Turn::Moved => Round::Moved,
+        Turn::Idle => Round::Idle,
+        Turn::Over if is_fault(wanted, line, other) => Round::Fault,
+        Turn::Over => Round::Idle,
+        Turn::Spent { entries } => Round::Spent { host, entries },
+        Turn::Memory => Round::Memory,
+    }
+}
+
+/// The stream that a journal opened last, or 0.
+pub(crate) fn last_stream(journal: &Journal) -> u32 {
+    let mut last = 0;
+    for i in 0..journal.len() {
+        if let Some(Entry::Open { stream }) = journal.at(i) {
+            last = *stream;
+        }
+    }
+    last
+}
