@@ -1,3 +1,6 @@
 pub mod Lines
 pub mod Slots
 pub mod Ties
+pub mod Passes
+pub mod Keeping
+pub mod Telling

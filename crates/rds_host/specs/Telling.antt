@@ -1,0 +1,25 @@
+-- What getters were told of what putters have put. Source: this project's own.
+use Rattle.std.specs.Prelude.{◌≡◌, ℕ, List, Some, slice_get}
+use Rattle.rds_views.specs.Views.{Has}
+use Rattle.rds_mail.specs.declared.view.Account.{Account}
+use Rattle.rds_mail.specs.Passes.{Putter}
+use Rattle.rds_model.specs.declared.order.Datagram.{Datagram}
+use Rattle.rds_parts.specs.Lanes.{IsLaneAt, Lane}
+use Rattle.rds_line_parts.specs.Boxes.{IsBoxOf}
+use Rattle.rds_socket.specs.Holding.{Holding}
+use Rattle.rds_line.specs.Line.{LineView}
+
+-- a getter was told of all that the putter has put
+abbrev pub IsTold : {T : Type 0} → List (Account T) → Putter T → Type 0
+IsTold told p = Has told (λ t. (t.number ≡ p.number) × (t.put ≡ p.put))
+
+module _ {R E M : Type 0} where
+  -- the line at this place was told of all orders that each slot has put for it
+  abbrev pub AreOrdersTold : List (Holding R) → ℕ → LineView E M → Type 0
+  AreOrdersTold slots place line = (slot : ℕ) (h : Holding R) (lane : Lane R) → slice_get slots slot ≡ Some h → IsLaneAt h.routes place lane →
+      IsTold line.orders.told lane.pass
+
+  -- the slot was told of all datagrams that each line has put into its mailbox
+  abbrev pub AreBoxesTold : Holding R → List (LineView E M) → Type 0
+  AreBoxesTold h lines = (place : ℕ) (line : LineView E M) (box : Putter Datagram) → slice_get lines place ≡ Some line → IsBoxOf line.boxes h.words.slot box →
+      IsTold h.inbox.get.told box
