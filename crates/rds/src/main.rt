@@ -1,7 +1,7 @@
 //! Reliable Datagram Sockets: the program `rds`.
 #![tactic(auto)]
 
-use rds_link::{StdSink, StdSource};
+use rds_link::{MemWire, OpenGate, StdSink, StdSource};
 use rds_run::rds_main;
 use std::alloc::AllocError;
 use std::process::ExitCode;
@@ -17,7 +17,9 @@ fn main(rt: HostRuntime) -> ExitCode {
     };
     let mut source = StdSource::new(rt.reader());
     let mut sink = StdSink::new(io::writer(&rt));
-    ExitCode::from(rds_main(rt.alloc(), &words, &mut source, &mut sink))
+    let alloc = rt.alloc();
+    let mut wire = MemWire::new(alloc, Vec::new(alloc), Vec::new(alloc));
+    ExitCode::from(rds_main(&rt, alloc, &words, &mut source, &mut sink, &mut wire, &OpenGate))
 }
 
 // The words behind the program's name, or none where one of them isn't UTF-8: no command has none.

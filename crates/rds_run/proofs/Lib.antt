@@ -1,1 +1,4 @@
 pub mod Whole
+pub mod Named
+pub mod Parsed
+pub mod Running

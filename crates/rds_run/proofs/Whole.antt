@@ -14,7 +14,8 @@ use Rattle.rds_script.specs.Grammar.{Meaning, Spells}
 use Rattle.rds_script.specs.Refusal.{Refused}
 use Rattle.rds_run.specs.declared.status.Status.{Status}
 use Rattle.rds_run.specs.declared.status.Status.TheVariants as ended
-use Rattle.rds_run.specs.ExitStatus.{SourceSeen, SinkSeen, IsSpelled, IsRefusedAt, IsToldSpelled, IsToldRefused, IsPlayed, HasTaken, OfReadFault, OfRefusal, OfScript, IsEndOfRefusal, IsEndOfPlay, IsEndOfCall}
+use Rattle.rds_run.specs.ExitStatus.{SourceSeen, SinkSeen, IsSpelled, IsRefusedAt, IsToldSpelled, IsToldRefused, IsPlayed, HasTaken, OfReadFault, OfRefusal, OfScript, OfUnread, IsEndOfRefusal, IsEndOfPlay, IsEndOfCall}
+use Rattle.rds_run.specs.Reading.{IsEndOfReading}
 use Rattle.rds_run.specs.Texts.{bad_line, read_fault_line}
 
 -- what is no longer than a script may be was read to its end
@@ -78,7 +79,7 @@ refuses_same l line c why sink s same came =
     subst (λ k. IsEndOfRefusal line k sink s) same.1 (subst (λ n. IsEndOfRefusal n c sink s) same.0 came)
 
 -- what is read of a source spells a script where its bytes do
-spelled : (left : Option (List ℕ)) (text : List ℕ) (m : Meaning) → SourceGaveFront left (MAX_TEXT + 1) text → Spells text m → IsSpelled left m
+pub spelled : (left : Option (List ℕ)) (text : List ℕ) (m : Meaning) → SourceGaveFront left (MAX_TEXT + 1) text → Spells text m → IsSpelled left m
 spelled None text m handed spells = (text, tt, spells)
 spelled (Some all) text m handed spells = (text, whole all text handed spells.small, spells)
 
@@ -88,36 +89,48 @@ spelled_told None text m handed spells = absurd spells
 spelled_told (Some all) text m handed spells =
     subst (λ t. Spells t m) (sym (handed ∙ take_all (MAX_TEXT + 1) all (omega (arith, spells.small)))) spells
 
-ends_of_spelled : (source : SourceSeen) (sink : SinkSeen) (m : Meaning) (s : Status) → IsSpelled source.left m → IsEndOfPlay m sink s →
+-- what a played script leaves is how a call may end
+pub ends_of_played : (source : SourceSeen) (sink : SinkSeen) (m : Meaning) (s : Status) → IsSpelled source.left m → IsEndOfPlay m sink s →
     IsEndOfCall source sink s
-ends_of_spelled source sink m ended.Written read played = (m, read, played)
-ends_of_spelled source sink m ended.Refused read played = absurd played
-ends_of_spelled source sink m ended.Usage read played = absurd played
-ends_of_spelled source sink m ended.ReadFault read played = absurd played
-ends_of_spelled source sink m ended.WriteFault read played = (text m MAX_ENTRIES, OfScript m read, played)
-ends_of_spelled source sink m ended.Memory read played = played
-ends_of_spelled source sink m ended.Spent read played = (m, read, played)
+ends_of_played source sink m ended.Written read played = (m, read, played)
+ends_of_played source sink m ended.Refused read played = absurd played
+ends_of_played source sink m ended.Usage read played = absurd played
+ends_of_played source sink m ended.ReadFault read played = absurd played
+ends_of_played source sink m ended.WriteFault read played = (text m MAX_ENTRIES, OfScript m read, played)
+ends_of_played source sink m ended.WireFault read played = absurd played
+ends_of_played source sink m ended.Memory read played = played
+ends_of_played source sink m ended.Spent read played = (m, read, played)
+ends_of_played source sink m ended.Unfinished read played = absurd played
 
 ends_of_refusal : (line : ℕ) (why : Cause) (source : SourceSeen) (sink : SinkSeen) (s : Status) → IsRefusedAt source.left line why →
-    IsEndOfRefusal line why sink s → IsEndOfCall source sink s
+    IsEndOfRefusal line why sink s → IsEndOfReading source sink s
 ends_of_refusal line why source sink ended.Written at refused = absurd refused
 ends_of_refusal line why source sink ended.Refused at refused = (line, why, at, refused)
 ends_of_refusal line why source sink ended.Usage at refused = absurd refused
 ends_of_refusal line why source sink ended.ReadFault at refused = absurd refused
 ends_of_refusal line why source sink ended.WriteFault at refused = (bad_line line (cause_text why), OfRefusal line why at, refused)
+ends_of_refusal line why source sink ended.WireFault at refused = absurd refused
 ends_of_refusal line why source sink ended.Memory at refused = refused
 ends_of_refusal line why source sink ended.Spent at refused = absurd refused
+ends_of_refusal line why source sink ended.Unfinished at refused = absurd refused
 
--- what a played script leaves is how a call may end
-pub ends_of_played : (text : List ℕ) (m : Meaning) (source : SourceSeen) (sink : SinkSeen) (s : Status) →
-    SourceGaveFront source.left (MAX_TEXT + 1) text → Spells text m → IsEndOfPlay m sink s → IsEndOfCall source sink s
-ends_of_played text m source sink s handed spells played = ends_of_spelled source sink m s (spelled source.left text m handed spells) played
-
--- and so is what a refused text leaves
+-- what a refused text leaves is how a reading may end
 pub ends_of_refused : (text : List ℕ) (line : ℕ) (why : Cause) (source : SourceSeen) (sink : SinkSeen) (s : Status) →
-    SourceGaveFront source.left (MAX_TEXT + 1) text → Refused text line why → IsEndOfRefusal line why sink s → IsEndOfCall source sink s
+    SourceGaveFront source.left (MAX_TEXT + 1) text → Refused text line why → IsEndOfRefusal line why sink s → IsEndOfReading source sink s
 ends_of_refused text line why source sink s handed refused came =
     ends_of_refusal line why source sink s (refused_at source.left text line why handed refused) came
+
+-- where there is no script, the call ends as its reading did
+pub ends_unread : (source : SourceSeen) (sink : SinkSeen) (s : Status) → IsEndOfReading source sink s → IsEndOfCall source sink s
+ends_unread source sink ended.Written unread = absurd unread
+ends_unread source sink ended.Refused unread = unread
+ends_unread source sink ended.Usage unread = absurd unread
+ends_unread source sink ended.ReadFault unread = unread
+ends_unread source sink ended.WriteFault unread = (unread.0, OfUnread unread.0 unread.1, unread.2)
+ends_unread source sink ended.WireFault unread = absurd unread
+ends_unread source sink ended.Memory unread = unread
+ends_unread source sink ended.Spent unread = absurd unread
+ends_unread source sink ended.Unfinished unread = absurd unread
 
 -- a played script ends in one of three ways, where the sink does not fail
 pub plays : (m : Meaning) (sink : SinkSeen) (s : Status) → IsEndOfPlay m sink s → (HasRisen sink.faults_before sink.faults_after → ⊥) →
@@ -127,16 +140,18 @@ plays m sink ended.Refused played well = absurd played
 plays m sink ended.Usage played well = absurd played
 plays m sink ended.ReadFault played well = absurd played
 plays m sink ended.WriteFault played well = absurd (well played.0)
+plays m sink ended.WireFault played well = absurd played
+plays m sink ended.Unfinished played well = absurd played
 plays m sink ended.Memory played well = inr (inl refl)
 plays m sink ended.Spent played well = inr (inr refl)
 
--- what is said of a source that failed is how a call may end
+-- what is said of a source that failed is how a reading may end
 pub ends_of_fault : (source : SourceSeen) (sink : SinkSeen) (s : Status) → HasRisen source.faults_before source.faults_after →
     (s ≡ ended.ReadFault × HasTaken sink read_fault_line) ⊎ (s ≡ ended.WriteFault × HasRisen sink.faults_before sink.faults_after) →
-    SinkGainedFront sink.held_before sink.held_after read_fault_line → IsEndOfCall source sink s
-ends_of_fault source sink s risen (inl said) begun = subst (IsEndOfCall source sink) (sym said.0) (risen, said.1)
+    SinkGainedFront sink.held_before sink.held_after read_fault_line → IsEndOfReading source sink s
+ends_of_fault source sink s risen (inl said) begun = subst (IsEndOfReading source sink) (sym said.0) (risen, said.1)
 ends_of_fault source sink s risen (inr failed) begun =
-    subst (IsEndOfCall source sink) (sym failed.0) (read_fault_line, OfReadFault risen, (failed.1, begun))
+    subst (IsEndOfReading source sink) (sym failed.0) (read_fault_line, OfReadFault risen, (failed.1, begun))
 
 -- a script that ran to its end is answered by a text whose last line is `end ok`
 last_line : (all a b e : List ℕ) → all ≡ a ++ (b ++ e) → (front : List ℕ) × (all ≡ front ++ e)

@@ -79,13 +79,16 @@ abbrev pub IsRefusal : (left held_before held_after : Option (List ℕ)) → Typ
 IsRefusal left held_before held_after =
     (line : ℕ) × (cause : Cause) × IsRefusedAt left line cause × SinkGained held_before held_after (bad_line line (cause_text cause))
 
--- what the command `play` has to write
-pub data IsAnswer (source : SourceSeen) : List ℕ → Type 0 where
+-- what is to be written where no script is read
+pub data IsUnread (source : SourceSeen) : List ℕ → Type 0 where
   -- a read of the source failed: the line that says so
-  OfReadFault : HasRisen source.faults_before source.faults_after → IsAnswer source read_fault_line
+  OfReadFault : HasRisen source.faults_before source.faults_after → IsUnread source read_fault_line
   -- the source's bytes are refused: the line that says where and why
-  OfRefusal : (line : ℕ) (cause : Cause) → IsRefusedAt source.left line cause → IsAnswer source (bad_line line (cause_text cause))
-  -- the source's bytes spell a script: its text
+  OfRefusal : (line : ℕ) (cause : Cause) → IsRefusedAt source.left line cause → IsUnread source (bad_line line (cause_text cause))
+
+-- what the command `play` has to write: that, or the text of the script that the source's bytes spell
+pub data IsAnswer (source : SourceSeen) : List ℕ → Type 0 where
+  OfUnread : (answer : List ℕ) → IsUnread source answer → IsAnswer source answer
   OfScript : (s : Meaning) → IsSpelled source.left s → IsAnswer source (text s MAX_ENTRIES)
 
 -- A status for which `⊥` stands can't come.
@@ -117,3 +120,5 @@ IsEndOfCall source sink status.ReadFault =
     HasRisen source.faults_before source.faults_after × HasTaken sink read_fault_line
 IsEndOfCall source sink status.WriteFault = (answer : List ℕ) × IsAnswer source answer × HasFailedIn sink answer
 IsEndOfCall source sink status.Memory = HasTakenNothing sink
+IsEndOfCall source sink status.WireFault = ⊥
+IsEndOfCall source sink status.Unfinished = ⊥

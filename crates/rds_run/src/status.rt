@@ -11,8 +11,12 @@ pub enum Status {
     ReadFault = 3,
     /// The sink failed.
     WriteFault = 4,
+    /// A stream that hosts should have couldn't be opened.
+    WireFault = 5,
     /// Memory ran out.
     Memory = 6,
     /// A journal is full.
     Spent = 7,
+    /// A run stopped while some datagrams weren't acknowledged.
+    Unfinished = 8,
 }

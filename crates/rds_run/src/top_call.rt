@@ -5,38 +5,50 @@ ghost use Rattle.rds_script.specs.declared.cause.Cause.{Cause as Why};
 ghost use Rattle.rds_script.specs.Grammar.{Meaning};
 ghost use Rattle.rds_text.specs.Lines.{end_line, spent_line};
 ghost use Rattle.rds_run.specs.ExitStatus.{IsAnswer, IsPlayed, IsRefusal, IsSpelled, IsSpent, IsToldRefused, IsToldSpelled};
+ghost use Rattle.rds_run.specs.RunStatus.{HasFilled, IsManyHosts, IsRan, IsUnfinished, IsWireFault};
+ghost use Rattle.rds_run.specs.RunWords.{AreRun};
 ghost use Rattle.rds_run.specs.Texts.{ArePlay, usage_line, read_fault_line, bad_line};
 
 use crate::answer::say;
-use crate::command_line::is_play;
 use crate::play_command::play_text;
+use crate::run_command::run_text;
 use crate::status::Status;
-use rds_link::{Sink, Source};
+use crate::work::{Work, work_of};
+use rds_link::{Gate, Sink, Source, Wire};
 use rds_wire::Memory;
 use std::alloc::Global;
+use std::net::Net;
+use std::sync::Wait;
+use std::thread::Threads;
 
 const USAGE: &str = "usage: rds play | rds run [--wire memory|tcp] | rds gen N SEED\n";
 
-/// Runs the program on the words after its name, and gives its exit status (docs/COMMAND.md has the table). It knows the
-/// command `play`, which reads a script from the source, and writes its transcript and its report to the sink.
+/// Runs the program on the words after its name, and gives its exit status (docs/COMMAND.md has the table). It knows two commands,
+/// which read a script from the source: `play` writes its transcript and its report to the sink, and `run` runs it with threads over
+/// streams in memory and writes its report. Before each command of a run its caller asks the gate. Nothing is done with `tcp` yet.
 ///
 /// | Status | When |
 /// |---|---|
-/// | 0 | the script was played, and its transcript and report were written |
-/// | 1 | the text is no script; the one text line `bad line N: CAUSE` was written |
+/// | 0 | the script was played or run, and its text was written |
+/// | 1 | the text is no script, or has more hosts than can be run; the one text line `bad line N: CAUSE` was written |
 /// | 2 | the words are those of no command; the usage line was written |
 /// | 3 | the source failed; the text line `read fault` was written |
 /// | 4 | the sink failed, after it took a beginning of the answer |
+/// | 5 | two hosts of a run lack a stream; the text line `wire fault H K after k=N` was written |
 /// | 6 | memory ran out |
 /// | 7 | a journal had no room for its next two entries; the text line `spent H K ENTRIES` was written |
-pub fn rds_main<S: Source, K: Sink>(
+/// | 8 | a run stopped while datagrams weren't acknowledged; the text line `unfinished N` was written |
+pub fn rds_main<S: Source, K: Sink, W: Wire, G: Gate + Sync, R: Threads + Wait + Net + Sync>(
+    rt: &R,
     alloc: Global,
     words: &[String],
     source: &mut S,
     sink: &mut K,
+    _tcp: &mut W,
+    gate: &G,
 ) -> u8
-    ensures usage { (ArePlay words.now → ⊥) → (result ≡ 2) ⊎ ((result ≡ 4) ⊎ (result ≡ 6)) }
-    ensures usage_only { result ≡ 2 → ArePlay words.now → ⊥ }
+    ensures usage { (ArePlay words.now → ⊥) → (AreRun words.now → ⊥) → (result ≡ 2) ⊎ ((result ≡ 4) ⊎ (result ≡ 6)) }
+    ensures usage_only { result ≡ 2 → (ArePlay words.now → ⊥) × (AreRun words.now → ⊥) }
     ensures usage_text { result ≡ 2 → SinkGained (K.held sink.old) (K.held sink.new) usage_line }
 
     ensures read_fault { result ≡ 3 → HasRisen (S.faults source.old) (S.faults source.new) }
@@ -44,36 +56,50 @@ pub fn rds_main<S: Source, K: Sink>(
 
     // The sink failed, after it took a beginning of the usage line, or of what `play` has to write.
     ensures write_fault { result ≡ 4 → HasRisen (K.faults sink.old) (K.faults sink.new) }
-    ensures usage_begun { result ≡ 4 → (ArePlay words.now → ⊥) → SinkGainedFront (K.held sink.old) (K.held sink.new) usage_line }
+    ensures usage_begun { result ≡ 4 → (ArePlay words.now → ⊥) → (AreRun words.now → ⊥) →
+        SinkGainedFront (K.held sink.old) (K.held sink.new) usage_line }
     ensures answer_begun { result ≡ 4 → ArePlay words.now → (answer : List ℕ)
         × IsAnswer record { left = S.left source.old; faults_before = S.faults source.old; faults_after = S.faults source.new } answer
         × SinkGainedFront (K.held sink.old) (K.held sink.new) answer }
     ensures memory { result ≡ 6 → K.held sink.new ≡ K.held sink.old }
 
-    // The text of the source is refused, and the line that was written says where and why.
-    ensures refused { result ≡ 1 → IsRefusal (S.left source.old) (K.held sink.old) (K.held sink.new) }
+    // The text of the source is refused, and the line that was written says where and why. A run of more than two hosts is too.
+    ensures refused { result ≡ 1 → IsRefusal (S.left source.old) (K.held sink.old) (K.held sink.new)
+        ⊎ (AreRun words.now × IsManyHosts (S.left source.old) (K.held sink.old) (K.held sink.new)) }
     // A text that is refused is answered so, unless the source or the sink fails or memory runs out.
-    ensures refuses { ArePlay words.now → (line : ℕ) → (cause : Why) → IsToldRefused (S.left source.old) line cause →
+    ensures refuses { ArePlay words.now ⊎ AreRun words.now → (line : ℕ) → (cause : Why) → IsToldRefused (S.left source.old) line cause →
         (result ≡ 1 × SinkGained (K.held sink.old) (K.held sink.new) (bad_line line (cause_text cause)))
         ⊎ ((result ≡ 3) ⊎ ((result ≡ 4) ⊎ (result ≡ 6))) }
 
-    // The source's bytes spell a script. It ran to its end, what it came to is sound, and exactly its text was written.
-    ensures played { result ≡ 0 → (s : Meaning) × IsSpelled (S.left source.old) s × IsPlayed s (K.held sink.old) (K.held sink.new) }
-    ensures written { result ≡ 0 → (text : List ℕ) × SinkGained (K.held sink.old) (K.held sink.new) (text ++ end_line) }
+    // The source's bytes spell a script. It was played to its end, what it came to is sound, and exactly its text was written.
+    ensures played { ArePlay words.now → result ≡ 0 →
+        (s : Meaning) × IsSpelled (S.left source.old) s × IsPlayed s (K.held sink.old) (K.held sink.new) }
+    // The source's bytes spell a script of two hosts. It was run to its end, what its hosts have then is sound, and exactly the
+    // report on it was written.
+    ensures ran { AreRun words.now → result ≡ 0 →
+        (s : Meaning) × IsSpelled (S.left source.old) s × (s.hosts ≡ 2) × IsRan (K.held sink.old) (K.held sink.new) }
+    ensures written { ArePlay words.now → result ≡ 0 → (text : List ℕ) × SinkGained (K.held sink.old) (K.held sink.new) (text ++ end_line) }
     // The source's bytes spell a script. It filled a journal, and exactly its text was written, which is the line of that.
-    ensures full { result ≡ 7 → (s : Meaning) × IsSpelled (S.left source.old) s × IsSpent s (K.held sink.old) (K.held sink.new) }
+    ensures full { ArePlay words.now → result ≡ 7 →
+        (s : Meaning) × IsSpelled (S.left source.old) s × IsSpent s (K.held sink.old) (K.held sink.new) }
+    // The same of a run, whose journals are sound then.
+    ensures filled { AreRun words.now → result ≡ 7 →
+        (s : Meaning) × IsSpelled (S.left source.old) s × (s.hosts ≡ 2) × HasFilled (K.held sink.old) (K.held sink.new) }
     ensures spent { result ≡ 7 → (host : ℕ) × (peer : ℕ) × (entries : ℕ)
         × SinkGained (K.held sink.old) (K.held sink.new) (spent_line host peer entries) }
-    // A text that spells a script is answered so, unless the source or the sink fails or memory runs out.
+    // A text that spells a script is answered so by `play`, unless the source or the sink fails or memory runs out.
     ensures plays { ArePlay words.now → (s : Meaning) → IsToldSpelled (S.left source.old) s →
         (HasRisen (S.faults source.old) (S.faults source.new) → ⊥) → (HasRisen (K.faults sink.old) (K.faults sink.new) → ⊥) →
         (result ≡ 0) ⊎ ((result ≡ 6) ⊎ (result ≡ 7)) }
 
-    ensures known { (result ≤ 4) ⊎ ((result ≡ 6) ⊎ (result ≡ 7)) }
+    ensures wire_fault { result ≡ 5 → AreRun words.now × IsWireFault (K.held sink.old) (K.held sink.new) }
+    ensures unfinished { result ≡ 8 → AreRun words.now × IsUnfinished (K.held sink.old) (K.held sink.new) }
+    ensures known { result ≤ 8 }
 {
-    match is_play(alloc, words) {
-        Ok(true) => play_text(alloc, source, sink) as u8,
-        Ok(false) => say(sink, USAGE, Status::Usage) as u8,
+    match work_of(alloc, words) {
+        Ok(Some(Work::Play)) => play_text(alloc, source, sink) as u8,
+        Ok(Some(Work::Run)) => run_text(rt, alloc, source, sink, gate) as u8,
+        Ok(None) => say(sink, USAGE, Status::Usage) as u8,
         Err(Memory) => Status::Memory as u8,
     }
 }

@@ -14,8 +14,11 @@ use crate::tally::Tally;
 use std::alloc::Global;
 use std::fs;
 use std::io::Print;
+use std::net::Net;
 use std::process::ExitCode;
 use std::rt::Files;
+use std::sync::Wait;
+use std::thread::Threads;
 
 /// The files of cases, each named for what its scripts show.
 const FILES: [&str; 14] = [
@@ -59,7 +62,7 @@ fn main(rt: HostRuntime) -> anyhow::Result<ExitCode> {
 }
 
 // Plays each case of a file.
-fn try_cases<R: Files + Print>(
+fn try_cases<R: Files + Print + Threads + Wait + Net + Sync>(
     rt: &R,
     alloc: Global,
     file: &str,
@@ -76,7 +79,7 @@ where
 }
 
 // Plays a case by the program's own call, or by `play` with each of its limits.
-fn try_case<R: Files + Print>(
+fn try_case<R: Files + Print + Threads + Wait + Net + Sync>(
     rt: &R,
     alloc: Global,
     file: &str,
@@ -88,7 +91,7 @@ where
 {
     let (script, expected) = (case.script.as_bytes(), case.expected.as_str());
     let Some(limits) = case.limits else {
-        let found = answer_to(alloc, script)?;
+        let found = answer_to(rt, alloc, script)?;
         return tally.count(rt, file, case.name.as_str(), &found, expected);
     };
     for limit in u64::from(limits.least)..=u64::from(limits.most) {
@@ -100,7 +103,7 @@ where
 }
 
 // Plays an example by the program's own call.
-fn try_example<R: Files + Print>(
+fn try_example<R: Files + Print + Threads + Wait + Net + Sync>(
     rt: &R,
     alloc: Global,
     name: &str,
@@ -111,6 +114,6 @@ where
 {
     let script = fs::read_to_string(rt, format!(in alloc; "examples/{name}.rds")?)?;
     let expected = fs::read_to_string(rt, format!(in alloc; "examples/{name}.txt")?)?;
-    let found = answer_to(alloc, script.as_bytes())?;
+    let found = answer_to(rt, alloc, script.as_bytes())?;
     tally.count(rt, "examples", name, &found, expected.as_str())
 }

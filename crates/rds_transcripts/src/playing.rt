@@ -1,20 +1,28 @@
 ghost use Rattle.std.specs.Prelude.{◌≤◌};
 ghost use Rattle.rds_model.specs.declared.journal.TheConstants.{MIN_ENTRIES, MAX_ENTRIES};
 
-use rds_link::{MemSink, MemSource};
+use rds_link::{MemSink, MemSource, MemWire, OpenGate};
 use rds_model::{MAX_ENTRIES, MIN_ENTRIES};
 use rds_play::{PlayEnd, play};
 use rds_run::rds_main;
 use rds_script::{Script, ScriptError, read};
 use std::alloc::Global;
+use std::net::Net;
+use std::sync::Wait;
+use std::thread::Threads;
 
 /// What `rds play` prints where a script comes on its input.
-pub fn answer_to(alloc: Global, script: &[u8]) -> anyhow::Result<Vec<u8>> {
+pub fn answer_to<R: Threads + Wait + Net + Sync>(
+    rt: &R,
+    alloc: Global,
+    script: &[u8],
+) -> anyhow::Result<Vec<u8>> {
     let mut words = Vec::new(alloc);
     words.push(String::from_str(alloc, "play")?)?;
     let mut source = MemSource::new(script.to_vec(alloc)?, Vec::new(alloc));
     let mut sink = MemSink::new(alloc, Vec::new(alloc));
-    let status = rds_main(alloc, &words, &mut source, &mut sink);
+    let mut tcp = MemWire::new(alloc, Vec::new(alloc), Vec::new(alloc));
+    let status = rds_main(rt, alloc, &words, &mut source, &mut sink, &mut tcp, &OpenGate);
     told(alloc, &sink, status == 6)
 }
 

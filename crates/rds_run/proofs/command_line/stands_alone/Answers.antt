@@ -3,6 +3,7 @@ use Rattle.clap.specs.Words.{App, Kinds, IsAmong, new_app, fault_of, is_simple_a
 use Rattle.clap.specs.declared.error.kind.ErrorKind.{ErrorKind}
 use Rattle.clap.specs.declared.error.kind.ErrorKind.TheVariants as kind
 use Rattle.rds_run.specs.Texts.{play_faults}
+use Rattle.rds_run.proofs.Parsed.{fault_found}
 use Rattle.rds_run.proofs.command_line.stands_alone.Goals as goal
 
 -- where the parse succeeds, there is no fault
@@ -18,11 +19,6 @@ a_fault : (app : App) (words : List (List ℕ)) (k : ErrorKind) → app ≡ new_
 unfolding play_faults
 a_fault app words k is kinds =
     subst (λ a. is_simple_and_free a ≡ true → (k ≡ kind.OutOfMemory) ⊎ IsAmong k (fault_of a words)) is kinds refl
-
--- an error of another kind than memory shows that there was a fault
-fault_found : (k : ErrorKind) (faults : Kinds) → (k ≡ kind.OutOfMemory → ⊥) → (k ≡ kind.OutOfMemory) ⊎ IsAmong k faults → faults ≡ [] → ⊥
-fault_found k faults other (inl memory) none = other memory
-fault_found k faults other (inr among) none = subst (λ (ks : Kinds). IsAmong k ks) none among
 
 pub returns-in-Ok : goal.returns-in-Ok
 returns-in-Ok c = let none = no_fault _ _ c.new.ensures.app c.in-Ok.ensures.kinds in (λ t. none, λ same. refl)

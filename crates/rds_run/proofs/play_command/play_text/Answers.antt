@@ -1,75 +1,35 @@
-use Rattle.std.proofs.Common.{inl, rules}
+use Rattle.rds_script.specs.Grammar.{meaning}
 use Rattle.rds_run.specs.ExitStatus.{SourceSeen, SinkSeen}
-use Rattle.rds_run.proofs.Whole.{ends_of_played, ends_of_refused, refused_told, refuses_same, spelled_told, plays, ends_of_fault}
+use Rattle.rds_run.proofs.Whole.{ends_of_played, ends_unread}
 use Rattle.rds_run.proofs.play_command.play_text.Goals as goal
 
-pub returns-in-Ok-read-clause-ends : goal.returns-in-Ok-read-clause-ends
-returns-in-Ok-read-clause-ends g c =
-    let spells = rw c.deref.ensures.value at c.in-Ok-read.ensures.found in
-    ends_of_played _ _ _ _ _ c.in-Ok.ensures.bytes spells c.play_script.ensures
-
-pub returns-in-Err-BadLine-clause-ends : goal.returns-in-Err-BadLine-clause-ends
-returns-in-Err-BadLine-clause-ends g c =
-    let at_line = rw c.in-Err-BadLine.field-0-is at c.in-Err-BadLine.ensures.refused in
-    let refused = rw c.deref.ensures.value at at_line in
+pub returns-in-Ok-clause-ends : goal.returns-in-Ok-clause-ends
+returns-in-Ok-clause-ends g c =
     let source : SourceSeen = record {
       left = g.S.Source.left c.args.source.now;
       faults_before = g.S.Source.faults c.args.source.now;
-      faults_after = g.S.Source.faults c.read_all.new.source;
+      faults_after = g.S.Source.faults c.read_script.new.source;
     } in
-    let sink : SinkSeen = record {
-      held_before = g.K.Sink.held c.args.sink.now;
-      held_after = g.K.Sink.held c.refuse.new.sink;
-      faults_before = g.K.Sink.faults c.args.sink.now;
-      faults_after = g.K.Sink.faults c.refuse.new.sink;
-    } in
-    ends_of_refused _ _ _ source sink c.refuse.result c.in-Ok.ensures.bytes refused c.refuse.ensures
-
-pub returns-in-Ok-read-clause-refuses : goal.returns-in-Ok-read-clause-refuses
-returns-in-Ok-read-clause-refuses g c line why told =
-    let refuses = rw c.deref.ensures.value at c.in-Ok-read.ensures.refuses in
-    absurd (refuses line why (refused_told _ _ line why c.in-Ok.ensures.bytes told))
-
-pub returns-in-Err-BadLine-clause-refuses : goal.returns-in-Err-BadLine-clause-refuses
-returns-in-Err-BadLine-clause-refuses g c line why told =
-    let at_line = rw c.in-Err-BadLine.field-0-is at c.in-Err-BadLine.ensures.refuses in
-    let refuses = rw c.deref.ensures.value at at_line in
-    let same = refuses line why (refused_told _ _ line why c.in-Ok.ensures.bytes told) in
-    let sink : SinkSeen = record {
-      held_before = g.K.Sink.held c.args.sink.now;
-      held_after = g.K.Sink.held c.refuse.new.sink;
-      faults_before = g.K.Sink.faults c.args.sink.now;
-      faults_after = g.K.Sink.faults c.refuse.new.sink;
-    } in
-    inl (refuses_same _ _ _ _ sink c.refuse.result same c.refuse.ensures)
-
-pub returns-in-Ok-read-clause-plays : goal.returns-in-Ok-read-clause-plays
-returns-in-Ok-read-clause-plays g c m told source_well sink_well =
     let sink : SinkSeen = record {
       held_before = g.K.Sink.held c.args.sink.now;
       held_after = g.K.Sink.held c.play_script.new.sink;
       faults_before = g.K.Sink.faults c.args.sink.now;
       faults_after = g.K.Sink.faults c.play_script.new.sink;
     } in
-    plays _ sink c.play_script.result c.play_script.ensures sink_well
+    let played = rw c.in-Ok.ensures.same at c.play_script.ensures in
+    ends_of_played source sink (meaning c.in-Ok.script) c.play_script.result c.in-Ok.ensures.spelled played
 
-pub returns-in-Err-BadLine-clause-plays : goal.returns-in-Err-BadLine-clause-plays
-returns-in-Err-BadLine-clause-plays g c m told source_well sink_well =
-    let at_line = rw c.in-Err-BadLine.field-0-is at c.in-Err-BadLine.ensures.only in
-    let only = rw c.deref.ensures.value at at_line in
-    absurd (only m (spelled_told _ _ m c.in-Ok.ensures.bytes told))
-
-pub returns-in-Err-Failed-clause-ends : goal.returns-in-Err-Failed-clause-ends
-returns-in-Err-Failed-clause-ends g c =
+pub returns-in-Err-clause-ends : goal.returns-in-Err-clause-ends
+returns-in-Err-clause-ends g c =
     let source : SourceSeen = record {
       left = g.S.Source.left c.args.source.now;
       faults_before = g.S.Source.faults c.args.source.now;
-      faults_after = g.S.Source.faults c.read_all.new.source;
+      faults_after = g.S.Source.faults c.read_script.new.source;
     } in
     let sink : SinkSeen = record {
       held_before = g.K.Sink.held c.args.sink.now;
-      held_after = g.K.Sink.held c.say.new.sink;
+      held_after = g.K.Sink.held c.read_script.new.sink;
       faults_before = g.K.Sink.faults c.args.sink.now;
-      faults_after = g.K.Sink.faults c.say.new.sink;
+      faults_after = g.K.Sink.faults c.read_script.new.sink;
     } in
-    ends_of_fault source sink c.say.result (search rules) c.say.ensures.said c.say.ensures.front
+    ends_unread source sink c.in-Err.status c.in-Err.ensures.ends

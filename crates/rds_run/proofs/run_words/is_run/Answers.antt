@@ -1,0 +1,9 @@
+use Rattle.std.proofs.Common.{map, codes, string_bytes}
+use Rattle.rds_run.specs.RunWords.{TakesRun}
+use Rattle.rds_run.proofs.Named.{named, with_name}
+use Rattle.rds_run.proofs.run_words.is_run.Goals as goal
+
+pub returns-in-Some : goal.returns-in-Some
+returns-in-Some c =
+    let first = named (codes "run") _ _ _ _ c.eq.ensures c.if-eq.true c.as_str.ensures.value c.in-Some.ensures.value in
+    with_name _ (TakesRun (map string_bytes c.args.words.now)) _ first c.has_memory_wire.ensures

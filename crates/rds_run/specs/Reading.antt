@@ -1,0 +1,29 @@
+-- What comes of reading a script. Source: this project's own.
+use Rattle.std.specs.Prelude.{◌≡◌, ◌⊎◌, ℕ, List, Result, Ok, Err}
+use Rattle.rds_link.specs.Streaming.{HasRisen}
+use Rattle.rds_script.specs.declared.cause.Cause.{Cause}
+use Rattle.rds_script.specs.declared.script.Script.{Script}
+use Rattle.rds_script.specs.Grammar.{Meaning, meaning}
+use Rattle.rds_run.specs.declared.status.Status.{Status}
+use Rattle.rds_run.specs.declared.status.Status.TheVariants as status
+use Rattle.rds_run.specs.ExitStatus.{HasFailedIn, HasTaken, HasTakenNothing, IsEndOfRefusal, IsRefusal, SinkSeen, SourceSeen, IsUnread}
+use Rattle.rds_run.specs.Texts.{read_fault_line}
+
+-- The status where no script was read. A status for which `⊥` stands can't come.
+abbrev pub IsEndOfReading : SourceSeen → SinkSeen → Status → Type 0
+IsEndOfReading source sink status.Refused = IsRefusal source.left sink.held_before sink.held_after
+IsEndOfReading source sink status.ReadFault =
+    HasRisen source.faults_before source.faults_after × HasTaken sink read_fault_line
+IsEndOfReading source sink status.WriteFault = (answer : List ℕ) × IsUnread source answer × HasFailedIn sink answer
+IsEndOfReading source sink status.Memory = HasTakenNothing sink
+IsEndOfReading source sink _ = ⊥
+
+-- the text was refused there for that cause, and the status says so, or the source or the sink failed
+abbrev pub IsRefusedBy : (line : ℕ) → Cause → SinkSeen → Result Script Status → Type 0
+IsRefusedBy line cause sink (Ok script) = ⊥
+IsRefusedBy line cause sink (Err s) = IsEndOfRefusal line cause sink s ⊎ ((s ≡ status.ReadFault) ⊎ (s ≡ status.WriteFault))
+
+-- this script was read, or memory ran out, or the source failed
+abbrev pub IsReadAs : Meaning → SourceSeen → Result Script Status → Type 0
+IsReadAs m source (Ok script) = meaning script ≡ m
+IsReadAs m source (Err s) = (s ≡ status.Memory) ⊎ HasRisen source.faults_before source.faults_after
