@@ -4,3 +4,7 @@ pub mod Preparing
 pub mod Commands
 pub mod Spent
 pub mod Finishing
+pub mod HandedOut
+pub mod Tying
+pub mod Receiving
+pub mod Settling

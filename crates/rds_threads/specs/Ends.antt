@@ -10,6 +10,7 @@ use Rattle.rds_report.specs.Hosts.{address_of}
 use Rattle.rds_report.specs.Report.{report}
 use Rattle.rds_report.specs.Views.{host_views}
 use Rattle.rds_text.specs.Lines.{spent_line}
+use Rattle.rds_threads.specs.Reliable.{HasReceived, IsReliableTo}
 use Rattle.rds_threads.specs.Texts.{fault_line, unfinished_line}
 use Rattle.rds_threads.specs.declared.form.RunEnd.{RunEnd}
 use Rattle.rds_threads.specs.declared.form.RunEnd.TheVariants as ended
@@ -28,7 +29,8 @@ pub record AreSound (tells : Bool) (low high : List Entry) : Type 0 where
 abbrev pub HasJournal : (addr peer : ℕ) → List Entry → FinalHost → Type 0
 HasJournal addr peer past host = (host.addr ≡ addr) × (host.sides ≡ record { peer = peer; past = past } ∷ [])
 
--- there are two hosts, A and B, and their journals are sound
+-- There are two hosts, A and B, and their journals are sound. What the sockets of each handed out is what its journal delivered; where
+-- ends tell their bytes, it is what the other host sent.
 pub record AreEnds (tells : Bool) (hosts : List FinalHost) : Type 0 where
   pub low : FinalHost
   pub high : FinalHost
@@ -38,6 +40,10 @@ pub record AreEnds (tells : Bool) (hosts : List FinalHost) : Type 0 where
   pub low_journal : HasJournal (address_of 0) (address_of 1) low_past low
   pub high_journal : HasJournal (address_of 1) (address_of 0) high_past high
   pub sound : AreSound tells low_past high_past
+  pub low_received : HasReceived low
+  pub high_received : HasReceived high
+  pub reliable_forth : tells ≡ true → IsReliableTo 0 low_past high_past high.sockets
+  pub reliable_back : tells ≡ true → IsReliableTo 1 high_past low_past low.sockets
 
 -- what a run does to its sink: the bytes that it holds, where it tells them, and how often it has failed
 pub record Written : Type 0 where

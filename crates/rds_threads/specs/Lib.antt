@@ -1,5 +1,9 @@
 pub mod Connection
 pub mod Texts
+pub mod Reliable
 pub mod Ends
 pub mod Done
 pub mod Preparing
+pub mod Tied
+pub mod Quiet
+pub mod Settled

@@ -1,23 +1,30 @@
 //! How a run ends: what is left of its hosts, and what is written.
-ghost use Rattle.std.specs.Prelude.{◌≡◌, ◌∷◌, ℕ, [], IfOk, OnErr, Some, length, slice_get};
+ghost use Rattle.std.specs.Prelude.{◌≡◌, ◌∷◌, ℕ, [], IfOk, OnErr, Some, length, map, slice_get};
 ghost use Rattle.rds_fmap.specs.Readers.{WriterView};
 ghost use Rattle.rds_line.specs.Line.{LineView, line_past};
-ghost use Rattle.rds_report.specs.Views.{AreFinalHosts, host_views};
+ghost use Rattle.rds_gather.specs.Sides.{side_of};
+ghost use Rattle.rds_report.specs.Views.{AreFinalHosts, host_view, host_views, side_view};
 ghost use Rattle.rds_threads.specs.Connection.{IsFullHost};
 ghost use Rattle.rds_threads.specs.Done.{AreDone};
 ghost use Rattle.rds_threads.specs.Ends.{AreEnds, AreSound, IsEndOfRun};
+ghost use Rattle.rds_threads.specs.Quiet.{IsQuietEnd};
+ghost use Rattle.rds_threads.specs.Reliable.{HasReceived};
+ghost use Rattle.rds_threads.specs.Settled.{IsSettled};
 ghost use Rattle.rds_threads.specs.declared.rounds.Rounds.TheVariants as rounds;
 
 use crate::answers::{end_by_fault, end_by_report, end_by_spent, end_unfinished};
 use crate::form::{Form, RunEnd};
 use crate::pair::Lines;
 use crate::rounds::Rounds;
+use crate::settling::settle_slots;
 use rds_callers::Caller;
 use rds_fmap::Writer;
-use rds_host::{end_line, gather};
+use rds_gather::{end_line, gather};
+use rds_host::laws::host_keeps;
 use rds_line::Line;
 use rds_link::{Sink, Wire};
 use rds_model::Journal;
+use rds_model::laws::fifo_of_all;
 use rds_report::{HostEnd, address};
 use rds_wire::Memory;
 use std::alloc::Global;
@@ -26,10 +33,13 @@ use std::sync::Wait;
 /// Gives every end of the lines back to the wire.
 pub(crate) fn end_lines<W: Wire, R: Wait>(rt: &R, wire: &mut W, lines: Lines<W::End>) {
     let (low, high) = lines;
-    for line in low {
-        end_line(rt, wire, line);
-    }
-    for line in high {
+    give_back(rt, wire, low);
+    give_back(rt, wire, high);
+}
+
+// Gives every end of a host's lines back to the wire.
+fn give_back<W: Wire, R: Wait>(rt: &R, wire: &mut W, lines: Vec<Line<W::End, Writer>>) {
+    for line in lines {
         end_line(rt, wire, line);
     }
 }
@@ -65,22 +75,41 @@ fn host_ends<W: Wire, R: Wait>(
     callers: (Caller, Caller),
     lines: Lines<W::End>,
 ) -> Result<Vec<HostEnd>, Memory>
-    requires { (limit : ℕ) × AreDone W.End.means limit lines.0.items lines.1.items }
+    requires done { (limit : ℕ) × AreDone W.End.means limit lines.0.items lines.1.items }
+    requires low { IsSettled callers.0.places lines.0.items }
+    requires high { IsSettled callers.1.places lines.1.items }
     ensures ends { IfOk result (λ ends. AreEnds W.End.means.tells (host_views ends.items)) }
     ensures hosts { IfOk result (λ ends. AreFinalHosts (host_views ends.items)) }
 {
     let (low, high) = callers;
-    let (Ok((kept, closed)), Ok((other_kept, other_closed))) = (
-        low.end(rt, alloc),
-        high.end(rt, alloc),
-    ) else {
-        end_lines(rt, wire, lines);
+    let (low_lines, high_lines) = lines;
+    let first = host_end(rt, alloc, wire, address(0), low, low_lines);
+    let second = host_end(rt, alloc, wire, address(1), high, high_lines);
+    fifo_of_all();
+    both(alloc, first?, second?)
+}
+
+// What is left of a host, once all that waits at its open sockets is received.
+fn host_end<W: Wire, R: Wait>(
+    rt: &R,
+    alloc: Global,
+    wire: &mut W,
+    addr: u32,
+    mut caller: Caller,
+    mut lines: Vec<Line<W::End, Writer>>,
+) -> Result<HostEnd, Memory>
+    requires { IsSettled caller.places lines.items }
+    ensures addr { IfOk result (λ end. end.addr ≡ addr) }
+    ensures journals { IfOk result (λ end. map side_view end.journals.items ≡ map side_of lines.items) }
+    ensures received { IfOk result (λ end. HasReceived (host_view end)) }
+{
+    settle_slots(&mut caller, &mut lines);
+    let Ok((kept, closed)) = caller.end(rt, alloc) else {
+        give_back(rt, wire, lines);
         return Err(Memory);
     };
-    let (low, high) = lines;
-    let first = gather(rt, alloc, wire, address(0), kept, closed, low);
-    let second = gather(rt, alloc, wire, address(1), other_kept, other_closed, high);
-    both(alloc, first?, second?)
+    host_keeps::<W::End>();
+    gather(rt, alloc, wire, addr, kept, closed, lines)
 }
 
 // The two in a list.
@@ -102,6 +131,8 @@ pub(crate) fn end_run<K: Sink, W: Wire, R: Wait>(
     sink: &mut K,
 ) -> Result<RunEnd, Memory>
     requires done { (limit : ℕ) × AreDone W.End.means limit lines.0.items lines.1.items }
+    requires low { IsQuietEnd end → IsSettled callers.0.places lines.0.items }
+    requires high { IsQuietEnd end → IsSettled callers.1.places lines.1.items }
     requires spent { (host entries : ℕ) → end ≡ rounds.Spent host entries → IsFullHost host entries lines.0.items lines.1.items }
     ensures end { (limit : ℕ) → AreDone W.End.means limit lines.0.items lines.1.items → IfOk result (IsEndOfRun W.End.means.tells limit
         record { held_before = K.held sink.old; held_after = K.held sink.new; faults_before = K.faults sink.old; faults_after = K.faults sink.new }) }

@@ -3,6 +3,7 @@ ghost use Rattle.std.specs.Prelude.{◌≡◌, ℕ};
 ghost use Rattle.rds_line.specs.Line.{IsFull, line_past};
 ghost use Rattle.rds_threads.specs.Connection.{AreConnected, AreOfHosts};
 ghost use Rattle.rds_threads.specs.Ends.{AreSound};
+ghost use Rattle.rds_threads.specs.Quiet.{LineGoesOn};
 
 use rds_fmap::Writer;
 use rds_line::{Line, meet};
@@ -14,6 +15,10 @@ pub(crate) fn meet_lines<W: Wire>(low: &mut Line<W::End, Writer>, high: &mut Lin
     ensures hosts { (limit : ℕ) → AreOfHosts limit low.old high.old → AreOfHosts limit low.new high.new }
     ensures low_past { line_past low.new ≡ line_past low.old }
     ensures high_past { line_past high.new ≡ line_past high.old }
+    ensures low { LineGoesOn low.old low.new }
+    ensures high { LineGoesOn high.old high.new }
+    ensures low_orders { low.new.orders ≡ low.old.orders }
+    ensures high_orders { high.new.orders ≡ high.old.orders }
     ensures low_full { (entries : ℕ) → IsFull entries low.old → IsFull entries low.new }
     ensures high_full { (entries : ℕ) → IsFull entries high.old → IsFull entries high.new }
     ensures sound { AreSound W.End.means.tells (line_past low.new) (line_past high.new) }

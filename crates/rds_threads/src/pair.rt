@@ -8,6 +8,8 @@ ghost use Rattle.rds_line.specs.Line.{LineView};
 ghost use Rattle.rds_line_streams.specs.Streams.{AreNumbered, IsUnused};
 ghost use Rattle.rds_host.specs.Lines.{IsNewLine};
 ghost use Rattle.rds_fmap.specs.Readers.{WriterView};
+ghost use Rattle.rds_callers.specs.Places.{PlacesKeep};
+ghost use Rattle.rds_threads.specs.Tied.{AreTied};
 
 use rds_callers::{Caller, host_of, is_bind};
 use rds_fmap::Writer;
@@ -52,6 +54,7 @@ pub(crate) fn party<E: End>(
     requires unused { All (λ stream. IsUnused E.means stream.1) streams.items }
     requires least { MIN_ENTRIES ≤ limit }
     requires most { limit ≤ MAX_ENTRIES }
+    ensures tied { IfOk result (λ p. AreTied p.0.places p.1.items) }
     ensures one { IfOk result (λ p. length p.1.items ≡ 1) }
     ensures new { IfOk result (λ p. (line : LineView E WriterView) → slice_get p.1.items 0 ≡ Some line → IsNewLine (address_of host) (address_of peer) limit streams.items line) }
 {
@@ -60,7 +63,7 @@ pub(crate) fn party<E: End>(
     all.push(streams)?;
     let slots = slots(script, host);
     let (vacants, lines) = make(alloc, address(host), &peers, slots, all, limit)?;
-    Ok((Caller::new(alloc, host, vacants), lines))
+    Ok((Caller::new(alloc, host, vacants)?, lines))
 }
 
 /// Does the leading binds, and answers how many there are.
@@ -71,7 +74,9 @@ pub(crate) fn bind_leading<R: Wait>(
     callers: &mut (Caller, Caller),
 ) -> Result<usize, Memory>
     requires { All (λ p. IsCommand 2 p.command) commands.now }
-    ensures { IfOk result (λ count. count ≤ length commands.now) }
+    ensures count { IfOk result (λ count. count ≤ length commands.now) }
+    ensures low { PlacesKeep callers.old.0.places callers.new.0.places }
+    ensures high { PlacesKeep callers.old.1.places callers.new.1.places }
 {
     let mut count = 0;
     for placed in commands {

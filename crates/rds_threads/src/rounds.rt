@@ -1,9 +1,12 @@
 //! The last rounds of a run, on one thread.
 ghost use Rattle.std.specs.Prelude.{◌≡◌, ◌≢◌, ℕ, Some};
+ghost use Rattle.rds_mail.specs.Learning.{AllGot};
 ghost use Rattle.rds_line.specs.Stays.{LineStays};
 ghost use Rattle.rds_host.specs.Lines.{pair_of};
+ghost use Rattle.rds_threads.specs.Quiet.{AreQuiet, IsQuietEnd, LineGoesOn, LinesGoOn};
 ghost use Rattle.rds_threads.specs.Connection.{AreConnected, AreTwo, IsFullAt, IsFullHost};
 ghost use Rattle.rds_threads.specs.Done.{AreDone};
+ghost use Rattle.rds_threads.specs.declared.rounds.Rounds.{Rounds as RoundsView};
 ghost use Rattle.rds_threads.specs.declared.rounds.Rounds.TheVariants as ended;
 ghost use Rattle.rds_threads.specs.declared.verdict.Round.TheVariants as round;
 
@@ -39,6 +42,7 @@ fn round<E: End, R: Wait>(
 ) -> Round
     ensures low { LineStays E.means pair_of low.old low.new }
     ensures high { LineStays E.means pair_of high.old high.new }
+    ensures idle { result ≡ round.Idle → AllGot low.new.orders × AllGot high.new.orders }
     ensures spent { (host entries : ℕ) → result ≡ round.Spent host entries → IsFullAt host entries low.new high.new }
 {
     let first = turn(rt, 0, wanted, low, high);
@@ -66,6 +70,9 @@ pub(crate) fn last_rounds<W: Wire, R: Wait>(
 ) -> Rounds
     requires { (limit : ℕ) × AreTwo W.End.means limit lines.old.0.items lines.old.1.items }
     ensures done { (limit : ℕ) → AreTwo W.End.means limit lines.old.0.items lines.old.1.items → AreDone W.End.means limit lines.new.0.items lines.new.1.items }
+    ensures low { LinesGoOn lines.old.0.items lines.new.0.items }
+    ensures high { LinesGoOn lines.old.1.items lines.new.1.items }
+    ensures quiet { IsQuietEnd result → AreQuiet lines.new.0.items × AreQuiet lines.new.1.items }
     ensures spent { (host entries : ℕ) → result ≡ ended.Spent host entries →
         IsFullHost host entries lines.new.0.items lines.new.1.items }
 {
@@ -88,6 +95,9 @@ fn turn_until_quiet<W: Wire, R: Wait>(
 ) -> Rounds
     requires { (limit : ℕ) × AreConnected W.End.means limit low.old high.old }
     ensures connected { (limit : ℕ) → AreConnected W.End.means limit low.old high.old → AreConnected W.End.means limit low.new high.new }
+    ensures low { LineGoesOn low.old low.new }
+    ensures high { LineGoesOn high.old high.new }
+    ensures quiet { IsQuietEnd result → AllGot low.new.orders × AllGot high.new.orders }
     ensures spent { (host entries : ℕ) → result ≡ ended.Spent host entries → IsFullAt host entries low.new high.new }
 {
     let mut quiet = 0u64;
@@ -119,7 +129,8 @@ fn end_after<E: End>(
     low: &Line<E, Writer>,
     high: &Line<E, Writer>,
 ) -> Option<Rounds>
-    ensures { (host entries : ℕ) → result ≡ Some (ended.Spent host entries) → came ≡ round.Spent host entries }
+    ensures spent { (host entries : ℕ) → result ≡ Some (ended.Spent host entries) → came ≡ round.Spent host entries }
+    ensures quiet { (end : RoundsView) → result ≡ Some end → IsQuietEnd end → came ≡ round.Idle }
 {
     match came {
         Round::Moved => None,

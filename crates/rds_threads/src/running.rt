@@ -9,6 +9,7 @@ use crate::form::{Form, RunEnd};
 use crate::pair::{bind_leading, commands_from, party};
 use crate::playing::play_both;
 use crate::rounds::last_rounds;
+use crate::settling::settle_lines;
 use crate::streams::{Prepared, cuts, prepare};
 use crate::verdict::Wanted;
 use rds_link::{Gate, Sink, Wire};
@@ -84,10 +85,12 @@ where
     let leading = bind_leading(rt, alloc, commands, &mut callers)?;
     let rest = commands_from(commands, leading);
     let (callers, mut lines) = play_both(rt, alloc, rest, gate, callers, (low_lines, high_lines));
-    let Ok(callers) = callers else {
+    let Ok(mut callers) = callers else {
         end_lines(rt, wire, lines);
         return Err(Memory);
     };
+    settle_lines(&mut callers.0, &mut lines.0);
+    settle_lines(&mut callers.1, &mut lines.1);
     let end = last_rounds(rt, wire, wanted, budget, &mut lines);
     end_run(rt, alloc, wire, form, end, callers, lines, sink)
 }

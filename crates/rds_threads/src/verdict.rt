@@ -1,5 +1,6 @@
 //! What the turns of a round come to.
 ghost use Rattle.std.specs.Prelude.{◌≡◌, ℕ};
+ghost use Rattle.rds_mail.specs.Learning.{AllGot};
 ghost use Rattle.rds_line.specs.Line.{IsFull};
 ghost use Rattle.rds_line.specs.Stays.{LineStays};
 ghost use Rattle.rds_host.specs.Lines.{pair_of};
@@ -72,6 +73,7 @@ pub(crate) fn turn<E: End, R: Wait>(
     other: &Line<E, Writer>,
 ) -> Round
     ensures stays { LineStays E.means pair_of line.old line.new }
+    ensures idle { result ≡ round.Idle → AllGot line.new.orders }
     ensures spent { (at entries : ℕ) → result ≡ round.Spent at entries → (at ≡ host) × IsFull entries line.new }
 {
     match line.turn(rt) {

@@ -1,0 +1,30 @@
+-- Private: it serves the contracts of the private functions that turn the lines of a run for the last time. Source: this project's own.
+use Rattle.std.specs.Prelude.{◌≡◌, ℕ, List, Some, length, slice_get}
+use Rattle.rds_fmap.specs.Readers.{WriterView}
+use Rattle.rds_mail.specs.Learning.{AllGot}
+use Rattle.rds_line.specs.Line.{LineView}
+use Rattle.rds_host.specs.Keeping.{LineKeeps}
+use Rattle.rds_threads.specs.declared.rounds.Rounds.{Rounds}
+use Rattle.rds_threads.specs.declared.rounds.Rounds.TheVariants as ended
+
+-- the rounds ended since they were quiet
+abbrev pub IsQuietEnd : Rounds → Type 0
+IsQuietEnd ended.Done = Unit {0}
+IsQuietEnd (ended.Unfinished count) = Unit {0}
+IsQuietEnd ended.Fault = ⊥
+IsQuietEnd (ended.Spent host entries) = ⊥
+IsQuietEnd ended.Memory = ⊥
+
+module _ {E : Type 0} where
+  -- the same line, which was told of no more orders
+  pub record LineGoesOn (old new : LineView E WriterView) : Type 0 where
+    pub keeps : LineKeeps old new
+    pub told : new.orders.told ≡ old.orders.told
+
+  pub record LinesGoOn (old new : List (LineView E WriterView)) : Type 0 where
+    pub count : length new ≡ length old
+    pub each : (place : ℕ) (line after : LineView E WriterView) → slice_get old place ≡ Some line → slice_get new place ≡ Some after → LineGoesOn line after
+
+  -- each line got all orders that it was told of
+  abbrev pub AreQuiet : List (LineView E WriterView) → Type 0
+  AreQuiet lines = (place : ℕ) (line : LineView E WriterView) → slice_get lines place ≡ Some line → AllGot line.orders
