@@ -1,5 +1,5 @@
 -- What getters were told of what putters have put. Source: this project's own.
-use Rattle.std.specs.Prelude.{◌≡◌, ℕ, List, Some, slice_get}
+use Rattle.std.specs.Prelude.{◌≡◌, ℕ, List, ◌++◌, Some, length, map, slice_get}
 use Rattle.rds_views.specs.Views.{Has}
 use Rattle.rds_mail.specs.declared.view.Account.{Account}
 use Rattle.rds_mail.specs.Passes.{Putter}

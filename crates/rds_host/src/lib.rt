@@ -3,13 +3,11 @@
 #![tactic(auto)]
 
 mod column;
-mod gathering;
 mod making;
 mod seats;
 mod stop;
 mod working;
 
-pub use gathering::{end_line, gather};
 pub use making::make;
 pub use stop::Stop;
 pub use working::work;

@@ -6,6 +6,7 @@ pub invariant_of-result-2 : goal.invariant_of-result-2
 invariant_of-result-2 c = record {
   orders_of = search rules;
   got = search rules;
+  joined = search rules;
   passes_of = search rules;
   put = search rules;
   published = search rules;
