@@ -126,7 +126,7 @@ with_boxes_more mail count place old new i d small is =
   where
     go : (place : ℕ) (old : List ColumnView) (i : ℕ) → i < length old
         → set (with_boxes mail count place (take i old) ++ drop i old) i (with_box (new_putter mail count (place + i)) (get_or (with_boxes mail count place (take i old) ++ drop i old) i d))
-          ≡ with_boxes mail count place (take (i + 1) old) ++ drop (i + 1) old
+        ≡ with_boxes mail count place (take (i + 1) old) ++ drop (i + 1) old
     go place [] i small = absurd (omega arith)
     go place (c ∷ old) zero small = ap (λ (k : ℕ). with_box (new_putter mail count k) c ∷ old) (omega arith)
     go place (c ∷ old) (suc i) small =
