@@ -1,7 +1,7 @@
 -- How the columns of a host, its slots and its lines are made one after another.
 use Rattle.std.proofs.Common.{◌≡◌, ◌⊎◌, ℕ, zero, suc, ◌+◌, ◌-◌, ◌<◌, ◌≤◌, List, [], ◌∷◌, ◌++◌, All, Some, length, map, reverse, take, drop, get_or, set, slice_get, option_map, replicate, refl, inl, inr, sym, ap, subst, ⊎_elim, ◌∙◌, arith}
 use Rattle.std.proofs.Math.Seq.{take-append_seam}
-use Rattle.std.proofs.lemmas.List.{length-map, length_push, map_push, take_more, drop_more, same_from_push, same_lists}
+use Rattle.std.proofs.lemmas.List.{length-map, length_push, map_push, take_more, drop_more, get_or-append_right, get_or-drop, same_from_push, same_lists}
 use Rattle.std.proofs.lemmas.Grind.{reverse_onto}
 use Rattle.std.proofs.lemmas.List.Elements.{All-map, All-replicate}
 use Rattle.std.proofs.lemmas.Option.{same_Some, slice_get_within, slice_get-get_or, slice_get-map, get_or_from_slice_get}
@@ -71,6 +71,13 @@ routes_more columns i column routes lane small at before way =
     ∙ (ap (λ (w : Way). ways_of (take i columns) ++ w ∷ []) (way ∙ ap (λ (c : ColumnView). c.way) at)
     ∙ (sym (map_push (λ (c : ColumnView). c.way) (take i columns) (get_or columns i column))
     ∙ ap ways_of (sym (take_more columns i column small)))))
+
+-- what stands behind what was changed is untouched
+pub untouched : {X : Type 0} (old now front : List X) (i : ℕ) (d : X) → length front ≡ i → i < length old → now ≡ front ++ drop i old → get_or now i d ≡ get_or old i d
+untouched old now front i d count small is =
+    ap (λ (l : List _). get_or l i d) is
+    ∙ (get_or-append_right front (drop i old) i i d count (omega arith)
+    ∙ (get_or-drop i old (i - i) d ∙ ap (λ (k : ℕ). get_or old k d) (omega arith)))
 
 -- what a pop leaves
 pub popped_list : {X : Type 0} (old new : List X) (x : X) → old ≡ new ++ x ∷ [] → new ≡ take (length old - 1) old

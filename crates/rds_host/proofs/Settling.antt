@@ -264,6 +264,38 @@ module _ {E : Type 0} where
         (λ place line box at at_box. let small = slice_get_within told place line at in up.boxes place line box (omega (arith, small, all)) at at_box);
   }
 
+  -- what the next line and the slot need, to be told of each other
+  module _ (n : ℕ) (old h : Holding ReaderView) (lines told : List (LineView E WriterView)) (can : CanTell (old ∷ []) lines) (up : ToldUpTo n old h lines told)
+      (place : ℕ) (line : LineView E WriterView) (at : slice_get told place ≡ Some line) where
+    was : (before : LineView E WriterView) × (slice_get lines place ≡ Some before) × IsLineToldMore before line
+    was = let before = beside lines told line place up.lines_stay.count at in (before.0, before.1, up.lines_stay.each place before.0 line before.1 at)
+
+    pub fit_route : place < length h.routes
+    fit_route =
+        let count : length old.routes ≡ length lines = can.routes 0 old (omega arith) in
+        let same : length h.routes ≡ length old.routes = ap (λ (x : Holding ReaderView). length x.routes) up.slot.rest in
+        let size = up.lines_stay.count in
+        let small = slice_get_within told place line at in
+        omega (arith, count, same, size, small)
+
+    pub fit_orders : (lane : Lane ReaderView) → IsLaneAt h.routes place lane → lane.pass.mail ≡ line.orders.mail
+    fit_orders lane at_lane =
+        (can.host.routes 0 place old lane was.0 refl (subst (λ (l : List (Lane ReaderView)). IsLaneAt l place lane) (ap (λ (x : Holding ReaderView). x.routes) up.slot.rest) at_lane) was.1).1
+        ∙ sym (ap (λ (l : LineView E WriterView). l.orders.mail) was.2.rest)
+
+    pub fit_port : h.ports.table ≡ line.ports.table
+    fit_port = ap (λ (x : Holding ReaderView). x.ports.table) up.slot.rest ∙ (can.host.ports 0 place old was.0 refl was.1 ∙ sym was.2.table)
+
+    pub fit_box : old.words.slot < length line.boxes
+    fit_box =
+        subst (λ (b : List (Putter Datagram)). old.words.slot < length b) (sym (ap (λ (l : LineView E WriterView). l.boxes) was.2.rest))
+        (all_at (λ (l : LineView E WriterView). old.words.slot < length l.boxes) lines was.0 place (can.boxes 0 old (omega arith)) was.1)
+
+    pub fit_hear : (box : Putter Datagram) → IsBoxOf line.boxes old.words.slot box → box.mail ≡ h.inbox.get.mail
+    fit_hear box at_box =
+        can.host.boxes 0 place old was.0 box refl was.1 (subst (λ (b : List (Putter Datagram)). IsBoxOf b old.words.slot box) (ap (λ (l : LineView E WriterView). l.boxes) was.2.rest) at_box)
+        ∙ sym (ap (λ (x : Holding ReaderView). x.inbox.get.mail) up.slot.rest)
+
   -- a slot whose mailbox was told of this putter
   abbrev pub heard : Holding ReaderView → Putter Datagram → Holding ReaderView
   heard h box = with_inbox h (record h.inbox { get = after_note h.inbox.get box })
@@ -315,6 +347,15 @@ module _ {E : Type 0} where
       subst (λ (x : Holding ReaderView). ToldUpTo (n + 1) old x lines (set told n new)) (sym is_slot)
       (subst (λ (l : LineView E WriterView). ToldUpTo (n + 1) old (heard h box) lines (set told n l)) (sym is_line)
       (told_next n old h lines told line lane box new.ports at at_lane at_box table up))
+
+  -- what the calls on a line leave it with
+  pub line_noted : (line first second new : LineView E WriterView) (note pass : Putter Order) (seat : PortSeat) → note ≡ pass → first ≡ record line { orders = after_note line.orders note }
+      → second ≡ record first { ports = seat } → seat.table ≡ first.ports.table → new ≡ second → (new ≡ noted line pass new.ports) × (new.ports.table ≡ line.ports.table)
+  line_noted line first second new note pass seat is heard_first heard_second table same =
+      let full : new ≡ noted line pass seat =
+      same ∙ (heard_second ∙ (ap (λ (l : LineView E WriterView). record l { ports = seat }) heard_first ∙ ap (λ (p : Putter Order). noted line p seat) is)) in
+      let ports : new.ports ≡ seat = ap (λ (l : LineView E WriterView). l.ports) full in
+      (full ∙ ap (noted line pass) (sym ports), ap (λ (p : PortSeat). p.table) ports ∙ (table ∙ ap (λ (l : LineView E WriterView). l.ports.table) heard_first))
 
   pub none_settled : (lines : List (LineView E WriterView)) → AreSettled [] [] lines lines
   none_settled lines = record {
