@@ -1,9 +1,9 @@
 -- How the columns of a host, its slots and its lines are made one after another.
 use Rattle.std.proofs.Common.{◌≡◌, ◌⊎◌, ℕ, zero, suc, ◌+◌, ◌-◌, ◌<◌, ◌≤◌, List, [], ◌∷◌, ◌++◌, All, Some, length, map, reverse, take, drop, get_or, set, slice_get, option_map, replicate, refl, inl, inr, sym, ap, subst, ⊎_elim, ◌∙◌, arith}
 use Rattle.std.proofs.Math.Seq.{take-append_seam}
-use Rattle.std.proofs.lemmas.List.{length-map, length_push, map_push, take_more, drop_more, get_or-append_right, get_or-drop, same_from_push, same_lists}
+use Rattle.std.proofs.lemmas.List.{length-map, length_push, map_push, take_more, drop_more, get_or-append_right, get_or-drop, get_or-reverse, length-reverse, same_from_push, same_lists}
 use Rattle.std.proofs.lemmas.Grind.{reverse_onto}
-use Rattle.std.proofs.lemmas.List.Elements.{All-map, All-replicate}
+use Rattle.std.proofs.lemmas.List.Elements.{All-cons, All-map, All-nil, All-replicate}
 use Rattle.std.proofs.lemmas.Option.{same_Some, slice_get_within, slice_get-get_or, slice_get-map, get_or_from_slice_get}
 use Rattle.rds_views.specs.Views.{Table}
 use Rattle.rds_model.specs.declared.order.Datagram.{Datagram}
@@ -92,7 +92,7 @@ abbrev pub after_splits : {T : Type 0} → QueueId → ℕ → Putter T
 after_splits mail splits = record { mail = mail; number = []; splits = splits; put = [] }
 
 -- what it splits off next is the putter of the next place
-pub split_is : {T : Type 0} (mail : QueueId) (count splits : ℕ) (p : Putter T) → p ≡ after_splits mail splits → new_from p ≡ new_putter mail count (1 + splits)
+pub split_is : {T : Type 0} (mail : QueueId) (count splits : ℕ) (p : Putter T) → p ≡ after_splits mail splits → new_from p ≡ new_putter mail count (suc splits)
 split_is mail count splits p is = ap new_from is
 
 -- the route that takes a column's last putter
@@ -118,28 +118,47 @@ all_putters mail slots later first some are is =
 
 -- of the putters that are left, that of the next slot stands last
 left_are : (mail : QueueId) (slots slot : ℕ) → slot < slots
-    → reverse (putters_from mail slots slot (slots - slot)) ≡ reverse (putters_from mail slots (slot + 1) (slots - (slot + 1))) ++ new_putter mail slots slot ∷ []
+    → reverse (putters_from mail slots slot (slots - slot)) ≡ reverse (putters_from mail slots (suc slot) (slots - suc slot)) ++ new_putter mail slots slot ∷ []
 left_are mail slots slot small =
-    let more : slots - slot ≡ suc (slots - (slot + 1)) = omega (arith, small) in
+    let more : slots - slot ≡ suc (slots - suc slot) = omega (arith, small) in
     ap (λ (n : ℕ). reverse (putters_from mail slots slot n)) more
-    ∙ reverse_onto (putters_from mail slots (slot + 1) (slots - (slot + 1))) (new_putter mail slots slot) []
+    ∙ reverse_onto (putters_from mail slots (suc slot) (slots - suc slot)) (new_putter mail slots slot) []
+
+all_reversed : {X : Type 0} (P : X → Type 0) (xs : List X) → All P xs → All P (reverse xs)
+all_reversed P xs all k d small =
+    let count = length-reverse xs in
+    let within : k < length xs = omega (arith, count, small) in
+    subst P (sym (get_or-reverse xs k d within)) (all (length xs - 1 - k) d (omega (arith, within)))
+
+-- putters of one queue, which have put nothing
+are_new : (mail : QueueId) (count slot left : ℕ) → All (λ p. (p.mail ≡ mail) × (p.put ≡ [])) (putters_from mail count slot left)
+are_new mail count slot zero = All-nil (λ (p : Putter Order). (p.mail ≡ mail) × (p.put ≡ []))
+are_new mail count slot (suc left) =
+    All-cons (λ (p : Putter Order). (p.mail ≡ mail) × (p.put ≡ [])) (new_putter mail count slot) (putters_from mail count (suc slot) left) (refl, refl) (are_new mail count (suc slot) left)
+
+pub new_all : (mail : QueueId) (slots : ℕ) (passes : List (Putter Order)) → passes ≡ reverse (putters_from mail slots 0 slots) → All (λ p. (p.mail ≡ mail) × (p.put ≡ [])) passes
+new_all mail slots passes are =
+    subst (All (λ (p : Putter Order). (p.mail ≡ mail) × (p.put ≡ []))) (sym are)
+    (all_reversed (λ (p : Putter Order). (p.mail ≡ mail) × (p.put ≡ [])) (putters_from mail slots 0 slots) (are_new mail slots 0 slots))
 
 -- a loop that gives each column a putter at a mailbox
+boxes_set : (mail : QueueId) (count place : ℕ) (old : List ColumnView) (i : ℕ) (d : ColumnView) → i < length old
+    → set (with_boxes mail count place (take i old) ++ drop i old) i (with_box (new_putter mail count (place + i)) (get_or (with_boxes mail count place (take i old) ++ drop i old) i d))
+    ≡ with_boxes mail count place (take (suc i) old) ++ drop (suc i) old
+boxes_set mail count place [] i d small = absurd (omega arith)
+boxes_set mail count place (c ∷ old) zero d small = ap (λ (k : ℕ). with_box (new_putter mail count k) c ∷ old) (omega arith)
+boxes_set mail count place (c ∷ old) (suc i) d small =
+    ap (λ (l : List ColumnView). with_box (new_putter mail count place) c ∷ l)
+    (ap (λ (k : ℕ). set (with_boxes mail count (suc place) (take i old) ++ drop i old) i (with_box (new_putter mail count k) (get_or (with_boxes mail count (suc place) (take i old) ++ drop i old) i d))) (omega arith)
+    ∙ boxes_set mail count (suc place) old i d (omega arith))
+
 pub with_boxes_more : (mail : QueueId) (count place : ℕ) (old new : List ColumnView) (i : ℕ) (d : ColumnView) → i < length old
     → new ≡ with_boxes mail count place (take i old) ++ drop i old
     → set new i (with_box (new_putter mail count (place + i)) (get_or new i d)) ≡ with_boxes mail count place (take (i + 1) old) ++ drop (i + 1) old
 with_boxes_more mail count place old new i d small is =
-    subst (λ (l : List ColumnView). set l i (with_box (new_putter mail count (place + i)) (get_or l i d)) ≡ with_boxes mail count place (take (i + 1) old) ++ drop (i + 1) old) (sym is) (go place old i small)
-  where
-    go : (place : ℕ) (old : List ColumnView) (i : ℕ) → i < length old
-        → set (with_boxes mail count place (take i old) ++ drop i old) i (with_box (new_putter mail count (place + i)) (get_or (with_boxes mail count place (take i old) ++ drop i old) i d))
-        ≡ with_boxes mail count place (take (i + 1) old) ++ drop (i + 1) old
-    go place [] i small = absurd (omega arith)
-    go place (c ∷ old) zero small = ap (λ (k : ℕ). with_box (new_putter mail count k) c ∷ old) (omega arith)
-    go place (c ∷ old) (suc i) small =
-        ap (λ (l : List ColumnView). with_box (new_putter mail count place) c ∷ l)
-        (ap (λ (k : ℕ). set (with_boxes mail count (suc place) (take i old) ++ drop i old) i (with_box (new_putter mail count k) (get_or (with_boxes mail count (suc place) (take i old) ++ drop i old) i d))) (omega arith)
-        ∙ go (suc place) old i (omega arith))
+    let next : suc i ≡ i + 1 = omega arith in
+    ap (λ (l : List ColumnView). set l i (with_box (new_putter mail count (place + i)) (get_or l i d))) is
+    ∙ (boxes_set mail count place old i d small ∙ ap (λ (k : ℕ). with_boxes mail count place (take k old) ++ drop k old) next)
 
 pub count_with_boxes : (mail : QueueId) (count place : ℕ) (columns : List ColumnView) → length (with_boxes mail count place columns) ≡ length columns
 count_with_boxes mail count place [] = refl
@@ -183,10 +202,10 @@ filled_more slots mails mail columns small all place after at =
     let c = was.0 in
     let held = all place c was.1 in
     let longer = length_push mails mail in
-    let size : length (mails ++ mail ∷ []) ≡ length mails + 1 = omega (arith, longer) in
-    let is : after ≡ with_box (new_putter mail lines place) (popped c) = boxed.2 ∙ ap (with_box (new_putter mail lines place)) (sym was.2) in
-    let left : (popped c).passes ≡ reverse (putters_from c.way.mail slots (length mails + 1) (slots - (length mails + 1))) =
-    sym (popped_list c.passes (reverse (putters_from c.way.mail slots (length mails + 1) (slots - (length mails + 1)))) (new_putter c.way.mail slots (length mails))
+    let size : length (mails ++ mail ∷ []) ≡ suc (length mails) = omega (arith, longer) in
+    let is : after ≡ with_box (new_putter mail lines place) (popped c) = boxed.2 ∙ (ap (λ (k : ℕ). with_box (new_putter mail lines k) boxed.0) (omega arith) ∙ ap (with_box (new_putter mail lines place)) (sym was.2)) in
+    let left : (popped c).passes ≡ reverse (putters_from c.way.mail slots (suc (length mails)) (slots - (suc (length mails)))) =
+    sym (popped_list c.passes (reverse (putters_from c.way.mail slots (suc (length mails)) (slots - (suc (length mails))))) (new_putter c.way.mail slots (length mails))
     (held.passes ∙ left_are c.way.mail slots (length mails) small)) in
     subst (λ (n : ℕ). IsFilled slots n place (mails ++ mail ∷ []) after) (sym (count_next mail columns))
     (subst (IsFilled slots lines place (mails ++ mail ∷ [])) (sym is)
@@ -197,10 +216,18 @@ filled_more slots mails mail columns small all place after at =
 
 -- columns of which nothing was taken
 pub filled_first : (slots : ℕ) (columns : List ColumnView) → All (λ c. c.passes ≡ reverse (putters_from c.way.mail slots 0 slots)) columns → All (λ c. c.boxes ≡ []) columns → AreFilled slots [] columns
-filled_first slots columns passes boxes place c at = record {
-  passes = all_at (λ (c : ColumnView). c.passes ≡ reverse (putters_from c.way.mail slots 0 slots)) columns c place passes at;
+filled_first slots columns passes boxes place c at = let none : slots ≡ slots - 0 = omega arith in record {
+  passes =
+      all_at (λ (c : ColumnView). c.passes ≡ reverse (putters_from c.way.mail slots 0 slots)) columns c place passes at
+      ∙ ap (λ (n : ℕ). reverse (putters_from c.way.mail slots 0 n)) none;
   boxes = all_at (λ (c : ColumnView). c.boxes ≡ []) columns c place boxes at;
 }
+
+-- each column has a putter at each of these mailboxes
+pub filled_boxes : (slots : ℕ) (mails : List QueueId) (columns : List ColumnView) (count : ℕ) → length mails ≡ count → AreFilled slots mails columns → All (λ c. length c.boxes ≡ count) columns
+filled_boxes slots mails columns count many all k d small =
+    let c = get_or columns k d in
+    ap length (all k c (slice_get-get_or columns k d small)).boxes ∙ (length-map mails (λ (m : QueueId). new_putter m (length columns) k) ∙ many)
 
 -- one more route takes the next putter of the next column
 pub next_push : (columns : List ColumnView) (routes : List (Lane ReaderView)) (lane : Lane ReaderView) (c : ColumnView) → slice_get columns (length routes) ≡ Some c → IsNextOf c lane.pass
@@ -223,7 +250,7 @@ slot_passes slots slot mails columns routes small is count all next k d within =
     let held = (all k c column.1).passes ∙ left_are c.way.mail slots (length mails) small in
     let took : IsNextOf c lane.pass = next k lane c (slice_get-get_or routes k d within) column.1 in
     let pass : lane.pass ≡ new_putter c.way.mail slots (length mails) =
-    (same_from_push (popped c).passes (reverse (putters_from c.way.mail slots (length mails + 1) (slots - (length mails + 1)))) lane.pass (new_putter c.way.mail slots (length mails)) (sym took ∙ held)).1 in
+    (same_from_push (popped c).passes (reverse (putters_from c.way.mail slots (suc (length mails)) (slots - (suc (length mails))))) lane.pass (new_putter c.way.mail slots (length mails)) (sym took ∙ held)).1 in
     pass ∙ (ap (λ (m : QueueId). new_putter m slots (length mails)) (sym (ap (λ (p : Putter Order). p.mail) pass)) ∙ ap (new_putter lane.pass.mail slots) (sym is))
 
 pub peers_push : (columns : List ColumnView) (column : ColumnView) → peers_to (ways_of (columns ++ column ∷ [])) ≡ peers_to (ways_of columns) ++ column.way.peer ∷ []
@@ -240,6 +267,9 @@ pub readers_alike : (writer inside : WriterView) (n : ℕ) (readers : List Reade
 readers_alike writer inside n readers made is =
     subst (λ (l : List ReaderView). All (λ r. r.pair ≡ inside.pair) l) (sym made)
     (All-replicate (λ (r : ReaderView). r.pair ≡ inside.pair) n (record { pair = writer.pair; found = [] }) (ap (λ (w : WriterView). w.pair) (sym is)))
+
+pub none_in_place : {R : Type 0} → AreInPlace {R = R} []
+none_in_place place vacant stands = absurd (let small = slice_get_within [] place vacant stands in omega arith)
 
 -- one more slot, whose number is how many there were
 pub in_place_push : {R : Type 0} (vacants : List (Holding R)) (vacant : Holding R) → AreInPlace vacants → vacant.words.slot ≡ length vacants → AreInPlace (vacants ++ vacant ∷ [])

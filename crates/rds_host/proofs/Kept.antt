@@ -77,6 +77,13 @@ slots_through old middle new first second = record {
       slot_through h between.0 after (first.each slot h between.0 stood between.1) (second.each slot between.0 after between.1 stands);
 }
 
+-- the putter that stood there
+box_was : (old new : List (Putter Datagram)) (slot : ℕ) (after : Putter Datagram) → AreSameBoxes old new → IsBoxOf new slot after
+    → (box : Putter Datagram) × IsBoxOf old slot box × ((after.mail ≡ box.mail) × (after.number ≡ box.number) × (after.splits ≡ box.splits))
+box_was old new slot after same at =
+    let box = beside old new after slot same.count at in
+    (box.0, box.1, same.each slot box.0 after box.1 at)
+
 module _ {E : Type 0} where
   line_same : (line : LineView E WriterView) → LineKeeps line line
   line_same line = record { peer = refl; mail = refl; joined = refl; boxes = boxes_same line.boxes; ports = refl; words = refl; pair = refl }
@@ -113,13 +120,6 @@ module _ {E : Type 0} where
         let t = turned.each place line after stood stands in
         record { peer = t.channel.peer; mail = t.mail; joined = t.joined; boxes = t.boxes; ports = t.ports; words = t.words; pair = t.map };
   }
-
-  -- the putter that stood there
-  box_was : (old new : List (Putter Datagram)) (slot : ℕ) (after : Putter Datagram) → AreSameBoxes old new → IsBoxOf new slot after
-      → (box : Putter Datagram) × IsBoxOf old slot box × ((after.mail ≡ box.mail) × (after.number ≡ box.number) × (after.splits ≡ box.splits))
-  box_was old new slot after same at =
-      let box = beside old new after slot same.count at in
-      (box.0, box.1, same.each slot box.0 after box.1 at)
 
   module _ (slots ended : List (Holding ReaderView)) (lines after : List (LineView E WriterView)) (kept : SlotsKeep slots ended) (stay : LinesKeep lines after) where
     -- what was, and that it was kept

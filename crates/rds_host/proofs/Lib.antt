@@ -1,5 +1,5 @@
 pub mod Columns
 pub mod Drawn
 pub mod Kept
-pub mod Settling
 pub mod Staying
+pub mod Told

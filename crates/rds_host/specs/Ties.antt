@@ -1,5 +1,5 @@
 -- What ties the slots of a host to its lines. Source: this project's own.
-use Rattle.std.specs.Prelude.{◌≡◌, ℕ, suc, ◌-◌, List, [], ◌∷◌, ◌++◌, Some, All, length, map, reverse, slice_get, take}
+use Rattle.std.specs.Prelude.{◌≡◌, ℕ, zero, suc, ◌-◌, List, [], ◌∷◌, ◌++◌, Some, All, length, map, reverse, slice_get, take}
 use Rattle.atomic_table.specs.Seated.{TableId}
 use Rattle.rds_views.specs.Views.{Table}
 use Rattle.rds_model.specs.declared.entry.TheConstants.{MAX_SLOTS}
@@ -33,7 +33,7 @@ new_putter mail count place = record { mail = mail; number = number_at place; sp
 
 -- the putters of so many slots, of `count` in all, from this one upward
 abbrev pub putters_from : QueueId → (count slot left : ℕ) → List (Putter Order)
-putters_from mail count slot 0 = []
+putters_from mail count slot zero = []
 putters_from mail count slot (suc left) = new_putter mail count slot ∷ putters_from mail count (suc slot) left
 
 -- a column whose next putter was taken

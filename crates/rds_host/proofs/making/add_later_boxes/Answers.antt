@@ -13,7 +13,8 @@ loop-i-preserved c =
     let old = c.args.columns.now in
     let now = c.loop-i.columns in
     let column = get_or now i c.index-columns-i.result in
-    let own : c.split.result ≡ new_putter mail (suc (length old)) (1 + i) = c.split.ensures.new ∙ split_is mail (suc (length old)) i c.loop-i.put inv.1 in
+    let place : suc i ≡ 1 + i = omega arith in
+    let own : c.split-own.result ≡ new_putter mail (suc (length old)) (1 + i) = c.split-own.ensures.new ∙ (split_is mail (suc (length old)) i c.loop-i.put inv.1 ∙ ap (new_putter mail (suc (length old))) place) in
     let is : c.add_box.new.self ≡ with_box (new_putter mail (suc (length old)) (1 + i)) column =
     c.in_ok-add_box.ensures ∙ ap (λ (b : Putter Datagram). with_box b column) (c.new.ensures ∙ own) in
-    (ap (set now i) is ∙ with_boxes_more mail (suc (length old)) 1 old now i c.index-columns-i.result (omega arith) inv.0, c.split.ensures.pass ∙ ap split_from inv.1)
+    (ap (set now i) is ∙ with_boxes_more mail (suc (length old)) 1 old now i c.index-columns-i.result (omega arith) inv.0, c.split-own.ensures.pass ∙ ap split_from inv.1)

@@ -1,16 +1,32 @@
-use Rattle.std.proofs.Common.{◌≡◌, ℕ, List, Vec, All, Some, length, map, slice_get, sym, ap, subst, ◌∙◌}
+use Rattle.std.proofs.Common.{◌≡◌, ℕ, List, Vec, [], All, Some, length, map, slice_get, sym, ap, subst, ◌∙◌}
 use Rattle.std.specs.Arc.{arc_value}
 use Rattle.std.specs.Global.{Global}
 use Rattle.std.proofs.lemmas.List.{length-map}
+use Rattle.rds_views.specs.Views.{Table}
 use Rattle.rds_model.specs.declared.order.Datagram.{Datagram}
 use Rattle.rds_model.specs.declared.order.Order.{Order}
 use Rattle.rds_mail.specs.Passes.{Getter, Putter}
 use Rattle.rds_fmap.specs.Readers.{ReaderView}
 use Rattle.rds_parts.specs.Lanes.{Ascend}
 use Rattle.rds_socket.specs.Holding.{Holding}
-use Rattle.rds_host.specs.Ties.{AreLinesOf, ColumnView, IsSlotOf, peers_to, ways_of}
-use Rattle.rds_host.proofs.Columns.{all_at, all_passes, count_of, lanes_peers, new_lines, of_host, same_count, written_back}
+use Rattle.rds_host.specs.Ties.{AreFilled, AreLinesOf, ColumnView, IsSlotOf, inbox_of, peers_to, ways_of}
+use Rattle.rds_host.proofs.Columns.{all_at, all_passes, count_of, filled_boxes, lanes_peers, new_lines, of_host, same_count, written_back}
 use Rattle.rds_host.proofs.making.make.Goals as goal
+
+pub vacants-requires-clause-filled : goal.vacants-requires-clause-filled
+vacants-requires-clause-filled g c = subst (AreFilled c.args.slots []) (sym c.deref_mut.ensures.value) c.in_ok-columns.ensures.filled
+
+pub lines-requires-clause-boxes : goal.lines-requires-clause-boxes
+lines-requires-clause-boxes g c =
+    let old = c.in_ok-columns.columns.items in
+    let new = c.vacants.new.columns in
+    let made = c.in_ok-vacants.ensures in
+    let ways : ways_of new ≡ ways_of old = made.ways ∙ ap ways_of c.deref_mut.ensures.value in
+    let back = written_back old new c.in_ok-columns.columns.len c.in_ok-columns.columns.ok.0 (same_count old new ways) in
+    let count : length (map inbox_of c.in_ok-vacants.vacants.items) ≡ (arc_value c.vacants.new.seats.table).slots =
+    length-map c.in_ok-vacants.vacants.items inbox_of ∙ (made.count ∙ sym (ap (λ (t : Table). t.slots) made.table ∙ c.in_ok-seats.ensures.slots)) in
+    subst (All (λ (x : ColumnView). length x.boxes ≡ (arc_value c.vacants.new.seats.table).slots)) (sym back)
+    (filled_boxes c.args.slots (map inbox_of c.in_ok-vacants.vacants.items) new (arc_value c.vacants.new.seats.table).slots count made.filled)
 
 pub returns-clause-slots : goal.returns-clause-slots
 returns-clause-slots g c =

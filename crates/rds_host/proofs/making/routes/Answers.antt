@@ -1,4 +1,4 @@
-use Rattle.std.proofs.Common.{◌≡◌, ◌<◌, List, [], ◌∷◌, ◌++◌, Some, All, length, map, get_or, set, take, slice_get, sym, ap, subst, ◌∙◌, arith}
+use Rattle.std.proofs.Common.{◌≡◌, ◌+◌, ◌<◌, List, [], ◌∷◌, ◌++◌, Some, All, length, map, get_or, set, take, slice_get, sym, ap, subst, ◌∙◌, arith}
 use Rattle.std.proofs.lemmas.List.{get_or_default, length-map, length-take-le}
 use Rattle.std.proofs.lemmas.List.Edits.{map_over_more}
 use Rattle.std.proofs.lemmas.List.Elements.{All-push}
@@ -25,7 +25,7 @@ loop-i-preserved c =
     let pushed : c.push.new.self.items ≡ routes ++ lane ∷ [] = c.in_ok-push.ensures.items in
     let count : length routes ≡ i = sym (length-map routes lane_way) ∙ (ap length inv.2 ∙ (length-map (take i old) (λ (x : ColumnView). x.way) ∙ length-take-le i old (omega (arith, small)))) in
     let at : slice_get old (length routes) ≡ Some (get_or old i d) = ap (slice_get old) count ∙ slice_get-get_or old i d small in (
-      ap (set now i) made.popped ∙ map_over_more popped old now i column small inv.0 (get_or_default now i column d (omega arith)),
+      ap (set now i) made.popped ∙ map_over_more popped old now i column small inv.0 (get_or_default now i d column (omega arith)),
       subst (AreNextOf old) (sym pushed) (next_push old routes lane (get_or old i d) at (subst (λ (x : ColumnView). IsNextOf x lane.pass) is made.next) inv.1),
       subst (λ (l : List (Lane ReaderView)). map lane_way l ≡ ways_of (take (i + 1) old)) (sym pushed)
           (routes_more old i (get_or old i d) routes lane small (get_or_default old i d (get_or old i d) small) inv.2 (made.way ∙ ap (λ (x : ColumnView). x.way) is)),

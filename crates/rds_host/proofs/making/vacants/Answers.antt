@@ -1,12 +1,30 @@
-use Rattle.std.proofs.Common.{◌≡◌, ℕ, ◌+◌, ◌<◌, List, [], ◌∷◌, ◌++◌, All, length, map, unwrap_or, sym, ap, subst, ◌∙◌, arith}
+use Rattle.std.proofs.Common.{◌≡◌, ℕ, ◌+◌, ◌<◌, List, [], ◌∷◌, ◌++◌, All, length, map, unwrap_or, refl, sym, ap, subst, ◌∙◌, arith, rules}
 use Rattle.std.specs.Arc.{arc_value}
 use Rattle.std.proofs.lemmas.List.{length-map, length_push, map_push}
-use Rattle.std.proofs.lemmas.List.Elements.{All-push}
+use Rattle.std.proofs.lemmas.List.Elements.{All-nil, All-push}
 use Rattle.rds_mail.specs.Passes.{QueueId}
 use Rattle.rds_host.specs.Slots.{AreInPlace}
 use Rattle.rds_host.specs.Ties.{AreFilled, ColumnView, IsSlotOf, inbox_of, lane_way, ways_of}
-use Rattle.rds_host.proofs.Columns.{count_next, filled_more, in_place_push, next_columns, slot_passes, ways_next}
+use Rattle.rds_host.proofs.Columns.{count_next, filled_more, in_place_push, next_columns, none_in_place, slot_passes, ways_next}
 use Rattle.rds_host.proofs.making.vacants.Goals as goal
+
+pub loop-init : goal.loop-init
+loop-init c =
+    let none : map inbox_of c.in_ok-vacants.vacants.items ≡ [] = ap (map inbox_of) c.in_ok-vacants.ensures.items in (
+      refl,
+      refl,
+      search rules,
+      c.requires.seats,
+      c.requires.draws,
+      search rules,
+      refl,
+      refl,
+      subst (λ (l : List QueueId). AreFilled c.args.slots l c.args.columns.now) (sym none) c.requires.filled,
+      search rules,
+      subst AreInPlace (sym c.in_ok-vacants.ensures.items) none_in_place,
+      subst (All (IsSlotOf c.args.slots (ways_of c.args.columns.now) (arc_value c.args.seats.now.table) (arc_value c.args.seats.now.meter))) (sym c.in_ok-vacants.ensures.items)
+          (All-nil (IsSlotOf c.args.slots (ways_of c.args.columns.now) (arc_value c.args.seats.now.table) (arc_value c.args.seats.now.meter))),
+    )
 
 pub loop-preserved : goal.loop-preserved
 loop-preserved c =

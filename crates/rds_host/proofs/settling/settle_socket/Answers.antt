@@ -8,7 +8,7 @@ use Rattle.rds_fmap.specs.Readers.{ReaderView, WriterView}
 use Rattle.rds_line_parts.specs.Boxes.{IsBoxOf}
 use Rattle.rds_socket.specs.Holding.{Holding, Open}
 use Rattle.rds_line.specs.Line.{LineView}
-use Rattle.rds_host.proofs.Settling.{all_told, fit_box, fit_hear, fit_orders, fit_port, fit_route, heard, line_noted, none_told, told_more}
+use Rattle.rds_host.proofs.Told.{all_told, fit_box, fit_hear, fit_orders, fit_port, fit_route, heard, line_noted, none_told, told_more}
 use Rattle.rds_host.proofs.settling.settle_socket.Goals as goal
 
 pub order_note-requires : goal.order_note-requires
@@ -45,7 +45,7 @@ inbox_note-requires g c =
     let boxes : c.hear_port.new.self.boxes ≡ line.boxes =
     ap (λ (l : LineView g.row.E.Denot WriterView). l.boxes) c.hear_port.ensures ∙ ap (λ (l : LineView g.row.E.Denot WriterView). l.boxes) c.hear_orders.ensures in
     let few = fit_box i c.args.socket.now.own c.loop-i.socket.own c.args.lines.now c.loop-i.lines c.requires c.loop-i.invariant i line at in
-    let slot = c.slot.ensures in
+    let slot = c.slot-slot.ensures in
     let many = ap (λ (b : List (Putter Datagram)). length b) boxes in
     omega (arith, slot, many, few)
 
@@ -57,7 +57,7 @@ hear-requires g c =
     let boxes : c.hear_port.new.self.boxes ≡ line.boxes =
     ap (λ (l : LineView g.row.E.Denot WriterView). l.boxes) c.hear_port.ensures ∙ ap (λ (l : LineView g.row.E.Denot WriterView). l.boxes) c.hear_orders.ensures in
     let box : IsBoxOf line.boxes c.args.socket.now.own.words.slot c.inbox_note.result =
-    subst (λ (k : ℕ). IsBoxOf line.boxes k c.inbox_note.result) c.slot.ensures (subst (λ (b : List (Putter Datagram)). IsBoxOf b c.slot.result c.inbox_note.result) boxes c.inbox_note.ensures.note) in
+    subst (λ (k : ℕ). IsBoxOf line.boxes k c.inbox_note.result) c.slot-slot.ensures (subst (λ (b : List (Putter Datagram)). IsBoxOf b c.slot-slot.result c.inbox_note.result) boxes c.inbox_note.ensures.note) in
     fit_hear i c.args.socket.now.own c.loop-i.socket.own c.args.lines.now c.loop-i.lines c.requires c.loop-i.invariant i line at c.inbox_note.result box
     ∙ sym (ap (λ (s : Open ReaderView). s.own.inbox.get.mail) (c.port_note.ensures.same ∙ c.order_note.ensures.same))
 
@@ -80,7 +80,7 @@ loop-i-preserved g c =
     (ap (λ (l : LineView g.row.E.Denot WriterView). l.ports.table) c.hear_port.ensures) c.inbox_note.ensures.same in
     let same : c.port_note.new.self ≡ c.loop-i.socket = c.port_note.ensures.same ∙ c.order_note.ensures.same in
     let box : IsBoxOf line.boxes c.args.socket.now.own.words.slot c.inbox_note.result =
-    subst (λ (k : ℕ). IsBoxOf line.boxes k c.inbox_note.result) c.slot.ensures (subst (λ (b : List (Putter Datagram)). IsBoxOf b c.slot.result c.inbox_note.result) boxes c.inbox_note.ensures.note) in
+    subst (λ (k : ℕ). IsBoxOf line.boxes k c.inbox_note.result) c.slot-slot.ensures (subst (λ (b : List (Putter Datagram)). IsBoxOf b c.slot-slot.result c.inbox_note.result) boxes c.inbox_note.ensures.note) in
     let put : IsBoxOf line.boxes c.loop-i.socket.own.words.slot c.inbox_note.result =
     subst (λ (k : ℕ). IsBoxOf line.boxes k c.inbox_note.result) (sym (ap (λ (h : Holding ReaderView). h.words.slot) up.slot.rest)) box in
     let told : c.hear.new.self.own ≡ heard c.loop-i.socket.own c.inbox_note.result =

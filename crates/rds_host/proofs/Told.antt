@@ -43,7 +43,7 @@ told_now told p = has_last (λ t. (t.number ≡ p.number) × (t.put ≡ p.put)) 
 
 -- what stands in two lists, one behind the other, stands in one of them
 appended_at : {X : Type 0} (xs ys : List X) (x : X) (i : ℕ) → slice_get (xs ++ ys) i ≡ Some x → (slice_get xs i ≡ Some x) ⊎ ((length xs ≤ i) × (slice_get ys (i - length xs) ≡ Some x))
-appended_at [] ys x i at = inr (omega arith, at)
+appended_at [] ys x i at = inr (omega arith, subst (λ (k : ℕ). slice_get ys k ≡ Some x) (omega arith) at)
 appended_at (z ∷ xs) ys x zero at = inl at
 appended_at (z ∷ xs) ys x (suc i) at =
     ⊎_elim
@@ -59,9 +59,12 @@ ahead [] ys x i at = absurd (let small = slice_get_within [] i x at in omega ari
 ahead (z ∷ xs) ys x zero at = at
 ahead (z ∷ xs) ys x (suc i) at = ahead xs ys x i at
 
+behind_more : {X : Type 0} (z : X) (ys : List X) (x : X) (k : ℕ) → slice_get ys k ≡ Some x → slice_get (z ∷ ys) (suc k) ≡ Some x
+behind_more z ys x k at = at
+
 behind : {X : Type 0} (xs ys : List X) (x : X) (i : ℕ) → slice_get ys i ≡ Some x → slice_get (xs ++ ys) (length xs + i) ≡ Some x
-behind [] ys x i at = at
-behind (z ∷ xs) ys x i at = behind xs ys x i at
+behind [] ys x i at = subst (λ (k : ℕ). slice_get ys k ≡ Some x) (omega arith) at
+behind (z ∷ xs) ys x i at = let more : suc (length xs + i) ≡ suc (length xs) + i = omega arith in subst (λ (k : ℕ). slice_get (z ∷ xs ++ ys) k ≡ Some x) more (behind_more z (xs ++ ys) x (length xs + i) (behind xs ys x i at))
 
 -- what stands first in what is left of a list
 first_left : {X : Type 0} (xs : List X) (i : ℕ) → slice_get (drop i xs) 0 ≡ slice_get xs i
@@ -74,10 +77,13 @@ first_left (x ∷ xs) (suc i) = first_left xs i
 pub same_at : {X : Type 0} (xs ys : List X) (i : ℕ) (x : X) → drop i xs ≡ drop i ys → slice_get xs i ≡ Some x → slice_get ys i ≡ Some x
 same_at xs ys i x same at = sym (first_left ys i) ∙ (ap (λ (l : List _). slice_get l 0) (sym same) ∙ (first_left xs i ∙ at))
 
+take_one_set : {X : Type 0} (xs : List X) (i : ℕ) (y : X) → i < length xs → take (suc i) (set xs i y) ≡ take i xs ++ y ∷ []
+take_one_set [] i y small = absurd (omega arith)
+take_one_set (x ∷ xs) zero y small = refl
+take_one_set (x ∷ xs) (suc i) y small = ap (λ (l : List _). x ∷ l) (take_one_set xs i y (omega arith))
+
 taken_set : {X : Type 0} (xs : List X) (i : ℕ) (y : X) → i < length xs → take (i + 1) (set xs i y) ≡ take i xs ++ y ∷ []
-taken_set [] i y small = absurd (omega arith)
-taken_set (x ∷ xs) zero y small = refl
-taken_set (x ∷ xs) (suc i) y small = ap (λ (l : List _). x ∷ l) (taken_set xs i y (omega arith))
+taken_set xs i y small = let next : i + 1 ≡ suc i = omega arith in ap (λ (n : ℕ). take n (set xs i y)) next ∙ take_one_set xs i y small
 
 only_at : {X : Type 0} (x y : X) (i : ℕ) → slice_get (x ∷ []) i ≡ Some y → x ≡ y
 only_at x y zero at = same_Some x y at
@@ -93,7 +99,7 @@ module _ {R : Type 0} where
     told = begins_through old.inbox.get.told middle.inbox.get.told new.inbox.get.told first.told second.told;
   }
 
-  none_slots : AreSlotsToldMore {R} [] []
+  none_slots : AreSlotsToldMore {R = R} [] []
   none_slots = record { count = refl; each = λ slot h after stood stands. absurd (let small = slice_get_within [] slot h stood in omega arith) }
 
   slots_append : (old new more later : List (Holding R)) → AreSlotsToldMore old new → AreSlotsToldMore more later → AreSlotsToldMore (old ++ more) (new ++ later)
@@ -133,6 +139,10 @@ slot_keeps old new more =
 
 pub slots_keep_told : (old new : List (Holding ReaderView)) → AreSlotsToldMore old new → SlotsKeep old new
 slots_keep_told old new more = record { count = more.count; each = λ slot h after stood stands. slot_keeps h after (more.each slot h after stood stands) }
+
+-- a slot whose mailbox was told of this putter
+abbrev pub heard : Holding ReaderView → Putter Datagram → Holding ReaderView
+heard h box = with_inbox h (record h.inbox { get = after_note h.inbox.get box })
 
 module _ {E : Type 0} where
   line_told_same : (line : LineView E WriterView) → IsLineToldMore line line
@@ -295,10 +305,6 @@ module _ {E : Type 0} where
     fit_hear box at_box =
         can.host.boxes 0 place old was.0 box refl was.1 (subst (λ (b : List (Putter Datagram)). IsBoxOf b old.words.slot box) (ap (λ (l : LineView E WriterView). l.boxes) was.2.rest) at_box)
         ∙ sym (ap (λ (x : Holding ReaderView). x.inbox.get.mail) up.slot.rest)
-
-  -- a slot whose mailbox was told of this putter
-  abbrev pub heard : Holding ReaderView → Putter Datagram → Holding ReaderView
-  heard h box = with_inbox h (record h.inbox { get = after_note h.inbox.get box })
 
   -- a line that was told of this putter of orders, with this seat
   abbrev pub noted : LineView E WriterView → Putter Order → PortSeat → LineView E WriterView
