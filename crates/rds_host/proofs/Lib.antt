@@ -1,3 +1,5 @@
 pub mod Columns
 pub mod Drawn
+pub mod Kept
 pub mod Staying
+pub mod Told

@@ -4,3 +4,4 @@ pub mod Ties
 pub mod Passes
 pub mod Keeping
 pub mod Telling
+pub mod Settled

@@ -4,9 +4,8 @@ use Rattle.atomic_table.specs.Seated.{TableId}
 use Rattle.rds_fmap.specs.Readers.{WriterView}
 use Rattle.rds_link.specs.Ends.{Means}
 use Rattle.rds_model.specs.declared.entry.TheConstants.{MAX_SLOTS}
-use Rattle.rds_report.specs.FinalState.{FinalJournal}
 use Rattle.rds_line_channel.specs.Channel.{new_channel}
-use Rattle.rds_line.specs.Line.{LineView, line_past}
+use Rattle.rds_line.specs.Line.{LineView}
 use Rattle.rds_line.specs.Stays.{LineStays}
 
 -- which pair a writer is of
@@ -24,10 +23,6 @@ module _ {E M : Type 0} where
     pub each : (place peer : ℕ) (list : List (ℕ × E)) (line : LineView E M) →
         slice_get peers place ≡ Some peer → slice_get streams place ≡ Some list → slice_get lines place ≡ Some line →
         IsNewLine me peer limit list line
-
-  -- the peer of a line and what its journal has
-  abbrev pub side_of : LineView E M → FinalJournal
-  side_of line = record { peer = line.channel.conn.peer; past = line_past line }
 
   module _ {Name : Type 0} (m : Means E) (pair : M → Name) where
     -- the same lines, each of which may have turned

@@ -1,17 +1,21 @@
 -- What getters were told of what putters have put. Source: this project's own.
-use Rattle.std.specs.Prelude.{◌≡◌, ℕ, List, Some, slice_get}
+use Rattle.std.specs.Prelude.{◌≡◌, ℕ, List, ◌++◌, Some, map, slice_get}
 use Rattle.rds_views.specs.Views.{Has}
 use Rattle.rds_mail.specs.declared.view.Account.{Account}
 use Rattle.rds_mail.specs.Passes.{Putter}
 use Rattle.rds_model.specs.declared.order.Datagram.{Datagram}
 use Rattle.rds_parts.specs.Lanes.{IsLaneAt, Lane}
 use Rattle.rds_line_parts.specs.Boxes.{IsBoxOf}
-use Rattle.rds_socket.specs.Holding.{Holding}
+use Rattle.rds_socket.specs.Holding.{Holding, Open}
 use Rattle.rds_line.specs.Line.{LineView}
 
 -- a getter was told of all that the putter has put
 abbrev pub IsTold : {T : Type 0} → List (Account T) → Putter T → Type 0
 IsTold told p = Has told (λ t. (t.number ≡ p.number) × (t.put ≡ p.put))
+
+-- the slots of a host's sockets, and then those that have ended
+abbrev pub slots_of : {R : Type 0} → List (Open R) → List (Holding R) → List (Holding R)
+slots_of sockets closed = map (λ s. s.own) sockets ++ closed
 
 module _ {R E M : Type 0} where
   -- the line at this place was told of all orders that each slot has put for it

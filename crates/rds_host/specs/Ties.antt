@@ -1,17 +1,18 @@
 -- What ties the slots of a host to its lines. Source: this project's own.
-use Rattle.std.specs.Prelude.{◌≡◌, ℕ, List, [], ◌∷◌, ◌++◌, Some, All, length, map, slice_get}
+use Rattle.std.specs.Prelude.{◌≡◌, ℕ, zero, suc, ◌-◌, List, [], ◌∷◌, ◌++◌, Some, All, length, map, reverse, slice_get, take}
 use Rattle.atomic_table.specs.Seated.{TableId}
 use Rattle.rds_views.specs.Views.{Table}
 use Rattle.rds_model.specs.declared.entry.TheConstants.{MAX_SLOTS}
 use Rattle.rds_model.specs.declared.order.Datagram.{Datagram}
 use Rattle.rds_model.specs.declared.order.Order.{Order}
-use Rattle.rds_mail.specs.Passes.{Getter, Putter, QueueId}
+use Rattle.rds_mail.specs.Passes.{Getter, Putter, QueueId, first_getter}
 use Rattle.rds_fmap.specs.Readers.{ReaderView, WriterView}
 use Rattle.rds_parts.specs.Lanes.{Lane, IsLaneAt}
 use Rattle.rds_line_parts.specs.Boxes.{IsBoxOf}
 use Rattle.rds_socket.specs.Holding.{Holding}
 use Rattle.rds_line_channel.specs.Channel.{new_channel}
 use Rattle.rds_line.specs.Line.{LineView}
+use Rattle.rds_host.specs.Passes.{number_at, splits_at}
 
 -- what a route and the line that it leads to have in common: the peer, the queue of orders, and the pair of the peer's map
 pub record Way : Type 0 where
@@ -19,17 +20,37 @@ pub record Way : Type 0 where
   pub mail : QueueId
   pub pair : TableId
 
--- what a host has for one peer: the way to it, and the mailboxes of the slots that were made
+-- what a host has for one peer: the way to it, the putters of its queue that are left, with the next slot's last, and the putters
+-- at the mailboxes of the slots that were made
 pub record ColumnView : Type 0 where
   pub way : Way
-  pub boxes : List QueueId
+  pub passes : List (Putter Order)
+  pub boxes : List (Putter Datagram)
 
--- the mailboxes of putters
-abbrev pub mails_of : List (Putter Datagram) → List QueueId
-mails_of boxes = map (λ b. b.mail) boxes
+-- the putter of the slot or the line at this place, of so many, which has put nothing
+abbrev pub new_putter : {T : Type 0} → QueueId → (count place : ℕ) → Putter T
+new_putter mail count place = record { mail = mail; number = number_at place; splits = splits_at count place; put = [] }
 
-abbrev pub with_box : QueueId → ColumnView → ColumnView
-with_box mail c = record c { boxes = c.boxes ++ mail ∷ [] }
+-- the putters of so many slots, of `count` in all, from this one upward
+abbrev pub putters_from : QueueId → (count slot left : ℕ) → List (Putter Order)
+putters_from mail count slot zero = []
+putters_from mail count slot (suc left) = new_putter mail count slot ∷ putters_from mail count (suc slot) left
+
+-- a column whose next putter was taken
+abbrev pub popped : ColumnView → ColumnView
+popped c = record c { passes = take (length c.passes - 1) c.passes }
+
+-- the putter was the next one of the column
+abbrev pub IsNextOf : ColumnView → Putter Order → Type 0
+IsNextOf c pass = c.passes ≡ (popped c).passes ++ pass ∷ []
+
+abbrev pub with_box : Putter Datagram → ColumnView → ColumnView
+with_box box c = record c { boxes = c.boxes ++ box ∷ [] }
+
+-- each column with a putter more, at this mailbox, where the first is of the line at this place
+abbrev pub with_boxes : QueueId → (count place : ℕ) → List ColumnView → List ColumnView
+with_boxes mail count place [] = []
+with_boxes mail count place (c ∷ columns) = with_box (new_putter mail count place) c ∷ with_boxes mail count (suc place) columns
 
 abbrev pub ways_of : List ColumnView → List Way
 ways_of columns = map (λ c. c.way) columns
@@ -40,6 +61,10 @@ peers_to ways = map (λ way. way.peer) ways
 abbrev pub lane_way : Lane ReaderView → Way
 lane_way lane = record { peer = lane.peer; mail = lane.pass.mail; pair = lane.reader.pair }
 
+-- each route has the next putter of the column in the same place
+abbrev pub AreNextOf : List ColumnView → List (Lane ReaderView) → Type 0
+AreNextOf columns routes = (place : ℕ) (lane : Lane ReaderView) (c : ColumnView) → IsLaneAt routes place lane → slice_get columns place ≡ Some c → IsNextOf c lane.pass
+
 -- the mailbox of a slot
 abbrev pub inbox_of : {R : Type 0} → Holding R → QueueId
 inbox_of h = h.inbox.get.mail
@@ -48,15 +73,27 @@ inbox_of h = h.inbox.get.mail
 pub record IsColumn (mail : QueueId) (orders : Getter Order) (passes : List (Putter Order)) (writer : WriterView) (readers : List ReaderView) (held : List (Putter Datagram)) : Type 0 where
   pub orders_of : orders.mail ≡ mail
   pub got : orders.got ≡ []
+  pub joined : orders.joined ≡ []
   pub passes_of : All (λ p. p.mail ≡ mail) passes
   pub put : All (λ p. p.put ≡ []) passes
   pub published : writer.published ≡ []
   pub readers_of : All (λ r. r.pair ≡ writer.pair) readers
   pub boxes : All (λ b. b.put ≡ []) held
 
--- a slot whose routes are these ways, at these tables
-pub record IsSlotOf (along : List Way) (table meter : Table) (h : Holding ReaderView) : Type 0 where
+-- What a host of so many slots has for the peer at this place, of so many, once the slots with these mailboxes were made: the putters
+-- of all later slots, and one at each mailbox.
+pub record IsFilled (slots lines place : ℕ) (mails : List QueueId) (c : ColumnView) : Type 0 where
+  pub passes : c.passes ≡ reverse (putters_from c.way.mail slots (length mails) (slots - length mails))
+  pub boxes : c.boxes ≡ map (λ mail. new_putter mail lines place) mails
+
+abbrev pub AreFilled : (slots : ℕ) → List QueueId → List ColumnView → Type 0
+AreFilled slots mails columns = (place : ℕ) (c : ColumnView) → slice_get columns place ≡ Some c → IsFilled slots (length columns) place mails c
+
+-- a new slot of so many, whose routes are these ways, at these tables
+pub record IsSlotOf (slots : ℕ) (along : List Way) (table meter : Table) (h : Holding ReaderView) : Type 0 where
   pub ways : map lane_way h.routes ≡ along
+  pub passes : All (λ lane. lane.pass ≡ new_putter lane.pass.mail slots h.words.slot) h.routes
+  pub get : h.inbox.get ≡ first_getter (inbox_of h)
   pub ports : h.ports.table ≡ table
   pub words : h.words.seat.table ≡ meter
 
@@ -65,8 +102,9 @@ module _ {E : Type 0} where
   pub record IsLineOf (me limit : ℕ) (table meter : Table) (column : ColumnView) (list : List (ℕ × E)) (line : LineView E WriterView) : Type 0 where
     pub channel : line.channel ≡ new_channel me column.way.peer MAX_SLOTS limit list
     pub mail : line.orders.mail ≡ column.way.mail
+    pub joined : line.orders.joined ≡ []
     pub pair : line.map.pair ≡ column.way.pair
-    pub boxes : mails_of line.boxes ≡ column.boxes
+    pub boxes : line.boxes ≡ column.boxes
     pub ports : line.ports.table ≡ table
     pub words : line.words.table ≡ meter
 

@@ -1,11 +1,12 @@
 //! What a host has for one peer, while it is made.
-ghost use Rattle.std.specs.Prelude.{◌≡◌, ◌≤◌, ◌++◌, ◌∷◌, [], All, IfOk, OnOk, length};
+ghost use Rattle.std.specs.Prelude.{◌≡◌, ◌≤◌, [], All, IfOk, OnOk, length, reverse};
 ghost use Rattle.std.specs.Arc.{arc_value};
 ghost use Rattle.rds_model.specs.declared.entry.TheConstants.{MAX_SLOTS};
 ghost use Rattle.rds_model.specs.declared.journal.TheConstants.{MAX_ENTRIES, MIN_ENTRIES};
 ghost use Rattle.rds_line_streams.specs.Streams.{AreNumbered, IsUnused};
 ghost use Rattle.rds_line_channel.specs.Channel.{new_channel};
-ghost use Rattle.rds_host.specs.Ties.{with_box, lane_way, mails_of};
+ghost use Rattle.rds_mail.specs.Passes.{first_putter};
+ghost use Rattle.rds_host.specs.Ties.{IsNextOf, lane_way, popped, putters_from, with_box};
 
 use crate::seats::Seats;
 use rds_fmap::{Reader, Writer, pair};
@@ -21,7 +22,7 @@ use std::sync::Arc;
 
 /// The queue of the orders for a peer with a putter for each slot, the peer's map with a reader for each slot, and the
 /// mailboxes of the slots as far as these are made. The putters and readers of later slots stand before those of earlier ones.
-/// Contracts see the way to the peer and the mailboxes.
+/// Contracts see the way to the peer, the putters that are left, and those at the mailboxes.
 pub(crate) struct Column {
     peer: u32,
     queue: Arc<Mail<Asked>>,
@@ -49,13 +50,14 @@ impl Drop for Column {
 
 impl Model for Column {
     ghost use Rattle.std.specs.Arc.{arc_value};
-    ghost use Rattle.rds_host.specs.Ties.{ColumnView, IsColumn, mails_of};
+    ghost use Rattle.rds_host.specs.Ties.{ColumnView, IsColumn};
 
     ghost Value = { ColumnView };
 
     ghost view = { λ c. record {
       way = record { peer = c.peer; mail = (arc_value c.queue).line; pair = c.map.pair };
-      boxes = mails_of c.boxes.items;
+      passes = c.passes.items;
+      boxes = c.boxes.items;
     } };
 
     ghost invariant = { λ c. IsColumn (arc_value c.queue).line c.orders c.passes.items c.map c.readers.items c.boxes.items };
@@ -66,6 +68,7 @@ impl Column {
     pub(crate) fn new(alloc: Global, peer: u32, slots: u16) -> Result<Column, Memory>
         requires { 1 ≤ slots }
         ensures peer { IfOk result (λ c. c.way.peer ≡ peer) }
+        ensures passes { IfOk result (λ c. c.passes ≡ reverse (putters_from c.way.mail slots 0 slots)) }
         ensures boxes { IfOk result (λ c. c.boxes ≡ []) }
     {
         let (mail, put, get) = Mail::new(alloc)?;
@@ -84,7 +87,8 @@ impl Column {
 
     /// The route of the next slot to the peer.
     pub(crate) fn route(&mut self) -> Result<Route<Reader>, Memory>
-        ensures same { self.new ≡ self.old }
+        ensures popped { OnOk result (self.new ≡ popped self.old) }
+        ensures next { IfOk result (λ lane. IsNextOf self.old lane.pass) }
         ensures way { IfOk result (λ lane. lane_way lane ≡ self.old.way) }
         ensures put { IfOk result (λ lane. lane.pass.put ≡ []) }
     {
@@ -102,10 +106,10 @@ impl Column {
         })
     }
 
-    /// The mailbox of the next slot.
+    /// The putter at the mailbox of the next slot.
     pub(crate) fn add_box(&mut self, held: SlotBox) -> Result<(), Memory>
         requires { held.put ≡ [] }
-        ensures { OnOk result (self.new ≡ with_box held.mail self.old) }
+        ensures { OnOk result (self.new ≡ with_box held self.old) }
     {
         self.boxes.push(held)?;
         Ok(())
@@ -127,8 +131,9 @@ impl Column {
         requires most { limit ≤ MAX_ENTRIES }
         ensures channel { IfOk result (λ line. line.channel ≡ new_channel me self.way.peer MAX_SLOTS limit streams.items) }
         ensures mail { IfOk result (λ line. line.orders.mail ≡ self.way.mail) }
+        ensures joined { IfOk result (λ line. line.orders.joined ≡ []) }
         ensures pair { IfOk result (λ line. line.map.pair ≡ self.way.pair) }
-        ensures mails { IfOk result (λ line. mails_of line.boxes ≡ self.boxes) }
+        ensures boxes { IfOk result (λ line. line.boxes ≡ self.boxes) }
         ensures ports { IfOk result (λ line. line.ports.table ≡ arc_value seats.table) }
         ensures words { IfOk result (λ line. line.words.table ≡ arc_value seats.meter) }
     {
@@ -156,22 +161,22 @@ impl Column {
     }
 }
 
-// A putter for each of so many slots. The last one is the queue's first.
+// A putter for each of so many slots: that of slot 0 is the queue's first and stands last.
 fn passes(
     alloc: Global,
     queue: &Mail<Asked>,
     mut put: PutPass<Asked>,
     slots: u16,
 ) -> Result<Vec<PutPass<Asked>>, Memory>
-    requires mail { put.mail ≡ queue.now.line }
-    requires new { put.put ≡ [] }
-    ensures mail { IfOk result (λ passes. All (λ p. p.mail ≡ queue.now.line) passes.items) }
-    ensures put { IfOk result (λ passes. All (λ p. p.put ≡ []) passes.items) }
+    requires some { 1 ≤ slots }
+    requires first { put ≡ first_putter queue.now.line }
+    ensures { IfOk result (λ passes. passes.items ≡ reverse (putters_from queue.now.line slots 0 slots)) }
 {
     let mut passes = Vec::with_capacity(alloc, usize::from(slots))?;
     for _ in 1..slots {
         passes.push(queue.split(&mut put))?;
     }
+    passes.reverse();
     passes.push(put)?;
     Ok(passes)
 }

@@ -1,15 +1,16 @@
-//! Hosts: the slots and lines of one host, made over its tables; the worker that turns its lines; and what is left when both
-//! are done.
+//! Hosts: the slots and lines of one host, made over its tables; the worker that turns its lines; what is told between them
+//! when both are done; and laws of what stays.
 #![tactic(auto)]
 
 mod column;
-mod gathering;
+pub mod laws;
 mod making;
 mod seats;
+mod settling;
 mod stop;
 mod working;
 
-pub use gathering::{end_line, gather};
 pub use making::make;
+pub use settling::settle;
 pub use stop::Stop;
 pub use working::work;

@@ -1,5 +1,5 @@
 //! How a host is made.
-ghost use Rattle.std.specs.Prelude.{◌≡◌, ◌≤◌, ◌+◌, [], All, IfOk, OnOk, length, map};
+ghost use Rattle.std.specs.Prelude.{◌≡◌, suc, ◌≤◌, ◌+◌, [], All, IfOk, OnOk, length, map};
 ghost use Rattle.std.specs.Arc.{arc_value};
 ghost use Rattle.rds_model.specs.declared.entry.TheConstants.{MAX_SLOTS};
 ghost use Rattle.rds_model.specs.declared.journal.TheConstants.{MAX_ENTRIES, MIN_ENTRIES};
@@ -9,7 +9,9 @@ ghost use Rattle.rds_parts.specs.Lanes.{Ascend};
 ghost use Rattle.rds_line_streams.specs.Streams.{AreNumbered, IsUnused};
 ghost use Rattle.rds_host.specs.Lines.{AreNewLines};
 ghost use Rattle.rds_host.specs.Slots.{AreInPlace, AreNewSlots};
-ghost use Rattle.rds_host.specs.Ties.{AreLinesOf, AreOfHost, IsSlotOf, inbox_of, lane_way, peers_to, ways_of, with_box};
+ghost use Rattle.rds_mail.specs.Passes.{first_getter, first_putter};
+ghost use Rattle.rds_host.specs.Passes.{AreAllPasses};
+ghost use Rattle.rds_host.specs.Ties.{AreFilled, AreLinesOf, AreNextOf, AreOfHost, IsSlotOf, inbox_of, lane_way, new_putter, peers_to, popped, ways_of, with_boxes};
 
 use crate::column::Column;
 use crate::seats::{Seats, SlotSeats};
@@ -51,6 +53,7 @@ pub fn make<E: End>(
     requires most { limit ≤ MAX_ENTRIES }
     ensures slots { IfOk result (λ host. AreNewSlots slots peers.now host.0.items) }
     ensures host { IfOk result (λ host. AreOfHost host.0.items host.1.items) }
+    ensures passes { IfOk result (λ host. AreAllPasses host.0.items host.1.items) }
     ensures lines { IfOk result (λ host. AreNewLines addr limit peers.now (map (λ list. list.items) streams.items) host.1.items) }
 {
     let mut columns = columns(alloc, peers, slots)?;
@@ -64,7 +67,7 @@ pub fn make<E: End>(
 fn columns(alloc: Global, peers: &[u32], slots: u16) -> Result<Vec<Column>, Memory>
     requires { 1 ≤ slots }
     ensures peers { IfOk result (λ columns. peers_to (ways_of columns.items) ≡ peers.now) }
-    ensures boxes { IfOk result (λ columns. All (λ c. c.boxes ≡ []) columns.items) }
+    ensures filled { IfOk result (λ columns. AreFilled slots [] columns.items) }
 {
     let mut columns = Vec::with_capacity(alloc, peers.len())?;
     for peer in peers {
@@ -82,7 +85,7 @@ fn vacants(
 ) -> Result<Vec<Vacant<Reader>>, Memory>
     requires some { 1 ≤ length columns.old }
     requires ascend { Ascend (peers_to (ways_of columns.old)) }
-    requires empty { All (λ c. c.boxes ≡ []) columns.old }
+    requires filled { AreFilled slots [] columns.old }
     requires slots { (arc_value seats.old.table).slots ≡ slots }
     requires alone { IsAlone seats.old.seat.view }
     requires draws { seats.old.seat.view.draws ≡ 0 }
@@ -93,10 +96,10 @@ fn vacants(
     ensures seats { OnOk result (seats.new.seat.view.splits ≡ 4094) }
     ensures words { OnOk result (seats.new.own.view.splits + slots ≡ 4094) }
     ensures ways { OnOk result (ways_of columns.new ≡ ways_of columns.old) }
-    ensures boxes { IfOk result (λ v. All (λ c. c.boxes ≡ map inbox_of v.items) columns.new) }
+    ensures filled { IfOk result (λ v. AreFilled slots (map inbox_of v.items) columns.new) }
     ensures count { IfOk result (λ v. length v.items ≡ slots) }
     ensures number { IfOk result (λ v. AreInPlace v.items) }
-    ensures slot { IfOk result (λ v. All (IsSlotOf (ways_of columns.old) (arc_value seats.old.table) (arc_value seats.old.meter)) v.items) }
+    ensures slot { IfOk result (λ v. All (IsSlotOf slots (ways_of columns.old) (arc_value seats.old.table) (arc_value seats.old.meter)) v.items) }
 {
     let mut vacants = Vec::with_capacity(alloc, usize::from(slots))?;
     for _ in 0..slots {
@@ -111,8 +114,12 @@ fn vacant(alloc: Global, seats: SlotSeats, columns: &mut [Column]) -> Result<Vac
     requires some { 1 ≤ length columns.old }
     requires ascend { Ascend (peers_to (ways_of columns.old)) }
     ensures slot { IfOk result (λ v. v.words.slot ≡ slot_of seats.seat.view) }
-    ensures boxes { IfOk result (λ v. columns.new ≡ map (with_box (inbox_of v)) columns.old) }
-    ensures tied { IfOk result (IsSlotOf (ways_of columns.old) (arc_value seats.table) (arc_value seats.meter)) }
+    ensures columns { IfOk result (λ v. columns.new ≡ with_boxes (inbox_of v) (length columns.old) 0 (map popped columns.old)) }
+    ensures ways { IfOk result (λ v. map lane_way v.routes ≡ ways_of columns.old) }
+    ensures next { IfOk result (λ v. AreNextOf columns.old v.routes) }
+    ensures get { IfOk result (λ v. v.inbox.get ≡ first_getter (inbox_of v)) }
+    ensures ports { IfOk result (λ v. v.ports.table ≡ arc_value seats.table) }
+    ensures words { IfOk result (λ v. v.words.seat.table ≡ arc_value seats.meter) }
 {
     let (mail, put, get) = Mail::new(alloc)?;
     let mail = Arc::new(alloc, mail)?;
@@ -123,7 +130,8 @@ fn vacant(alloc: Global, seats: SlotSeats, columns: &mut [Column]) -> Result<Vac
 
 // The routes of the next slot.
 fn routes(alloc: Global, columns: &mut [Column]) -> Result<Vec<Route<Reader>>, Memory>
-    ensures same { columns.new ≡ columns.old }
+    ensures columns { OnOk result (columns.new ≡ map popped columns.old) }
+    ensures next { IfOk result (λ routes. AreNextOf columns.old routes.items) }
     ensures ways { IfOk result (λ routes. map lane_way routes.items ≡ ways_of columns.old) }
     ensures put { IfOk result (λ routes. All (λ lane. lane.pass.put ≡ []) routes.items) }
 {
@@ -141,9 +149,8 @@ fn add_boxes(
     mut put: PutPass<Datagram>,
     columns: &mut [Column],
 ) -> Result<(), Memory>
-    requires mail { put.mail ≡ (arc_value mail.now).line }
-    requires new { put.put ≡ [] }
-    ensures { OnOk result (columns.new ≡ map (with_box (arc_value mail.now).line) columns.old) }
+    requires { put ≡ first_putter (arc_value mail.now).line }
+    ensures { OnOk result (columns.new ≡ with_boxes (arc_value mail.now).line (length columns.old) 0 columns.old) }
 {
     let Some((first, rest)) = columns.split_first_mut() else {
         return Ok(());
@@ -152,16 +159,15 @@ fn add_boxes(
     first.add_box(SlotBox::new(Arc::try_clone(mail)?, put))
 }
 
-// Gives each of these lines a new putter at the mailbox.
+// Gives each of these lines, which are all but the first, a new putter at the mailbox.
 fn add_later_boxes(
     mail: &Arc<Mail<Datagram>>,
     put: &mut PutPass<Datagram>,
     columns: &mut [Column],
 ) -> Result<(), Memory>
-    requires { put.old.mail ≡ (arc_value mail.now).line }
-    ensures boxes { OnOk result (columns.new ≡ map (with_box (arc_value mail.now).line) columns.old) }
-    ensures mail { put.new.mail ≡ put.old.mail }
-    ensures put { put.new.put ≡ put.old.put }
+    requires { put.old ≡ first_putter (arc_value mail.now).line }
+    ensures boxes { OnOk result (columns.new ≡ with_boxes (arc_value mail.now).line (suc (length columns.old)) 1 columns.old) }
+    ensures put { OnOk result (put.new ≡ new_putter (arc_value mail.now).line (suc (length columns.old)) 0) }
 {
     for i in 0..columns.len() {
         let column = &mut columns[i];

@@ -189,7 +189,7 @@ impl SlotSeats {
         requires ascend { Ascend (peers_of routes.items) }
         ensures slot { result.words.slot ≡ slot_of self.seat.view }
         ensures routes { result.routes ≡ routes.items }
-        ensures mail { result.inbox.get.mail ≡ (arc_value mail).line }
+        ensures get { result.inbox.get ≡ get }
         ensures table { result.ports.table ≡ arc_value self.table }
         ensures meter { result.words.seat.table ≡ arc_value self.meter }
     {

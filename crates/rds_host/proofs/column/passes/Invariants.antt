@@ -1,6 +1,8 @@
-use Rattle.std.proofs.Common.{◌≡◌, [], All}
+use Rattle.std.proofs.Common.{◌≡◌, ◌-◌}
+use Rattle.rds_host.specs.Ties.{putters_from}
+use Rattle.rds_host.proofs.Columns.{after_splits}
 use Rattle.rds_host.proofs.column.passes.Given as goal
 
 abbrev pub invariant-loop : goal.invariant-loop
 invariant-loop l =
-    (l.put.mail ≡ l.fn.queue.line) × (l.put.put ≡ []) × All (λ p. p.mail ≡ l.fn.queue.line) l.passes.items × All (λ p. p.put ≡ []) l.passes.items
+    (l.put ≡ after_splits l.fn.queue.line (l.counter - 1)) × (l.passes.items ≡ putters_from l.fn.queue.line l.fn.slots 1 (l.counter - 1))

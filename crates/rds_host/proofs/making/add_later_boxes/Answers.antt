@@ -1,15 +1,20 @@
-use Rattle.std.proofs.Common.{◌≡◌, get_or, set, ap, ◌∙◌, arith, rules}
-use Rattle.std.proofs.lemmas.List.Edits.{map_over_more}
-use Rattle.std.proofs.lemmas.List.{get_or_default}
-use Rattle.rds_mail.specs.Passes.{QueueId}
-use Rattle.rds_host.specs.Ties.{with_box}
+use Rattle.std.proofs.Common.{◌≡◌, suc, ◌+◌, length, get_or, set, ap, ◌∙◌, arith}
+use Rattle.rds_model.specs.declared.order.Datagram.{Datagram}
+use Rattle.rds_mail.specs.Passes.{Putter, split_from}
+use Rattle.rds_host.specs.Ties.{new_putter, with_box}
+use Rattle.rds_host.proofs.Columns.{split_is, with_boxes_more}
 use Rattle.rds_host.proofs.making.add_later_boxes.Goals as goal
 
 pub loop-i-preserved : goal.loop-i-preserved
 loop-i-preserved c =
-    let box = with_box c.args.mail.now.value.line in
-    let old = c.loop-i.columns in
-    let column = c.index-columns-i.result in
-    let mail : c.new.result.mail ≡ c.args.mail.now.value.line = search rules in
-    let is : c.add_box.new.self ≡ box (get_or old c.loop-i.i column) = c.in_ok-add_box.ensures ∙ ap (λ (m : QueueId). with_box m (get_or old c.loop-i.i column)) mail in
-    (ap (set old c.loop-i.i) is ∙ map_over_more box c.args.columns.now old c.loop-i.i (get_or old c.loop-i.i column) (omega arith) c.loop-i.invariant.0 (get_or_default old c.loop-i.i column (get_or old c.loop-i.i column) (omega arith)), search rules, search rules)
+    let inv = c.loop-i.invariant in
+    let i = c.loop-i.i in
+    let mail = c.args.mail.now.value.line in
+    let old = c.args.columns.now in
+    let now = c.loop-i.columns in
+    let column = get_or now i c.index-columns-i.result in
+    let place : suc i ≡ 1 + i = omega arith in
+    let own : c.split-own.result ≡ new_putter mail (suc (length old)) (1 + i) = c.split-own.ensures.new ∙ (split_is mail (suc (length old)) i c.loop-i.put inv.1 ∙ ap (new_putter mail (suc (length old))) place) in
+    let is : c.add_box.new.self ≡ with_box (new_putter mail (suc (length old)) (1 + i)) column =
+    c.in_ok-add_box.ensures ∙ ap (λ (b : Putter Datagram). with_box b column) (c.new.ensures ∙ own) in
+    (ap (set now i) is ∙ with_boxes_more mail (suc (length old)) 1 old now i c.index-columns-i.result (omega arith) inv.0, c.split-own.ensures.pass ∙ ap split_from inv.1)

@@ -69,8 +69,9 @@ loop-column-preserved g c =
           (record {
             channel = made.channel;
             mail = made.mail;
+            joined = made.joined;
             pair = made.pair;
-            boxes = made.mails;
+            boxes = made.boxes;
             ports = made.ports ∙ (own.same_table ∙ inv.0);
             words = made.words ∙ (own.same_meter ∙ inv.1);
           })),

@@ -1,0 +1,92 @@
+use Rattle.std.proofs.Common.{◌≡◌, ℕ, List, Some, length, get_or, slice_get, refl, sym, ap, subst, ◌∙◌, arith}
+use Rattle.std.proofs.lemmas.Option.{slice_get-get_or}
+use Rattle.rds_model.specs.declared.order.Datagram.{Datagram}
+use Rattle.rds_model.specs.declared.order.Order.{Order}
+use Rattle.rds_mail.specs.Passes.{Putter}
+use Rattle.rds_bindtab.specs.Seats as seats
+use Rattle.rds_fmap.specs.Readers.{ReaderView, WriterView}
+use Rattle.rds_line_parts.specs.Boxes.{IsBoxOf}
+use Rattle.rds_socket.specs.Holding.{Holding, Open}
+use Rattle.rds_line.specs.Line.{LineView}
+use Rattle.rds_host.proofs.Told.{all_told, fit_box, fit_hear, fit_orders, fit_port, fit_route, heard, line_noted, none_told, told_more}
+use Rattle.rds_host.proofs.settling.settle_socket.Goals as goal
+
+pub order_note-requires : goal.order_note-requires
+order_note-requires g c =
+    let i = c.loop-i.i in
+    let line = get_or c.loop-i.lines i c.index-lines-i.result in
+    let at : slice_get c.loop-i.lines i ≡ Some line = slice_get-get_or c.loop-i.lines i c.index-lines-i.result (omega arith) in
+    fit_route i c.args.socket.now.own c.loop-i.socket.own c.args.lines.now c.loop-i.lines c.requires c.loop-i.invariant i line at
+
+pub hear_orders-requires : goal.hear_orders-requires
+hear_orders-requires g c =
+    let i = c.loop-i.i in
+    let line = get_or c.loop-i.lines i c.index-lines-i.result in
+    let at : slice_get c.loop-i.lines i ≡ Some line = slice_get-get_or c.loop-i.lines i c.index-lines-i.result (omega arith) in
+    let note = c.order_note.ensures.note in
+    ap (λ (p : Putter Order). p.mail) note.2
+    ∙ fit_orders i c.args.socket.now.own c.loop-i.socket.own c.args.lines.now c.loop-i.lines c.requires c.loop-i.invariant i line at note.0 note.1
+
+pub hear_port-requires : goal.hear_port-requires
+hear_port-requires g c =
+    let i = c.loop-i.i in
+    let line = get_or c.loop-i.lines i c.index-lines-i.result in
+    let at : slice_get c.loop-i.lines i ≡ Some line = slice_get-get_or c.loop-i.lines i c.index-lines-i.result (omega arith) in
+    ap (λ (n : seats.PortSeat). n.table) c.port_note.ensures.note
+    ∙ (ap (λ (s : Open ReaderView). s.own.ports.table) c.order_note.ensures.same
+    ∙ (fit_port i c.args.socket.now.own c.loop-i.socket.own c.args.lines.now c.loop-i.lines c.requires c.loop-i.invariant i line at
+    ∙ sym (ap (λ (l : LineView g.row.E.Denot WriterView). l.ports.table) c.hear_orders.ensures)))
+
+pub inbox_note-requires : goal.inbox_note-requires
+inbox_note-requires g c =
+    let i = c.loop-i.i in
+    let line = get_or c.loop-i.lines i c.index-lines-i.result in
+    let at : slice_get c.loop-i.lines i ≡ Some line = slice_get-get_or c.loop-i.lines i c.index-lines-i.result (omega arith) in
+    let boxes : c.hear_port.new.self.boxes ≡ line.boxes =
+    ap (λ (l : LineView g.row.E.Denot WriterView). l.boxes) c.hear_port.ensures ∙ ap (λ (l : LineView g.row.E.Denot WriterView). l.boxes) c.hear_orders.ensures in
+    let few = fit_box i c.args.socket.now.own c.loop-i.socket.own c.args.lines.now c.loop-i.lines c.requires c.loop-i.invariant i line at in
+    let slot = c.slot-slot.ensures in
+    let many = ap (λ (b : List (Putter Datagram)). length b) boxes in
+    omega (arith, slot, many, few)
+
+pub hear-requires : goal.hear-requires
+hear-requires g c =
+    let i = c.loop-i.i in
+    let line = get_or c.loop-i.lines i c.index-lines-i.result in
+    let at : slice_get c.loop-i.lines i ≡ Some line = slice_get-get_or c.loop-i.lines i c.index-lines-i.result (omega arith) in
+    let boxes : c.hear_port.new.self.boxes ≡ line.boxes =
+    ap (λ (l : LineView g.row.E.Denot WriterView). l.boxes) c.hear_port.ensures ∙ ap (λ (l : LineView g.row.E.Denot WriterView). l.boxes) c.hear_orders.ensures in
+    let box : IsBoxOf line.boxes c.args.socket.now.own.words.slot c.inbox_note.result =
+    subst (λ (k : ℕ). IsBoxOf line.boxes k c.inbox_note.result) c.slot-slot.ensures (subst (λ (b : List (Putter Datagram)). IsBoxOf b c.slot-slot.result c.inbox_note.result) boxes c.inbox_note.ensures.note) in
+    fit_hear i c.args.socket.now.own c.loop-i.socket.own c.args.lines.now c.loop-i.lines c.requires c.loop-i.invariant i line at c.inbox_note.result box
+    ∙ sym (ap (λ (s : Open ReaderView). s.own.inbox.get.mail) (c.port_note.ensures.same ∙ c.order_note.ensures.same))
+
+pub loop-i-init : goal.loop-i-init
+loop-i-init g c = none_told c.args.socket.now.own c.args.lines.now
+
+pub loop-i-preserved : goal.loop-i-preserved
+loop-i-preserved g c =
+    let i = c.loop-i.i in
+    let line = get_or c.loop-i.lines i c.index-lines-i.result in
+    let at : slice_get c.loop-i.lines i ≡ Some line = slice_get-get_or c.loop-i.lines i c.index-lines-i.result (omega arith) in
+    let note = c.order_note.ensures.note in
+    let seat = c.hear_port.new.self.ports in
+    let up = c.loop-i.invariant in
+    let boxes : c.hear_port.new.self.boxes ≡ line.boxes =
+    ap (λ (l : LineView g.row.E.Denot WriterView). l.boxes) c.hear_port.ensures ∙ ap (λ (l : LineView g.row.E.Denot WriterView). l.boxes) c.hear_orders.ensures in
+    let second : c.hear_port.new.self ≡ record c.hear_orders.new.self { ports = seat } =
+    c.hear_port.ensures ∙ ap (λ (p : seats.PortSeat). record c.hear_orders.new.self { ports = p }) (sym (ap (λ (l : LineView g.row.E.Denot WriterView). l.ports) c.hear_port.ensures)) in
+    let new = line_noted line c.hear_orders.new.self c.hear_port.new.self c.inbox_note.new.self c.order_note.result note.0.pass seat note.2 c.hear_orders.ensures second
+    (ap (λ (l : LineView g.row.E.Denot WriterView). l.ports.table) c.hear_port.ensures) c.inbox_note.ensures.same in
+    let same : c.port_note.new.self ≡ c.loop-i.socket = c.port_note.ensures.same ∙ c.order_note.ensures.same in
+    let box : IsBoxOf line.boxes c.args.socket.now.own.words.slot c.inbox_note.result =
+    subst (λ (k : ℕ). IsBoxOf line.boxes k c.inbox_note.result) c.slot-slot.ensures (subst (λ (b : List (Putter Datagram)). IsBoxOf b c.slot-slot.result c.inbox_note.result) boxes c.inbox_note.ensures.note) in
+    let put : IsBoxOf line.boxes c.loop-i.socket.own.words.slot c.inbox_note.result =
+    subst (λ (k : ℕ). IsBoxOf line.boxes k c.inbox_note.result) (sym (ap (λ (h : Holding ReaderView). h.words.slot) up.slot.rest)) box in
+    let told : c.hear.new.self.own ≡ heard c.loop-i.socket.own c.inbox_note.result =
+    ap (λ (s : Open ReaderView). s.own) c.hear.ensures.told ∙ ap (λ (s : Open ReaderView). heard s.own c.inbox_note.result) same in
+    told_more i c.args.socket.now.own c.loop-i.socket.own c.hear.new.self.own c.args.lines.now c.loop-i.lines line c.inbox_note.new.self note.0 c.inbox_note.result
+    at note.1 put new.1 new.0 told up
+
+pub returns : goal.returns
+returns g c = all_told c.loop-i.i c.args.socket.now.own c.loop-i.socket.own c.args.lines.now c.loop-i.lines (omega arith) c.loop-i.invariant

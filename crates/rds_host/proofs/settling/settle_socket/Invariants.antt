@@ -1,0 +1,5 @@
+use Rattle.rds_host.proofs.Told.{ToldUpTo}
+use Rattle.rds_host.proofs.settling.settle_socket.Given as goal
+
+abbrev pub invariant-loop-i : goal.invariant-loop-i
+invariant-loop-i g l = ToldUpTo l.i l.fn.socket.own l.socket.own l.fn.lines l.lines

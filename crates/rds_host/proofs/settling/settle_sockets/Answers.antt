@@ -1,0 +1,40 @@
+use Rattle.std.proofs.Common.{◌≡◌, List, [], ◌∷◌, Some, get_or, map, option_map, slice_get, take, refl, ap, subst, ◌∙◌, arith}
+use Rattle.std.proofs.lemmas.List.{take_all}
+use Rattle.std.proofs.lemmas.Option.{slice_get-get_or, slice_get-map}
+use Rattle.rds_fmap.specs.Readers.{ReaderView}
+use Rattle.rds_socket.specs.Holding.{Holding, Open}
+use Rattle.rds_host.specs.Settled.{AreSettled}
+use Rattle.rds_host.proofs.Told.{can_one, can_still, lines_keep_told, none_settled, same_at, settled_set}
+use Rattle.rds_host.proofs.settling.settle_sockets.Goals as goal
+
+abbrev own : Open ReaderView → Holding ReaderView
+own s = s.own
+
+pub settle_socket-requires : goal.settle_socket-requires
+settle_socket-requires g c =
+    let inv = c.loop-i.invariant in
+    let new = c.loop-i.sockets in
+    let i = c.loop-i.i in
+    let s = get_or new i c.index-sockets-i.result in
+    let at : slice_get new i ≡ Some s = slice_get-get_or new i c.index-sockets-i.result (omega arith) in
+    let stood = same_at new c.args.sockets.now i s inv.1 at in
+    can_still (s.own ∷ []) c.args.lines.now c.loop-i.lines (lines_keep_told _ _ inv.2.lines_stay)
+    (can_one (map own c.args.sockets.now) c.args.lines.now i s.own (slice_get-map own c.args.sockets.now i ∙ ap (option_map own) stood) c.requires)
+
+pub loop-i-init : goal.loop-i-init
+loop-i-init g c = (refl, refl, none_settled c.args.lines.now)
+
+pub loop-i-preserved : goal.loop-i-preserved
+loop-i-preserved g c =
+    let inv = c.loop-i.invariant in
+    let new = c.loop-i.sockets in
+    let i = c.loop-i.i in
+    let s = get_or new i c.index-sockets-i.result in
+    let at : slice_get new i ≡ Some s = slice_get-get_or new i c.index-sockets-i.result (omega arith) in
+    settled_set own c.args.sockets.now new i s c.settle_socket.new.socket c.args.lines.now c.loop-i.lines c.settle_socket.new.lines inv.0 inv.1 at inv.2 c.settle_socket.ensures
+
+pub returns : goal.returns
+returns g c =
+    let inv = c.loop-i.invariant in
+    subst (λ (l : List (Open ReaderView)). AreSettled (map own c.args.sockets.now) (map own l) c.args.lines.now c.loop-i.lines) (take_all c.loop-i.i c.loop-i.sockets (omega arith))
+    (subst (λ (l : List (Open ReaderView)). AreSettled (map own l) (map own (take c.loop-i.i c.loop-i.sockets)) c.args.lines.now c.loop-i.lines) (take_all c.loop-i.i c.args.sockets.now (omega arith)) inv.2)

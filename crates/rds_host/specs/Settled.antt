@@ -1,0 +1,47 @@
+-- What is left of the slots and the lines of a host when each is told what the others have put. Source: this project's own.
+use Rattle.std.specs.Prelude.{◌≡◌, ◌<◌, ℕ, List, All, Some, length, slice_get}
+use Rattle.rds_model.specs.Honest.{Begins}
+use Rattle.rds_fmap.specs.Readers.{ReaderView, WriterView}
+use Rattle.rds_socket.specs.Calls.{with_inbox}
+use Rattle.rds_socket.specs.Holding.{Holding}
+use Rattle.rds_line.specs.Line.{LineView}
+use Rattle.rds_host.specs.Telling.{AreBoxesTold, AreOrdersTold}
+use Rattle.rds_host.specs.Ties.{AreOfHost}
+
+module _ {R : Type 0} where
+  -- the mailbox of a slot was told more, and nothing else of the slot changed
+  pub record IsToldMore (old new : Holding R) : Type 0 where
+    pub rest : new ≡ with_inbox old (record old.inbox { get = record old.inbox.get { told = new.inbox.get.told } })
+    pub told : Begins old.inbox.get.told new.inbox.get.told
+
+  -- the same slots, place by place, each of which may have been told more
+  pub record AreSlotsToldMore (old new : List (Holding R)) : Type 0 where
+    pub count : length new ≡ length old
+    pub each : (slot : ℕ) (h after : Holding R) → slice_get old slot ≡ Some h → slice_get new slot ≡ Some after → IsToldMore h after
+
+module _ {E M : Type 0} where
+  -- the orders of a line were told more, its seat at the port table may have been told of ports, and nothing else of it changed
+  pub record IsLineToldMore (old new : LineView E M) : Type 0 where
+    pub rest : new ≡ record old { orders = record old.orders { told = new.orders.told }; ports = new.ports }
+    pub told : Begins old.orders.told new.orders.told
+    pub table : new.ports.table ≡ old.ports.table
+
+  -- the same lines, place by place, each of which may have been told more
+  pub record AreLinesToldMore (old new : List (LineView E M)) : Type 0 where
+    pub count : length new ≡ length old
+    pub each : (place : ℕ) (line after : LineView E M) → slice_get old place ≡ Some line → slice_get new place ≡ Some after → IsLineToldMore line after
+
+module _ {E : Type 0} where
+  -- these slots and these lines can tell each other: they are of one host, and each slot has a route to each line, and each line a
+  -- mailbox of each slot
+  pub record CanTell (slots : List (Holding ReaderView)) (lines : List (LineView E WriterView)) : Type 0 where
+    pub host : AreOfHost slots lines
+    pub routes : All (λ h. length h.routes ≡ length lines) slots
+    pub boxes : All (λ h. All (λ line. h.words.slot < length line.boxes) lines) slots
+
+  -- each line was told all orders of these slots, each of these slots all datagrams of each line, and nothing else changed
+  pub record AreSettled (slots after : List (Holding ReaderView)) (lines told : List (LineView E WriterView)) : Type 0 where
+    pub slots_stay : AreSlotsToldMore slots after
+    pub lines_stay : AreLinesToldMore lines told
+    pub orders : (place : ℕ) (line : LineView E WriterView) → slice_get told place ≡ Some line → AreOrdersTold after place line
+    pub boxes : (slot : ℕ) (h : Holding ReaderView) → slice_get after slot ≡ Some h → AreBoxesTold h told

@@ -1,0 +1,88 @@
+//! What the slots and the lines of a host are told of each other once its sockets have ended and its lines turn no more.
+ghost use Rattle.std.specs.Prelude.{◌≡◌, ◌<◌, ◌∷◌, ℕ, [], All, Some, length, map, slice_get};
+ghost use Rattle.rds_fmap.specs.Readers.{ReaderView, WriterView};
+ghost use Rattle.rds_socket.specs.Calls.{with_own};
+ghost use Rattle.rds_socket.specs.Holding.{Holding};
+ghost use Rattle.rds_line.specs.Line.{LineView};
+ghost use Rattle.rds_host.specs.Keeping.{LinesKeep, SlotsKeep};
+ghost use Rattle.rds_host.specs.Settled.{AreLinesToldMore, AreSettled, AreSlotsToldMore, CanTell};
+ghost use Rattle.rds_host.specs.Telling.{AreBoxesTold, AreOrdersTold, slots_of};
+ghost use Rattle.rds_host.specs.Ties.{AreOfHost};
+
+use rds_fmap::{Reader, Writer};
+use rds_line::Line;
+use rds_link::End;
+use rds_socket::{Closed, Socket};
+
+/// Tells each line all orders that these slots have put for it and each slot all datagrams that these lines have put into its
+/// mailbox. Each line's seat at the port table is told of the port of each socket. `numbers` are those of the closed slots.
+pub fn settle<E: End>(
+    sockets: &mut [Socket<Reader>],
+    closed: &mut [Closed<Reader>],
+    numbers: &[u16],
+    lines: &mut [Line<E, Writer>],
+)
+    requires numbers { numbers.now ≡ map (λ h. h.words.slot) closed.old }
+    requires host { AreOfHost (slots_of sockets.old closed.old) lines.old }
+    requires routes { All (λ h. length h.routes ≡ length lines.old) (slots_of sockets.old closed.old) }
+    requires boxes { All (λ h. All (λ line. h.words.slot < length line.boxes) lines.old) (slots_of sockets.old closed.old) }
+    ensures orders { (place : ℕ) (line : LineView E WriterView) → slice_get lines.new place ≡ Some line → AreOrdersTold (slots_of sockets.new closed.new) place line }
+    ensures boxes { (slot : ℕ) (h : Holding ReaderView) → slice_get (slots_of sockets.new closed.new) slot ≡ Some h → AreBoxesTold h lines.new }
+    ensures slots { AreSlotsToldMore (slots_of sockets.old closed.old) (slots_of sockets.new closed.new) }
+    ensures slots_keep { SlotsKeep (slots_of sockets.old closed.old) (slots_of sockets.new closed.new) }
+    ensures lines { AreLinesToldMore lines.old lines.new }
+    ensures lines_keep { LinesKeep lines.old lines.new }
+{
+    settle_sockets(sockets, lines);
+    settle_closed(closed, numbers, lines);
+}
+
+// Tells sockets and lines of each other.
+fn settle_sockets<E: End>(sockets: &mut [Socket<Reader>], lines: &mut [Line<E, Writer>])
+    requires { CanTell (map (λ s. s.own) sockets.old) lines.old }
+    ensures { AreSettled (map (λ s. s.own) sockets.old) (map (λ s. s.own) sockets.new) lines.old lines.new }
+{
+    for i in 0..sockets.len() {
+        settle_socket(&mut sockets[i], lines);
+    }
+}
+
+// Tells slots that have ended and lines of each other.
+fn settle_closed<E: End>(
+    closed: &mut [Closed<Reader>],
+    numbers: &[u16],
+    lines: &mut [Line<E, Writer>],
+)
+    requires numbers { numbers.now ≡ map (λ h. h.words.slot) closed.old }
+    requires tell { CanTell closed.old lines.old }
+    ensures { AreSettled closed.old closed.new lines.old lines.new }
+{
+    for i in 0..closed.len() {
+        settle_slot(numbers[i], &mut closed[i], lines);
+    }
+}
+
+fn settle_socket<E: End>(socket: &mut Socket<Reader>, lines: &mut [Line<E, Writer>])
+    requires { CanTell (socket.old.own ∷ []) lines.old }
+    ensures { AreSettled (socket.old.own ∷ []) (socket.new.own ∷ []) lines.old lines.new }
+{
+    let slot = socket.slot();
+    for i in 0..lines.len() {
+        let line = &mut lines[i];
+        line.hear_orders(socket.order_note(i));
+        line.hear_port(socket.port_note());
+        socket.hear(line.inbox_note(slot));
+    }
+}
+
+fn settle_slot<E: End>(slot: u16, closed: &mut Closed<Reader>, lines: &mut [Line<E, Writer>])
+    requires number { slot ≡ closed.old.words.slot }
+    requires tell { CanTell (closed.old ∷ []) lines.old }
+    ensures { AreSettled (closed.old ∷ []) (closed.new ∷ []) lines.old lines.new }
+{
+    for i in 0..lines.len() {
+        let line = &mut lines[i];
+        line.hear_orders(closed.order_note(i));
+        closed.hear(line.inbox_note(slot));
+    }
+}
