@@ -1,0 +1,82 @@
+-- What stands at a place of several rows, and rows whose first items were taken.
+use Rattle.std.proofs.Common.{◌≡◌, ◌⊎◌, ℕ, zero, suc, ◌+◌, ◌<◌, List, [], ◌∷◌, ◌++◌, Option, Some, None, length, map, drop, set, get_or, slice_get, refl, sym, ap, subst, ⊎_elim, ◌∙◌, arith}
+use Rattle.std.specs.List.{cons_option}
+use Rattle.std.proofs.lemmas.List.{drop-drop}
+use Rattle.std.proofs.lemmas.Option.{same_Some, slice_get_within}
+use Rattle.rds_host.proofs.Columns.{pushed_at, there_is}
+use Rattle.rds_gather.specs.Columns.{AtEach, column}
+
+-- each row has something at this place
+pub AreFull : {X : Type 0} → ℕ → List (List X) → Type 0
+AreFull {X} n rows = (i : ℕ) (row : List X) → slice_get rows i ≡ Some row → n < length row
+
+module _ {X : Type 0} where
+  -- a row with something there gives its first to the column
+  column_with : (n : ℕ) (row : List X) (x : X) (rows : List (List X)) → slice_get row n ≡ Some x → column n (row ∷ rows) ≡ x ∷ column n rows
+  column_with n row x rows is = ap (λ o. cons_option o (column n rows)) is
+
+  rest_full : (n : ℕ) (row : List X) (rows : List (List X)) → AreFull n (row ∷ rows) → AreFull n rows
+  rest_full n row rows full i r at = full (suc i) r at
+
+  pub column_count : (n : ℕ) (rows : List (List X)) → AreFull n rows → length (column n rows) ≡ length rows
+  column_count n [] full = refl
+  column_count n (row ∷ rows) full =
+      let first = there_is row n (full zero row refl) in
+      ap length (column_with n row first.0 rows first.1) ∙ ap suc (column_count n rows (rest_full n row rows full))
+
+  -- what stands in the column stands in the row of that place
+  pub column_row : (n : ℕ) (rows : List (List X)) → AreFull n rows → (i : ℕ) (x : X) → slice_get (column n rows) i ≡ Some x →
+      (row : List X) × (slice_get rows i ≡ Some row) × (slice_get row n ≡ Some x)
+  column_row n [] full i x at = absurd (let small = slice_get_within [] i x at in omega arith)
+  column_row n (row ∷ rows) full zero x at =
+      let first = there_is row n (full zero row refl) in
+      let is : Some first.0 ≡ Some x = sym (ap (λ (l : List X). slice_get l 0) (column_with n row first.0 rows first.1)) ∙ at in
+      (row, refl, first.1 ∙ is)
+  column_row n (row ∷ rows) full (suc i) x at =
+      let first = there_is row n (full zero row refl) in
+      column_row n rows (rest_full n row rows full) i x (sym (ap (λ (l : List X). slice_get l (suc i)) (column_with n row first.0 rows first.1)) ∙ at)
+
+  -- and the other way round
+  pub row_column : (n : ℕ) (rows : List (List X)) → AreFull n rows → (i : ℕ) (row : List X) (x : X) → slice_get rows i ≡ Some row → slice_get row n ≡ Some x →
+      slice_get (column n rows) i ≡ Some x
+  row_column n [] full i row x at is = absurd (let small = slice_get_within [] i row at in omega arith)
+  row_column n (r ∷ rows) full zero row x at is =
+      let same : r ≡ row = same_Some r row at in
+      ap (λ (l : List X). slice_get l 0) (column_with n r x rows (ap (λ (l : List X). slice_get l n) same ∙ is))
+  row_column n (r ∷ rows) full (suc i) row x at is =
+      let first = there_is r n (full zero r refl) in
+      ap (λ (l : List X). slice_get l (suc i)) (column_with n r first.0 rows first.1) ∙ row_column n rows (rest_full n r rows full) i row x at is
+
+  first_left : (n : ℕ) (row : List X) → slice_get (drop n row) 0 ≡ slice_get row n
+  first_left zero row = refl
+  first_left (suc n) [] = refl
+  first_left (suc n) (x ∷ row) = first_left n row
+
+  -- the first column of what is left of the rows
+  pub column_left : (n : ℕ) (rows : List (List X)) → column 0 (map (drop n) rows) ≡ column n rows
+  column_left n [] = refl
+  column_left n (row ∷ rows) =
+      ap (λ (o : Option X). cons_option o (column 0 (map (drop n) rows))) (first_left n row)
+      ∙ ap (λ (l : List X). cons_option (slice_get row n) l) (column_left n rows)
+
+  pub none_left : (rows : List (List X)) → map (drop 0) rows ≡ rows
+  none_left [] = refl
+  none_left (row ∷ rows) = ap (λ (l : List (List X)). row ∷ l) (none_left rows)
+
+  pub one_more_left : (n : ℕ) (rows : List (List X)) → map (drop 1) (map (drop n) rows) ≡ map (drop (n + 1)) rows
+  one_more_left n [] = refl
+  one_more_left n (row ∷ rows) =
+      ap (λ (l : List X). l ∷ map (drop 1) (map (drop n) rows)) (drop-drop 1 n row)
+      ∙ ap (λ (l : List (List X)). drop (n + 1) row ∷ l) (one_more_left n rows)
+
+  pub at_none : {Y : Type 0} (P : Y → List X → Type 0) (rows : List (List X)) → AtEach P [] rows
+  at_none P rows place y at = absurd (let small = slice_get_within [] place y at in omega arith)
+
+  -- one more value suits its column
+  pub at_one_more : {Y : Type 0} (P : Y → List X → Type 0) (ys : List Y) (y : Y) (rows : List (List X)) → AtEach P ys rows → P y (column (length ys) rows) → AtEach P (ys ++ y ∷ []) rows
+  at_one_more {Y} P ys y rows all more place z at =
+      ⊎_elim
+      (λ (there : slice_get ys place ≡ Some z). all place z there)
+      (λ (new : (place ≡ length ys) × (y ≡ z)).
+      subst (λ (v : Y). P v (column place rows)) new.1 (subst (λ (n : ℕ). P y (column n rows)) (sym new.0) more))
+      (pushed_at ys y z place at)

@@ -1,0 +1,4 @@
+pub mod Columns
+pub mod Marks
+pub mod Keys
+pub mod Joining
