@@ -7,7 +7,7 @@ use Rattle.rds_host.proofs.Columns.{pushed_at, there_is}
 use Rattle.rds_gather.specs.Columns.{AtEach, column}
 
 -- each row has something at this place
-pub AreFull : {X : Type 0} → ℕ → List (List X) → Type 0
+abbrev pub AreFull : {X : Type 0} → ℕ → List (List X) → Type 0
 AreFull {X} n rows = (i : ℕ) (row : List X) → slice_get rows i ≡ Some row → n < length row
 
 module _ {X : Type 0} where

@@ -29,7 +29,7 @@ at_got (y ∷ xs) zero x is = ap some (same_Some y x is)
 at_got (y ∷ xs) (suc i) x is = at_got xs i x is
 
 -- the place of the putter with this number
-pub place_of : Number → ℕ
+abbrev pub place_of : Number → ℕ
 place_of [] = 0
 place_of (k ∷ rest) = suc k
 
@@ -62,7 +62,7 @@ module _ {T : Type 0} where
 
   -- they are all that there are
   pub all_there : (count : ℕ) (puts : List (Putter T)) → AreInOrder count puts → 1 ≤ count → AreAll (map account_of puts)
-  all_there count puts are some = record {
+  all_there count puts are enough = record {
     first = number_there count puts are 0 (omega arith);
     each = λ i a at k below.
         let p = putter_at puts i a at in
@@ -79,7 +79,7 @@ module _ {T : Type 0} where
       pub own : (i : ℕ) (p : Putter T) → slice_get puts i ≡ Some p → All (Own (mark i)) p.put
       pub apart : (i j : ℕ) → i < count → j < count → mark i ≡ mark j → i ≡ j
 
-    mark_of : Number → ℕ
+    abbrev mark_of : Number → ℕ
     mark_of number = mark (place_of number)
 
     mark_there : (count : ℕ) (puts : List (Putter T)) → AreInOrder count puts → (i : ℕ) (p : Putter T) → slice_get puts i ≡ Some p → mark (place_of p.number) ≡ mark i

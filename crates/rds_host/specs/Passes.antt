@@ -1,5 +1,5 @@
 -- The putters of a host's queues: which slot and which line has which, and that none is missing. Source: this project's own.
-use Rattle.std.specs.Prelude.{◌≡◌, ℕ, suc, ◌-◌, List, [], ◌∷◌, Some, length, map, slice_get}
+use Rattle.std.specs.Prelude.{◌≡◌, ℕ, zero, suc, ◌-◌, List, [], ◌∷◌, Some, length, map, slice_get}
 use Rattle.rds_mail.specs.Numbers.{Number}
 use Rattle.rds_model.specs.declared.order.Datagram.{Datagram}
 use Rattle.rds_mail.specs.Passes.{Putter}
@@ -12,12 +12,12 @@ use Rattle.rds_host.specs.Slots.{AreInPlace}
 -- The number of the putter that the slot or the line at a place has: the first has the queue's first putter, and each later one the
 -- next that this one split off.
 abbrev pub number_at : ℕ → Number
-number_at 0 = []
+number_at zero = []
 number_at (suc k) = k ∷ []
 
 -- how many putters it has split off, where the queue has so many in all
 abbrev pub splits_at : (count place : ℕ) → ℕ
-splits_at count 0 = count - 1
+splits_at count zero = count - 1
 splits_at count (suc k) = 0
 
 module _ {R E M : Type 0} where
