@@ -1,7 +1,13 @@
 -- What stands at a place of several rows, and rows whose first items were taken.
-use Rattle.std.proofs.Common.{◌≡◌, ◌⊎◌, ℕ, zero, suc, ◌+◌, ◌<◌, List, [], ◌∷◌, ◌++◌, Option, Some, None, length, map, drop, set, get_or, slice_get, refl, sym, ap, subst, ⊎_elim, ◌∙◌, arith}
+use Rattle.std.proofs.Common.{◌≡◌, ◌⊎◌, ℕ, zero, suc, ◌+◌, ◌<◌, List, [], ◌∷◌, ◌++◌, Option, Some, None, length, map, take, drop, set, get_or, slice_get, refl, sym, ap, subst, ⊎_elim, ◌∙◌, arith}
+use Rattle.std.specs.declared.vec.IntoIter.{IntoIter}
+use Rattle.std.specs.Global.{Global}
 use Rattle.std.specs.List.{cons_option}
-use Rattle.std.proofs.lemmas.List.{drop-drop}
+use Rattle.std.specs.Option.{option_map, option_to_list}
+use Rattle.std.specs.Vec.Iter.{into_iter_items, into_iter_steps}
+use Rattle.std.proofs.lemmas.List.{drop-drop, drop_more, get_or_at, length-map, length-take, map_push, nil_from_length, take_more}
+use Rattle.std.proofs.lemmas.List.Edits.{map_over_more}
+use Rattle.std.proofs.lemmas.List.Elements.{filter_map-append}
 use Rattle.std.proofs.lemmas.Option.{same_Some, slice_get_within}
 use Rattle.rds_host.proofs.Columns.{pushed_at, there_is}
 use Rattle.rds_gather.specs.Columns.{AtEach, column}
@@ -80,3 +86,45 @@ module _ {X : Type 0} where
       (λ (new : (place ≡ length ys) × (y ≡ z)).
       subst (λ (v : Y). P v (column place rows)) new.1 (subst (λ (n : ℕ). P y (column n rows)) (sym new.0) more))
       (pushed_at ys y z place at)
+
+  option_list : (o : Option X) → cons_option o [] ≡ option_to_list o
+  option_list None = refl
+  option_list (Some x) = refl
+
+  -- one more row gives what stands there, if anything does
+  column_more : (rows : List (List X)) (i : ℕ) (row : List X) → i < length rows → row ≡ get_or rows i row → column 0 (take (i + 1) rows) ≡ column 0 (take i rows) ++ option_to_list (slice_get row 0)
+  column_more rows i row small is =
+      ap (column 0) (take_more rows i row small)
+      ∙ (filter_map-append (λ (r : List X). slice_get r 0) (take i rows) (get_or rows i row ∷ [])
+      ∙ ap (λ (l : List X). column 0 (take i rows) ++ l) (option_list (slice_get (get_or rows i row) 0) ∙ ap (λ (r : List X). option_to_list (slice_get r 0)) (sym is)))
+
+  -- the first item of one more row was taken, if it has one
+  pub row_taken : (rows ys : List (List X)) (i : ℕ) (row new : List X) (o : Option X) (got : List X) → i < length rows → ys ≡ map (drop 1) (take i rows) ++ drop i rows → row ≡ get_or ys i row
+      → new ≡ drop 1 row → o ≡ slice_get row 0 → got ≡ column 0 (take i rows)
+      → (set ys i new ≡ map (drop 1) (take (i + 1) rows) ++ drop (i + 1) rows) × (got ++ option_to_list o ≡ column 0 (take (i + 1) rows))
+  row_taken rows ys i row new o got small before at left first is =
+      let front = map (drop 1) (take i rows) in
+      let long : length front ≡ i = length-map (take i rows) (drop 1) ∙ omega (arith, length-take i rows) in
+      let parts : ys ≡ front ++ get_or rows i row ∷ drop (i + 1) rows = before ∙ ap (λ (l : List (List X)). front ++ l) (drop_more rows i row small) in
+      let here : row ≡ get_or rows i row = at ∙ (ap (λ (l : List (List X)). get_or l i row) parts ∙ get_or_at front (get_or rows i row) (drop (i + 1) rows) row i long) in (
+        ap (set ys i) left ∙ map_over_more (drop 1) rows ys i row small before at,
+        ap (λ (l : List X). l ++ option_to_list o) is
+            ∙ (ap (λ (p : Option X). column 0 (take i rows) ++ option_to_list p) first ∙ sym (column_more rows i row small here)),
+      )
+
+  -- what a row gives next, and what is left of it
+  pub row_next : (old new : IntoIter X Global) (o : Option X) → into_iter_steps old o new → (into_iter_items new ≡ drop 1 (into_iter_items old)) × (o ≡ slice_get (into_iter_items old) 0)
+  row_next old new None is =
+      let none : into_iter_items old ≡ [] = nil_from_length (into_iter_items old) (omega (arith, is.0, old.rest.ok.0)) in
+      let left : into_iter_items new ≡ [] = nil_from_length (into_iter_items new) (omega (arith, is.1, new.rest.ok.0)) in
+      (left ∙ ap (drop 1) (sym none), ap (λ (l : List X). slice_get l 0) (sym none))
+  row_next old new (Some x) is = (ap (drop 1) (sym is.0), ap (λ (l : List X). slice_get l 0) (sym is.0))
+
+pub list_of_map : {X Y : Type 0} (f : X → Y) (o : Option X) → map f (option_to_list o) ≡ option_to_list (option_map f o)
+list_of_map f None = refl
+list_of_map f (Some x) = refl
+
+-- one more item in each of two lists
+pub mapped_push : {X Y Z : Type 0} (f : X → Z) (g : Y → Z) (xs new : List X) (ys : List Y) (x : X) (y : Y) → new ≡ xs ++ x ∷ [] → map f xs ≡ map g ys → f x ≡ g y → map f new ≡ map g (ys ++ y ∷ [])
+mapped_push {X} {Y} {Z} f g xs new ys x y is same one =
+    ap (map f) is ∙ (map_push f xs x ∙ (ap (λ (l : List Z). l ++ f x ∷ []) same ∙ (ap (λ (z : Z). map g ys ++ z ∷ []) one ∙ sym (map_push g ys y))))

@@ -1,7 +1,10 @@
 -- Putters by rows and columns: a row has those of one slot or of one line, and a column those of one queue.
 -- Source: this project's own.
 use Rattle.std.specs.Prelude.{◌≡◌, ℕ, List, Some, map, slice_get}
+use Rattle.std.specs.declared.vec.IntoIter.{IntoIter}
+use Rattle.std.specs.Global.{Global}
 use Rattle.std.specs.List.{filter_map}
+use Rattle.std.specs.Vec.Iter.{into_iter_items}
 use Rattle.rds_model.specs.declared.order.Order.{Order}
 use Rattle.rds_mail.specs.Passes.{Putter}
 use Rattle.rds_parts.specs.Lanes.{Lane}
@@ -17,3 +20,11 @@ AtEach {Y} P values rows = (place : ℕ) (y : Y) → slice_get values place ≡ 
 -- the putters of a slot's routes
 abbrev pub passes_of : {R : Type 0} → List (Lane R) → List (Putter Order)
 passes_of routes = map (λ lane. lane.pass) routes
+
+-- what is left of rows
+abbrev pub rows_left : {X : Type 0} → List (IntoIter X Global) → List (List X)
+rows_left rows = map into_iter_items rows
+
+-- the putters of what is left of each slot's routes
+abbrev pub passes_left : {R : Type 0} → List (IntoIter (Lane R) Global) → List (List (Putter Order))
+passes_left routes = map (λ row. passes_of (into_iter_items row)) routes

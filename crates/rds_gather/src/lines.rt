@@ -1,9 +1,9 @@
 //! Lines that are taken apart.
 ghost use Rattle.std.specs.Prelude.{◌≡◌, ◌∷◌, ◌++◌, [], All, IfOk, OnOk, map};
-ghost use Rattle.std.specs.Vec.Iter.{into_iter_items};
 ghost use Rattle.rds_report.specs.Views.{side_view};
 ghost use Rattle.rds_line.specs.Keeps.{KeepsLine};
 ghost use Rattle.rds_line.specs.Line.{line_past};
+ghost use Rattle.rds_gather.specs.Columns.{rows_left};
 ghost use Rattle.rds_gather.specs.Sides.{side_of};
 
 use rds_fmap::Writer;
@@ -39,7 +39,7 @@ impl LinesLeft {
     fn add(&mut self, line: LineLeft) -> Result<(), Memory>
         ensures journals { OnOk result (self.new.journals.items ≡ self.old.journals.items ++ (line.peer, line.journal) ∷ []) }
         ensures orders { OnOk result (self.new.orders.items ≡ self.old.orders.items ++ line.orders ∷ []) }
-        ensures boxes { OnOk result (map into_iter_items self.new.boxes.items ≡ map into_iter_items self.old.boxes.items ++ line.boxes ∷ []) }
+        ensures boxes { OnOk result (rows_left self.new.boxes.items ≡ rows_left self.old.boxes.items ++ line.boxes ∷ []) }
     {
         let LineLeft {
             peer,
@@ -75,7 +75,7 @@ pub(crate) fn take_lines<W: Wire, R: Wait>(
 ) -> Result<LinesLeft, Memory>
     ensures journals { IfOk result (λ left. map side_view left.journals.items ≡ map side_of lines.items) }
     ensures orders { IfOk result (λ left. left.orders.items ≡ map (λ line. line.orders) lines.items) }
-    ensures boxes { IfOk result (λ left. map into_iter_items left.boxes.items ≡ map (λ line. line.boxes) lines.items) }
+    ensures boxes { IfOk result (λ left. rows_left left.boxes.items ≡ map (λ line. line.boxes) lines.items) }
     ensures kept { All (KeepsLine (λ w. w.published)) lines.items }
 {
     let mut left = LinesLeft {

@@ -1,10 +1,9 @@
 //! The order queues of a host's lines.
 ghost use Rattle.std.specs.Prelude.{◌≡◌, ◌++◌, IfOk, OnOk, Option, drop, map};
 ghost use Rattle.std.specs.Option.{option_to_list};
-ghost use Rattle.std.specs.Vec.Iter.{into_iter_items};
 ghost use Rattle.rds_parts.specs.Lanes.{IsOf};
 ghost use Rattle.rds_joins.specs.Joins.{slot_of_order};
-ghost use Rattle.rds_gather.specs.Columns.{AtEach, column, passes_of};
+ghost use Rattle.rds_gather.specs.Columns.{AtEach, column, passes_left, passes_of};
 ghost use Rattle.rds_gather.specs.Shown.{ArePuttersOf, IsShown};
 
 use rds_fmap::Reader;
@@ -24,8 +23,8 @@ pub(crate) fn join_all_orders<R: Wait>(
     orders: Vec<LineOrders>,
     routes: &mut [IntoIter<Route<Reader>>],
 ) -> Result<(), Memory>
-    requires putters { AtEach ArePuttersOf orders.items (map (λ row. passes_of (into_iter_items row)) routes.old) }
-    ensures shown { OnOk result (AtEach (IsShown slot_of_order IsOf) orders.items (map (λ row. passes_of (into_iter_items row)) routes.old)) }
+    requires putters { AtEach ArePuttersOf orders.items (passes_left routes.old) }
+    ensures shown { OnOk result (AtEach (IsShown slot_of_order IsOf) orders.items (passes_left routes.old)) }
 {
     for own in orders {
         let passes = next_passes(alloc, routes)?;
@@ -39,8 +38,8 @@ fn next_passes(
     alloc: Global,
     routes: &mut [IntoIter<Route<Reader>>],
 ) -> Result<Vec<PutPass<Asked>>, Memory>
-    ensures next { IfOk result (λ passes. passes.items ≡ column 0 (map (λ row. passes_of (into_iter_items row)) routes.old)) }
-    ensures left { OnOk result (map (λ row. passes_of (into_iter_items row)) routes.new ≡ map (drop 1) (map (λ row. passes_of (into_iter_items row)) routes.old)) }
+    ensures next { IfOk result (λ passes. passes.items ≡ column 0 (passes_left routes.old)) }
+    ensures left { OnOk result (passes_left routes.new ≡ map (drop 1) (passes_left routes.old)) }
 {
     let mut passes = Vec::with_capacity(alloc, routes.len())?;
     for i in 0..routes.len() {

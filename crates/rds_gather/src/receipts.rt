@@ -1,9 +1,8 @@
 //! The mailboxes of a host's slots.
 ghost use Rattle.std.specs.Prelude.{◌≡◌, ◌++◌, IfOk, OnOk, Option, drop, map};
 ghost use Rattle.std.specs.Option.{option_to_list};
-ghost use Rattle.std.specs.Vec.Iter.{into_iter_items};
 ghost use Rattle.rds_joins.specs.Joins.{IsFrom, sender_in};
-ghost use Rattle.rds_gather.specs.Columns.{AtEach, column};
+ghost use Rattle.rds_gather.specs.Columns.{AtEach, column, rows_left};
 ghost use Rattle.rds_gather.specs.Shown.{ArePuttersOf, IsShown};
 
 use rds_joins::join_receipts;
@@ -23,8 +22,8 @@ pub(crate) fn join_all_receipts<R: Wait>(
     inboxes: Vec<Inbox>,
     boxes: &mut [IntoIter<SlotBox>],
 ) -> Result<(), Memory>
-    requires putters { AtEach ArePuttersOf (map (λ b. b.get) inboxes.items) (map into_iter_items boxes.old) }
-    ensures shown { OnOk result (AtEach (IsShown sender_in IsFrom) (map (λ b. b.get) inboxes.items) (map into_iter_items boxes.old)) }
+    requires putters { AtEach ArePuttersOf (map (λ b. b.get) inboxes.items) (rows_left boxes.old) }
+    ensures shown { OnOk result (AtEach (IsShown sender_in IsFrom) (map (λ b. b.get) inboxes.items) (rows_left boxes.old)) }
 {
     for own in inboxes {
         let passes = next_passes(alloc, boxes)?;
@@ -38,8 +37,8 @@ fn next_passes(
     alloc: Global,
     boxes: &mut [IntoIter<SlotBox>],
 ) -> Result<Vec<PutPass<Datagram>>, Memory>
-    ensures next { IfOk result (λ passes. passes.items ≡ column 0 (map into_iter_items boxes.old)) }
-    ensures left { OnOk result (map into_iter_items boxes.new ≡ map (drop 1) (map into_iter_items boxes.old)) }
+    ensures next { IfOk result (λ passes. passes.items ≡ column 0 (rows_left boxes.old)) }
+    ensures left { OnOk result (rows_left boxes.new ≡ map (drop 1) (rows_left boxes.old)) }
 {
     let mut passes = Vec::with_capacity(alloc, boxes.len())?;
     for i in 0..boxes.len() {

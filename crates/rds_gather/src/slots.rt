@@ -2,6 +2,7 @@
 ghost use Rattle.std.specs.Prelude.{◌≡◌, All, IfOk, OnOk, map};
 ghost use Rattle.std.specs.Vec.Iter.{into_iter_items};
 ghost use Rattle.rds_socket.specs.Holding.{IsEnded};
+ghost use Rattle.rds_gather.specs.Columns.{rows_left};
 
 use rds_fmap::Reader;
 use rds_parts::Inbox;
@@ -20,7 +21,7 @@ pub(crate) struct SlotsLeft {
 /// Takes the slots of a host apart.
 pub(crate) fn take_slots(alloc: Global, closed: Vec<Closed<Reader>>) -> Result<SlotsLeft, Memory>
     ensures inboxes { IfOk result (λ left. map (λ b. b.get) left.inboxes.items ≡ map (λ h. h.inbox.get) closed.items) }
-    ensures routes { IfOk result (λ left. map into_iter_items left.routes.items ≡ map (λ h. h.routes) closed.items) }
+    ensures routes { IfOk result (λ left. rows_left left.routes.items ≡ map (λ h. h.routes) closed.items) }
     ensures ended { OnOk result (All IsEnded closed.items) }
 {
     let mut inboxes = Vec::with_capacity(alloc, closed.len())?;
