@@ -1,5 +1,5 @@
 -- What stands at a place of several rows, and rows whose first items were taken.
-use Rattle.std.proofs.Common.{◌≡◌, ◌⊎◌, ℕ, zero, suc, ◌+◌, ◌<◌, List, [], ◌∷◌, ◌++◌, Option, Some, None, length, map, take, drop, set, get_or, slice_get, refl, sym, ap, subst, ⊎_elim, ◌∙◌, arith}
+use Rattle.std.proofs.Common.{◌≡◌, ℕ, zero, suc, ◌+◌, ◌<◌, List, [], ◌∷◌, ◌++◌, Option, Some, None, length, map, take, drop, set, get_or, slice_get, refl, sym, ap, subst, ⊎_elim, ◌∙◌, arith}
 use Rattle.std.specs.declared.vec.IntoIter.{IntoIter}
 use Rattle.std.specs.Global.{Global}
 use Rattle.std.specs.List.{cons_option}
@@ -128,3 +128,12 @@ list_of_map f (Some x) = refl
 pub mapped_push : {X Y Z : Type 0} (f : X → Z) (g : Y → Z) (xs new : List X) (ys : List Y) (x : X) (y : Y) → new ≡ xs ++ x ∷ [] → map f xs ≡ map g ys → f x ≡ g y → map f new ≡ map g (ys ++ y ∷ [])
 mapped_push {X} {Y} {Z} f g xs new ys x y is same one =
     ap (map f) is ∙ (map_push f xs x ∙ (ap (λ (l : List Z). l ++ f x ∷ []) same ∙ (ap (λ (z : Z). map g ys ++ z ∷ []) one ∙ sym (map_push g ys y))))
+
+pub pushed_map : {Y Z : Type 0} (g : Y → Z) (xs new : List Z) (ys : List Y) (x : Z) (y : Y) → new ≡ xs ++ x ∷ [] → xs ≡ map g ys → x ≡ g y → new ≡ map g (ys ++ y ∷ [])
+pushed_map {Y} {Z} g xs new ys x y is same one =
+    is ∙ (ap (λ (l : List Z). l ++ x ∷ []) same ∙ (ap (λ (z : Z). map g ys ++ z ∷ []) one ∙ sym (map_push g ys y)))
+
+-- the same values and the same rows
+pub each_same : {Y X : Type 0} (P : Y → List X → Type 0) (ys zs : List Y) (rows others : List (List X)) → ys ≡ zs → rows ≡ others → AtEach P ys rows → AtEach P zs others
+each_same {Y} {X} P ys zs rows others same alike all =
+    subst (λ (l : List Y). AtEach P l others) same (subst (λ (r : List (List X)). AtEach P ys r) alike all)

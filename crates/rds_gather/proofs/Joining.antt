@@ -1,5 +1,8 @@
 -- The putters of a host's queues are all that these have, and what their getters show of them is what a host shows.
-use Rattle.std.proofs.Common.{◌≡◌, ℕ, ◌<◌, ◌≤◌, List, All, Some, length, map, get_or, slice_get, option_map, sym, ap, subst, ◌∙◌, arith}
+use Rattle.std.proofs.Common.{◌≡◌, ℕ, List, [], ◌∷◌, All, Some, length, map, get_or, slice_get, option_map, refl, sym, ap, subst, ◌∙◌, arith}
+use Rattle.std.specs.declared.vec.IntoIter.{IntoIter}
+use Rattle.std.specs.Global.{Global}
+use Rattle.std.specs.Vec.Iter.{into_iter_items}
 use Rattle.std.proofs.lemmas.List.{length-map}
 use Rattle.std.proofs.lemmas.Option.{slice_get_within, slice_get-get_or, slice_get-map, get_or_from_slice_get}
 use Rattle.rds_model.specs.declared.order.Datagram.{Datagram}
@@ -8,7 +11,7 @@ use Rattle.rds_model.specs.Deliveries.{delivered_datagrams}
 use Rattle.rds_model.specs.Honest.{Begins}
 use Rattle.rds_mail.specs.Merging.{by_key}
 use Rattle.rds_mail.specs.Numbers.{bare_items}
-use Rattle.rds_mail.specs.Passes.{Getter, Putter, QueueId}
+use Rattle.rds_mail.specs.Passes.{Getter, Putter}
 use Rattle.rds_fmap.specs.Readers.{ReaderView, WriterView}
 use Rattle.rds_parts.specs.Lanes.{IsLaneAt, IsOf, Lane}
 use Rattle.rds_joins.specs.Joins.{IsFrom, sender_in, slot_of_order}
@@ -20,7 +23,7 @@ use Rattle.rds_host.specs.Passes.{AreAllPasses}
 use Rattle.rds_host.specs.Telling.{IsTold}
 use Rattle.rds_host.specs.Ties.{AreOfHost}
 use Rattle.rds_host.proofs.Columns.{all_at, mapped_at, there_is}
-use Rattle.rds_gather.specs.Columns.{AtEach, column, passes_of}
+use Rattle.rds_gather.specs.Columns.{AtEach, column, passes_left, passes_of, rows_left}
 use Rattle.rds_gather.specs.Joined.{AreJoined, IsPeer, orders_of, peer_of}
 use Rattle.rds_gather.specs.Shown.{ArePuttersOf, IsShown}
 use Rattle.rds_gather.proofs.Columns.{AreFull, column_count, column_row, row_column}
@@ -33,6 +36,18 @@ all_from P xs each k d small = each k (get_or xs k d) (slice_get-get_or xs k d s
 -- the putters of the slots, and those of the lines
 abbrev pub lane_rows : List (Holding ReaderView) → List (List (Putter Order))
 lane_rows slots = map (λ h. passes_of h.routes) slots
+
+left_passes : (routes : List (IntoIter (Lane ReaderView) Global)) → passes_left routes ≡ map passes_of (rows_left routes)
+left_passes [] = refl
+left_passes (row ∷ routes) = ap (λ (l : List (List (Putter Order))). passes_of (into_iter_items row) ∷ l) (left_passes routes)
+
+rows_passes : (slots : List (Holding ReaderView)) → map passes_of (map (λ h. h.routes) slots) ≡ lane_rows slots
+rows_passes [] = refl
+rows_passes (h ∷ slots) = ap (λ (l : List (List (Putter Order))). passes_of h.routes ∷ l) (rows_passes slots)
+
+-- the routes of the slots give their putters
+pub passes_are : (routes : List (IntoIter (Lane ReaderView) Global)) (slots : List (Holding ReaderView)) → rows_left routes ≡ map (λ h. h.routes) slots → passes_left routes ≡ lane_rows slots
+passes_are routes slots are = left_passes routes ∙ (ap (map passes_of) are ∙ rows_passes slots)
 
 module _ {E : Type 0} where
   abbrev pub box_rows : List (LineView E WriterView) → List (List (Putter Datagram))
@@ -110,8 +125,8 @@ module _ {E : Type 0} where
           subst (λ (x : Getter Order). ArePuttersOf x puts) line.2
           (record {
             mails = all_from (λ (p : Putter Order). p.mail ≡ line.0.orders.mail) puts (λ i p at'.
-            let h = lane_there place line.0 line.1 i p at' in
-            ap (λ (q : Putter Order). q.mail) (sym h.4) ∙ (host.routes i place h.0 h.1 line.0 h.2 h.3 line.1).1);
+                let h = lane_there place line.0 line.1 i p at' in
+                ap (λ (q : Putter Order). q.mail) (sym h.4) ∙ (host.routes i place h.0 h.1 line.0 h.2 h.3 line.1).1);
             none = all.no_order_joined place line.0 line.1;
             all = λ enough. let size = order.size in all_there (length slots) puts order (omega arith);
           })
@@ -126,8 +141,8 @@ module _ {E : Type 0} where
           subst (λ (x : Getter Datagram). ArePuttersOf x puts) h.2
           (record {
             mails = all_from (λ (p : Putter Datagram). p.mail ≡ h.0.inbox.get.mail) puts (λ i p at'.
-            let line = box_there slot h.0 h.1 i p at' in
-            host.boxes slot i h.0 line.0 p h.1 line.1 (subst (λ (n : ℕ). IsBoxOf line.0.boxes n p) (sym number) line.2));
+                let line = box_there slot h.0 h.1 i p at' in
+                host.boxes slot i h.0 line.0 p h.1 line.1 (subst (λ (n : ℕ). IsBoxOf line.0.boxes n p) (sym number) line.2));
             none = all.no_box_joined slot h.0 h.1;
             all = λ enough. let size = order.size in all_there (length lines) puts order (omega arith);
           })

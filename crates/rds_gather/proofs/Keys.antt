@@ -1,6 +1,6 @@
 -- Orders by their slot, and datagrams by their sender.
-use Rattle.std.proofs.Common.{◌≡◌, ℕ, zero, suc, ◌+◌, ◌<◌, Bool, true, false, cond, List, [], ◌∷◌, ◌++◌, All, Some, None, length, slice_get, refl, sym, ap, subst, ⊎_elim, ◌∙◌, arith}
-use Rattle.std.proofs.lemmas.Bool.{cond-true, cases_order, eq-eqb}
+use Rattle.std.proofs.Common.{◌≡◌, ℕ, zero, suc, ◌<◌, Bool, true, false, cond, List, [], ◌∷◌, ◌++◌, All, Some, slice_get, refl, ap, subst, ◌∙◌, arith}
+use Rattle.std.proofs.lemmas.Bool.{cond-true, eq-eqb}
 use Rattle.std.proofs.lemmas.List.Elements.{All-head, All-nil, All-push, All-tail}
 use Rattle.std.proofs.lemmas.Option.{none-some, same_Some}
 use Rattle.rds_model.specs.declared.entry.Entry.{Entry}

@@ -1,5 +1,5 @@
 -- What the joins of a queue's putters show of its getter.
-use Rattle.std.proofs.Common.{◌≡◌, ℕ, ◌≤◌, List, [], ◌++◌, Option, length, map, sym, ap, subst, ◌∙◌, arith}
+use Rattle.std.proofs.Common.{◌≡◌, ℕ, List, [], ◌++◌, Option, map, sym, ap, subst, ◌∙◌, arith}
 use mathlib.Core.Option.{some-ne-none}
 use Rattle.rds_views.specs.Views.{Each}
 use Rattle.rds_mail.specs.declared.view.Account.{Account}

@@ -86,9 +86,7 @@ pub(crate) fn take_lines<W: Wire, R: Wait>(
     let mut all = left.reserve(lines.len());
     for line in lines {
         let own = take_line(rt, wire, line);
-        if left.add(own).is_err() {
-            all = Err(Memory);
-        }
+        all = all.and(left.add(own));
     }
     all?;
     Ok(left)

@@ -53,12 +53,14 @@ fn next_passes(
 fn add_pass(passes: &mut Vec<PutPass<Asked>>, route: Option<Route<Reader>>) -> Result<(), Memory>
     ensures { OnOk result (passes.new.items ≡ passes.old.items ++ passes_of (option_to_list route)) }
 {
-    if let Some(Route {
-        peer: _,
-        orders: _orders,
-        pass,
-        map: _map,
-    }) = route
+    if let Some(
+        Route {
+            peer: _,
+            orders: _orders,
+            pass,
+            map: _map,
+        },
+    ) = route
     {
         passes.push(pass)?;
     }

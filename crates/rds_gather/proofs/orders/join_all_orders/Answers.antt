@@ -1,13 +1,13 @@
 use Rattle.std.proofs.Common.{◌≡◌, ℕ, ◌+◌, List, [], ◌∷◌, ◌++◌, Some, length, map, drop, sym, ap, subst, ◌∙◌}
 use Rattle.std.proofs.lemmas.Iterator.Adapters.{YieldsList-from_vec}
-use Rattle.std.proofs.lemmas.Iterator.Consumers.{YieldsList-turn, YieldsList-end}
-use Rattle.std.proofs.lemmas.List.{length_push, map-id}
+use Rattle.std.proofs.lemmas.Iterator.Consumers.{YieldsList-turn}
+use Rattle.std.proofs.lemmas.List.{length_push}
 use Rattle.std.proofs.lemmas.Option.{slice_get-get_or}
 use Rattle.rds_model.specs.declared.order.Order.{Order}
-use Rattle.rds_mail.specs.Passes.{Getter, Putter}
+use Rattle.rds_mail.specs.Passes.{Putter}
 use Rattle.rds_parts.specs.Lanes.{IsOf}
 use Rattle.rds_joins.specs.Joins.{slot_of_order}
-use Rattle.rds_gather.specs.Columns.{AtEach, column, passes_left}
+use Rattle.rds_gather.specs.Columns.{column, passes_left}
 use Rattle.rds_gather.specs.Shown.{ArePuttersOf, IsShown}
 use Rattle.rds_gather.proofs.Columns.{at_none, at_one_more, column_left, none_left, one_more_left}
 use Rattle.rds_gather.proofs.orders.join_all_orders.Goals as goal

@@ -1,4 +1,4 @@
-use Rattle.std.proofs.Common.{◌≡◌, map, sym, ap, ◌∙◌}
+use Rattle.std.proofs.Common.{map, ap, ◌∙◌}
 use Rattle.rds_mail.specs.Passes.{Getter, account_of, with_joined}
 use Rattle.rds_model.specs.declared.order.Datagram.{Datagram}
 use Rattle.rds_joins.specs.Joins.{IsFrom, sender_in}

@@ -1,10 +1,7 @@
-use Rattle.std.proofs.Common.{◌≡◌, List}
 use Rattle.std.specs.declared.vec.IntoIter.{IntoIter}
 use Rattle.std.specs.Global.{Global}
 use Rattle.std.specs.Vec.Iter.{into_iter_items}
 use Rattle.std.proofs.lemmas.List.Elements.{All-push}
-use Rattle.rds_model.specs.declared.order.Datagram.{Datagram}
-use Rattle.rds_mail.specs.Passes.{Getter}
 use Rattle.rds_fmap.specs.Readers.{ReaderView}
 use Rattle.rds_parts.specs.Boxes.{Box}
 use Rattle.rds_parts.specs.Lanes.{Lane}
