@@ -4,7 +4,7 @@ ghost use Rattle.rds_views.specs.Views.{Each};
 ghost use Rattle.rds_mail.specs.Numbers.{Number};
 ghost use Rattle.rds_mail.specs.Shared.{IsPart};
 ghost use Rattle.rds_mail.specs.Passes.{with_joined, account_of};
-ghost use Rattle.rds_mail.specs.Merging.{AreAll, KeysBegin};
+ghost use Rattle.rds_mail.specs.Merging.{AreAll, IsMerged, KeysBegin};
 ghost use Rattle.rds_parts.specs.Lanes.{IsOf};
 ghost use Rattle.rds_joins.specs.Joins.{slot_of_order, AreMarked, PutsAreTold, KeysAre};
 
@@ -23,6 +23,7 @@ pub fn join_orders<W: Wait>(
     requires puts { All (λ p. p.mail ≡ mail.now.line) puts.items }
     requires all { AreAll (get.old.joined ++ map account_of puts.items) }
     ensures joined { get.new ≡ with_joined get.old (map account_of puts.items) }
+    ensures merged { IsMerged get.new.got get.new.joined }
     ensures begin { (slot_at : Number → ℕ) → AreMarked IsOf slot_at get.new.joined → KeysBegin slot_of_order slot_at get.new.got get.new.joined }
     ensures emptied { (slot_at : Number → ℕ) → AreMarked IsOf slot_at get.new.joined → Each get.new.told (IsPart get.new.got) → PutsAreTold get.new.told get.new.joined → KeysAre slot_of_order slot_at get.new.got get.new.joined }
 {

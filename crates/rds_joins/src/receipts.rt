@@ -4,7 +4,7 @@ ghost use Rattle.rds_views.specs.Views.{Each};
 ghost use Rattle.rds_mail.specs.Numbers.{Number};
 ghost use Rattle.rds_mail.specs.Shared.{IsPart};
 ghost use Rattle.rds_mail.specs.Passes.{with_joined, account_of};
-ghost use Rattle.rds_mail.specs.Merging.{AreAll, KeysBegin};
+ghost use Rattle.rds_mail.specs.Merging.{AreAll, IsMerged, KeysBegin};
 ghost use Rattle.rds_joins.specs.Joins.{sender_in, IsFrom, AreMarked, PutsAreTold, KeysAre};
 
 use rds_mail::{GetPass, Mail, PutPass};
@@ -23,6 +23,7 @@ pub fn join_receipts<W: Wait>(
     requires puts { All (λ p. p.mail ≡ mail.now.line) puts.items }
     requires all { AreAll (get.old.joined ++ map account_of puts.items) }
     ensures joined { get.new ≡ with_joined get.old (map account_of puts.items) }
+    ensures merged { IsMerged get.new.got get.new.joined }
     ensures begin { (host_at : Number → ℕ) → AreMarked IsFrom host_at get.new.joined → KeysBegin sender_in host_at get.new.got get.new.joined }
     ensures emptied { (host_at : Number → ℕ) → AreMarked IsFrom host_at get.new.joined → Each get.new.told (IsPart get.new.got) → PutsAreTold get.new.told get.new.joined → KeysAre sender_in host_at get.new.got get.new.joined }
 {

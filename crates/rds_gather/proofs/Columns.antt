@@ -1,0 +1,139 @@
+-- What stands at a place of several rows, and rows whose first items were taken.
+use Rattle.std.proofs.Common.{◌≡◌, ℕ, zero, suc, ◌+◌, ◌<◌, List, [], ◌∷◌, ◌++◌, Option, Some, None, length, map, take, drop, set, get_or, slice_get, refl, sym, ap, subst, ⊎_elim, ◌∙◌, arith}
+use Rattle.std.specs.declared.vec.IntoIter.{IntoIter}
+use Rattle.std.specs.Global.{Global}
+use Rattle.std.specs.List.{cons_option}
+use Rattle.std.specs.Option.{option_map, option_to_list}
+use Rattle.std.specs.Vec.Iter.{into_iter_items, into_iter_steps}
+use Rattle.std.proofs.lemmas.List.{drop-drop, drop_more, get_or_at, length-map, length-take, map_push, nil_from_length, take_more}
+use Rattle.std.proofs.lemmas.List.Edits.{map_over_more}
+use Rattle.std.proofs.lemmas.List.Elements.{filter_map-append}
+use Rattle.std.proofs.lemmas.Option.{same_Some, slice_get_within}
+use Rattle.rds_host.proofs.Columns.{pushed_at, there_is}
+use Rattle.rds_gather.specs.Columns.{AtEach, column}
+
+-- each row has something at this place
+abbrev pub AreFull : {X : Type 0} → ℕ → List (List X) → Type 0
+AreFull {X} n rows = (i : ℕ) (row : List X) → slice_get rows i ≡ Some row → n < length row
+
+module _ {X : Type 0} where
+  -- a row with something there gives its first to the column
+  column_with : (n : ℕ) (row : List X) (x : X) (rows : List (List X)) → slice_get row n ≡ Some x → column n (row ∷ rows) ≡ x ∷ column n rows
+  column_with n row x rows is = ap (λ o. cons_option o (column n rows)) is
+
+  rest_full : (n : ℕ) (row : List X) (rows : List (List X)) → AreFull n (row ∷ rows) → AreFull n rows
+  rest_full n row rows full i r at = full (suc i) r at
+
+  pub column_count : (n : ℕ) (rows : List (List X)) → AreFull n rows → length (column n rows) ≡ length rows
+  column_count n [] full = refl
+  column_count n (row ∷ rows) full =
+      let first = there_is row n (full zero row refl) in
+      ap length (column_with n row first.0 rows first.1) ∙ ap suc (column_count n rows (rest_full n row rows full))
+
+  -- what stands in the column stands in the row of that place
+  pub column_row : (n : ℕ) (rows : List (List X)) → AreFull n rows → (i : ℕ) (x : X) → slice_get (column n rows) i ≡ Some x →
+      (row : List X) × (slice_get rows i ≡ Some row) × (slice_get row n ≡ Some x)
+  column_row n [] full i x at = absurd (let small = slice_get_within [] i x at in omega arith)
+  column_row n (row ∷ rows) full zero x at =
+      let first = there_is row n (full zero row refl) in
+      let is : Some first.0 ≡ Some x = sym (ap (λ (l : List X). slice_get l 0) (column_with n row first.0 rows first.1)) ∙ at in
+      (row, refl, first.1 ∙ is)
+  column_row n (row ∷ rows) full (suc i) x at =
+      let first = there_is row n (full zero row refl) in
+      column_row n rows (rest_full n row rows full) i x (sym (ap (λ (l : List X). slice_get l (suc i)) (column_with n row first.0 rows first.1)) ∙ at)
+
+  -- and the other way round
+  pub row_column : (n : ℕ) (rows : List (List X)) → AreFull n rows → (i : ℕ) (row : List X) (x : X) → slice_get rows i ≡ Some row → slice_get row n ≡ Some x →
+      slice_get (column n rows) i ≡ Some x
+  row_column n [] full i row x at is = absurd (let small = slice_get_within [] i row at in omega arith)
+  row_column n (r ∷ rows) full zero row x at is =
+      let same : r ≡ row = same_Some r row at in
+      ap (λ (l : List X). slice_get l 0) (column_with n r x rows (ap (λ (l : List X). slice_get l n) same ∙ is))
+  row_column n (r ∷ rows) full (suc i) row x at is =
+      let first = there_is r n (full zero r refl) in
+      ap (λ (l : List X). slice_get l (suc i)) (column_with n r first.0 rows first.1) ∙ row_column n rows (rest_full n r rows full) i row x at is
+
+  first_left : (n : ℕ) (row : List X) → slice_get (drop n row) 0 ≡ slice_get row n
+  first_left zero row = refl
+  first_left (suc n) [] = refl
+  first_left (suc n) (x ∷ row) = first_left n row
+
+  -- the first column of what is left of the rows
+  pub column_left : (n : ℕ) (rows : List (List X)) → column 0 (map (drop n) rows) ≡ column n rows
+  column_left n [] = refl
+  column_left n (row ∷ rows) =
+      ap (λ (o : Option X). cons_option o (column 0 (map (drop n) rows))) (first_left n row)
+      ∙ ap (λ (l : List X). cons_option (slice_get row n) l) (column_left n rows)
+
+  pub none_left : (rows : List (List X)) → map (drop 0) rows ≡ rows
+  none_left [] = refl
+  none_left (row ∷ rows) = ap (λ (l : List (List X)). row ∷ l) (none_left rows)
+
+  pub one_more_left : (n : ℕ) (rows : List (List X)) → map (drop 1) (map (drop n) rows) ≡ map (drop (n + 1)) rows
+  one_more_left n [] = refl
+  one_more_left n (row ∷ rows) =
+      ap (λ (l : List X). l ∷ map (drop 1) (map (drop n) rows)) (drop-drop 1 n row)
+      ∙ ap (λ (l : List (List X)). drop (n + 1) row ∷ l) (one_more_left n rows)
+
+  pub at_none : {Y : Type 0} (P : Y → List X → Type 0) (rows : List (List X)) → AtEach P [] rows
+  at_none P rows place y at = absurd (let small = slice_get_within [] place y at in omega arith)
+
+  -- one more value suits its column
+  pub at_one_more : {Y : Type 0} (P : Y → List X → Type 0) (ys : List Y) (y : Y) (rows : List (List X)) → AtEach P ys rows → P y (column (length ys) rows) → AtEach P (ys ++ y ∷ []) rows
+  at_one_more {Y} P ys y rows all more place z at =
+      ⊎_elim
+      (λ (there : slice_get ys place ≡ Some z). all place z there)
+      (λ (new : (place ≡ length ys) × (y ≡ z)).
+      subst (λ (v : Y). P v (column place rows)) new.1 (subst (λ (n : ℕ). P y (column n rows)) (sym new.0) more))
+      (pushed_at ys y z place at)
+
+  option_list : (o : Option X) → cons_option o [] ≡ option_to_list o
+  option_list None = refl
+  option_list (Some x) = refl
+
+  -- one more row gives what stands there, if anything does
+  column_more : (rows : List (List X)) (i : ℕ) (row : List X) → i < length rows → row ≡ get_or rows i row → column 0 (take (i + 1) rows) ≡ column 0 (take i rows) ++ option_to_list (slice_get row 0)
+  column_more rows i row small is =
+      ap (column 0) (take_more rows i row small)
+      ∙ (filter_map-append (λ (r : List X). slice_get r 0) (take i rows) (get_or rows i row ∷ [])
+      ∙ ap (λ (l : List X). column 0 (take i rows) ++ l) (option_list (slice_get (get_or rows i row) 0) ∙ ap (λ (r : List X). option_to_list (slice_get r 0)) (sym is)))
+
+  -- the first item of one more row was taken, if it has one
+  pub row_taken : (rows ys : List (List X)) (i : ℕ) (row new : List X) (o : Option X) (got : List X) → i < length rows → ys ≡ map (drop 1) (take i rows) ++ drop i rows → row ≡ get_or ys i row
+      → new ≡ drop 1 row → o ≡ slice_get row 0 → got ≡ column 0 (take i rows)
+      → (set ys i new ≡ map (drop 1) (take (i + 1) rows) ++ drop (i + 1) rows) × (got ++ option_to_list o ≡ column 0 (take (i + 1) rows))
+  row_taken rows ys i row new o got small before at left first is =
+      let front = map (drop 1) (take i rows) in
+      let long : length front ≡ i = length-map (take i rows) (drop 1) ∙ omega (arith, length-take i rows) in
+      let parts : ys ≡ front ++ get_or rows i row ∷ drop (i + 1) rows = before ∙ ap (λ (l : List (List X)). front ++ l) (drop_more rows i row small) in
+      let here : row ≡ get_or rows i row = at ∙ (ap (λ (l : List (List X)). get_or l i row) parts ∙ get_or_at front (get_or rows i row) (drop (i + 1) rows) row i long) in (
+        ap (set ys i) left ∙ map_over_more (drop 1) rows ys i row small before at,
+        ap (λ (l : List X). l ++ option_to_list o) is
+            ∙ (ap (λ (p : Option X). column 0 (take i rows) ++ option_to_list p) first ∙ sym (column_more rows i row small here)),
+      )
+
+  -- what a row gives next, and what is left of it
+  pub row_next : (old new : IntoIter X Global) (o : Option X) → into_iter_steps old o new → (into_iter_items new ≡ drop 1 (into_iter_items old)) × (o ≡ slice_get (into_iter_items old) 0)
+  row_next old new None is =
+      let none : into_iter_items old ≡ [] = nil_from_length (into_iter_items old) (omega (arith, is.0, old.rest.ok.0)) in
+      let left : into_iter_items new ≡ [] = nil_from_length (into_iter_items new) (omega (arith, is.1, new.rest.ok.0)) in
+      (left ∙ ap (drop 1) (sym none), ap (λ (l : List X). slice_get l 0) (sym none))
+  row_next old new (Some x) is = (ap (drop 1) (sym is.0), ap (λ (l : List X). slice_get l 0) (sym is.0))
+
+pub list_of_map : {X Y : Type 0} (f : X → Y) (o : Option X) → map f (option_to_list o) ≡ option_to_list (option_map f o)
+list_of_map f None = refl
+list_of_map f (Some x) = refl
+
+-- one more item in each of two lists
+pub mapped_push : {X Y Z : Type 0} (f : X → Z) (g : Y → Z) (xs new : List X) (ys : List Y) (x : X) (y : Y) → new ≡ xs ++ x ∷ [] → map f xs ≡ map g ys → f x ≡ g y → map f new ≡ map g (ys ++ y ∷ [])
+mapped_push {X} {Y} {Z} f g xs new ys x y is same one =
+    ap (map f) is ∙ (map_push f xs x ∙ (ap (λ (l : List Z). l ++ f x ∷ []) same ∙ (ap (λ (z : Z). map g ys ++ z ∷ []) one ∙ sym (map_push g ys y))))
+
+pub pushed_map : {Y Z : Type 0} (g : Y → Z) (xs new : List Z) (ys : List Y) (x : Z) (y : Y) → new ≡ xs ++ x ∷ [] → xs ≡ map g ys → x ≡ g y → new ≡ map g (ys ++ y ∷ [])
+pushed_map {Y} {Z} g xs new ys x y is same one =
+    is ∙ (ap (λ (l : List Z). l ++ x ∷ []) same ∙ (ap (λ (z : Z). map g ys ++ z ∷ []) one ∙ sym (map_push g ys y)))
+
+-- the same values and the same rows
+pub each_same : {Y X : Type 0} (P : Y → List X → Type 0) (ys zs : List Y) (rows others : List (List X)) → ys ≡ zs → rows ≡ others → AtEach P ys rows → AtEach P zs others
+each_same {Y} {X} P ys zs rows others same alike all =
+    subst (λ (l : List Y). AtEach P l others) same (subst (λ (r : List (List X)). AtEach P ys r) alike all)

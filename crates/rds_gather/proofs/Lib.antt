@@ -1,0 +1,5 @@
+pub mod Columns
+pub mod Marks
+pub mod Keys
+pub mod Showing
+pub mod Joining

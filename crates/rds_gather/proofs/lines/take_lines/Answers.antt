@@ -1,0 +1,43 @@
+use Rattle.std.proofs.Common.{◌≡◌, ℕ, List, Result, Ok, Err, OnOk, is_ok, refl, sym, ap, true, ◌∙◌}
+use Rattle.std.specs.Result.{result_and}
+use Rattle.std.proofs.lemmas.Bool.{false≢true}
+use Rattle.std.proofs.lemmas.List.Elements.{All-push}
+use Rattle.rds_fmap.specs.Readers.{WriterView}
+use Rattle.rds_model.specs.declared.entry.Entry.{Entry}
+use Rattle.rds_report.specs.FinalState.{FinalJournal}
+use Rattle.rds_report.specs.Views.{side_view}
+use Rattle.rds_line.specs.Keeps.{KeepsLine}
+use Rattle.rds_line.specs.Line.{LineView, line_past}
+use Rattle.rds_gather.specs.Columns.{rows_left}
+use Rattle.rds_gather.specs.Sides.{side_of}
+use Rattle.rds_gather.proofs.Columns.{mapped_push, pushed_map}
+use Rattle.rds_gather.proofs.lines.take_lines.Goals as goal
+
+both_ok : {X Y Z : Type 0} (a : Result X Z) (b : Result Y Z) → is_ok (result_and a b) ≡ true → (is_ok a ≡ true) × (is_ok b ≡ true)
+both_ok (Ok x) b is = (refl, is)
+both_ok (Err e) b is = absurd (false≢true is)
+
+on_ok : {X Z : Type 0} (r : Result X Z) (P : Type 0) → OnOk r P → is_ok r ≡ true → P
+on_ok (Ok x) P known is = known
+on_ok (Err e) P known is = absurd (false≢true is)
+
+same_side : (p q : ℕ) (a b : List Entry) → p ≡ q → a ≡ b → ◌≡◌ {A = FinalJournal} (record { peer = p; past = a }) (record { peer = q; past = b })
+same_side p q a b peers pasts = cc
+
+pub loop-line-preserved : goal.loop-line-preserved
+loop-line-preserved g c =
+    let seen = c.loop-line.yielded in
+    let line = c.in-Some.line in
+    let own = c.take_line-own in
+    let old = c.loop-line.left in
+    let new = c.add.new.self in (
+      All-push (KeepsLine (λ w. w.published)) seen line c.loop-line.invariant.0 own.ensures.kept,
+      λ ok.
+          let both = both_ok c.loop-line.all c.add.result (ap is_ok (sym c.and-all.ensures) ∙ ok) in
+          let inv = c.loop-line.invariant.1 both.0 in (
+            mapped_push side_view side_of old.journals.items new.journals.items seen (own.result.peer, own.result.journal) line (on_ok c.add.result _ c.add.ensures.journals both.1) inv.0
+                (same_side own.result.peer line.channel.conn.peer own.result.journal.past (line_past line) own.ensures.peer own.ensures.past),
+            pushed_map (λ (l : LineView g.row.W-End.Denot WriterView). l.orders) old.orders.items new.orders.items seen own.result.orders line (on_ok c.add.result _ c.add.ensures.orders both.1) inv.1 own.ensures.orders,
+            pushed_map (λ (l : LineView g.row.W-End.Denot WriterView). l.boxes) (rows_left old.boxes.items) (rows_left new.boxes.items) seen own.result.boxes line (on_ok c.add.result _ c.add.ensures.boxes both.1) inv.2 own.ensures.boxes,
+          ),
+    )

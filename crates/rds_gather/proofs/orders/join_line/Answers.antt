@@ -1,0 +1,17 @@
+use Rattle.std.proofs.Common.{map, ap, ◌∙◌}
+use Rattle.rds_parts.specs.Lanes.{IsOf}
+use Rattle.rds_mail.specs.Passes.{Getter, account_of, with_joined}
+use Rattle.rds_model.specs.declared.order.Order.{Order}
+use Rattle.rds_joins.specs.Joins.{slot_of_order}
+use Rattle.rds_gather.proofs.Showing.{shown_by}
+use Rattle.rds_gather.proofs.orders.join_line.Goals as goal
+
+-- refused where the putters aren't joined
+pub returns : goal.returns
+returns g c =
+    let joined = c.join_orders.ensures in
+    record {
+      shown = shown_by slot_of_order IsOf c.args.own c.join_orders.new.get c.args.passes.items
+          (joined.joined ∙ ap (λ (x : Getter Order). with_joined x (map account_of c.args.passes.items)) c.into_parts-mail.ensures.get) c.requires.putters.none
+          (record { merged = joined.merged; begin = joined.begin; all = joined.emptied });
+    }

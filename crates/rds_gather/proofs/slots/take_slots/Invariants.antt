@@ -1,0 +1,10 @@
+use Rattle.std.proofs.Common.{◌≡◌, All, map}
+use Rattle.rds_socket.specs.Holding.{IsEnded}
+use Rattle.rds_gather.specs.Columns.{rows_left}
+use Rattle.rds_gather.proofs.slots.take_slots.Given as goal
+
+abbrev pub invariant-loop-slot : goal.invariant-loop-slot
+invariant-loop-slot l =
+    (map (λ b. b.get) l.inboxes.items ≡ map (λ h. h.inbox.get) l.yielded)
+    × (rows_left l.routes.items ≡ map (λ h. h.routes) l.yielded)
+    × All IsEnded l.yielded

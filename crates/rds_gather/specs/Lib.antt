@@ -1,0 +1,4 @@
+pub mod Sides
+pub mod Columns
+pub mod Shown
+pub mod Joined

@@ -1,0 +1,52 @@
+ghost use Rattle.std.specs.Prelude.{◌≡◌, IfOk, OnOk, map};
+ghost use Rattle.rds_report.specs.Views.{side_view};
+ghost use Rattle.rds_host.specs.Passes.{AreAllPasses};
+ghost use Rattle.rds_host.specs.Ties.{AreOfHost};
+ghost use Rattle.rds_gather.specs.Joined.{AreJoined};
+ghost use Rattle.rds_gather.specs.Sides.{side_of};
+
+use crate::lines::take_lines;
+use crate::orders::join_all_orders;
+use crate::receipts::join_all_receipts;
+use crate::slots::take_slots;
+use rds_fmap::{Reader, Writer};
+use rds_line::Line;
+use rds_link::Wire;
+use rds_report::{HostEnd, Kept};
+use rds_socket::Closed;
+use rds_wire::Memory;
+use std::alloc::Global;
+use std::sync::Wait;
+
+/// Takes the slots and the lines of a host apart, gives every end back to the wire, joins all putters of each order queue and of
+/// each mailbox into its getter, and answers the journals beside what was kept.
+///
+/// # Errors
+///
+/// Where there is no memory for the lists of what is left. All ends are given back then too.
+pub fn gather<W: Wire, R: Wait>(
+    rt: &R,
+    alloc: Global,
+    wire: &mut W,
+    addr: u32,
+    kept: Vec<Kept>,
+    closed: Vec<Closed<Reader>>,
+    lines: Vec<Line<W::End, Writer>>,
+) -> Result<HostEnd, Memory>
+    requires host { AreOfHost closed.items lines.items }
+    requires passes { AreAllPasses closed.items lines.items }
+    ensures addr { IfOk result (λ end. end.addr ≡ addr) }
+    ensures journals { IfOk result (λ end. map side_view end.journals.items ≡ map side_of lines.items) }
+    ensures kept { IfOk result (λ end. end.kept ≡ kept) }
+    ensures joined { OnOk result (AreJoined closed.items lines.items) }
+{
+    let mut left = take_lines(rt, alloc, wire, lines)?;
+    let mut slots = take_slots(alloc, closed)?;
+    join_all_orders(rt, alloc, left.orders, &mut slots.routes)?;
+    join_all_receipts(rt, alloc, slots.inboxes, &mut left.boxes)?;
+    Ok(HostEnd {
+        addr,
+        journals: left.journals,
+        kept,
+    })
+}

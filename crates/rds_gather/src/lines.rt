@@ -1,0 +1,137 @@
+//! Lines that are taken apart.
+ghost use Rattle.std.specs.Prelude.{◌≡◌, ◌∷◌, ◌++◌, [], All, IfOk, OnOk, map};
+ghost use Rattle.rds_report.specs.Views.{side_view};
+ghost use Rattle.rds_line.specs.Keeps.{KeepsLine};
+ghost use Rattle.rds_line.specs.Line.{line_past};
+ghost use Rattle.rds_gather.specs.Columns.{rows_left};
+ghost use Rattle.rds_gather.specs.Sides.{side_of};
+
+use rds_fmap::Writer;
+use rds_line::{Line, LineParts};
+use rds_line_parts::{Boxes, LineOrders, SlotBox};
+use rds_link::Wire;
+use rds_model::Journal;
+use rds_wire::Memory;
+use std::alloc::Global;
+use std::sync::Wait;
+use std::vec::IntoIter;
+
+/// What is left of the lines of a host: the journals, each beside the peer's address, the queues of their orders, and of each
+/// line its putters at the mailboxes.
+#[derive(Drop)]
+pub(crate) struct LinesLeft {
+    pub(crate) journals: Vec<(u32, Journal)>,
+    pub(crate) orders: Vec<LineOrders>,
+    pub(crate) boxes: Vec<IntoIter<SlotBox>>,
+}
+
+// What is left of a line.
+#[derive(Drop)]
+struct LineLeft {
+    peer: u32,
+    journal: Journal,
+    orders: LineOrders,
+    boxes: Boxes,
+}
+
+impl LinesLeft {
+    // Adds what is left of one more line.
+    fn add(&mut self, line: LineLeft) -> Result<(), Memory>
+        ensures journals { OnOk result (self.new.journals.items ≡ self.old.journals.items ++ (line.peer, line.journal) ∷ []) }
+        ensures orders { OnOk result (self.new.orders.items ≡ self.old.orders.items ++ line.orders ∷ []) }
+        ensures boxes { OnOk result (rows_left self.new.boxes.items ≡ rows_left self.old.boxes.items ++ line.boxes ∷ []) }
+    {
+        let LineLeft {
+            peer,
+            journal,
+            orders,
+            boxes,
+        } = line;
+        self.journals.push((peer, journal))?;
+        self.orders.push(orders)?;
+        self.boxes.push(boxes.into_vec().into_iter())?;
+        Ok(())
+    }
+
+    // Makes room for so many lines.
+    fn reserve(&mut self, lines: usize) -> Result<(), Memory>
+        ensures journals { self.new.journals.items ≡ self.old.journals.items }
+        ensures orders { self.new.orders.items ≡ self.old.orders.items }
+        ensures boxes { self.new.boxes.items ≡ self.old.boxes.items }
+    {
+        self.journals.reserve(lines)?;
+        self.orders.reserve(lines)?;
+        self.boxes.reserve(lines)?;
+        Ok(())
+    }
+}
+
+/// Takes the lines of a host apart. It gives every end back to the wire, after a memory error too.
+pub(crate) fn take_lines<W: Wire, R: Wait>(
+    rt: &R,
+    alloc: Global,
+    wire: &mut W,
+    lines: Vec<Line<W::End, Writer>>,
+) -> Result<LinesLeft, Memory>
+    ensures journals { IfOk result (λ left. map side_view left.journals.items ≡ map side_of lines.items) }
+    ensures orders { IfOk result (λ left. left.orders.items ≡ map (λ line. line.orders) lines.items) }
+    ensures boxes { IfOk result (λ left. rows_left left.boxes.items ≡ map (λ line. line.boxes) lines.items) }
+    ensures kept { All (KeepsLine (λ w. w.published)) lines.items }
+{
+    let mut left = LinesLeft {
+        journals: Vec::new(alloc),
+        orders: Vec::new(alloc),
+        boxes: Vec::new(alloc),
+    };
+    let mut all = left.reserve(lines.len());
+    for line in lines {
+        let own = take_line(rt, wire, line);
+        all = all.and(left.add(own));
+    }
+    all?;
+    Ok(left)
+}
+
+// Takes a line apart and gives the ends of all its streams back to the wire.
+fn take_line<W: Wire, R: Wait>(rt: &R, wire: &mut W, line: Line<W::End, Writer>) -> LineLeft
+    ensures peer { result.peer ≡ line.channel.conn.peer }
+    ensures past { result.journal.past ≡ line_past line }
+    ensures orders { result.orders ≡ line.orders }
+    ensures boxes { result.boxes ≡ line.boxes }
+    ensures kept { KeepsLine (λ w. w.published) line }
+{
+    line.known();
+    let (journal, parts) = line.into_parts();
+    let LineParts {
+        me: _,
+        peer,
+        streams,
+        orders,
+        inboxes,
+        ports: _ports,
+        words: _words,
+        map: _map,
+    } = parts;
+    for (_, end) in streams {
+        wire.give_back(rt, end);
+    }
+    LineLeft {
+        peer,
+        journal,
+        orders,
+        boxes: inboxes,
+    }
+}
+
+/// Takes a line apart and gives the ends of all its streams back to the wire. The journal is left.
+pub fn end_line<W: Wire, R: Wait>(rt: &R, wire: &mut W, line: Line<W::End, Writer>) -> Journal
+    ensures { result.past ≡ line_past line }
+{
+    let LineLeft {
+        peer: _,
+        journal,
+        orders: _orders,
+        boxes: _boxes,
+    } = take_line(rt, wire, line);
+    journal
+}
