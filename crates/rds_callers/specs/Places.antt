@@ -1,5 +1,5 @@
 -- What became of each slot of a caller. This project's own.
-use Rattle.std.specs.Prelude.{◌≡◌, ◌≤◌, ℕ, List, [], length, map, Option, Some, None, slice_get}
+use Rattle.std.specs.Prelude.{◌≡◌, ◌≤◌, ℕ, List, [], ◌∷◌, length, map, Option, Some, None, slice_get}
 use Rattle.rds_bindtab.specs.Seats.{PortSeat, knowing, note_of}
 use Rattle.rds_model.specs.declared.order.Datagram.{Datagram}
 use Rattle.rds_mail.specs.Numbers.{bare_items}
