@@ -1,10 +1,12 @@
 -- What the calls of a caller do to a socket and what it handed out. This project's own.
-use Rattle.std.specs.Prelude.{◌≡◌, ◌≢◌, ◌⊎◌, ℕ, List, [], ◌∷◌, ◌++◌}
+use Rattle.std.specs.Prelude.{◌≡◌, ◌≢◌, ◌⊎◌, ℕ, List, [], ◌∷◌, ◌++◌, Result, Ok, Err}
 use Rattle.rds_model.specs.declared.order.Datagram.{Datagram}
 use Rattle.rds_model.specs.declared.order.Order.{Order}
 use Rattle.rds_model.specs.declared.order.Order.TheVariants as order
 use Rattle.rds_mail.specs.Learning.{AllGot}
 use Rattle.rds_fmap.specs.Readers.{ReaderView, IsLook}
+use Rattle.rds_parts.specs.declared.error.CancelError.{CancelError}
+use Rattle.rds_parts.specs.declared.error.CancelError.TheVariants as cancel
 use Rattle.rds_parts.specs.Lanes.{NoneTo, IsPutTo}
 use Rattle.rds_socket.specs.declared.error.SendError.{SendError}
 use Rattle.rds_socket.specs.declared.error.SendError.TheVariants.{Memory}
@@ -12,6 +14,12 @@ use Rattle.rds_socket.specs.Holding.{Holding, Open}
 use Rattle.rds_socket.specs.Calls.{with_own, with_routes, IsReceived, IsClosed}
 use Rattle.rds_socket.specs.Sends.{IsSent, RefusalFits}
 use Rattle.rds_callers.specs.Places.{Place, Bound, Ended, holding_of, with_holding}
+
+-- an order was put, or no route leads to the peer: it wasn't for want of memory
+abbrev pub IsAllowed : Result (Unit {0}) CancelError → Type 0
+IsAllowed (Ok done) = Unit {0}
+IsAllowed (Err (cancel.NoRoute peer)) = Unit {0}
+IsAllowed (Err cancel.Memory) = ⊥
 
 -- the order was put on the queue to the peer, or no route leads there and nothing changed
 abbrev pub Asks : ℕ → Order → Holding ReaderView → Holding ReaderView → Type 0

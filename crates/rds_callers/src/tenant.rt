@@ -1,6 +1,7 @@
 //! Sockets and what they handed out.
-ghost use Rattle.std.specs.Prelude.{◌≡◌, None, IsOk};
+ghost use Rattle.std.specs.Prelude.{◌≡◌, None, IsOk, OnOk};
 ghost use Rattle.rds_mail.specs.Numbers.{bare_items};
+ghost use Rattle.rds_callers.specs.Tenants.{IsAllowed};
 
 use crate::former::FormerTenant;
 use rds_bindtab::BindNote;
@@ -32,7 +33,7 @@ impl Drop for Tenant {
 }
 
 impl Tenant {
-    ghost use Rattle.std.specs.Prelude.{[], ◌∷◌, ◌++◌, ◌<◌, ℕ, length, true, false, IfOk, OnOk, OnErr};
+    ghost use Rattle.std.specs.Prelude.{[], ◌∷◌, ◌++◌, ◌<◌, ℕ, length, true, false, IfOk, OnErr};
     ghost use Rattle.rds_bindtab.specs.Seats.{knowing, note_of};
     ghost use Rattle.rds_fmap.specs.Readers.{ReaderView};
     ghost use Rattle.rds_mail.specs.Learning.{AllGot};
@@ -89,7 +90,7 @@ impl Tenant {
         ensures got { IfOk result (λ any. any ≡ true → (item : Item) × IsReceived item self.old.socket self.new.socket × (self.new.got.items ≡ self.old.got.items ++ item ∷ [])) }
         ensures same { IfOk result (λ any. any ≡ false → (self.new.socket ≡ self.old.socket) × (self.new.got.items ≡ self.old.got.items)) }
         ensures empty { IfOk result (λ any. any ≡ false → AllGot self.old.socket.own.inbox.get) }
-        ensures err { OnErr result (self.new ≡ self.old) }
+        ensures err { OnErr result ((self.new.socket ≡ self.old.socket) × (self.new.got.items ≡ self.old.got.items)) }
         ensures port { self.new.socket.port ≡ self.old.socket.port }
         ensures keeps { PlaceKeeps self.old.socket.own self.new.socket.own }
         ensures routes { self.new.socket.own.routes ≡ self.old.socket.own.routes }
@@ -211,6 +212,7 @@ impl Tenant {
 /// A refusal by want of memory ends the caller, and a missing route doesn't.
 pub(crate) fn told(asked: Result<(), CancelError>) -> Result<(), Memory>
     ensures ok { IsOk asked → IsOk result }
+    ensures allowed { OnOk result (IsAllowed asked) }
 {
     match asked {
         Err(CancelError::Memory) => Err(Memory),

@@ -1,0 +1,44 @@
+-- What a mailbox gave is kept, and what no call on a slot changes.
+use Rattle.std.proofs.Common.{◌≡◌, List, [], ◌∷◌, ◌++◌, refl, sym, ap, ◌∙◌}
+use Rattle.rds_model.specs.declared.order.Datagram.{Datagram}
+use Rattle.rds_mail.specs.Numbers.{Number, bare_items}
+use Rattle.rds_mail.specs.Passes.{Getter, after_get}
+use Rattle.rds_mail.proofs.Numbers.{items-append}
+use Rattle.rds_fmap.specs.Readers.{ReaderView, HasSeen}
+use Rattle.rds_parts.specs.ChangeLaws.{stay_same, stay_on}
+use Rattle.rds_socket.specs.Holding.{Holding}
+use Rattle.rds_callers.specs.Places.{PlaceKeeps}
+use Rattle.rds_callers.specs.Ends.{IsEndOf}
+
+-- one more was got and kept
+pub kept_more : (got new : List Datagram) (get after : Getter Datagram) (number : Number) (item : Datagram)
+    → got ≡ bare_items get.got → new ≡ got ++ item ∷ [] → after ≡ after_get get number item → new ≡ bare_items after.got
+kept_more got new get after number item kept more taken =
+    more ∙ (ap (λ l. l ++ item ∷ []) kept ∙ (sym (items-append get.got ((number, item) ∷ [])) ∙ ap (λ (g : Getter Datagram). bare_items g.got) (sym taken)))
+
+pub keeps_same : (h : Holding ReaderView) → PlaceKeeps h h
+keeps_same h = record {
+  stays = record { slot = refl; table = refl; meter = refl; bell = refl; mail = refl; routes = stay_same (λ (r : ReaderView). r.pair) HasSeen h.routes };
+  joined = refl;
+  told = refl;
+}
+
+pub keeps_then : (a b c : Holding ReaderView) → PlaceKeeps a b → PlaceKeeps b c → PlaceKeeps a c
+keeps_then a b c x y = record {
+  stays = record {
+    slot = y.stays.slot ∙ x.stays.slot;
+    table = y.stays.table ∙ x.stays.table;
+    meter = y.stays.meter ∙ x.stays.meter;
+    bell = y.stays.bell ∙ x.stays.bell;
+    mail = y.stays.mail ∙ x.stays.mail;
+    routes = stay_on (λ (r : ReaderView). r.pair) HasSeen a.routes b.routes c.routes x.stays.routes y.stays.routes;
+  };
+  joined = y.joined ∙ x.joined;
+  told = y.told ∙ x.told;
+}
+
+pub ends_same : (h : Holding ReaderView) → IsEndOf h h
+ends_same h = record { keeps = keeps_same h; routes = refl }
+
+pub ends_then : (a b c : Holding ReaderView) → IsEndOf a b → IsEndOf b c → IsEndOf a c
+ends_then a b c x y = record { keeps = keeps_then a b c x.keeps y.keeps; routes = y.routes ∙ x.routes }

@@ -1,0 +1,5 @@
+pub mod Asking
+pub mod Keeping
+pub mod Putting
+pub mod Seen
+pub mod Searches
