@@ -1,5 +1,5 @@
 -- What a mailbox gave is kept, and what no call on a slot changes.
-use Rattle.std.proofs.Common.{◌≡◌, List, [], ◌∷◌, ◌++◌, refl, sym, ap, ◌∙◌}
+use Rattle.std.proofs.Common.{◌≡◌, List, [], ◌∷◌, ◌++◌, refl, sym, ap, ◌∙◌, append_assoc}
 use Rattle.rds_model.specs.declared.order.Datagram.{Datagram}
 use Rattle.rds_mail.specs.Numbers.{Number, bare_items}
 use Rattle.rds_mail.specs.Passes.{Getter, after_get}
@@ -7,6 +7,8 @@ use Rattle.rds_mail.proofs.Numbers.{items-append}
 use Rattle.rds_fmap.specs.Readers.{ReaderView, HasSeen}
 use Rattle.rds_parts.specs.ChangeLaws.{stay_same, stay_on}
 use Rattle.rds_socket.specs.Holding.{Holding}
+use Rattle.rds_socket.specs.Calls.{with_inbox, after_taking_out}
+use Rattle.rds_socket.specs.Stays.{HoldingStays}
 use Rattle.rds_callers.specs.Places.{PlaceKeeps}
 use Rattle.rds_callers.specs.Ends.{IsEndOf}
 
@@ -42,3 +44,17 @@ ends_same h = record { keeps = keeps_same h; routes = refl }
 
 pub ends_then : (a b c : Holding ReaderView) → IsEndOf a b → IsEndOf b c → IsEndOf a c
 ends_then a b c x y = record { keeps = keeps_then a b c x.keeps y.keeps; routes = y.routes ∙ x.routes }
+
+-- one more was taken out and listed
+pub taken_more : (base list new : List Datagram) (get after : Getter Datagram) (number : Number) (item : Datagram)
+    → bare_items get.got ≡ base ++ list → new ≡ list ++ item ∷ [] → after ≡ after_get get number item → bare_items after.got ≡ base ++ new
+taken_more base list new get after number item kept more taken =
+    ap (λ (g : Getter Datagram). bare_items g.got) taken ∙ (items-append get.got ((number, item) ∷ []) ∙ (ap (λ l. l ++ item ∷ []) kept ∙ (append_assoc base list (item ∷ []) ∙ ap (λ l. base ++ l) (sym more))))
+
+-- a slot from whose mailbox an item was taken
+pub taken_end : (old new : Holding ReaderView) (number : Number) (item : Datagram) → HoldingStays (λ (r : ReaderView). r.pair) HasSeen old new
+    → new ≡ with_inbox old (after_taking_out old.inbox number item) → IsEndOf old new
+taken_end old new number item stays is = record {
+  keeps = record { stays = stays; joined = ap (λ (h : Holding ReaderView). h.inbox.get.joined) is; told = ap (λ (h : Holding ReaderView). h.inbox.get.told) is };
+  routes = ap (λ (h : Holding ReaderView). h.routes) is;
+}

@@ -3,3 +3,4 @@ pub mod Keeping
 pub mod Putting
 pub mod Seen
 pub mod Searches
+pub mod Doings

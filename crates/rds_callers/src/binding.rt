@@ -1,6 +1,7 @@
 //! How a caller binds sockets.
-ghost use Rattle.std.specs.Prelude.{◌≡◌, ◌≤◌, [], true, false, Ok, Some, IfSome, OnOk, OnErr};
+ghost use Rattle.std.specs.Prelude.{◌≡◌, ◌<◌, ◌≤◌, [], true, false, Ok, Some, IfSome, OnOk, OnErr};
 ghost use Rattle.rds_fmap.specs.Readers.{ReaderView};
+ghost use Rattle.rds_parts.specs.Ports.{first_port, port_after};
 ghost use Rattle.rds_socket.specs.Holding.{Open};
 ghost use Rattle.rds_socket.specs.Binds.{BindFits, BindAnyFits};
 ghost use Rattle.rds_callers.specs.Places.{Place, PlaceKeeps, PlacesKeep, HasKept, holding_of, bound_place, ended_place, IsUnbound};
@@ -80,15 +81,30 @@ impl Caller {
     fn first_free(&self, start: u16) -> Option<u16>
         ensures { IfSome result (IsFirstFree self.now.places start) }
     {
-        let first = u32::from(start.max(2));
+        let first = first_port(start);
         for n in 0..65534 {
-            let port = (2 + (first - 2 + n) % 65534) as u16;
+            let port = port_after(first, n);
             if self.is_free(port) {
                 return Some(port);
             }
         }
         None
     }
+}
+
+// A search from a reserved port begins at port 2.
+fn first_port(start: u16) -> u16
+    ensures { result ≡ first_port start }
+{
+    if start < 2 { 2 } else { start }
+}
+
+// The n-th port from the first on, where 2 follows 65,535.
+fn port_after(first: u16, n: u32) -> u16
+    requires { n < 65534 }
+    ensures { result ≡ port_after first n }
+{
+    (2 + (u32::from(first).saturating_sub(2) + n) % 65534) as u16
 }
 
 // A vacant slot is bound to the port. Where that fails it stays vacant.

@@ -1,5 +1,6 @@
 //! What is left of a caller.
-ghost use Rattle.std.specs.Prelude.{IfOk};
+ghost use Rattle.std.specs.Prelude.{◌≡◌, ◌++◌, IfOk, OnOk};
+ghost use Rattle.std.specs.Option.{option_to_list};
 ghost use Rattle.rds_callers.specs.Ends.{AreEndsOf, AreLeft};
 ghost use Rattle.rds_callers.specs.States.{IsSound, seen};
 
@@ -10,6 +11,7 @@ use rds_report::Kept;
 use rds_socket::Closed;
 use rds_wire::Memory;
 use std::alloc::Global;
+use std::mem;
 use std::sync::Wait;
 
 // What sockets have, and the ends of slots.
@@ -35,19 +37,28 @@ impl Caller {
 }
 
 // What the sockets of these slots have, and every slot's end.
-fn end_all<R: Wait>(rt: &R, alloc: Global, states: Vec<State>) -> Result<Left, Memory>
+fn end_all<R: Wait>(rt: &R, alloc: Global, mut states: Vec<State>) -> Result<Left, Memory>
     requires { IsSound states.items }
     ensures slots { IfOk result (λ r. AreEndsOf (seen states.items) r.1.items) }
     ensures kept { IfOk result (λ r. AreLeft (seen states.items) r.1.items r.0.items) }
 {
     let mut all_kept = Vec::new(alloc);
     let mut all_closed = Vec::with_capacity(alloc, states.len())?;
-    for state in states {
+    for slot in 0..states.len() {
+        let state = mem::replace(&mut states[slot], State::Away);
         let (kept, closed) = state.end(rt, alloc)?;
         all_closed.push(closed)?;
-        if let Some(kept) = kept {
-            all_kept.push(kept)?;
-        }
+        keep(&mut all_kept, kept)?;
     }
     Ok((all_kept, all_closed))
+}
+
+// Keeps what a socket has, if there was one.
+fn keep(all: &mut Vec<Kept>, kept: Option<Kept>) -> Result<(), Memory>
+    ensures { OnOk result (all.new.items ≡ all.old.items ++ option_to_list kept) }
+{
+    if let Some(kept) = kept {
+        all.push(kept)?;
+    }
+    Ok(())
 }
