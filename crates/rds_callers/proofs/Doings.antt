@@ -1,20 +1,28 @@
 -- What the calls on one slot do to all of them.
-use Rattle.std.proofs.Common.{◌≡◌, ◌≢◌, ◌==◌, ℕ, ◌<◌, ◌≤◌, Bool, true, false, List, [], set, Result, Ok, Err, Option, Some, slice_get, OnOk, OnErr, IsErr, inl, inr, refl, sym, ap, subst, ◌∙◌, ⊎_elim, arith}
+use Rattle.std.proofs.Common.{◌≡◌, ◌≢◌, ◌==◌, ℕ, ◌<◌, ◌+◌, ◌≤◌, Bool, true, false, not, List, [], ◌∷◌, ◌++◌, length, set, Result, Ok, Err, Option, Some, None, IfSome, IfNone, slice_get, OnOk, OnErr, IsErr, inl, inr, refl, sym, ap, subst, ◌∙◌, ⊎_elim, arith}
 use Rattle.std.proofs.lemmas.Bool.{cases_lt, eq-eqb}
 use Rattle.std.proofs.Common.{eqb-true}
 use Rattle.std.proofs.lemmas.Option.{same_Some}
 use Rattle.rds_wire.specs.declared.memory.Memory.{Memory}
 use Rattle.rds_model.specs.declared.order.Datagram.{Datagram}
+use Rattle.rds_model.specs.declared.order.Order.{Order}
+use Rattle.rds_model.specs.declared.order.Order.TheVariants as order
+use Rattle.rds_mail.specs.Learning.{AllGot}
+use Rattle.rds_mail.specs.Numbers.{bare_items}
 use Rattle.rds_fmap.specs.Readers.{ReaderView}
+use Rattle.rds_socket.specs.Calls.{with_own, IsReceived}
 use Rattle.rds_socket.specs.Holding.{Holding, Open}
-use Rattle.rds_callers.specs.Places.{Place, Vacant, Bound, Ended, Spare, HasKept, IsUsed, IsUnbound, IsVacantPlace, PlaceKeeps, holding_of}
-use Rattle.rds_callers.specs.Doing.{IsFree, IsHeld, IsNext, NoneVacant, AtPort, BindsNext}
+use Rattle.rds_callers.specs.Places.{Place, Vacant, Bound, Ended, Spare, ArePlaces, HasKept, IsUsed, IsUnbound, IsVacantPlace, PlaceKeeps, holding_of, with_holding}
+use Rattle.rds_callers.specs.Tenants.{Asks, Cuts, ReceivesNext}
+use Rattle.rds_callers.specs.Doing.{IsFree, IsHeld, IsNext, NoneVacant, AtPort, BindsNext, CutsByLast}
 use Rattle.rds_callers.specs.States.{shown, seen, IsWhole, IsSound, AreNot, is_held_by, is_vacant}
 use Rattle.rds_callers.specs.declared.state.State.{State}
 use Rattle.rds_callers.specs.declared.state.State.TheVariants as state
 use Rattle.rds_callers.specs.declared.tenant.Tenant.{Tenant}
 use Rattle.rds_callers.specs.declared.former.FormerTenant.{FormerTenant}
-use Rattle.rds_callers.proofs.Seen.{IsPut, put_state, read_seen, find_seen}
+use Rattle.rds_callers.proofs.Seen.{IsChanged, IsPut, change_state, put_state, read_seen, find_seen}
+use Rattle.rds_callers.proofs.Putting.{MayStand}
+use Rattle.std.specs.Option.{is_some}
 
 true_false : true ≡ false → ⊥
 true_false e = absurd (cc)
@@ -113,6 +121,108 @@ next_put old new slot h y p sound at next shows keeps free made =
       order = λ other k there ne le. let l = next.1 other k there in absurd (ne (omega arith));
     })
 
+-- a slot holds something else from whose mailbox nothing else was taken
+alike_stands : (places : List Place) (slot : ℕ) (p : Place) (h : Holding ReaderView) (was : slice_get places slot ≡ Some p) → ArePlaces places
+    → h.words.slot ≡ (holding_of p).words.slot → h.inbox.get.got ≡ (holding_of p).inbox.get.got → MayStand places slot p (with_holding p h) was
+alike_stands places slot (Vacant k) h was a number got = record {
+  number = number;
+  kept = got ∙ a.kept slot (Vacant k) was;
+  port = λ o q g more other e there same. absurd (unbound_not (Vacant h) o g tt e);
+  from = λ v. (k, refl);
+  order = λ other v there ne le. (h, refl);
+}
+alike_stands places slot (Bound u list) h was a number got =
+    let kept = a.kept slot (Bound u list) was in record {
+      number = number;
+      kept = (kept.0 ∙ ap bare_items (sym got), kept.1);
+      port = λ o q g more other e there same.
+          a.ports other slot q u more list there was (sym same ∙ sym (ap (λ (x : Place). (socket_or o x).port) e));
+      from = λ v. absurd (used_not (Bound (with_own u h) list) tt v);
+      order = λ other v there ne le. absurd (used_not (Bound u list) tt (a.order other slot v (Bound u list) there was le));
+    }
+alike_stands places slot (Ended port k list) h was a number got = record {
+  number = number;
+  kept = a.kept slot (Ended port k list) was ∙ ap bare_items (sym got);
+  port = λ o q g more other e there same. absurd (unbound_not (Ended port h list) o g tt e);
+  from = λ v. absurd (used_not (Ended port h list) tt v);
+  order = λ other v there ne le. absurd (used_not (Ended port k list) tt (a.order other slot v (Ended port k list) there was le));
+}
+alike_stands places slot (Spare k) h was a number got = record {
+  number = number;
+  kept = got ∙ a.kept slot (Spare k) was;
+  port = λ o q g more other e there same. absurd (unbound_not (Spare h) o g tt e);
+  from = λ v. absurd (used_not (Spare h) tt v);
+  order = λ other v there ne le. absurd (used_not (Spare k) tt (a.order other slot v (Spare k) there was le));
+}
+
+pub holds : (p : Place) (h : Holding ReaderView) → holding_of (with_holding p h) ≡ h
+holds (Vacant k) h = refl
+holds (Bound o got) h = refl
+holds (Ended port k got) h = refl
+holds (Spare k) h = refl
+
+-- the slot holds something else now
+pub alike_change : (old new : List State) (slot : ℕ) (x y : State) (p : Place) (h : Holding ReaderView) → IsSound old → slice_get old slot ≡ Some x → shown x ≡ Some p
+    → shown y ≡ Some (with_holding p h) → h.words.slot ≡ (holding_of p).words.slot → h.inbox.get.got ≡ (holding_of p).inbox.get.got → new ≡ set old slot y
+    → IsChanged old new slot p (with_holding p h)
+alike_change old new slot x y p h sound at shows shows_new number got made =
+    change_state old new slot x y p (with_holding p h) sound at shows shows_new made (λ was. alike_stands (seen old) slot p h was sound.places number got)
+
+-- a slot by which a cut was asked for, or which is the same
+asks_got : (peer : ℕ) (item : Order) (old new : Holding ReaderView) → Asks peer item old new → new.inbox.get.got ≡ old.inbox.get.got
+asks_got peer item old new (inl put) = ap (λ (h : Holding ReaderView). h.inbox.get.got) put.1
+asks_got peer item old new (inr none) = ap (λ (h : Holding ReaderView). h.inbox.get.got) none.1
+
+with_same : (p : Place) → p ≡ with_holding p (holding_of p)
+with_same (Vacant k) = refl
+with_same (Bound o got) = refl
+with_same (Ended port k got) = refl
+with_same (Spare k) = refl
+
+-- what a slot shows after a cut was asked for by it: it holds something else, from whose mailbox nothing was taken
+pub cut_outcome : (r : Result (Unit {0}) Memory) (peer : ℕ) (x y : State) (p : Place) → shown x ≡ Some p → OnErr r (y ≡ x)
+    → OnOk r ((p : Place) → shown x ≡ Some p → (q : Place) × Cuts peer p q × (shown y ≡ Some q))
+    → (h : Holding ReaderView) × (shown y ≡ Some (with_holding p h)) × (h.inbox.get.got ≡ (holding_of p).inbox.get.got) × OnOk r (Cuts peer p (with_holding p h))
+cut_outcome (Ok r) peer x y p shows same done =
+    let d = done p shows in
+    let h = d.1.0 in
+    (h, d.2 ∙ ap Some d.1.2, asks_got peer order.Cut (holding_of p) h d.1.1, (h, d.1.1, refl))
+cut_outcome (Err r) peer x y p shows same done = (holding_of p, ap shown same ∙ (shows ∙ ap Some (with_same p)), refl, tt)
+
+pub cut_put : (old new : List State) (slot : ℕ) (x y : State) (p : Place) (h : Holding ReaderView) → IsSound old → slice_get old slot ≡ Some x → shown x ≡ Some p
+    → shown y ≡ Some (with_holding p h) → h.inbox.get.got ≡ (holding_of p).inbox.get.got → ((p q : Place) → shown x ≡ Some p → shown y ≡ Some q → PlaceKeeps (holding_of p) (holding_of q))
+    → new ≡ set old slot y → IsPut old new slot p (with_holding p h)
+cut_put old new slot x y p h sound at shows shows_new got keeps made =
+    let k = keeps p (with_holding p h) shows shows_new in
+    put_state old new slot x y p (with_holding p h) sound at shows shows_new made k
+    (λ was. alike_stands (seen old) slot p h was sound.places (sym (ap (λ (z : Holding ReaderView). z.words.slot) (holds p h)) ∙ k.stays.slot) got)
+
+pub cuts_by_last : (r : Result (Unit {0}) Memory) (peer : ℕ) (old new : List State) (places : List Place) (slot : ℕ) (p q : Place) → seen old ≡ places → IsPut old new slot p q
+    → slot + 1 ≡ length (seen old) → OnOk r (Cuts peer p q) → OnOk r (CutsByLast peer places (seen new))
+cuts_by_last (Ok r) peer old new places slot p q view put last cuts =
+    subst (λ (l : List Place). CutsByLast peer l (seen new)) view (inl (slot, p, q, last, put.changed.was, cuts, put.changed.is))
+cuts_by_last (Err r) peer old new places slot p q view put last cuts = tt
+
+-- no socket holds the port, and nothing changed
+pub at_none : (port : ℕ) (Rel : Open ReaderView → List Datagram → Place → Type 0) (old new : List State) (places : List Place) → seen old ≡ places → IsWhole old
+    → AreNot (is_held_by port) old → new ≡ old → AtPort port Rel places (seen new)
+at_none port Rel old new places view whole none same = inr (subst (λ (l : List Place). IsFree l port) view (free_seen old whole port none), ap seen same ∙ view)
+
+pub receives : (any : Bool) (t u : Tenant) → (any ≡ true → (item : Datagram) × IsReceived item t.socket u.socket × (u.got.items ≡ t.got.items ++ item ∷ []))
+    → (any ≡ false → (u.socket ≡ t.socket) × (u.got.items ≡ t.got.items)) → (any ≡ false → AllGot t.socket.own.inbox.get)
+    → ReceivesNext t.socket t.got.items (Bound u.socket u.got.items)
+receives true t u got same empty = let g = got refl in inl (g.0, u.socket, g.1, ap (λ l. Bound u.socket l) g.2)
+receives false t u got same empty = let s = same refl in inr (empty refl, λ i. Bound (s.0 i) (s.1 i))
+
+-- whether a search found none
+pub when_none : {P : Type 0} (r : Option ℕ) (b : Bool) → is_some r ≡ not b → IfNone r P → b ≡ true → P
+when_none None b e p is = p
+when_none (Some x) b e p is = absurd (cc)
+
+pub when_some : {P : ℕ → Type 0} (r : Option ℕ) (b : Bool) → is_some r ≡ not b → IfSome r P → b ≡ false → (x : ℕ) × P x
+when_some None b e p is = absurd (cc)
+when_some (Some x) b e p is = (x, p)
+
 -- what a bind came to: a new socket at this port, or none
 pub bind_outcome : (r : Result (Unit {0}) Memory) (y : State) (port : ℕ) (Fits : Open ReaderView → Type 0) → ((o : Open ReaderView) → Fits o → o.port ≡ port)
     → OnOk r ((o : Open ReaderView) × Fits o × (shown y ≡ Some (Bound o []))) → OnErr r ((p : Place) × (shown y ≡ Some p) × IsUnbound p)
@@ -125,12 +235,12 @@ pub binds_next : (r : Result (Unit {0}) Memory) (Fits : Holding ReaderView → O
     → OnOk r (BindsNext Fits places (seen new))
 binds_next (Ok r) Fits old new places slot h y p view put next shows bound =
     subst (λ (l : List Place). BindsNext Fits l (seen new)) view
-    (slot, h, bound.0, next, bound.1, put.is ∙ ap (λ q. set (seen old) slot q) (same_Some p (Bound bound.0 []) (sym shows ∙ bound.2)))
+    (slot, h, bound.0, next, bound.1, put.changed.is ∙ ap (λ q. set (seen old) slot q) (same_Some p (Bound bound.0 []) (sym shows ∙ bound.2)))
 binds_next (Err r) Fits old new places slot h y p view put next shows bound = tt
 
 -- what a call on the socket of a port came to
 pub at_port : (r : Result (Unit {0}) Memory) (port : ℕ) (Rel : Open ReaderView → List Datagram → Place → Type 0) (old new : List State) (places : List Place) (slot : ℕ) (t : Tenant) (q : Place)
     → seen old ≡ places → IsPut old new slot (Bound t.socket t.got.items) q → t.socket.port ≡ port → OnOk r (Rel t.socket t.got.items q) → OnOk r (AtPort port Rel places (seen new))
 at_port (Ok r) port Rel old new places slot t q view put port_is rel =
-    subst (λ (l : List Place). AtPort port Rel l (seen new)) view (inl (slot, t.socket, t.got.items, put.was, port_is, (q, rel, put.is)))
+    subst (λ (l : List Place). AtPort port Rel l (seen new)) view (inl (slot, t.socket, t.got.items, put.changed.was, port_is, (q, rel, put.changed.is)))
 at_port (Err r) port Rel old new places slot t q view put port_is rel = tt

@@ -48,20 +48,26 @@ module _ (states : List State) (whole : IsWhole states) where
     pub put_whole : IsWhole (set states slot y)
     put_whole = put_shown ∙ ap (map Some) (sym put_seen)
 
+  -- what a slot shows
+  pub here_seen : (slot : ℕ) (x : State) → slice_get states slot ≡ Some x → (p : Place) × (shown x ≡ Some p) × (slice_get (seen states) slot ≡ Some p)
+  here_seen slot x at =
+      let e : option_map Some (slice_get (seen states) slot) ≡ Some (shown x) =
+          sym (slice_get-map Some (seen states) slot) ∙ (ap (λ l. slice_get l slot) (sym whole) ∙ (slice_get-map shown states slot ∙ ap (option_map shown) at)) in
+      let m = mapped Some (slice_get (seen states) slot) (shown x) e in
+      (m.0, sym m.2, m.1)
+
 -- a slot was changed, and what is seen of it
-pub record IsPut (old new : List State) (slot : ℕ) (p q : Place) : Type 0 where
+pub record IsChanged (old new : List State) (slot : ℕ) (p q : Place) : Type 0 where
   pub sound : IsSound new
   pub was : slice_get (seen old) slot ≡ Some p
   pub is : seen new ≡ set (seen old) slot q
-  pub keeps : PlacesKeep (seen old) (seen new)
 
-pub put_state : (old new : List State) (slot : ℕ) (x y : State) (p q : Place) → IsSound old → slice_get old slot ≡ Some x → shown x ≡ Some p → shown y ≡ Some q
-    → new ≡ set old slot y → PlaceKeeps (holding_of p) (holding_of q) → ((was : slice_get (seen old) slot ≡ Some p) → MayStand (seen old) slot p q was)
-    → IsPut old new slot p q
-put_state old new slot x y p q s at shows shows_new made keeps may =
+pub change_state : (old new : List State) (slot : ℕ) (x y : State) (p q : Place) → IsSound old → slice_get old slot ≡ Some x → shown x ≡ Some p → shown y ≡ Some q
+    → new ≡ set old slot y → ((was : slice_get (seen old) slot ≡ Some p) → MayStand (seen old) slot p q was) → IsChanged old new slot p q
+change_state old new slot x y p q s at shows shows_new made may =
     let was : slice_get (seen old) slot ≡ Some p = read_seen old s.whole slot x at ∙ shows in
     let is : seen (set old slot y) ≡ set (seen old) slot q = put_seen old s.whole slot y q shows_new in
-    subst (λ (l : List State). IsPut old l slot p q) (sym made) (record {
+    subst (λ (l : List State). IsChanged old l slot p q) (sym made) (record {
       sound = record {
         whole = put_whole old s.whole slot y q shows_new;
         count = let c = s.count in let e = length-set old slot y in omega arith;
@@ -69,5 +75,16 @@ put_state old new slot x y p q s at shows shows_new made keeps may =
       };
       was = was;
       is = is;
-      keeps = subst (λ (l : List Place). PlacesKeep (seen old) l) (sym is) (put_keeps (seen old) slot p q was keeps);
     })
+
+-- the slot is the same
+pub record IsPut (old new : List State) (slot : ℕ) (p q : Place) : Type 0 where
+  pub changed : IsChanged old new slot p q
+  pub keeps : PlacesKeep (seen old) (seen new)
+
+pub put_state : (old new : List State) (slot : ℕ) (x y : State) (p q : Place) → IsSound old → slice_get old slot ≡ Some x → shown x ≡ Some p → shown y ≡ Some q
+    → new ≡ set old slot y → PlaceKeeps (holding_of p) (holding_of q) → ((was : slice_get (seen old) slot ≡ Some p) → MayStand (seen old) slot p q was)
+    → IsPut old new slot p q
+put_state old new slot x y p q s at shows shows_new made keeps may =
+    let c = change_state old new slot x y p q s at shows shows_new made may in
+    record { changed = c; keeps = subst (λ (l : List Place). PlacesKeep (seen old) l) (sym c.is) (put_keeps (seen old) slot p q c.was keeps) }

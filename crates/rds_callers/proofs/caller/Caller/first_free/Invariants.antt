@@ -4,4 +4,4 @@ use Rattle.rds_callers.specs.Doing.{IsHeld}
 use Rattle.rds_callers.proofs.caller.Caller.first_free.Given as goal
 
 abbrev pub invariant-loop-n : goal.invariant-loop-n
-invariant-loop-n l = ((m : ℕ) → m < l.n → IsHeld l.fn.self.places (port_after (first_port l.fn.start) m)) × (l.n-end ≡ 65534)
+invariant-loop-n l = (m : ℕ) → m < l.n → IsHeld l.fn.self.places (port_after (first_port l.fn.start) m)

@@ -6,7 +6,7 @@ pub invariant_of-self-2 : goal.invariant_of-self-2
 invariant_of-self-2 g c =
     let old = c.args.self.now in
     let item = c.in-Some.datagram in
-    let got = c.in-Some.ensures.received {u = tt} in
+    let got = c.in-Some.ensures.received in
     record {
       sends = c.recv.ensures.stays.told ∙ old.sends;
       kept = kept_more old.got.items c.push_reserved.new.self.items old.socket.own.inbox.get c.recv.new.self.own.inbox.get got.0 item old.kept
