@@ -1,19 +1,60 @@
--- What a mailbox gave is kept, datagram by datagram.
-use Rattle.std.proofs.Common.{◌≡◌, List, [], ◌∷◌, ◌++◌, sym, ap, ◌∙◌, append_assoc}
-use Rattle.std.proofs.lemmas.List.{append-nil}
+-- What a mailbox gave is kept, and what no call on a slot changes.
+use Rattle.std.proofs.Common.{◌≡◌, List, [], ◌∷◌, ◌++◌, refl, sym, ap, ◌∙◌, append_assoc}
 use Rattle.rds_model.specs.declared.order.Datagram.{Datagram}
 use Rattle.rds_mail.specs.Numbers.{Number, bare_items}
 use Rattle.rds_mail.specs.Passes.{Getter, after_get}
 use Rattle.rds_mail.proofs.Numbers.{items-append}
-use Rattle.rds_callers.specs.Tenants.{KeepsAll}
+use Rattle.rds_fmap.specs.Readers.{ReaderView, HasSeen}
+use Rattle.rds_parts.specs.ChangeLaws.{stay_same, stay_on}
+use Rattle.rds_socket.specs.Holding.{Holding}
+use Rattle.rds_socket.specs.Calls.{with_inbox, after_taking_out}
+use Rattle.rds_socket.specs.Stays.{HoldingStays}
+use Rattle.rds_callers.specs.Places.{PlaceKeeps}
+use Rattle.rds_callers.specs.Ends.{IsEndOf}
 
-pub keeps_none : (list : List Datagram) (get : Getter Datagram) → KeepsAll list get list get
-keeps_none list get = ([], sym (append-nil list), sym (append-nil (bare_items get.got)))
+-- one more was got and kept
+pub kept_more : (got new : List Datagram) (get after : Getter Datagram) (number : Number) (item : Datagram)
+    → got ≡ bare_items get.got → new ≡ got ++ item ∷ [] → after ≡ after_get get number item → new ≡ bare_items after.got
+kept_more got new get after number item kept more taken =
+    more ∙ (ap (λ l. l ++ item ∷ []) kept ∙ (sym (items-append get.got ((number, item) ∷ [])) ∙ ap (λ (g : Getter Datagram). bare_items g.got) (sym taken)))
 
-pub keeps_one_more : (list mid new : List Datagram) (get g n : Getter Datagram) (number : Number) (item : Datagram)
-    → KeepsAll list get mid g → new ≡ mid ++ item ∷ [] → n ≡ after_get g number item → KeepsAll list get new n
-keeps_one_more list mid new get g n number item h kept taken = (
-  h.0 ++ item ∷ [],
-  kept ∙ ap (λ l. l ++ item ∷ []) h.1 ∙ append_assoc list h.0 (item ∷ []),
-  ap (λ x. bare_items x.got) taken ∙ items-append g.got ((number, item) ∷ []) ∙ ap (λ l. l ++ item ∷ []) h.2 ∙ append_assoc (bare_items get.got) h.0 (item ∷ []),
-)
+pub keeps_same : (h : Holding ReaderView) → PlaceKeeps h h
+keeps_same h = record {
+  stays = record { slot = refl; table = refl; meter = refl; bell = refl; mail = refl; routes = stay_same (λ (r : ReaderView). r.pair) HasSeen h.routes };
+  joined = refl;
+  told = refl;
+}
+
+pub keeps_then : (a b c : Holding ReaderView) → PlaceKeeps a b → PlaceKeeps b c → PlaceKeeps a c
+keeps_then a b c x y = record {
+  stays = record {
+    slot = y.stays.slot ∙ x.stays.slot;
+    table = y.stays.table ∙ x.stays.table;
+    meter = y.stays.meter ∙ x.stays.meter;
+    bell = y.stays.bell ∙ x.stays.bell;
+    mail = y.stays.mail ∙ x.stays.mail;
+    routes = stay_on (λ (r : ReaderView). r.pair) HasSeen a.routes b.routes c.routes x.stays.routes y.stays.routes;
+  };
+  joined = y.joined ∙ x.joined;
+  told = y.told ∙ x.told;
+}
+
+pub ends_same : (h : Holding ReaderView) → IsEndOf h h
+ends_same h = record { keeps = keeps_same h; routes = refl }
+
+pub ends_then : (a b c : Holding ReaderView) → IsEndOf a b → IsEndOf b c → IsEndOf a c
+ends_then a b c x y = record { keeps = keeps_then a b c x.keeps y.keeps; routes = y.routes ∙ x.routes }
+
+-- one more was taken out and listed
+pub taken_more : (base list new : List Datagram) (get after : Getter Datagram) (number : Number) (item : Datagram)
+    → bare_items get.got ≡ base ++ list → new ≡ list ++ item ∷ [] → after ≡ after_get get number item → bare_items after.got ≡ base ++ new
+taken_more base list new get after number item kept more taken =
+    ap (λ (g : Getter Datagram). bare_items g.got) taken ∙ (items-append get.got ((number, item) ∷ []) ∙ (ap (λ l. l ++ item ∷ []) kept ∙ (append_assoc base list (item ∷ []) ∙ ap (λ l. base ++ l) (sym more))))
+
+-- a slot from whose mailbox an item was taken
+pub taken_end : (old new : Holding ReaderView) (number : Number) (item : Datagram) → HoldingStays (λ (r : ReaderView). r.pair) HasSeen old new
+    → new ≡ with_inbox old (after_taking_out old.inbox number item) → IsEndOf old new
+taken_end old new number item stays is = record {
+  keeps = record { stays = stays; joined = ap (λ (h : Holding ReaderView). h.inbox.get.joined) is; told = ap (λ (h : Holding ReaderView). h.inbox.get.told) is };
+  routes = ap (λ (h : Holding ReaderView). h.routes) is;
+}

@@ -1,2 +1,6 @@
+pub mod Asking
 pub mod Keeping
-pub mod NextSlot
+pub mod Putting
+pub mod Seen
+pub mod Searches
+pub mod Doings

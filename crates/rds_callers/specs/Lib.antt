@@ -1,3 +1,6 @@
 pub mod Commands
+pub mod Places
 pub mod Tenants
-pub mod Callers
+pub mod States
+pub mod Doing
+pub mod Ends

@@ -1,13 +1,20 @@
 //! How a caller binds sockets.
-ghost use Rattle.std.specs.Prelude.{◌≡◌, ◌<◌, ◌≤◌, ◌+◌, ℕ, [], None, Some, true, IfSome, OnOk, vec_len};
-ghost use Rattle.std.specs.BTreeMap.{btree_map_len};
-ghost use Rattle.rds_callers.specs.Callers.{IsSame, OthersStay, AllStay, BindsNext, tenant_at, slot_count};
-ghost use Rattle.rds_callers.specs.declared.tenant.Tenant.{Tenant as TenantView};
+ghost use Rattle.std.specs.Prelude.{◌≡◌, ◌<◌, ◌≤◌, [], true, false, Ok, Some, IfSome, OnOk, OnErr};
+ghost use Rattle.rds_fmap.specs.Readers.{ReaderView};
+ghost use Rattle.rds_parts.specs.Ports.{first_port, port_after};
+ghost use Rattle.rds_socket.specs.Holding.{Open};
+ghost use Rattle.rds_socket.specs.Binds.{BindFits, BindAnyFits};
+ghost use Rattle.rds_callers.specs.Places.{Place, PlaceKeeps, PlacesKeep, HasKept, holding_of, bound_place, ended_place, IsUnbound};
+ghost use Rattle.rds_callers.specs.Doing.{Binds, BindsFirstFree, IsFree, IsHeld, IsFirstFree};
+ghost use Rattle.rds_callers.specs.States.{shown};
 
 use crate::caller::Caller;
+use crate::finding::{find_bound, lift_vacant};
+use crate::former::FormerTenant;
+use crate::state::State;
 use crate::tenant::Tenant;
 use rds_fmap::Reader;
-use rds_socket::Socket;
+use rds_socket::{Socket, Vacant};
 use rds_wire::Memory;
 use std::alloc::Global;
 
@@ -22,24 +29,19 @@ impl Caller {
     ) -> Result<(), Memory>
         requires sndbuf { (1 ≤ sndbuf) × (sndbuf ≤ 16777216) }
         requires rcvbuf { (2 ≤ rcvbuf) × (rcvbuf ≤ 16777216) }
-        ensures idle { vec_len self.old.vacants ≡ 0 → IsSame self.old self.new }
-        ensures others { OthersStay port self.old self.new }
-        ensures slots { OnOk result (slot_count self.new ≡ slot_count self.old) }
-        ensures done { OnOk result (2 ≤ port → tenant_at self.old port ≡ None → 0 < vec_len self.old.vacants →
-            BindsNext port sndbuf rcvbuf self.old self.new) }
+        ensures host { self.new.host ≡ self.old.host }
+        ensures keeps { PlacesKeep self.old.places self.new.places }
+        ensures done { OnOk result (Binds port sndbuf rcvbuf self.old.places self.new.places) }
     {
-        let is_free = self.is_free(port);
-        let Some(vacant) = self.vacants.pop() else {
+        if port < 2 || !self.is_free(port) {
+            return Ok(());
+        }
+        let Some((slot, vacant)) = lift_vacant(&mut self.states) else {
             return Ok(());
         };
-        match vacant.bind(port, sndbuf, rcvbuf) {
-            Ok(socket) if is_free => self.add(alloc, socket),
-            Err((vacant, _)) if !is_free => {
-                self.vacants.push(vacant)?;
-                Ok(())
-            }
-            _ => Err(Memory),
-        }
+        let (state, bound) = bind_vacant(alloc, vacant, port, sndbuf, rcvbuf);
+        self.states[slot] = state;
+        bound
     }
 
     // Binds the next slot to the first free port from this one on. It is refused where all slots are bound.
@@ -52,67 +54,113 @@ impl Caller {
     ) -> Result<(), Memory>
         requires sndbuf { (1 ≤ sndbuf) × (sndbuf ≤ 16777216) }
         requires rcvbuf { (2 ≤ rcvbuf) × (rcvbuf ≤ 16777216) }
-        ensures idle { vec_len self.old.vacants ≡ 0 → IsSame self.old self.new }
-        ensures others { AllStay self.old self.new }
-        ensures slots { OnOk result (slot_count self.new ≡ slot_count self.old) }
-        ensures done { OnOk result (0 < vec_len self.old.vacants →
-            (free : ℕ) × (tenant_at self.old free ≡ None) × BindsNext free sndbuf rcvbuf self.old self.new) }
+        ensures host { self.new.host ≡ self.old.host }
+        ensures keeps { PlacesKeep self.old.places self.new.places }
+        ensures done { OnOk result (BindsFirstFree start sndbuf rcvbuf self.old.places self.new.places) }
     {
-        let free = self.free_port(start);
-        let Some(vacant) = self.vacants.pop() else {
+        let Some(port) = self.first_free(start) else {
+            return Err(Memory);
+        };
+        let Some((slot, vacant)) = lift_vacant(&mut self.states) else {
             return Ok(());
         };
-        let (Some(port), Ok(socket)) = (free, vacant.bind_any(start, sndbuf, rcvbuf)) else {
-            return Err(Memory);
-        };
-        if socket.port() != port {
-            return Err(Memory);
-        }
-        self.add(alloc, socket)
+        let (state, bound) = bind_any_vacant(alloc, vacant, start, port, sndbuf, rcvbuf);
+        self.states[slot] = state;
+        bound
     }
 
-    // Keeps a new socket, whose port no other has.
-    fn add(&mut self, alloc: Global, socket: Socket<Reader>) -> Result<(), Memory>
-        requires told { socket.told ≡ None }
-        requires free { tenant_at self.old socket.port ≡ None }
-        ensures others { OthersStay socket.port self.old self.new }
-        ensures slots { (self.new.vacants ≡ self.old.vacants) × (self.new.former ≡ self.old.former) }
-        ensures kept { OnOk result ((u : TenantView) × (tenant_at self.new socket.port ≡ Some u) × (u.socket ≡ socket) × (u.got.items ≡ [])) }
-        ensures one_more { OnOk result (btree_map_len self.new.tenants ≡ btree_map_len self.old.tenants + 1) }
-    {
-        self.tenants
-            .insert(socket.port(), Tenant::new(alloc, socket))?;
-        Ok(())
-    }
-
-    // Whether a socket could be bound to the port, by the host's own commands.
+    // Whether no socket holds the port.
     fn is_free(&self, port: u16) -> bool
-        ensures free { result ≡ true → tenant_at self.now port ≡ None }
-        ensures taken { 2 ≤ port → tenant_at self.now port ≡ None → result ≡ true }
+        ensures free { result ≡ true → IsFree self.now.places port }
+        ensures held { result ≡ false → IsHeld self.now.places port }
     {
-        port >= 2 && !self.tenants.contains_key(&port)
+        find_bound(&self.states, port).is_none()
     }
 
-    // The first port from `start` upward, and round the top to 2, that could be bound.
-    fn free_port(&self, start: u16) -> Option<u16>
-        ensures { IfSome result (λ port. tenant_at self.now port ≡ None) }
+    // The first port from `start` upward, and round the top to 2, that no socket holds.
+    fn first_free(&self, start: u16) -> Option<u16>
+        ensures { IfSome result (IsFirstFree self.now.places start) }
     {
-        match self.free_within(u32::from(start), 65536) {
-            Some(port) => Some(port),
-            None => self.free_within(0, u32::from(start)),
-        }
-    }
-
-    // The first port from `first` to below `end` that could be bound.
-    fn free_within(&self, first: u32, end: u32) -> Option<u16>
-        requires { end ≤ 65536 }
-        ensures { IfSome result (λ port. tenant_at self.now port ≡ None) }
-    {
-        for port in first..end {
-            if self.is_free(port as u16) {
-                return Some(port as u16);
+        let first = first_port(start);
+        for n in 0..65534 {
+            let port = port_after(first, n);
+            if self.is_free(port) {
+                return Some(port);
             }
         }
         None
     }
+}
+
+// A search from a reserved port begins at port 2.
+fn first_port(start: u16) -> u16
+    ensures { result ≡ first_port start }
+{
+    if start < 2 { 2 } else { start }
+}
+
+// The n-th port from the first on, where 2 follows 65,535.
+fn port_after(first: u16, n: u32) -> u16
+    requires { n < 65534 }
+    ensures { result ≡ port_after first n }
+{
+    (2 + (u32::from(first).saturating_sub(2) + n) % 65534) as u16
+}
+
+// A vacant slot is bound to the port. Where that fails it stays vacant.
+fn bind_vacant(
+    alloc: Global,
+    vacant: Vacant<Reader>,
+    port: u16,
+    sndbuf: u32,
+    rcvbuf: u32,
+) -> (State, Result<(), Memory>)
+    requires sndbuf { (1 ≤ sndbuf) × (sndbuf ≤ 16777216) }
+    requires rcvbuf { (2 ≤ rcvbuf) × (rcvbuf ≤ 16777216) }
+    requires got { vacant.inbox.get.got ≡ [] }
+    ensures bound { OnOk result.1 ((o : Open ReaderView) × BindFits vacant port sndbuf rcvbuf (Ok o) × (shown result.0 ≡ Some (bound_place o []))) }
+    ensures failed { OnErr result.1 ((p : Place) × (shown result.0 ≡ Some p) × IsUnbound p) }
+    ensures keeps { (p : Place) → shown result.0 ≡ Some p → PlaceKeeps vacant (holding_of p) × HasKept p }
+{
+    match vacant.bind(port, sndbuf, rcvbuf) {
+        Ok(socket) => (State::Bound(Tenant::new(alloc, socket)), Ok(())),
+        Err((vacant, _)) => (State::Vacant(vacant), Err(Memory)),
+    }
+}
+
+// A vacant slot is bound to a port from `start` on, which is to be this one. Where that fails, or it is another port, the slot
+// stays vacant or is ended.
+fn bind_any_vacant(
+    alloc: Global,
+    vacant: Vacant<Reader>,
+    start: u16,
+    port: u16,
+    sndbuf: u32,
+    rcvbuf: u32,
+) -> (State, Result<(), Memory>)
+    requires sndbuf { (1 ≤ sndbuf) × (sndbuf ≤ 16777216) }
+    requires rcvbuf { (2 ≤ rcvbuf) × (rcvbuf ≤ 16777216) }
+    requires got { vacant.inbox.get.got ≡ [] }
+    ensures bound { OnOk result.1 ((o : Open ReaderView) × BindAnyFits vacant start sndbuf rcvbuf (Ok o) × (o.port ≡ port) × (shown result.0 ≡ Some (bound_place o []))) }
+    ensures failed { OnErr result.1 ((p : Place) × (shown result.0 ≡ Some p) × IsUnbound p) }
+    ensures keeps { (p : Place) → shown result.0 ≡ Some p → PlaceKeeps vacant (holding_of p) × HasKept p }
+{
+    match vacant.bind_any(start, sndbuf, rcvbuf) {
+        Ok(socket) if socket.port() == port => {
+            (State::Bound(Tenant::new(alloc, socket)), Ok(()))
+        }
+        Ok(socket) => (ended(alloc, socket), Err(Memory)),
+        Err((vacant, _)) => (State::Vacant(vacant), Err(Memory)),
+    }
+}
+
+// The end of a socket that handed out nothing.
+fn ended(alloc: Global, socket: Socket<Reader>) -> State
+    requires got { socket.own.inbox.get.got ≡ [] }
+    ensures { shown result ≡ Some (ended_place socket.port socket.own []) }
+{
+    let slot = socket.slot();
+    let port = socket.port();
+    let former = FormerTenant::new(slot, port, Vec::new(alloc), socket.finish());
+    State::Ended(former)
 }

@@ -1,27 +1,26 @@
 //! The caller of a host.
-ghost use Rattle.std.specs.Prelude.{◌≡◌, ℕ, None, OnOk, reverse};
+ghost use Rattle.std.specs.Prelude.{◌≡◌, ◌≤◌, [], ℕ, Some, IfOk, OnOk, length, slice_get};
+ghost use Rattle.rds_fmap.specs.Readers.{ReaderView};
 ghost use Rattle.rds_script.specs.Script.{IsCommand};
-ghost use Rattle.rds_callers.specs.Callers.{IsIdle, LeavesOthers, IsSame, OthersStay, IsDone, ChangesAt, ClosesAt, tenant_at, bound_count, slot_count};
-ghost use Rattle.rds_callers.specs.Tenants.{ReceivesNext};
+ghost use Rattle.rds_socket.specs.Holding.{Holding};
+ghost use Rattle.rds_callers.specs.Doing.{IsDone};
+ghost use Rattle.rds_callers.specs.Places.{ArePlaces, PlacesKeep, vacant_places};
+ghost use Rattle.rds_callers.specs.States.{IsSound, seen, vacant_states};
 
-use crate::former::FormerTenant;
-use crate::tenant::{Tenant, told};
+use crate::state::State;
 use rds_fmap::Reader;
 use rds_report::address;
 use rds_script::Command;
 use rds_socket::Vacant;
-use rds_wire::{Memory, Payload};
+use rds_wire::Memory;
 use std::alloc::Global;
-use std::collections::BTreeMap;
+use std::marker::Model;
 use std::sync::Wait;
 
-/// The caller of a host: the slots that aren't bound yet, the sockets by their ports, and those that were closed.
+/// The caller of a host. Contracts see the host's number and what became of each of its slots, in order.
 pub struct Caller {
     pub(crate) host: u8,
-    // The next slot stands last.
-    pub(crate) vacants: Vec<Vacant<Reader>>,
-    pub(crate) tenants: BTreeMap<u16, Tenant>,
-    pub(crate) former: Vec<FormerTenant>,
+    pub(crate) states: Vec<State>,
 }
 
 // By hand, so that one call drops it wherever it is let go, and no function that owns one drops each field.
@@ -29,59 +28,68 @@ impl Drop for Caller {
     fn drop(self) {
         let Self {
             host: _,
-            vacants: _vacants,
-            tenants: _tenants,
-            former: _former,
+            states: _states,
         } = self;
     }
 }
 
-// What a caller is made of.
-pub(crate) type Parts = (
-    Vec<Vacant<Reader>>,
-    BTreeMap<u16, Tenant>,
-    Vec<FormerTenant>,
-);
+impl Model for Caller {
+    ghost use Rattle.std.specs.Prelude.{◌≤◌, length};
+    ghost use Rattle.rds_callers.specs.Places.{CallerView, ArePlaces};
+
+    ghost Value = { CallerView };
+
+    ghost use Rattle.rds_callers.specs.States.{seen, IsSound};
+
+    ghost view = { λ c. record { host = c.host; places = seen c.states.items } };
+
+    ghost invariant = { λ c. IsSound c.states.items };
+}
 
 impl Caller {
-    /// The caller of host number `host`, counted from 0, with its slots, from slot 0 upward.
-    pub fn new(alloc: Global, host: u8, mut vacants: Vec<Vacant<Reader>>) -> Caller
-        ensures vacants { result.vacants.items ≡ reverse vacants.items }
-        ensures none { bound_count result ≡ 0 }
+    /// The caller of host number `host`, counted from 0, with its slots, from slot 0 upward, whose mailboxes gave nothing yet.
+    ///
+    /// # Errors
+    ///
+    /// Where there is no memory for the slots, or there are more than 65,535.
+    pub fn new(alloc: Global, host: u8, vacants: Vec<Vacant<Reader>>) -> Result<Caller, Memory>
+        requires number { (slot : ℕ) (h : Holding ReaderView) → slice_get vacants.items slot ≡ Some h → h.words.slot ≡ slot }
+        requires empty { (slot : ℕ) (h : Holding ReaderView) → slice_get vacants.items slot ≡ Some h → h.inbox.get.got ≡ [] }
+        ensures host { IfOk result (λ caller. caller.host ≡ host) }
+        ensures places { IfOk result (λ caller. caller.places ≡ vacant_places vacants.items) }
     {
-        vacants.reverse();
-        Caller {
-            host,
-            vacants,
-            tenants: BTreeMap::new(alloc),
-            former: Vec::new(alloc),
-        }
+        let states = vacant_states(alloc, vacants)?;
+        Ok(Caller { host, states })
     }
 
-    // The slots that aren't bound, the sockets by their ports, and those that have ended.
-    pub(crate) fn into_parts(self) -> Parts
-        ensures { result ≡ (self.vacants, self.tenants, self.former) }
+    // What became of each slot.
+    pub(crate) fn into_states(self) -> Vec<State>
+        ensures sound { IsSound result.items }
+        ensures seen { seen result.items ≡ self.places }
     {
-        let Caller {
-            host: _,
-            vacants,
-            tenants,
-            former,
-        } = self;
-        (vacants, tenants, former)
+        let Caller { host: _, states } = self;
+        states
+    }
+
+    /// How many slots there are.
+    pub fn slots(&self) -> u16
+        ensures count { result ≡ length self.now.places }
+        ensures places { ArePlaces self.now.places }
+    {
+        self.states.len() as u16
     }
 
     /// Does a command of the host. One that is refused does nothing, and neither do those that speak of streams, but a cut.
     ///
     /// # Errors
     ///
-    /// Where memory runs out, or where a port is taken that should be free, or the other way round.
+    /// Where memory runs out, or where a port is taken that should be free, or the other way round. Then the slots are the
+    /// same, but what became of one of them may not be what the command asks for.
     pub fn obey<R: Wait>(&mut self, rt: &R, alloc: Global, command: &Command) -> Result<(), Memory>
         requires { (hosts : ℕ) × IsCommand hosts command.now }
-        ensures idle { IsIdle command.now self.old → IsSame self.old self.new }
-        ensures others { LeavesOthers command.now self.old self.new }
-        ensures slots { OnOk result (slot_count self.new ≡ slot_count self.old) }
-        ensures done { OnOk result (IsDone command.now self.old self.new) }
+        ensures host { self.new.host ≡ self.old.host }
+        ensures keeps { PlacesKeep self.old.places self.new.places }
+        ensures done { OnOk result (IsDone command.now self.old.places self.new.places) }
     {
         match command {
             Command::Bind {
@@ -110,100 +118,24 @@ impl Caller {
                 dport,
                 ..
             } => self.cancel(rt, *port, address(*to), *dport),
-            Command::Close { port, .. } => self.close(rt, alloc, *port),
+            Command::Close { port, .. } => self.close(rt, *port),
             Command::Cut { to, .. } => self.cut(rt, address(*to)),
             Command::Open { .. } | Command::Move { .. } | Command::Drain => Ok(()),
         }
     }
+}
 
-    // Sends from the socket of a port, if there is one.
-    fn send<R: Wait>(
-        &mut self,
-        rt: &R,
-        port: u16,
-        peer: u32,
-        dport: u16,
-        payload: &Payload,
-    ) -> Result<(), Memory>
-        ensures idle { tenant_at self.old port ≡ None → IsSame self.old self.new }
-        ensures others { OthersStay port self.old self.new }
-        ensures slots { slot_count self.new ≡ slot_count self.old }
-    {
-        match self.tenants.get_mut(&port) {
-            Some(tenant) => tenant.send(rt, peer, dport, payload.share()?),
-            None => Ok(()),
-        }
+// The slots, none of which is bound.
+fn vacant_states(alloc: Global, vacants: Vec<Vacant<Reader>>) -> Result<Vec<State>, Memory>
+    ensures states { IfOk result (λ states. states.items ≡ vacant_states vacants.items) }
+    ensures count { IfOk result (λ states. length states.items ≤ 65535) }
+{
+    if vacants.len() > usize::from(u16::MAX) {
+        return Err(Memory);
     }
-
-    // Receives at the socket of a port, if there is one.
-    fn receive<R: Wait>(&mut self, rt: &R, port: u16) -> Result<(), Memory>
-        ensures idle { tenant_at self.old port ≡ None → IsSame self.old self.new }
-        ensures others { OthersStay port self.old self.new }
-        ensures slots { slot_count self.new ≡ slot_count self.old }
-        ensures done { OnOk result (ChangesAt port ReceivesNext self.old self.new) }
-    {
-        let Some(tenant) = self.tenants.get_mut(&port) else {
-            return Ok(());
-        };
-        tenant.receive(rt)?;
-        Ok(())
+    let mut states = Vec::with_capacity(alloc, vacants.len())?;
+    for vacant in vacants {
+        states.push(State::Vacant(vacant))?;
     }
-
-    // Takes back what the socket of a port has sent to a port of the peer, if there is one.
-    fn cancel<R: Wait>(&mut self, rt: &R, port: u16, peer: u32, dport: u16) -> Result<(), Memory>
-        ensures idle { tenant_at self.old port ≡ None → IsSame self.old self.new }
-        ensures others { OthersStay port self.old self.new }
-        ensures slots { slot_count self.new ≡ slot_count self.old }
-    {
-        match self.tenants.get_mut(&port) {
-            Some(tenant) => tenant.cancel(rt, peer, dport),
-            None => Ok(()),
-        }
-    }
-
-    // Closes the socket of a port, if there is one.
-    fn close<R: Wait>(&mut self, rt: &R, alloc: Global, port: u16) -> Result<(), Memory>
-        ensures idle { tenant_at self.old port ≡ None → IsSame self.old self.new }
-        ensures others { OthersStay port self.old self.new }
-        ensures slots { OnOk result (slot_count self.new ≡ slot_count self.old) }
-        ensures done { OnOk result (ClosesAt port self.old self.new) }
-    {
-        let Some(tenant) = self.tenants.remove(&port) else {
-            return Ok(());
-        };
-        self.former.push(tenant.close(rt, alloc)?)?;
-        Ok(())
-    }
-
-    // Asks for a cut of the stream to the peer, by any slot.
-    fn cut<R: Wait>(&mut self, rt: &R, peer: u32) -> Result<(), Memory>
-        ensures slots { slot_count self.new ≡ slot_count self.old }
-    {
-        if let Some(vacant) = self.vacants.last_mut() {
-            return told(vacant.cut(rt, peer));
-        }
-        if let Some(former) = self.former.last_mut() {
-            return former.cut(rt, peer);
-        }
-        match self.first_port() {
-            Some(port) => self.cut_at(rt, port, peer),
-            None => Ok(()),
-        }
-    }
-
-    // The least port that a socket holds, if any does.
-    fn first_port(&self) -> Option<u16> {
-        let (port, _) = self.tenants.first_key_value()?;
-        Some(*port)
-    }
-
-    // Asks for a cut by the socket of a port, if there is one.
-    fn cut_at<R: Wait>(&mut self, rt: &R, port: u16, peer: u32) -> Result<(), Memory>
-        ensures slots { slot_count self.new ≡ slot_count self.old }
-    {
-        match self.tenants.get_mut(&port) {
-            Some(tenant) => tenant.cut(rt, peer),
-            None => Ok(()),
-        }
-    }
+    Ok(states)
 }

@@ -3,9 +3,13 @@
 
 mod binding;
 mod caller;
+mod calls;
 mod commands;
 mod ending;
+mod finding;
 mod former;
+mod settling;
+mod state;
 mod tenant;
 
 pub use caller::Caller;

@@ -1,11 +1,35 @@
-use Rattle.std.proofs.Common.{◌≡◌, subst, ◌∙◌, ap}
-use Rattle.std.proofs.lemmas.Option.{same_Some}
-use Rattle.rds_socket.specs.Calls.{IsClosed}
-use Rattle.rds_callers.specs.declared.tenant.Tenant.{Tenant}
+use Rattle.std.proofs.Common.{Result, Ok, refl, sym, set, ap, subst, ◌∙◌}
+use Rattle.std.proofs.lemmas.Result.{on_ok_weaker}
+use Rattle.rds_callers.specs.Places.{Bound, Ended, PlacesKeep}
+use Rattle.rds_callers.specs.States.{seen}
+use Rattle.rds_callers.specs.Tenants.{Sends, ReceivesNext, Cancels, Closes}
+use Rattle.rds_callers.specs.declared.state.State.TheVariants as state
+use Rattle.rds_callers.proofs.Seen.{IsPut, set_twice}
+use Rattle.rds_callers.proofs.Doings.{tenant_put, former_put, at_none, at_port, receives}
 use Rattle.rds_callers.proofs.caller.Caller.close.Goals as goal
 
+pub returns-in_default-clause-done : goal.returns-in_default-clause-done
+returns-in_default-clause-done g c = at_none c.args.port (Closes) c.self.inside.states.items c.lift_bound.new.states.items c.args.self.now.places (ap (λ v. v.places) c.self.view_is)
+    c.self.invariant.whole c.in_default.ensures.none (ap (λ v. v.items) c.in_default.ensures.same)
+
+pub invariant_of-self-2 : goal.invariant_of-self-2
+invariant_of-self-2 g c = (
+    former_put c.self.inside.states.items (set c.lift_bound.new.states.items c.in-Some.slot (state.Ended c.close-former.result.0)) c.in-Some.slot c.in-Some.tenant c.close-former.result.0 c.self.invariant c.in-Some.ensures.was c.close-former.ensures.keeps
+    (ap (λ l. set l c.in-Some.slot (state.Ended c.close-former.result.0)) c.in-Some.ensures.lifted ∙ set_twice c.self.inside.states.items c.in-Some.slot state.Away (state.Ended c.close-former.result.0))
+    ).changed.sound
+
+pub returns-clause-keeps : goal.returns-clause-keeps
+returns-clause-keeps g c =
+    let put =
+    former_put c.self.inside.states.items (set c.lift_bound.new.states.items c.in-Some.slot (state.Ended c.close-former.result.0)) c.in-Some.slot c.in-Some.tenant c.close-former.result.0 c.self.invariant c.in-Some.ensures.was c.close-former.ensures.keeps
+    (ap (λ l. set l c.in-Some.slot (state.Ended c.close-former.result.0)) c.in-Some.ensures.lifted ∙ set_twice c.self.inside.states.items c.in-Some.slot state.Away (state.Ended c.close-former.result.0)) in
+    subst (λ l. PlacesKeep l (seen (set c.lift_bound.new.states.items c.in-Some.slot (state.Ended c.close-former.result.0)))) (ap (λ v. v.places) c.self.view_is) put.keeps
+
 pub returns-clause-done : goal.returns-clause-done
-returns-clause-done g c = λ t at.
-    let same : c.in-Some.tenant ≡ t = same_Some _ _ (c.in-Some.ensures.value ∙ at) in
-    let f = c.in_ok-close.field-0 in
-    (c.remove.ensures.updates.1, (f, c.in_ok-push.ensures.items, subst (λ (s : Tenant). IsClosed s.socket f.closed) same c.in_ok-close.ensures.closed, c.in_ok-close.ensures.got ∙ ap (λ (s : Tenant). s.got) same))
+returns-clause-done g c =
+    let put =
+    former_put c.self.inside.states.items (set c.lift_bound.new.states.items c.in-Some.slot (state.Ended c.close-former.result.0)) c.in-Some.slot c.in-Some.tenant c.close-former.result.0 c.self.invariant c.in-Some.ensures.was c.close-former.ensures.keeps
+    (ap (λ l. set l c.in-Some.slot (state.Ended c.close-former.result.0)) c.in-Some.ensures.lifted ∙ set_twice c.self.inside.states.items c.in-Some.slot state.Away (state.Ended c.close-former.result.0)) in
+    at_port c.close-former.result.1 c.args.port (Closes) c.self.inside.states.items (set c.lift_bound.new.states.items c.in-Some.slot (state.Ended c.close-former.result.0)) c.args.self.now.places c.in-Some.slot c.in-Some.tenant (Ended c.close-former.result.0.port c.close-former.result.0.closed c.close-former.result.0.got.items)
+    (ap (λ v. v.places) c.self.view_is) put c.in-Some.ensures.port
+    (on_ok_weaker c.close-former.result.1 (λ closed. (c.close-former.result.0.closed, closed, λ i. Ended (c.close-former.ensures.port i) c.close-former.result.0.closed (ap (λ v. v.items) c.close-former.ensures.got i))) c.close-former.ensures.closed)

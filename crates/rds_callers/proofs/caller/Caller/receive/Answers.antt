@@ -1,12 +1,48 @@
-use Rattle.std.proofs.Common.{◌≡◌, subst, ◌∙◌, ap}
-use Rattle.std.specs.Option.{is_some}
-use Rattle.std.proofs.lemmas.Option.{same_Some}
-use Rattle.rds_callers.specs.Tenants.{ReceivesNext}
-use Rattle.rds_callers.specs.declared.tenant.Tenant.{Tenant}
+use Rattle.std.proofs.Common.{Result, Ok, refl, sym, set, ap, subst, ◌∙◌}
+use Rattle.std.proofs.lemmas.Result.{on_ok_weaker}
+use Rattle.rds_callers.specs.Places.{Bound, Ended, PlacesKeep}
+use Rattle.rds_callers.specs.States.{seen}
+use Rattle.rds_callers.specs.Tenants.{Sends, ReceivesNext, Cancels, Closes}
+use Rattle.rds_callers.specs.declared.state.State.TheVariants as state
+use Rattle.rds_callers.proofs.Seen.{IsPut, set_twice}
+use Rattle.rds_callers.proofs.Doings.{tenant_put, former_put, at_none, at_port, receives}
 use Rattle.rds_callers.proofs.caller.Caller.receive.Goals as goal
 
+pub returns-in_default-clause-done : goal.returns-in_default-clause-done
+returns-in_default-clause-done g c = at_none c.args.port (ReceivesNext) c.self.inside.states.items c.lift_bound.new.states.items c.args.self.now.places (ap (λ v. v.places) c.self.view_is)
+    c.self.invariant.whole c.in_default.ensures.none (ap (λ v. v.items) c.in_default.ensures.same)
+
+pub invariant_of-self-in_err-received : goal.invariant_of-self-in_err-received
+invariant_of-self-in_err-received g c = (
+    tenant_put c.self.inside.states.items (set c.lift_bound.new.states.items c.in-Some.slot (state.Bound c.receive-received.new.self)) c.in-Some.slot c.in-Some.tenant c.receive-received.new.self c.self.invariant c.in-Some.ensures.was c.receive-received.ensures.port c.receive-received.ensures.keeps
+    (ap (λ l. set l c.in-Some.slot (state.Bound c.receive-received.new.self)) c.in-Some.ensures.lifted ∙ set_twice c.self.inside.states.items c.in-Some.slot state.Away (state.Bound c.receive-received.new.self))
+    ).changed.sound
+
+pub returns-in_err-received-clause-keeps : goal.returns-in_err-received-clause-keeps
+returns-in_err-received-clause-keeps g c =
+    let put =
+    tenant_put c.self.inside.states.items (set c.lift_bound.new.states.items c.in-Some.slot (state.Bound c.receive-received.new.self)) c.in-Some.slot c.in-Some.tenant c.receive-received.new.self c.self.invariant c.in-Some.ensures.was c.receive-received.ensures.port c.receive-received.ensures.keeps
+    (ap (λ l. set l c.in-Some.slot (state.Bound c.receive-received.new.self)) c.in-Some.ensures.lifted ∙ set_twice c.self.inside.states.items c.in-Some.slot state.Away (state.Bound c.receive-received.new.self)) in
+    subst (λ l. PlacesKeep l (seen (set c.lift_bound.new.states.items c.in-Some.slot (state.Bound c.receive-received.new.self)))) (ap (λ v. v.places) c.self.view_is) put.keeps
+
+pub invariant_of-self-2 : goal.invariant_of-self-2
+invariant_of-self-2 g c = (
+    tenant_put c.self.inside.states.items (set c.lift_bound.new.states.items c.in-Some.slot (state.Bound c.receive-received.new.self)) c.in-Some.slot c.in-Some.tenant c.receive-received.new.self c.self.invariant c.in-Some.ensures.was c.receive-received.ensures.port c.receive-received.ensures.keeps
+    (ap (λ l. set l c.in-Some.slot (state.Bound c.receive-received.new.self)) c.in-Some.ensures.lifted ∙ set_twice c.self.inside.states.items c.in-Some.slot state.Away (state.Bound c.receive-received.new.self))
+    ).changed.sound
+
+pub returns-clause-keeps : goal.returns-clause-keeps
+returns-clause-keeps g c =
+    let put =
+    tenant_put c.self.inside.states.items (set c.lift_bound.new.states.items c.in-Some.slot (state.Bound c.receive-received.new.self)) c.in-Some.slot c.in-Some.tenant c.receive-received.new.self c.self.invariant c.in-Some.ensures.was c.receive-received.ensures.port c.receive-received.ensures.keeps
+    (ap (λ l. set l c.in-Some.slot (state.Bound c.receive-received.new.self)) c.in-Some.ensures.lifted ∙ set_twice c.self.inside.states.items c.in-Some.slot state.Away (state.Bound c.receive-received.new.self)) in
+    subst (λ l. PlacesKeep l (seen (set c.lift_bound.new.states.items c.in-Some.slot (state.Bound c.receive-received.new.self)))) (ap (λ v. v.places) c.self.view_is) put.keeps
+
 pub returns-clause-done : goal.returns-clause-done
-returns-clause-done g c = λ t at.
-    let same : c.in-Some.tenant.now ≡ t = same_Some _ _ (c.in-Some.ensures.value ∙ at) in
-    let u = c.receive.new.self in
-    (u, ((c.get_mut.follows.holds u).3 (ap is_some at)).1, subst (λ (s : Tenant). ReceivesNext s u) same c.in_ok-receive.ensures.next)
+returns-clause-done g c =
+    let put =
+    tenant_put c.self.inside.states.items (set c.lift_bound.new.states.items c.in-Some.slot (state.Bound c.receive-received.new.self)) c.in-Some.slot c.in-Some.tenant c.receive-received.new.self c.self.invariant c.in-Some.ensures.was c.receive-received.ensures.port c.receive-received.ensures.keeps
+    (ap (λ l. set l c.in-Some.slot (state.Bound c.receive-received.new.self)) c.in-Some.ensures.lifted ∙ set_twice c.self.inside.states.items c.in-Some.slot state.Away (state.Bound c.receive-received.new.self)) in
+    at_port (Ok tt) c.args.port (ReceivesNext) c.self.inside.states.items (set c.lift_bound.new.states.items c.in-Some.slot (state.Bound c.receive-received.new.self)) c.args.self.now.places c.in-Some.slot c.in-Some.tenant (Bound c.receive-received.new.self.socket c.receive-received.new.self.got.items)
+    (ap (λ v. v.places) c.self.view_is) put c.in-Some.ensures.port
+    (receives c.in_ok-received.field-0 c.in-Some.tenant c.receive-received.new.self c.in_ok-received.ensures.got c.in_ok-received.ensures.same c.in_ok-received.ensures.empty)

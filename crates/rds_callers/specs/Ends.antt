@@ -1,0 +1,52 @@
+-- What is left of the slots of a caller. This project's own.
+use Rattle.std.specs.Prelude.{◌≡◌, ℕ, List, [], ◌∷◌, ◌++◌, All, Option, Some, None, length, map, slice_get}
+use Rattle.rds_fmap.specs.Readers.{ReaderView}
+use Rattle.rds_mail.specs.Learning.{AllGot}
+use Rattle.rds_mail.specs.Numbers.{bare_items}
+use Rattle.rds_parts.specs.Lanes.{Ascend}
+use Rattle.rds_report.specs.declared.final_state.Kept.{Kept}
+use Rattle.rds_socket.specs.Holding.{Holding}
+use Rattle.rds_callers.specs.Places.{Place, Vacant, Bound, Ended, Spare, PlaceKeeps, holding_of, somes}
+
+-- the end of a slot: it is the same slot, and no order was put since
+pub record IsEndOf (old new : Holding ReaderView) : Type 0 where
+  pub keeps : PlaceKeeps old new
+  pub routes : new.routes ≡ old.routes
+
+-- one end of each slot, in order
+pub record AreEndsOf (places : List Place) (closed : List (Holding ReaderView)) : Type 0 where
+  pub count : length closed ≡ length places
+  pub each : (slot : ℕ) (p : Place) (h : Holding ReaderView) → slice_get places slot ≡ Some p → slice_get closed slot ≡ Some h → IsEndOf (holding_of p) h
+
+-- the slot and the port of a place that had a socket
+abbrev pub name_of : Place → Option (ℕ × ℕ)
+name_of (Vacant h) = None
+name_of (Bound o got) = Some (o.own.words.slot, o.port)
+name_of (Ended port h got) = Some (h.words.slot, port)
+name_of (Spare h) = None
+
+abbrev pub kept_name : Kept → ℕ × ℕ
+kept_name k = (k.slot, k.port)
+
+-- What the socket of a place has, in the end: all that was taken from its mailbox, which was found empty. What an open one still held
+-- it handed out; what an ended one held is unread.
+abbrev pub HasAll : Place → Holding ReaderView → Kept → Type 0
+HasAll (Vacant h) closed k = ⊥
+HasAll (Bound o got) closed k = (k.got.items ≡ bare_items closed.inbox.get.got) × (k.unread.items ≡ []) × AllGot closed.inbox.get
+HasAll (Ended port h got) closed k = (k.got.items ≡ got) × (got ++ k.unread.items ≡ bare_items closed.inbox.get.got) × AllGot closed.inbox.get
+HasAll (Spare h) closed k = ⊥
+
+-- what is kept of one place
+abbrev pub HasLeft : Place → Holding ReaderView → Option Kept → Type 0
+HasLeft p closed (Some k) = HasAll p closed k × (name_of p ≡ Some (kept_name k))
+HasLeft p closed None = name_of p ≡ None
+
+-- the place and the end of its slot are those of what was kept
+abbrev pub IsLeft : List Place → List (Holding ReaderView) → Kept → Type 0
+IsLeft places closed k = (p : Place) × (h : Holding ReaderView) × (slice_get places k.slot ≡ Some p) × (slice_get closed k.slot ≡ Some h) × HasAll p h k
+
+-- one is kept of each place that had a socket, in order of the slots, which ascend, with all that its socket has
+pub record AreLeft (places : List Place) (closed : List (Holding ReaderView)) (kept : List Kept) : Type 0 where
+  pub names : map kept_name kept ≡ somes (map name_of places)
+  pub ascend : Ascend (map (λ k. k.slot) kept)
+  pub each : All (IsLeft places closed) kept

@@ -1,0 +1,59 @@
+-- The slots as they are held, and as contracts see them. This project's own.
+use Rattle.std.specs.Prelude.{◌≡◌, ◌==◌, ℕ, Bool, true, false, List, [], ◌∷◌, map, Option, Some, None, slice_get, length, ◌≤◌}
+use Rattle.rds_fmap.specs.Readers.{ReaderView}
+use Rattle.rds_socket.specs.Holding.{Holding}
+use Rattle.rds_callers.specs.Places.{Place, ArePlaces, Vacant, Bound, Ended, Spare, somes}
+use Rattle.rds_callers.specs.declared.state.State.{State}
+use Rattle.rds_callers.specs.declared.state.State.TheVariants as state
+
+-- what contracts see of a slot that no call has in its hands
+abbrev pub shown : State → Option Place
+shown (state.Vacant h) = Some (Vacant h)
+shown (state.Bound t) = Some (Bound t.socket t.got.items)
+shown (state.Ended f) = Some (Ended f.port f.closed f.got.items)
+shown (state.Spare h) = Some (Spare h)
+shown state.Away = None
+
+-- what contracts see of all slots
+abbrev pub seen : List State → List Place
+seen states = somes (map shown states)
+
+-- no slot is in the hands of a call
+abbrev pub IsWhole : List State → Type 0
+IsWhole states = map shown states ≡ map Some (seen states)
+
+abbrev pub is_vacant : State → Bool
+is_vacant (state.Vacant h) = true
+is_vacant (state.Bound t) = false
+is_vacant (state.Ended f) = false
+is_vacant (state.Spare h) = false
+is_vacant state.Away = false
+
+-- whether a socket holds the port
+abbrev pub is_held_by : ℕ → State → Bool
+is_held_by port (state.Vacant h) = false
+is_held_by port (state.Bound t) = t.socket.port == port
+is_held_by port (state.Ended f) = false
+is_held_by port (state.Spare h) = false
+is_held_by port state.Away = false
+
+-- a vacant slot is given up, and another stays as it is
+abbrev pub spared_state : State → State
+spared_state (state.Vacant h) = state.Spare h
+spared_state (state.Bound t) = state.Bound t
+spared_state (state.Ended f) = state.Ended f
+spared_state (state.Spare h) = state.Spare h
+spared_state state.Away = state.Away
+
+-- none of them is one of these
+abbrev pub AreNot : (State → Bool) → List State → Type 0
+AreNot is states = (slot : ℕ) (x : State) → slice_get states slot ≡ Some x → is x ≡ false
+
+abbrev pub vacant_states : List (Holding ReaderView) → List State
+vacant_states vacants = map state.Vacant vacants
+
+-- no slot is in the hands of a call, their number fits, and they are what a caller's slots are
+pub record IsSound (states : List State) : Type 0 where
+  pub whole : IsWhole states
+  pub count : length states ≤ 65535
+  pub places : ArePlaces (seen states)
