@@ -9,6 +9,7 @@ mod pair;
 mod playing;
 mod rounds;
 mod running;
+mod settling;
 mod streams;
 #[cfg(test)]
 mod tests;

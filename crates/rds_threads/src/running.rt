@@ -1,17 +1,21 @@
 //! A run.
-ghost use Rattle.std.specs.Prelude.{◌≡◌, ◌≤◌, IfOk, OnErr};
+ghost use Rattle.std.specs.Prelude.{◌≡◌, ◌≤◌, ℕ, IfOk, OnErr};
 ghost use Rattle.rds_model.specs.declared.journal.TheConstants.{MAX_ENTRIES, MIN_ENTRIES};
 ghost use Rattle.rds_script.specs.Script.{IsScript};
+ghost use Rattle.rds_threads.specs.Connection.{AreTwo};
 ghost use Rattle.rds_threads.specs.Ends.{IsEndOfRun};
+ghost use Rattle.rds_threads.specs.Tied.{AreTied};
 
 use crate::ending::{end_lines, end_run};
 use crate::form::{Form, RunEnd};
-use crate::pair::{bind_leading, commands_from, party};
+use crate::pair::{Lines, bind_leading, commands_from, party};
 use crate::playing::play_both;
 use crate::rounds::last_rounds;
 use crate::settling::settle_lines;
 use crate::streams::{Prepared, cuts, prepare};
 use crate::verdict::Wanted;
+use rds_callers::Caller;
+use rds_host::laws::{host_keeps, turned_keeps};
 use rds_link::{Gate, Sink, Wire};
 use rds_script::Script;
 use rds_wire::Memory;
@@ -84,13 +88,38 @@ where
     let commands = script.commands.as_slice();
     let leading = bind_leading(rt, alloc, commands, &mut callers)?;
     let rest = commands_from(commands, leading);
-    let (callers, mut lines) = play_both(rt, alloc, rest, gate, callers, (low_lines, high_lines));
-    let Ok(mut callers) = callers else {
+    let (callers, lines) = play_both(rt, alloc, rest, gate, callers, (low_lines, high_lines));
+    let Ok(callers) = callers else {
         end_lines(rt, wire, lines);
         return Err(Memory);
     };
+    host_keeps::<W::End>();
+    turned_keeps::<W::End>();
+    finish(rt, alloc, wire, form, wanted, budget, callers, lines, sink)
+}
+
+// What a run comes to whose callers have done their commands.
+fn finish<K: Sink, W: Wire, R: Wait>(
+    rt: &R,
+    alloc: Global,
+    wire: &mut W,
+    form: Form,
+    wanted: Wanted,
+    budget: u64,
+    mut callers: (Caller, Caller),
+    mut lines: Lines<W::End>,
+    sink: &mut K,
+) -> Result<RunEnd, Memory>
+    requires two { (limit : ℕ) × AreTwo W.End.means limit lines.0.items lines.1.items }
+    requires low { AreTied callers.0.places lines.0.items }
+    requires high { AreTied callers.1.places lines.1.items }
+    ensures end { (limit : ℕ) → AreTwo W.End.means limit lines.0.items lines.1.items → IfOk result (IsEndOfRun W.End.means.tells limit
+        record { held_before = K.held sink.old; held_after = K.held sink.new; faults_before = K.faults sink.old; faults_after = K.faults sink.new }) }
+    ensures memory { OnErr result (K.held sink.new ≡ K.held sink.old) }
+{
     settle_lines(&mut callers.0, &mut lines.0);
     settle_lines(&mut callers.1, &mut lines.1);
+    host_keeps::<W::End>();
     let end = last_rounds(rt, wire, wanted, budget, &mut lines);
     end_run(rt, alloc, wire, form, end, callers, lines, sink)
 }

@@ -1,0 +1,86 @@
+-- What callers did over several lists of commands.
+use Rattle.std.proofs.Common.{◌≡◌, ◌≢◌, ◌⊎◌, inl, inr, ℕ, zero, suc, ◌<◌, ◌≤◌, Bool, true, false, List, [], ◌∷◌, ◌++◌, All, Option, Some, None, length, map, take, drop, append_assoc, slice_get, refl, sym, ap, subst, ◌∙◌, arith}
+use Rattle.std.proofs.lemmas.List.{append-nil}
+use Rattle.std.proofs.lemmas.List.Elements.{All-nil, All-cons, All-map, All-weaker}
+use Rattle.std.proofs.lemmas.Option.{same_Some}
+use Rattle.rds_fmap.specs.Readers.{ReaderView}
+use Rattle.rds_model.specs.declared.order.Datagram.{Datagram}
+use Rattle.rds_model.specs.Honest.{Begins}
+use Rattle.rds_parts.specs.Lanes.{IsLaneAt, Lane}
+use Rattle.rds_report.specs.FinalState.{FinalSocket}
+use Rattle.rds_report.specs.Views.{socket_view}
+use Rattle.rds_report.specs.declared.final_state.Kept.{Kept}
+use Rattle.rds_script.specs.Script.{IsCommand}
+use Rattle.rds_script.specs.declared.script.Command.{Command}
+use Rattle.rds_script.specs.declared.script.Command.TheVariants as script
+use Rattle.rds_script.specs.declared.script.Placed.{Placed}
+use Rattle.rds_socket.specs.Holding.{Holding}
+use Rattle.rds_callers.specs.Commands.{binds, commander}
+use Rattle.rds_callers.specs.Ends.{AreEndsOf, AreLeft, HasAll, IsLeft, kept_name, name_of}
+use Rattle.rds_callers.specs.Places.{Bound, Ended, Place, Spare, Vacant, holding_of, somes, spared, vacant_places, with_holding}
+use Rattle.rds_threads.specs.Obeyed.{HasObeyed, IsNewSlot, Obeys, handed_by, socket_name}
+use Rattle.rds_threads.specs.Tied.{PlacesHear}
+use Rattle.rds_threads.proofs.Tying.{at_map}
+
+-- the commands of one list, and then those of another
+pub obeyed_through : (host : ℕ) (some more : List Placed) (first middle last : List Place) → HasObeyed host some first middle → HasObeyed host more middle last →
+    HasObeyed host (some ++ more) first last
+obeyed_through host [] more first middle last one two = subst (λ (l : List Place). HasObeyed host more l last) one two
+obeyed_through host (placed ∷ some) more first middle last one two = (one.0, one.1, obeyed_through host some more one.0 middle last one.2 two)
+
+-- one command more
+pub obeyed_next : (host : ℕ) (commands : List Placed) (placed : Placed) (first middle last : List Place) → HasObeyed host commands first middle →
+    Obeys host placed middle last → HasObeyed host (commands ++ placed ∷ []) first last
+obeyed_next host commands placed first middle last before this = obeyed_through host commands (placed ∷ []) first middle last before (last, this, refl)
+
+one_of : (host : ℕ) → host < 2 → (Some host ≡ Some 0 → ⊥) → Some host ≡ Some 1
+one_of zero known other = absurd (other refl)
+one_of (suc zero) known other = refl
+one_of (suc (suc n)) known other = absurd (omega (arith, known))
+
+-- of two hosts, a command that binds and isn't the first's is the second's
+pub second_binds : (c : Command) → IsCommand 2 c → binds c ≡ true → (commander c ≡ Some 0 → ⊥) → commander c ≡ Some 1
+second_binds (script.Bind host port sndbuf rcvbuf) known is other = one_of host known.socket.known other
+second_binds (script.BindAny host port sndbuf rcvbuf) known is other = one_of host known.socket.known other
+second_binds (script.Send host port to dport payload) known is other = absurd (cc)
+second_binds (script.Recv host port) known is other = absurd (cc)
+second_binds (script.Cancel host port to dport) known is other = absurd (cc)
+second_binds (script.Close host port) known is other = absurd (cc)
+second_binds (script.Open host to) known is other = absurd (cc)
+second_binds (script.Move host to bytes) known is other = absurd (cc)
+second_binds (script.Cut host to) known is other = absurd (cc)
+second_binds script.Drain known is other = absurd (cc)
+
+-- new slots are vacant
+pub new_slots : (slots : List (Holding ReaderView)) → ((slot : ℕ) (h : Holding ReaderView) → slice_get slots slot ≡ Some h → h.inbox.get.got ≡ []) →
+    ((slot : ℕ) (h : Holding ReaderView) → slice_get slots slot ≡ Some h → All (λ (lane : Lane ReaderView). lane.pass.put ≡ []) h.routes) →
+    All IsNewSlot (vacant_places slots)
+new_slots [] got put = All-nil IsNewSlot
+new_slots (h ∷ slots) got put =
+    All-cons IsNewSlot (Vacant h) (vacant_places slots) (record { holding = h; vacant = refl; put = put 0 h refl; got = got 0 h refl })
+    (new_slots slots (λ slot k at. got (suc slot) k at) (λ slot k at. put (suc slot) k at))
+
+-- the names of slots stay where they are given up
+name_spared : (p : Place) → name_of (spared p) ≡ name_of p
+name_spared (Vacant h) = refl
+name_spared (Bound o got) = refl
+name_spared (Ended port h got) = refl
+name_spared (Spare h) = refl
+
+pub names_spared : (places : List Place) → somes (map name_of (map spared places)) ≡ somes (map name_of places)
+names_spared places = ap (λ (l : List (Option (ℕ × ℕ))). somes l) (go places)
+  where
+    go : (ps : List Place) → map name_of (map spared ps) ≡ map name_of ps
+    go [] = refl
+    go (p ∷ ps) = (λ i. name_spared p i ∷ map name_of (map spared ps)) ∙ ap (λ (l : List (Option (ℕ × ℕ))). name_of p ∷ l) (go ps)
+
+handed_spared : (p : Place) → handed_by (spared p) ≡ handed_by p
+handed_spared (Vacant h) = refl
+handed_spared (Bound o got) = refl
+handed_spared (Ended port h got) = refl
+handed_spared (Spare h) = refl
+
+-- what names say of sockets
+pub names_of : (kept : List Kept) → map socket_name (map socket_view kept) ≡ map kept_name kept
+names_of [] = refl
+names_of (k ∷ kept) = ap (λ (l : List (ℕ × ℕ)). kept_name k ∷ l) (names_of kept)

@@ -1,0 +1,57 @@
+-- What the callers of a run did, and what came of it. Source: this project's own.
+use Rattle.std.specs.Prelude.{◌≡◌, ◌≢◌, ◌⊎◌, ℕ, List, [], ◌∷◌, ◌++◌, All, Option, Some, None, length, map, slice_get}
+use Rattle.rds_model.specs.declared.entry.Entry.{Entry}
+use Rattle.rds_model.specs.declared.order.Datagram.{Datagram}
+use Rattle.rds_model.specs.Honest.{Begins}
+use Rattle.rds_fmap.specs.Readers.{ReaderView}
+use Rattle.rds_parts.specs.Lanes.{IsLaneAt, Lane}
+use Rattle.rds_report.specs.FinalState.{FinalSocket}
+use Rattle.rds_script.specs.declared.script.Placed.{Placed}
+use Rattle.rds_socket.specs.Holding.{Holding, Open}
+use Rattle.rds_line.specs.Keeps.{uncut}
+use Rattle.rds_gather.specs.Joined.{orders_of}
+use Rattle.rds_callers.specs.Commands.{commander}
+use Rattle.rds_callers.specs.Doing.{IsDone}
+use Rattle.rds_callers.specs.Ends.{name_of}
+use Rattle.rds_callers.specs.Places.{Bound, Ended, Place, Spare, Vacant, holding_of, somes}
+
+-- The caller of a host did a command exactly as `IsDone` says, if it is the host's own; another it left out.
+abbrev pub Obeys : (host : ℕ) → Placed → List Place → List Place → Type 0
+Obeys host placed old new =
+    ((commander placed.command ≡ Some host) × IsDone placed.command old new) ⊎ ((commander placed.command ≢ Some host) × (new ≡ old))
+
+-- so it did these commands, one after the other
+abbrev pub HasObeyed : (host : ℕ) → List Placed → List Place → List Place → Type 0
+HasObeyed host [] first last = last ≡ first
+HasObeyed host (placed ∷ commands) first last = (middle : List Place) × Obeys host placed first middle × HasObeyed host commands middle last
+
+-- a slot that no socket had: it has put no order and got no datagram
+pub record IsNewSlot (p : Place) : Type 0 where
+  pub holding : Holding ReaderView
+  pub vacant : p ≡ Vacant holding
+  pub put : All (λ (lane : Lane ReaderView). lane.pass.put ≡ []) holding.routes
+  pub got : holding.inbox.get.got ≡ []
+
+-- what the socket of a slot had handed out when its host's commands were done
+abbrev pub handed_by : Place → List Datagram
+handed_by (Vacant h) = []
+handed_by (Bound o got) = got
+handed_by (Ended port h got) = got
+handed_by (Spare h) = []
+
+-- the slot and the port of a socket
+abbrev pub socket_name : FinalSocket → ℕ × ℕ
+socket_name s = (s.slot, s.port)
+
+-- What a host with this journal and these sockets comes to did the script's commands: from slots that were new its caller did exactly
+-- its own commands. In the journal with its peer stand, for each slot, exactly the orders that its socket put, in order and each once.
+-- There is one socket of each slot that was bound, with its port, and it handed out what its receives gave, and then the rest.
+pub record IsOutcome (host : ℕ) (commands : List Placed) (past : List Entry) (sockets : List FinalSocket) : Type 0 where
+  pub first : List Place
+  pub last : List Place
+  pub new : All IsNewSlot first
+  pub obeyed : HasObeyed host commands first last
+  pub sent : (slot : ℕ) (p : Place) (lane : Lane ReaderView) → slice_get last slot ≡ Some p → IsLaneAt (holding_of p).routes 0 lane →
+      orders_of slot past ≡ uncut lane.pass.put
+  pub names : map socket_name sockets ≡ somes (map name_of last)
+  pub handed : All (λ (s : FinalSocket). (p : Place) × (slice_get last s.slot ≡ Some p) × Begins (handed_by p) s.got) sockets
