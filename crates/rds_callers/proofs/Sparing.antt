@@ -100,3 +100,33 @@ sound_spared states s =
       },
       is,
     )
+
+-- slots that no socket had
+vacant_shown : (l : List (Holding ReaderView)) → map shown (map state.Vacant l) ≡ map Some (map Vacant l)
+vacant_shown [] = refl
+vacant_shown (h ∷ l) = ap (λ r. Some (Vacant h) ∷ r) (vacant_shown l)
+
+vacant_back : (l : List (Holding ReaderView)) (slot : ℕ) (p : Place) → slice_get (map Vacant l) slot ≡ Some p → (h : Holding ReaderView) × (slice_get l slot ≡ Some h) × (Vacant h ≡ p)
+vacant_back l slot p at = mapped Vacant (slice_get l slot) p (sym (slice_get-map Vacant l slot) ∙ at)
+
+pub sound_vacant : (l : List (Holding ReaderView)) (states : List State) → states ≡ map state.Vacant l → length states ≤ 65535 → ((slot : ℕ) (h : Holding ReaderView) → slice_get l slot ≡ Some h → h.words.slot ≡ slot)
+    → ((slot : ℕ) (h : Holding ReaderView) → slice_get l slot ≡ Some h → h.inbox.get.got ≡ []) → IsSound states × (seen states ≡ map Vacant l)
+sound_vacant l states made count number empty =
+    let shows = ap (map shown) made ∙ vacant_shown l in
+    let is : seen states ≡ map Vacant l = ap somes shows ∙ somes_some (map Vacant l) in (
+      record {
+        whole = shows ∙ ap (map Some) (sym is);
+        count = count;
+        places = subst ArePlaces (sym is) (record {
+          number = λ slot p at. let f = vacant_back l slot p at in ap (λ (q : Place). (holding_of q).words.slot) (sym f.2) ∙ number slot f.0 f.1;
+          kept = λ slot p at. let f = vacant_back l slot p at in subst HasKept f.2 (empty slot f.0 f.1);
+          ports = λ slot other o q got more at there same. let f = vacant_back l slot (Bound o got) at in absurd (unbound_not (Vacant f.0) o got tt f.2);
+          order = λ slot other h p at there le. let f = vacant_back l other p there in (f.0, sym f.2);
+        });
+      },
+      is,
+    )
+
+pub map_self : {A : Type 0} (l : List A) → map (λ y. y) l ≡ l
+map_self [] = refl
+map_self (x ∷ l) = ap (λ r. x ∷ r) (map_self l)
