@@ -1,18 +1,20 @@
 -- What the calls on one slot do to all of them.
-use Rattle.std.proofs.Common.{◌≡◌, ◌≢◌, ◌==◌, ℕ, ◌<◌, ◌+◌, ◌≤◌, Bool, true, false, not, List, [], ◌∷◌, ◌++◌, length, set, Result, Ok, Err, Option, Some, None, IfSome, IfNone, slice_get, OnOk, OnErr, IsErr, inl, inr, refl, sym, ap, subst, ◌∙◌, ⊎_elim, arith}
+use Rattle.std.proofs.Common.{◌≡◌, ◌≢◌, ◌==◌, ℕ, ◌<◌, ◌+◌, ◌≤◌, Bool, true, false, not, List, [], ◌∷◌, ◌++◌, length, set, get_or, Result, Ok, Err, Option, Some, None, IfSome, IfNone, slice_get, OnOk, OnErr, IsErr, inl, inr, refl, sym, ap, subst, ◌∙◌, ⊎_elim, arith}
 use Rattle.std.proofs.lemmas.Bool.{cases_lt, eq-eqb}
 use Rattle.std.proofs.Common.{eqb-true}
-use Rattle.std.proofs.lemmas.Option.{same_Some}
+use Rattle.std.proofs.lemmas.Option.{same_Some, slice_get_within}
 use Rattle.rds_wire.specs.declared.memory.Memory.{Memory}
 use Rattle.rds_model.specs.declared.order.Datagram.{Datagram}
 use Rattle.rds_model.specs.declared.order.Order.{Order}
 use Rattle.rds_model.specs.declared.order.Order.TheVariants as order
 use Rattle.rds_mail.specs.Learning.{AllGot}
+use Rattle.rds_mail.specs.Passes.{Putter, after_note}
 use Rattle.rds_mail.specs.Numbers.{bare_items}
 use Rattle.rds_fmap.specs.Readers.{ReaderView}
-use Rattle.rds_socket.specs.Calls.{with_own, IsReceived}
+use Rattle.rds_socket.specs.Calls.{with_own, with_inbox, IsReceived}
+use Rattle.rds_parts.specs.PlaceLaws.{stands}
 use Rattle.rds_socket.specs.Holding.{Holding, Open}
-use Rattle.rds_callers.specs.Places.{Place, Vacant, Bound, Ended, Spare, ArePlaces, HasKept, IsUsed, IsUnbound, IsVacantPlace, PlaceKeeps, holding_of, with_holding}
+use Rattle.rds_callers.specs.Places.{Place, Vacant, Bound, Ended, Spare, ArePlaces, HasKept, IsUsed, IsUnbound, IsVacantPlace, PlaceKeeps, holding_of, with_holding, told_by}
 use Rattle.rds_callers.specs.Tenants.{Asks, Cuts, ReceivesNext}
 use Rattle.rds_callers.specs.Doing.{IsFree, IsHeld, IsNext, NoneVacant, AtPort, BindsNext, CutsByLast}
 use Rattle.rds_callers.specs.States.{shown, seen, IsWhole, IsSound, AreNot, is_held_by, is_vacant}
@@ -33,10 +35,10 @@ socket_or d (Bound o got) = o
 socket_or d (Ended port h got) = d
 socket_or d (Spare h) = d
 
-used_not : (p : Place) → IsUsed p → IsVacantPlace p → ⊥
+pub used_not : (p : Place) → IsUsed p → IsVacantPlace p → ⊥
 used_not p used v = subst IsUsed v.1 used
 
-unbound_not : (p : Place) (o : Open ReaderView) (got : List Datagram) → IsUnbound p → p ≡ Bound o got → ⊥
+pub unbound_not : (p : Place) (o : Open ReaderView) (got : List Datagram) → IsUnbound p → p ≡ Bound o got → ⊥
 unbound_not p o got not e = subst IsUnbound e not
 
 -- what shows as bound holds its port, and what shows as vacant is
@@ -244,3 +246,22 @@ pub at_port : (r : Result (Unit {0}) Memory) (port : ℕ) (Rel : Open ReaderView
 at_port (Ok r) port Rel old new places slot t q view put port_is rel =
     subst (λ (l : List Place). AtPort port Rel l (seen new)) view (inl (slot, t.socket, t.got.items, put.changed.was, port_is, (q, rel, put.changed.is)))
 at_port (Err r) port Rel old new places slot t q view put port_is rel = tt
+
+-- the place that contracts see at a slot, which is read by an index
+pub standing : (states : List State) (places : List Place) (slot place : ℕ) (x : State) (p : Place) → IsWhole states → seen states ≡ places → place ≡ slot → x ≡ get_or states place x
+    → slice_get places slot ≡ Some p → (slice_get states place ≡ Some x) × (shown x ≡ Some p)
+standing states places slot place x p whole view same read at =
+    let f = find_seen states whole slot p (ap (λ l. slice_get l slot) view ∙ at) in
+    let small = slice_get_within states slot f.0 f.1 in
+    let here = stands states place x (omega arith) read in
+    (here, ap shown (same_Some x f.0 (sym here ∙ (ap (λ i. slice_get states i) same ∙ f.1))) ∙ f.2)
+
+-- a slot was told of what a putter had put
+pub heard : (states : List State) (places : List Place) (slot place : ℕ) (x y : State) (p : Place) (note : Putter Datagram) → IsSound states → seen states ≡ places → place ≡ slot
+    → x ≡ get_or states place x → slice_get places slot ≡ Some p → (shown x ≡ Some p → shown y ≡ Some (told_by p note))
+    → IsSound (set states place y) × (seen (set states place y) ≡ set places slot (told_by p note))
+heard states places slot place x y p note sound view same read at told =
+    let stood = standing states places slot place x p sound.whole view same read at in
+    let h = with_inbox (holding_of p) (record (holding_of p).inbox { get = after_note (holding_of p).inbox.get note }) in
+    let c = alike_change states (set states place y) place x y p h sound stood.0 stood.1 (told stood.1) refl refl refl in
+    (c.sound, c.is ∙ λ i. set (view i) (same i) (told_by p note))

@@ -4,3 +4,5 @@ pub mod Putting
 pub mod Seen
 pub mod Searches
 pub mod Doings
+pub mod Sparing
+pub mod Leaving

@@ -22,7 +22,7 @@ unwrapped : {A : Type 0} (g : Option A) (o : Option A) → option_map Some g ≡
 unwrapped (Some a) o e = same_Some (Some a) o e
 unwrapped None o e = absurd (cc)
 
-mapped : {A B : Type 0} (f : A → B) (g : Option A) (b : B) → option_map f g ≡ Some b → (a : A) × (g ≡ Some a) × (f a ≡ b)
+pub mapped : {A B : Type 0} (f : A → B) (g : Option A) (b : B) → option_map f g ≡ Some b → (a : A) × (g ≡ Some a) × (f a ≡ b)
 mapped f (Some a) b e = (a, refl, same_Some (f a) b e)
 mapped f None b e = absurd (cc)
 

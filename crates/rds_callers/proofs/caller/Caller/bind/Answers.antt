@@ -1,4 +1,4 @@
-use Rattle.std.proofs.Common.{Result, Ok, inl, inr, refl, sym, set, ap, subst, ◌∙◌}
+use Rattle.std.proofs.Common.{◌≤◌, arith, Result, Ok, inl, inr, refl, sym, set, ap, subst, ◌∙◌}
 use Rattle.std.proofs.lemmas.Result.{on_ok_weaker}
 use Rattle.rds_socket.specs.Binds.{BindFits, BindAnyFits}
 use Rattle.rds_callers.specs.Doing.{IsFree, IsFirstFree, NoneVacant}
@@ -46,6 +46,8 @@ returns-clause-done c =
     let put = next_put c.self.inside.states.items (set c.lift_vacant.new.states.items c.in-Some.slot c.bind_vacant-state.result.0) c.in-Some.slot c.in-Some.vacant c.bind_vacant-state.result.0 out.0 c.self.invariant c.in-Some.ensures.was next out.1 (c.bind_vacant-state.ensures.keeps out.0 out.1)
         (λ o got e. subst (λ q. IsFree (seen c.self.inside.states.items) q) (sym (out.2 o got e)) (subst (λ l. IsFree l c.args.port) (sym view) (c.is_free.ensures.free c.if-not-is_free.false)))
         (ap (λ l. set l c.in-Some.slot c.bind_vacant-state.result.0) c.in-Some.ensures.lifted ∙ set_twice c.self.inside.states.items c.in-Some.slot state.Away c.bind_vacant-state.result.0) in
-    on_ok_weaker c.bind_vacant-state.result.1 (λ b. inl (?, c.is_free.ensures.free c.if-not-is_free.false, b))
+    let below = c.if-port-lt2.false in
+    let low : 2 ≤ c.args.port = omega arith in
+    on_ok_weaker c.bind_vacant-state.result.1 (λ b. inl (low, c.is_free.ensures.free c.if-not-is_free.false, b))
     (binds_next c.bind_vacant-state.result.1 (λ h o. BindFits h c.args.port c.args.sndbuf c.args.rcvbuf (Ok o)) c.self.inside.states.items (set c.lift_vacant.new.states.items c.in-Some.slot c.bind_vacant-state.result.0) c.args.self.now.places c.in-Some.slot c.in-Some.vacant
     c.bind_vacant-state.result.0 out.0 view put next out.1 c.bind_vacant-state.ensures.bound)

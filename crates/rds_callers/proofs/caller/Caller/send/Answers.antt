@@ -1,8 +1,8 @@
-use Rattle.std.proofs.Common.{Result, Ok, refl, sym, set, ap, subst, ◌∙◌}
+use Rattle.std.proofs.Common.{ℕ, List, OnOk, Result, Ok, refl, sym, set, ap, subst, ◌∙◌}
 use Rattle.std.proofs.lemmas.Result.{on_ok_weaker}
 use Rattle.rds_callers.specs.Places.{Bound, Ended, PlacesKeep}
 use Rattle.rds_callers.specs.States.{seen}
-use Rattle.rds_callers.specs.Tenants.{Sends, ReceivesNext, Cancels, Closes}
+use Rattle.rds_callers.specs.Tenants.{Sends, SendsOrNot, ReceivesNext, Cancels, Closes}
 use Rattle.rds_callers.specs.declared.state.State.TheVariants as state
 use Rattle.rds_callers.proofs.Seen.{IsPut, set_twice}
 use Rattle.rds_callers.proofs.Doings.{tenant_put, former_put, at_none, at_port, receives}
@@ -32,4 +32,5 @@ returns-clause-done g c =
     (ap (λ l. set l c.in-Some.slot (state.Bound c.send-sent.new.self)) c.in-Some.ensures.lifted ∙ set_twice c.self.inside.states.items c.in-Some.slot state.Away (state.Bound c.send-sent.new.self)) in
     at_port c.send-sent.result c.args.port (Sends c.args.peer c.args.dport c.args.payload.now) c.self.inside.states.items (set c.lift_bound.new.states.items c.in-Some.slot (state.Bound c.send-sent.new.self)) c.args.self.now.places c.in-Some.slot c.in-Some.tenant (Bound c.send-sent.new.self.socket c.send-sent.new.self.got.items)
     (ap (λ v. v.places) c.self.view_is) put c.in-Some.ensures.port
-    (on_ok_weaker c.send-sent.result (λ sent. (c.send-sent.new.self.socket, sent, ap (λ v. Bound c.send-sent.new.self.socket v.items) c.send-sent.ensures.got)) c.send-sent.ensures.done)
+    (on_ok_weaker c.send-sent.result (λ sent. (c.send-sent.new.self.socket, sent, ap (λ v. Bound c.send-sent.new.self.socket v.items) c.send-sent.ensures.got))
+    (subst (λ (l : List ℕ). OnOk c.send-sent.result (SendsOrNot c.args.peer c.args.dport l c.in-Some.tenant.socket c.send-sent.new.self.socket)) c.in_ok-payload.ensures c.send-sent.ensures.done))

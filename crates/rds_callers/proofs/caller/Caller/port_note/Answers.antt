@@ -1,0 +1,6 @@
+use Rattle.std.proofs.Common.{ap}
+use Rattle.rds_callers.proofs.Doings.{standing}
+use Rattle.rds_callers.proofs.caller.Caller.port_note.Goals as goal
+
+pub returns-clause-note : goal.returns-clause-note
+returns-clause-note c = λ p at. c.port_note.ensures.note p (standing c.self.inside.states.items c.args.self.now.places c.args.slot c.from.result c.index_mut.result.now p c.self.invariant.whole (ap (λ v. v.places) c.self.view_is) c.from.ensures c.index_mut.ensures.value at).1
