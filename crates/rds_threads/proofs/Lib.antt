@@ -7,4 +7,5 @@ pub mod Finishing
 pub mod HandedOut
 pub mod Tying
 pub mod Receiving
-pub mod Settling
+pub mod Told
+pub mod Obeying

@@ -12,7 +12,7 @@ use Rattle.rds_report.specs.FinalState.{FinalHost, FinalJournal}
 use Rattle.rds_report.specs.Hosts.{IsAddress, address_of}
 use Rattle.rds_report.specs.Views.{AreFinalHosts, AreSides, host_view, host_views, side_view}
 use Rattle.rds_report.specs.declared.final_state.HostEnd.{HostEnd}
-use Rattle.rds_host.specs.Lines.{side_of}
+use Rattle.rds_gather.specs.Sides.{side_of}
 use Rattle.rds_threads.specs.Done.{AreDone}
 use Rattle.rds_threads.specs.Ends.{AreEnds, AreSound, HasJournal}
 use Rattle.rds_threads.proofs.Connected.{first_of}

@@ -1,5 +1,5 @@
 //! The two hosts of a run.
-ghost use Rattle.std.specs.Prelude.{◌≡◌, ◌≤◌, ◌<◌, All, IfOk, Some, length, slice_get};
+ghost use Rattle.std.specs.Prelude.{◌≡◌, ◌≤◌, ◌<◌, All, IfOk, Some, drop, length, slice_get, take};
 ghost use Rattle.rds_model.specs.declared.entry.TheConstants.{MAX_SLOTS};
 ghost use Rattle.rds_model.specs.declared.journal.TheConstants.{MAX_ENTRIES, MIN_ENTRIES};
 ghost use Rattle.rds_report.specs.Hosts.{address_of};
@@ -9,6 +9,7 @@ ghost use Rattle.rds_line_streams.specs.Streams.{AreNumbered, IsUnused};
 ghost use Rattle.rds_host.specs.Lines.{IsNewLine};
 ghost use Rattle.rds_fmap.specs.Readers.{WriterView};
 ghost use Rattle.rds_callers.specs.Places.{PlacesKeep};
+ghost use Rattle.rds_threads.specs.Obeyed.{HasObeyed, IsNewSlot};
 ghost use Rattle.rds_threads.specs.Tied.{AreTied};
 
 use rds_callers::{Caller, host_of, is_bind};
@@ -54,6 +55,7 @@ pub(crate) fn party<E: End>(
     requires unused { All (λ stream. IsUnused E.means stream.1) streams.items }
     requires least { MIN_ENTRIES ≤ limit }
     requires most { limit ≤ MAX_ENTRIES }
+    ensures slots { IfOk result (λ p. All IsNewSlot p.0.places) }
     ensures tied { IfOk result (λ p. AreTied p.0.places p.1.items) }
     ensures one { IfOk result (λ p. length p.1.items ≡ 1) }
     ensures new { IfOk result (λ p. (line : LineView E WriterView) → slice_get p.1.items 0 ≡ Some line → IsNewLine (address_of host) (address_of peer) limit streams.items line) }
@@ -75,6 +77,8 @@ pub(crate) fn bind_leading<R: Wait>(
 ) -> Result<usize, Memory>
     requires { All (λ p. IsCommand 2 p.command) commands.now }
     ensures count { IfOk result (λ count. count ≤ length commands.now) }
+    ensures low_did { IfOk result (λ count. HasObeyed 0 (take count commands.now) callers.old.0.places callers.new.0.places) }
+    ensures high_did { IfOk result (λ count. HasObeyed 1 (take count commands.now) callers.old.1.places callers.new.1.places) }
     ensures low { PlacesKeep callers.old.0.places callers.new.0.places }
     ensures high { PlacesKeep callers.old.1.places callers.new.1.places }
 {
@@ -97,7 +101,8 @@ pub(crate) fn bind_leading<R: Wait>(
 pub(crate) fn commands_from(commands: &[Placed], place: usize) -> &[Placed]
     requires place { place ≤ length commands.now }
     requires each { All (λ p. IsCommand 2 p.command) commands.now }
-    ensures { All (λ p. IsCommand 2 p.command) result.now }
+    ensures each { All (λ p. IsCommand 2 p.command) result.now }
+    ensures rest { result.now ≡ drop place commands.now }
 {
     let (_, rest) = commands.split_at(place);
     rest

@@ -1,6 +1,7 @@
 //! The threads of a run.
 ghost use Rattle.std.specs.Prelude.{All, IfOk};
 ghost use Rattle.rds_callers.specs.Places.{PlacesKeep};
+ghost use Rattle.rds_threads.specs.Obeyed.{HasObeyed};
 ghost use Rattle.rds_script.specs.Script.{IsCommand};
 ghost use Rattle.rds_host.specs.Lines.{AreTurned, pair_of};
 
@@ -39,7 +40,8 @@ fn call_all<R: Wait, G: Gate>(
     mut caller: Caller,
 ) -> Result<Caller, Memory>
     requires { All (λ p. IsCommand 2 p.command) commands.now }
-    ensures { IfOk result (λ after. PlacesKeep caller.places after.places) }
+    ensures did { IfOk result (λ after. HasObeyed host commands.now caller.places after.places) }
+    ensures keeps { IfOk result (λ after. PlacesKeep caller.places after.places) }
 {
     let mut turn = 0u32;
     for placed in commands {
@@ -62,6 +64,8 @@ fn call_both<R: Threads + Wait + Sync, G: Gate + Sync>(
     stop: &Stop,
 ) -> Result<(Caller, Caller), Memory>
     requires { All (λ p. IsCommand 2 p.command) commands.now }
+    ensures low_did { IfOk result (λ after. HasObeyed 0 commands.now callers.0.places after.0.places) }
+    ensures high_did { IfOk result (λ after. HasObeyed 1 commands.now callers.1.places after.1.places) }
     ensures low { IfOk result (λ after. PlacesKeep callers.0.places after.0.places) }
     ensures high { IfOk result (λ after. PlacesKeep callers.1.places after.1.places) }
 {
@@ -70,11 +74,13 @@ fn call_both<R: Threads + Wait + Sync, G: Gate + Sync>(
         rt,
         move || -> Result<Caller, Memory>
             requires { All (λ p. IsCommand 2 p.command) commands.now }
-            ensures { IfOk result (λ after. PlacesKeep low.places after.places) }
+            ensures did { IfOk result (λ after. HasObeyed 0 commands.now low.places after.places) }
+            ensures keeps { IfOk result (λ after. PlacesKeep low.places after.places) }
         { call_all(rt, alloc, commands, 0, gate, low) },
         move || -> Result<Caller, Memory>
             requires { All (λ p. IsCommand 2 p.command) commands.now }
-            ensures { IfOk result (λ after. PlacesKeep high.places after.places) }
+            ensures did { IfOk result (λ after. HasObeyed 1 commands.now high.places after.places) }
+            ensures keeps { IfOk result (λ after. PlacesKeep high.places after.places) }
         { call_all(rt, alloc, commands, 1, gate, high) },
     );
     stop.set();
@@ -93,6 +99,8 @@ pub(crate) fn play_both<E: End + Send, R: Threads + Wait + Sync, G: Gate + Sync>
     requires { All (λ p. IsCommand 2 p.command) commands.now }
     ensures low { AreTurned E.means pair_of lines.0.items result.1.0.items }
     ensures high { AreTurned E.means pair_of lines.1.items result.1.1.items }
+    ensures low_did { IfOk result.0 (λ after. HasObeyed 0 commands.now callers.0.places after.0.places) }
+    ensures high_did { IfOk result.0 (λ after. HasObeyed 1 commands.now callers.1.places after.1.places) }
     ensures low_slots { IfOk result.0 (λ after. PlacesKeep callers.0.places after.0.places) }
     ensures high_slots { IfOk result.0 (λ after. PlacesKeep callers.1.places after.1.places) }
 {
@@ -102,6 +110,8 @@ pub(crate) fn play_both<E: End + Send, R: Threads + Wait + Sync, G: Gate + Sync>
         rt,
         move || -> Result<(Caller, Caller), Memory>
             requires { All (λ p. IsCommand 2 p.command) commands.now }
+            ensures low_did { IfOk result (λ after. HasObeyed 0 commands.now callers.0.places after.0.places) }
+            ensures high_did { IfOk result (λ after. HasObeyed 1 commands.now callers.1.places after.1.places) }
             ensures low { IfOk result (λ after. PlacesKeep callers.0.places after.0.places) }
             ensures high { IfOk result (λ after. PlacesKeep callers.1.places after.1.places) }
         { call_both(rt, alloc, commands, gate, callers, stop) },
