@@ -103,8 +103,8 @@ leaves_more states now slot x y kept closed h o sound l p at end left = record {
   ends = λ other q k stood found. ⊎_elim
       (λ (t : slice_get closed other ≡ Some k). l.ends other q k stood t)
       (λ (t : (other ≡ length closed) × (h ≡ k)).
-          let same : p ≡ q = same_Some p q (sym at ∙ (ap (λ i. slice_get (seen states) i) (sym l.count ∙ sym t.0) ∙ stood)) in
-          subst (λ (z : Holding ReaderView). IsEndOf (holding_of q) z) t.1 (subst (λ (z : Place). IsEndOf (holding_of z) h) same end))
+      let same : p ≡ q = same_Some p q (sym at ∙ (ap (λ i. slice_get (seen states) i) (sym l.count ∙ sym t.0) ∙ stood)) in
+      subst (λ (z : Holding ReaderView). IsEndOf (holding_of q) z) t.1 (subst (λ (z : Place). IsEndOf (holding_of z) h) same end))
       (split_place closed h k other found);
   names = map-append kept_name kept (option_to_list o) ∙ ((λ i. l.names i ++ named p h o left i)
       ∙ (sym (somes_push (map name_of (take slot (seen states))) (name_of p)) ∙ ap somes (sym (map_push name_of (take slot (seen states)) p) ∙ ap (map name_of) (sym (take_more (seen states) slot p at)))));

@@ -52,7 +52,7 @@ module _ (states : List State) (whole : IsWhole states) where
   pub here_seen : (slot : ℕ) (x : State) → slice_get states slot ≡ Some x → (p : Place) × (shown x ≡ Some p) × (slice_get (seen states) slot ≡ Some p)
   here_seen slot x at =
       let e : option_map Some (slice_get (seen states) slot) ≡ Some (shown x) =
-          sym (slice_get-map Some (seen states) slot) ∙ (ap (λ l. slice_get l slot) (sym whole) ∙ (slice_get-map shown states slot ∙ ap (option_map shown) at)) in
+      sym (slice_get-map Some (seen states) slot) ∙ (ap (λ l. slice_get l slot) (sym whole) ∙ (slice_get-map shown states slot ∙ ap (option_map shown) at)) in
       let m = mapped Some (slice_get (seen states) slot) (shown x) e in
       (m.0, sym m.2, m.1)
 
