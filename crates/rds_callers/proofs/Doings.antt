@@ -1,5 +1,5 @@
 -- What the calls on one slot do to all of them.
-use Rattle.std.proofs.Common.{◌≡◌, ◌≢◌, ◌==◌, ℕ, ◌<◌, ◌+◌, ◌≤◌, Bool, true, false, not, List, [], ◌∷◌, ◌++◌, length, set, get_or, Result, Ok, Err, Option, Some, None, IfSome, IfNone, slice_get, OnOk, OnErr, IsErr, inl, inr, refl, sym, ap, subst, ◌∙◌, ⊎_elim, arith}
+use Rattle.std.proofs.Common.{◌≡◌, ℕ, ◌<◌, ◌+◌, ◌≤◌, Bool, true, false, not, List, [], ◌∷◌, ◌++◌, length, set, get_or, Result, Ok, Err, Option, Some, None, IfSome, IfNone, slice_get, OnOk, OnErr, inl, inr, refl, sym, ap, subst, ◌∙◌, ⊎_elim, arith}
 use Rattle.std.proofs.lemmas.Bool.{cases_lt, eq-eqb}
 use Rattle.std.proofs.Common.{eqb-true}
 use Rattle.std.proofs.lemmas.Option.{same_Some, slice_get_within}

@@ -1,5 +1,5 @@
 -- What is left of the slots of a caller. This project's own.
-use Rattle.std.specs.Prelude.{◌≡◌, ℕ, List, [], ◌∷◌, ◌++◌, All, Option, Some, None, length, map, slice_get}
+use Rattle.std.specs.Prelude.{◌≡◌, ℕ, List, [], ◌++◌, All, Option, Some, None, length, map, slice_get}
 use Rattle.rds_fmap.specs.Readers.{ReaderView}
 use Rattle.rds_mail.specs.Learning.{AllGot}
 use Rattle.rds_mail.specs.Numbers.{bare_items}

@@ -1,9 +1,9 @@
-use Rattle.std.proofs.Common.{◌+◌, ◌++◌, ◌∷◌, [], List, Some, set, slice_get, get_or, sym, ap, subst, ◌∙◌, arith}
+use Rattle.std.proofs.Common.{◌+◌, ◌++◌, Some, set, get_or, sym, ap, subst, ◌∙◌, arith}
 use Rattle.std.proofs.lemmas.Option.{same_Some, slice_get-get_or}
 use Rattle.std.specs.Option.{option_to_list}
 use Rattle.rds_parts.specs.PlaceLaws.{stands}
 use Rattle.rds_callers.proofs.Seen.{here_seen}
-use Rattle.rds_callers.proofs.Leaving.{Leaves, leaves_none, leaves_more, leaves_all}
+use Rattle.rds_callers.proofs.Leaving.{Leaves, leaves_more}
 use Rattle.rds_callers.proofs.ending.end_all.Goals as goal
 
 pub end-requires : goal.end-requires

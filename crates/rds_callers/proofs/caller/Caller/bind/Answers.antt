@@ -1,7 +1,7 @@
-use Rattle.std.proofs.Common.{◌≤◌, arith, Result, Ok, inl, inr, refl, sym, set, ap, subst, ◌∙◌}
+use Rattle.std.proofs.Common.{◌≤◌, arith, Ok, inl, inr, sym, set, ap, subst, ◌∙◌}
 use Rattle.std.proofs.lemmas.Result.{on_ok_weaker}
-use Rattle.rds_socket.specs.Binds.{BindFits, BindAnyFits}
-use Rattle.rds_callers.specs.Doing.{IsFree, IsFirstFree, NoneVacant}
+use Rattle.rds_socket.specs.Binds.{BindFits}
+use Rattle.rds_callers.specs.Doing.{IsFree, NoneVacant}
 use Rattle.rds_callers.specs.Places.{Vacant, PlacesKeep}
 use Rattle.rds_callers.specs.States.{seen}
 use Rattle.rds_callers.specs.declared.state.State.TheVariants as state

@@ -1,6 +1,6 @@
-use Rattle.std.proofs.Common.{◌≡◌, Result, Ok, inl, inr, refl, sym, set, ap, subst, ◌∙◌}
+use Rattle.std.proofs.Common.{◌≡◌, Ok, inl, inr, sym, set, ap, subst, ◌∙◌}
 use Rattle.std.proofs.lemmas.Result.{on_ok_weaker}
-use Rattle.rds_socket.specs.Binds.{BindFits, BindAnyFits}
+use Rattle.rds_socket.specs.Binds.{BindAnyFits}
 use Rattle.rds_callers.specs.Doing.{IsFree, IsFirstFree, NoneVacant}
 use Rattle.rds_callers.specs.Places.{Vacant, PlacesKeep}
 use Rattle.rds_callers.specs.States.{seen}
