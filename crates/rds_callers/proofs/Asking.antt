@@ -1,5 +1,5 @@
 -- What an order without a payload comes to.
-use Rattle.std.proofs.Common.{◌≡◌, ℕ, List, Option, Result, Ok, Err, Some, IfErr, OnOk, OnErr, inl, inr, refl, sym, ap, subst, ◌∙◌}
+use Rattle.std.proofs.Common.{◌≡◌, ℕ, Result, Ok, Err, Some, IfErr, OnOk, OnErr, inl, inr, refl, sym, ap, subst, ◌∙◌}
 use Rattle.std.proofs.lemmas.Option.{same_Some}
 use Rattle.rds_model.specs.declared.order.Order.{Order}
 use Rattle.rds_model.specs.declared.order.Order.TheVariants as order
@@ -7,7 +7,7 @@ use Rattle.rds_wire.specs.declared.memory.Memory.{Memory}
 use Rattle.rds_fmap.specs.Readers.{ReaderView}
 use Rattle.rds_parts.specs.declared.error.CancelError.{CancelError}
 use Rattle.rds_parts.specs.declared.error.CancelError.TheVariants as cancel
-use Rattle.rds_parts.specs.Lanes.{Lane, IsPutTo}
+use Rattle.rds_parts.specs.Lanes.{IsPutTo}
 use Rattle.rds_parts.specs.Refusals.{AskRefused}
 use Rattle.rds_socket.specs.Holding.{Holding, Open}
 use Rattle.rds_socket.specs.Calls.{with_own, with_routes}

@@ -1,5 +1,5 @@
 -- What the calls on one slot do to all of them.
-use Rattle.std.proofs.Common.{◌≡◌, ◌≢◌, ◌==◌, ℕ, ◌<◌, ◌+◌, ◌≤◌, Bool, true, false, not, List, [], ◌∷◌, ◌++◌, length, set, get_or, Result, Ok, Err, Option, Some, None, IfSome, IfNone, slice_get, OnOk, OnErr, IsErr, inl, inr, refl, sym, ap, subst, ◌∙◌, ⊎_elim, arith}
+use Rattle.std.proofs.Common.{◌≡◌, ℕ, ◌<◌, ◌+◌, ◌≤◌, Bool, true, false, not, List, [], ◌∷◌, ◌++◌, length, set, get_or, Result, Ok, Err, Option, Some, None, IfSome, IfNone, slice_get, OnOk, OnErr, inl, inr, refl, sym, ap, subst, ◌∙◌, ⊎_elim, arith}
 use Rattle.std.proofs.lemmas.Bool.{cases_lt, eq-eqb}
 use Rattle.std.proofs.Common.{eqb-true}
 use Rattle.std.proofs.lemmas.Option.{same_Some, slice_get_within}
@@ -79,11 +79,14 @@ module _ (states : List State) (whole : IsWhole states) where
 
   pub next_seen : (slot : ℕ) (h : Holding ReaderView) → ((other : ℕ) (x : State) → slice_get states other ≡ Some x → other < slot → is_vacant x ≡ false)
       → slice_get states slot ≡ Some (state.Vacant h) → IsNext (seen states) slot h
-  next_seen slot h first at = (read_seen states whole slot (state.Vacant h) at, λ other k there.
-      let f = find_seen states whole other (Vacant k) there in ⊎_elim
-      (λ (l : other < slot). absurd (true_false (sym (shows_vacant f.0 k f.2) ∙ first other f.0 f.1 l)))
-      (λ (l : slot ≤ other). l)
-      (cases_lt other slot))
+  next_seen slot h first at = (
+    read_seen states whole slot (state.Vacant h) at,
+    λ other k there.
+        let f = find_seen states whole other (Vacant k) there in ⊎_elim
+        (λ (l : other < slot). absurd (true_false (sym (shows_vacant f.0 k f.2) ∙ first other f.0 f.1 l)))
+        (λ (l : slot ≤ other). l)
+        (cases_lt other slot),
+  )
 
 -- the socket at a slot is another now
 pub tenant_put : (old new : List State) (slot : ℕ) (t u : Tenant) → IsSound old → slice_get old slot ≡ Some (state.Bound t) → u.socket.port ≡ t.socket.port

@@ -1,7 +1,6 @@
 -- What is left of slots, one after another.
 use Rattle.std.proofs.Common.{◌≡◌, ◌⊎◌, ℕ, zero, suc, ◌+◌, ◌<◌, ◌≤◌, List, [], ◌∷◌, ◌++◌, All, length, map, take, set, get_or, Option, Some, None, slice_get, inl, inr, refl, sym, ap, subst, ◌∙◌, ⊎_elim, arith}
 use Rattle.std.specs.Option.{option_to_list}
-use Rattle.std.proofs.lemmas.Bool.{cases_eq}
 use Rattle.std.proofs.lemmas.Option.{same_Some, slice_get_within}
 use Rattle.std.proofs.lemmas.List.{append-nil, length_push, length-set, map_push, map-append}
 use Rattle.std.proofs.Math.Seq.{take-length}
@@ -11,11 +10,11 @@ use Rattle.rds_parts.specs.Lanes.{Ascend}
 use Rattle.rds_parts.specs.PlaceLaws.{there}
 use Rattle.rds_report.specs.declared.final_state.Kept.{Kept}
 use Rattle.rds_socket.specs.Holding.{Holding}
-use Rattle.rds_callers.specs.Places.{Place, Vacant, Bound, Ended, Spare, ArePlaces, holding_of, somes}
-use Rattle.rds_callers.specs.Ends.{IsEndOf, AreEndsOf, AreLeft, IsLeft, HasAll, HasLeft, name_of, kept_name}
-use Rattle.rds_callers.specs.States.{shown, seen, IsSound}
+use Rattle.rds_callers.specs.Places.{Place, Vacant, Bound, Ended, Spare, holding_of, somes}
+use Rattle.rds_callers.specs.Ends.{IsEndOf, AreEndsOf, AreLeft, IsLeft, HasLeft, name_of, kept_name}
+use Rattle.rds_callers.specs.States.{seen, IsSound}
 use Rattle.rds_callers.specs.declared.state.State.{State}
-use Rattle.rds_callers.proofs.Seen.{here_seen, count_seen}
+use Rattle.rds_callers.proofs.Seen.{count_seen}
 
 -- the ends of all slots before this one, and what their sockets had; the slots from this one on are still there
 pub record Leaves (states now : List State) (slot : ℕ) (kept : List Kept) (closed : List (Holding ReaderView)) : Type 0 where
@@ -103,8 +102,8 @@ leaves_more states now slot x y kept closed h o sound l p at end left = record {
   ends = λ other q k stood found. ⊎_elim
       (λ (t : slice_get closed other ≡ Some k). l.ends other q k stood t)
       (λ (t : (other ≡ length closed) × (h ≡ k)).
-          let same : p ≡ q = same_Some p q (sym at ∙ (ap (λ i. slice_get (seen states) i) (sym l.count ∙ sym t.0) ∙ stood)) in
-          subst (λ (z : Holding ReaderView). IsEndOf (holding_of q) z) t.1 (subst (λ (z : Place). IsEndOf (holding_of z) h) same end))
+      let same : p ≡ q = same_Some p q (sym at ∙ (ap (λ i. slice_get (seen states) i) (sym l.count ∙ sym t.0) ∙ stood)) in
+      subst (λ (z : Holding ReaderView). IsEndOf (holding_of q) z) t.1 (subst (λ (z : Place). IsEndOf (holding_of z) h) same end))
       (split_place closed h k other found);
   names = map-append kept_name kept (option_to_list o) ∙ ((λ i. l.names i ++ named p h o left i)
       ∙ (sym (somes_push (map name_of (take slot (seen states))) (name_of p)) ∙ ap somes (sym (map_push name_of (take slot (seen states)) p) ∙ ap (map name_of) (sym (take_more (seen states) slot p at)))));

@@ -1,5 +1,5 @@
 -- One place of a caller is put in the place of another.
-use Rattle.std.proofs.Common.{◌≡◌, ◌≢◌, ◌⊎◌, ℕ, ◌<◌, ◌≤◌, List, [], ◌∷◌, length, set, Some, slice_get, inl, inr, refl, sym, ap, subst, ◌∙◌, ⊎_elim, arith}
+use Rattle.std.proofs.Common.{◌≡◌, ◌≢◌, ◌⊎◌, ℕ, ◌≤◌, List, set, Some, slice_get, inl, inr, refl, sym, ap, subst, ◌∙◌, ⊎_elim, arith}
 use Rattle.std.proofs.lemmas.Bool.{cases_eq}
 use Rattle.std.proofs.lemmas.List.{length-set}
 use Rattle.std.proofs.lemmas.Option.{same_Some, slice_get_within}
@@ -40,24 +40,24 @@ module _ (places : List Place) (slot : ℕ) (old new : Place) (was : slice_get p
         (read places slot other old new p was is);
     ports = λ i j o q got more at_i at_j same. ⊎_elim
         (λ (t : (i ≡ slot) × (Bound o got ≡ new)). ⊎_elim
-            (λ (u : (j ≡ slot) × (Bound q more ≡ new)). t.0 ∙ sym u.0)
-            (λ (u : (j ≢ slot) × (slice_get places j ≡ Some (Bound q more))). t.0 ∙ sym (m.port o q got more j (sym t.1) u.1 same))
-            (read places slot j old new (Bound q more) was at_j))
+        (λ (u : (j ≡ slot) × (Bound q more ≡ new)). t.0 ∙ sym u.0)
+        (λ (u : (j ≢ slot) × (slice_get places j ≡ Some (Bound q more))). t.0 ∙ sym (m.port o q got more j (sym t.1) u.1 same))
+        (read places slot j old new (Bound q more) was at_j))
         (λ (t : (i ≢ slot) × (slice_get places i ≡ Some (Bound o got))). ⊎_elim
-            (λ (u : (j ≡ slot) × (Bound q more ≡ new)). m.port q o more got i (sym u.1) t.1 (sym same) ∙ sym u.0)
-            (λ (u : (j ≢ slot) × (slice_get places j ≡ Some (Bound q more))). a.ports i j o q got more t.1 u.1 same)
-            (read places slot j old new (Bound q more) was at_j))
+        (λ (u : (j ≡ slot) × (Bound q more ≡ new)). m.port q o more got i (sym u.1) t.1 (sym same) ∙ sym u.0)
+        (λ (u : (j ≢ slot) × (slice_get places j ≡ Some (Bound q more))). a.ports i j o q got more t.1 u.1 same)
+        (read places slot j old new (Bound q more) was at_j))
         (read places slot i old new (Bound o got) was at_i);
     order = λ i j h p at_i at_j le. ⊎_elim
         (λ (t : (i ≡ slot) × (Vacant h ≡ new)).
-            let v = m.from (h, sym t.1) in ⊎_elim
-            (λ (u : (j ≡ slot) × (p ≡ new)). (h, u.1 ∙ sym t.1))
-            (λ (u : (j ≢ slot) × (slice_get places j ≡ Some p)). a.order slot j v.0 p (was ∙ ap Some v.1) u.1 (let e = t.0 in omega arith))
-            (read places slot j old new p was at_j))
+        let v = m.from (h, sym t.1) in ⊎_elim
+        (λ (u : (j ≡ slot) × (p ≡ new)). (h, u.1 ∙ sym t.1))
+        (λ (u : (j ≢ slot) × (slice_get places j ≡ Some p)). a.order slot j v.0 p (was ∙ ap Some v.1) u.1 (let e = t.0 in omega arith))
+        (read places slot j old new p was at_j))
         (λ (t : (i ≢ slot) × (slice_get places i ≡ Some (Vacant h))). ⊎_elim
-            (λ (u : (j ≡ slot) × (p ≡ new)). subst IsVacantPlace (sym u.1) (m.order i h t.1 t.0 (let e = u.0 in omega arith)))
-            (λ (u : (j ≢ slot) × (slice_get places j ≡ Some p)). a.order i j h p t.1 u.1 le)
-            (read places slot j old new p was at_j))
+        (λ (u : (j ≡ slot) × (p ≡ new)). subst IsVacantPlace (sym u.1) (m.order i h t.1 t.0 (let e = u.0 in omega arith)))
+        (λ (u : (j ≢ slot) × (slice_get places j ≡ Some p)). a.order i j h p t.1 u.1 le)
+        (read places slot j old new p was at_j))
         (read places slot i old new (Vacant h) was at_i);
   }
 
@@ -66,10 +66,10 @@ module _ (places : List Place) (slot : ℕ) (old new : Place) (was : slice_get p
     count = length-set places slot new;
     each = λ other p q stood stands. ⊎_elim
         (λ (t : (other ≡ slot) × (q ≡ new)).
-            let is : old ≡ p = same_Some old p (sym was ∙ (ap (λ i. slice_get places i) (sym t.0) ∙ stood)) in
-            subst (λ (x : Place). PlaceKeeps (holding_of p) (holding_of x)) (sym t.1) (subst (λ (x : Place). PlaceKeeps (holding_of x) (holding_of new)) is k))
+        let is : old ≡ p = same_Some old p (sym was ∙ (ap (λ i. slice_get places i) (sym t.0) ∙ stood)) in
+        subst (λ (x : Place). PlaceKeeps (holding_of p) (holding_of x)) (sym t.1) (subst (λ (x : Place). PlaceKeeps (holding_of x) (holding_of new)) is k))
         (λ (t : (other ≢ slot) × (slice_get places other ≡ Some q)).
-            subst (λ (x : Place). PlaceKeeps (holding_of p) (holding_of x)) (same_Some p q (sym stood ∙ t.1)) (keeps_same (holding_of p)))
+        subst (λ (x : Place). PlaceKeeps (holding_of p) (holding_of x)) (same_Some p q (sym stood ∙ t.1)) (keeps_same (holding_of p)))
         (read places slot other old new q was stands);
   }
 

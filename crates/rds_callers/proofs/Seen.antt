@@ -1,5 +1,5 @@
 -- The slots as they are held, and as contracts see them.
-use Rattle.std.proofs.Common.{◌≡◌, ℕ, zero, suc, ◌<◌, List, [], ◌∷◌, length, map, set, Option, Some, None, slice_get, refl, sym, ap, subst, ◌∙◌, arith}
+use Rattle.std.proofs.Common.{◌≡◌, ℕ, zero, suc, List, [], ◌∷◌, length, map, set, Option, Some, None, slice_get, refl, sym, ap, subst, ◌∙◌, arith}
 use Rattle.std.proofs.lemmas.List.{length-map, length-set, map-set}
 use Rattle.std.proofs.lemmas.Option.{same_Some, slice_get-map}
 use Rattle.std.specs.Option.{option_map}
@@ -52,7 +52,7 @@ module _ (states : List State) (whole : IsWhole states) where
   pub here_seen : (slot : ℕ) (x : State) → slice_get states slot ≡ Some x → (p : Place) × (shown x ≡ Some p) × (slice_get (seen states) slot ≡ Some p)
   here_seen slot x at =
       let e : option_map Some (slice_get (seen states) slot) ≡ Some (shown x) =
-          sym (slice_get-map Some (seen states) slot) ∙ (ap (λ l. slice_get l slot) (sym whole) ∙ (slice_get-map shown states slot ∙ ap (option_map shown) at)) in
+      sym (slice_get-map Some (seen states) slot) ∙ (ap (λ l. slice_get l slot) (sym whole) ∙ (slice_get-map shown states slot ∙ ap (option_map shown) at)) in
       let m = mapped Some (slice_get (seen states) slot) (shown x) e in
       (m.0, sym m.2, m.1)
 

@@ -1,5 +1,5 @@
 -- Vacant slots are given up, one after another.
-use Rattle.std.proofs.Common.{◌≡◌, ℕ, zero, suc, ◌+◌, ◌≤◌, List, [], ◌∷◌, length, map, set, Option, Some, None, slice_get, refl, sym, ap, subst, ◌∙◌, arith}
+use Rattle.std.proofs.Common.{◌≡◌, ℕ, zero, suc, ◌+◌, ◌≤◌, List, [], ◌∷◌, length, map, set, Some, slice_get, refl, sym, ap, subst, ◌∙◌, arith}
 use Rattle.std.specs.Option.{option_map}
 use Rattle.std.proofs.lemmas.Option.{same_Some, slice_get-map}
 use Rattle.std.proofs.lemmas.List.{length-map}
@@ -8,7 +8,7 @@ use Rattle.rds_mail.proofs.Numbers.{cons_head, cons_tail}
 use Rattle.rds_fmap.specs.Readers.{ReaderView}
 use Rattle.rds_socket.specs.Holding.{Holding, Open}
 use Rattle.rds_callers.specs.Places.{Place, Vacant, Bound, Ended, Spare, ArePlaces, HasKept, holding_of, spared, somes}
-use Rattle.rds_callers.specs.States.{shown, seen, IsWhole, IsSound, spared_state}
+use Rattle.rds_callers.specs.States.{shown, seen, IsSound, spared_state}
 use Rattle.rds_callers.specs.declared.state.State.{State}
 use Rattle.rds_callers.specs.declared.state.State.TheVariants as state
 use Rattle.rds_callers.proofs.Seen.{mapped, somes_some}

@@ -1,5 +1,5 @@
 -- What is left of the slots of a caller. This project's own.
-use Rattle.std.specs.Prelude.{◌≡◌, ℕ, List, [], ◌∷◌, ◌++◌, All, Option, Some, None, length, map, slice_get}
+use Rattle.std.specs.Prelude.{◌≡◌, ℕ, List, [], ◌++◌, All, Option, Some, None, length, map, slice_get}
 use Rattle.rds_fmap.specs.Readers.{ReaderView}
 use Rattle.rds_mail.specs.Learning.{AllGot}
 use Rattle.rds_mail.specs.Numbers.{bare_items}
@@ -28,13 +28,18 @@ name_of (Spare h) = None
 abbrev pub kept_name : Kept → ℕ × ℕ
 kept_name k = (k.slot, k.port)
 
--- What the socket of a place has, in the end: all that was taken from its mailbox, which was found empty. What an open one still held
--- it handed out; what an ended one held is unread.
-abbrev pub HasAll : Place → Holding ReaderView → Kept → Type 0
-HasAll (Vacant h) closed k = ⊥
-HasAll (Bound o got) closed k = (k.got.items ≡ bare_items closed.inbox.get.got) × (k.unread.items ≡ []) × AllGot closed.inbox.get
-HasAll (Ended port h got) closed k = (k.got.items ≡ got) × (got ++ k.unread.items ≡ bare_items closed.inbox.get.got) × AllGot closed.inbox.get
-HasAll (Spare h) closed k = ⊥
+-- what an open socket still held it handed out in the end, and what an ended one held is unread
+abbrev pub HandsOut : Place → Kept → Type 0
+HandsOut (Vacant h) k = ⊥
+HandsOut (Bound o got) k = k.unread.items ≡ []
+HandsOut (Ended port h got) k = k.got.items ≡ got
+HandsOut (Spare h) k = ⊥
+
+-- what the socket of a place has: all that was taken from its mailbox, which was found empty
+pub record HasAll (p : Place) (closed : Holding ReaderView) (k : Kept) : Type 0 where
+  pub all : k.got.items ++ k.unread.items ≡ bare_items closed.inbox.get.got
+  pub empty : AllGot closed.inbox.get
+  pub unread : HandsOut p k
 
 -- what is kept of one place
 abbrev pub HasLeft : Place → Holding ReaderView → Option Kept → Type 0

@@ -1,5 +1,5 @@
 -- The slots as they are held, and as contracts see them. This project's own.
-use Rattle.std.specs.Prelude.{◌≡◌, ◌==◌, ℕ, Bool, true, false, List, [], ◌∷◌, map, Option, Some, None, slice_get, length, ◌≤◌}
+use Rattle.std.specs.Prelude.{◌≡◌, ◌==◌, ℕ, Bool, true, false, List, map, Option, Some, None, slice_get, length, ◌≤◌}
 use Rattle.rds_fmap.specs.Readers.{ReaderView}
 use Rattle.rds_socket.specs.Holding.{Holding}
 use Rattle.rds_callers.specs.Places.{Place, ArePlaces, Vacant, Bound, Ended, Spare, somes}

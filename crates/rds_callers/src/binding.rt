@@ -124,7 +124,7 @@ fn bind_vacant(
 {
     match vacant.bind(port, sndbuf, rcvbuf) {
         Ok(socket) => (State::Bound(Tenant::new(alloc, socket)), Ok(())),
-        Err((vacant, _)) => (State::Vacant(vacant), Err(Memory)),
+        Err((vacant, _in_use)) => (State::Vacant(vacant), Err(Memory)),
     }
 }
 
@@ -150,7 +150,7 @@ fn bind_any_vacant(
             (State::Bound(Tenant::new(alloc, socket)), Ok(()))
         }
         Ok(socket) => (ended(alloc, socket), Err(Memory)),
-        Err((vacant, _)) => (State::Vacant(vacant), Err(Memory)),
+        Err((vacant, _none_free)) => (State::Vacant(vacant), Err(Memory)),
     }
 }
 

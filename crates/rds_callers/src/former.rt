@@ -100,10 +100,14 @@ impl FormerTenant {
     }
 
     /// What the socket has, once what is left was taken out unread, and its slot's end.
-    pub(crate) fn end<R: Wait>(self, rt: &R, alloc: Global) -> Result<(Kept, Closed<Reader>), Memory>
+    pub(crate) fn end<R: Wait>(
+        self,
+        rt: &R,
+        alloc: Global,
+    ) -> Result<(Kept, Closed<Reader>), Memory>
         ensures name { IfOk result (λ r. (r.0.slot ≡ self.closed.words.slot) × (r.0.port ≡ self.port)) }
         ensures got { IfOk result (λ r. r.0.got ≡ self.got) }
-        ensures unread { IfOk result (λ r. self.got.items ++ r.0.unread.items ≡ bare_items r.1.inbox.get.got) }
+        ensures all { IfOk result (λ r. r.0.got.items ++ r.0.unread.items ≡ bare_items r.1.inbox.get.got) }
         ensures empty { IfOk result (λ r. AllGot r.1.inbox.get) }
         ensures ends { IfOk result (λ r. IsEndOf self.closed r.1) }
     {

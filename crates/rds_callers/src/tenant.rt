@@ -178,7 +178,7 @@ impl Tenant {
         alloc: Global,
     ) -> Result<(Kept, Closed<Reader>), Memory>
         ensures name { IfOk result (λ r. (r.0.slot ≡ self.socket.own.words.slot) × (r.0.port ≡ self.socket.port)) }
-        ensures got { IfOk result (λ r. r.0.got.items ≡ bare_items r.1.inbox.get.got) }
+        ensures all { IfOk result (λ r. r.0.got.items ++ r.0.unread.items ≡ bare_items r.1.inbox.get.got) }
         ensures unread { IfOk result (λ r. r.0.unread.items ≡ []) }
         ensures empty { IfOk result (λ r. AllGot r.1.inbox.get) }
         ensures ends { IfOk result (λ r. IsEndOf self.socket.own r.1) }

@@ -1,11 +1,11 @@
-use Rattle.std.proofs.Common.{Result, Ok, refl, sym, set, ap, subst, ◌∙◌}
+use Rattle.std.proofs.Common.{set, ap, subst, ◌∙◌}
 use Rattle.std.proofs.lemmas.Result.{on_ok_weaker}
-use Rattle.rds_callers.specs.Places.{Bound, Ended, PlacesKeep}
+use Rattle.rds_callers.specs.Places.{Bound, PlacesKeep}
 use Rattle.rds_callers.specs.States.{seen}
-use Rattle.rds_callers.specs.Tenants.{Sends, ReceivesNext, Cancels, Closes}
+use Rattle.rds_callers.specs.Tenants.{Cancels}
 use Rattle.rds_callers.specs.declared.state.State.TheVariants as state
-use Rattle.rds_callers.proofs.Seen.{IsPut, set_twice}
-use Rattle.rds_callers.proofs.Doings.{tenant_put, former_put, at_none, at_port, receives}
+use Rattle.rds_callers.proofs.Seen.{set_twice}
+use Rattle.rds_callers.proofs.Doings.{tenant_put, at_none, at_port}
 use Rattle.rds_callers.proofs.caller.Caller.cancel.Goals as goal
 
 pub returns-in_default-clause-done : goal.returns-in_default-clause-done

@@ -1,4 +1,4 @@
-use Rattle.std.proofs.Common.{◌+◌, ◌-◌, set, sym, ap, subst, ◌∙◌, refl, arith}
+use Rattle.std.proofs.Common.{◌-◌, set, sym, ap, subst, ◌∙◌, refl, arith}
 use Rattle.std.proofs.lemmas.Bool.{eqb-false}
 use Rattle.rds_parts.specs.PlaceLaws.{stands}
 use Rattle.rds_callers.specs.Places.{PlacesKeep, with_holding}

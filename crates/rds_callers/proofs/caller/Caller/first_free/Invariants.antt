@@ -1,4 +1,4 @@
-use Rattle.std.proofs.Common.{◌≡◌, ℕ, ◌<◌}
+use Rattle.std.proofs.Common.{ℕ, ◌<◌}
 use Rattle.rds_parts.specs.Ports.{first_port, port_after}
 use Rattle.rds_callers.specs.Doing.{IsHeld}
 use Rattle.rds_callers.proofs.caller.Caller.first_free.Given as goal
