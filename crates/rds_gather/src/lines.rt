@@ -59,9 +59,10 @@ impl LinesLeft {
         ensures orders { self.new.orders.items ≡ self.old.orders.items }
         ensures boxes { self.new.boxes.items ≡ self.old.boxes.items }
     {
-        self.journals.reserve(lines)?;
-        self.orders.reserve(lines)?;
-        self.boxes.reserve(lines)?;
+        let journals = self.journals.reserve(lines);
+        let orders = self.orders.reserve(lines);
+        let boxes = self.boxes.reserve(lines);
+        journals.and(orders).and(boxes)?;
         Ok(())
     }
 }

@@ -1,4 +1,4 @@
-use Rattle.std.proofs.Common.{◌≡◌, map, sym, ap, ◌∙◌}
+use Rattle.std.proofs.Common.{◌≡◌, map, sym, ap, ◌∙◌, rules}
 use Rattle.rds_fmap.specs.Readers.{ReaderView, WriterView}
 use Rattle.rds_parts.specs.Lanes.{IsOf}
 use Rattle.rds_joins.specs.Joins.{IsFrom, sender_in, slot_of_order}
@@ -42,3 +42,7 @@ returns-clause-joined g c =
     c.in_ok-left.ensures.orders lanes c.in_ok-join_all_orders.ensures.shown)
     (each_same (IsShown sender_in IsFrom) (map (λ b. b.get) c.in_ok-slots.slots.inboxes.items) (map (λ (h : Holding ReaderView). h.inbox.get) closed) (rows_left c.deref_mut-2.result.now) (box_rows lines)
     c.in_ok-slots.ensures.inboxes boxes c.in_ok-join_all_receipts.ensures.shown)
+
+-- refused where what was kept is dropped
+pub returns-clause-kept : goal.returns-clause-kept
+returns-clause-kept g c = search rules

@@ -13,9 +13,9 @@ use Rattle.rds_gather.specs.Sides.{side_of}
 use Rattle.rds_gather.proofs.Columns.{mapped_push, pushed_map}
 use Rattle.rds_gather.proofs.lines.take_lines.Goals as goal
 
-both_ok : {X Y Z : Type 0} (a : Result X Z) (b : Result Y Z) → is_ok (result_and a b) ≡ true → (is_ok a ≡ true) × (is_ok b ≡ true)
-both_ok (Ok x) b is = (refl, is)
-both_ok (Err e) b is = absurd (false≢true is)
+both_ok : {X Y Z : Type 0} (a : Result X Z) (b r : Result Y Z) → r ≡ result_and a b → is_ok r ≡ true → (is_ok a ≡ true) × (is_ok b ≡ true)
+both_ok (Ok x) b r is ok = (refl, ap is_ok (sym is) ∙ ok)
+both_ok (Err e) b r is ok = absurd (false≢true (ap is_ok (sym is) ∙ ok))
 
 on_ok : {X Z : Type 0} (r : Result X Z) (P : Type 0) → OnOk r P → is_ok r ≡ true → P
 on_ok (Ok x) P known is = known
@@ -33,7 +33,7 @@ loop-line-preserved g c =
     let new = c.add.new.self in (
       All-push (KeepsLine (λ w. w.published)) seen line c.loop-line.invariant.0 own.ensures.kept,
       λ ok.
-          let both = both_ok c.loop-line.all c.add.result (ap is_ok (sym c.and-all.ensures) ∙ ok) in
+          let both = both_ok c.loop-line.all c.add.result c.and-all.result c.and-all.ensures ok in
           let inv = c.loop-line.invariant.1 both.0 in (
             mapped_push side_view side_of old.journals.items new.journals.items seen (own.result.peer, own.result.journal) line (on_ok c.add.result _ c.add.ensures.journals both.1) inv.0
                 (same_side own.result.peer line.channel.conn.peer own.result.journal.past (line_past line) own.ensures.peer own.ensures.past),

@@ -1,4 +1,4 @@
-use Rattle.std.proofs.Common.{◌<◌, ◌++◌, List, length, get_or, option_map, sym, ap, ◌∙◌, arith}
+use Rattle.std.proofs.Common.{◌<◌, ◌++◌, List, length, get_or, option_map, sym, ap, ◌∙◌, arith, rules}
 use Rattle.std.specs.declared.vec.IntoIter.{IntoIter}
 use Rattle.std.specs.Global.{Global}
 use Rattle.std.specs.Vec.Iter.{into_iter_items}
@@ -33,3 +33,7 @@ loop-i-preserved c =
     (ap (option_map pass) next.1 ∙ sym (slice_get-map pass (into_iter_items row) 0))
     c.loop-i.invariant.1 in
     (map-set f old i new ∙ taken.0, c.in_ok-add_pass.ensures ∙ (ap (λ (l : List (Putter Order)). got ++ l) (list_of_map pass route) ∙ taken.1))
+
+-- refused where the putters of the first slot stay
+pub loop-i-init : goal.loop-i-init
+loop-i-init c = search rules
