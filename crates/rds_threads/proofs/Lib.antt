@@ -9,3 +9,5 @@ pub mod Tying
 pub mod Receiving
 pub mod Told
 pub mod Obeying
+pub mod Keeping
+pub mod Listening

@@ -18,7 +18,7 @@ use Rattle.rds_socket.specs.Holding.{Holding}
 use Rattle.rds_callers.specs.Commands.{binds, commander}
 use Rattle.rds_callers.specs.Ends.{AreEndsOf, AreLeft, HasAll, IsLeft, kept_name, name_of}
 use Rattle.rds_callers.specs.Places.{Bound, Ended, Place, Spare, Vacant, holding_of, somes, spared, vacant_places, with_holding}
-use Rattle.rds_threads.specs.Obeyed.{HasObeyed, IsNewSlot, Obeys, handed_by, socket_name}
+use Rattle.rds_threads.specs.Obeyed.{HasObeyed, IsNewSlot, Obeys, HandedOutAt, socket_name}
 use Rattle.rds_threads.specs.Tied.{PlacesHear}
 use Rattle.rds_threads.proofs.Tying.{at_map}
 
@@ -73,12 +73,6 @@ names_spared places = ap (λ (l : List (Option (ℕ × ℕ))). somes l) (go plac
     go : (ps : List Place) → map name_of (map spared ps) ≡ map name_of ps
     go [] = refl
     go (p ∷ ps) = (λ i. name_spared p i ∷ map name_of (map spared ps)) ∙ ap (λ (l : List (Option (ℕ × ℕ))). name_of p ∷ l) (go ps)
-
-handed_spared : (p : Place) → handed_by (spared p) ≡ handed_by p
-handed_spared (Vacant h) = refl
-handed_spared (Bound o got) = refl
-handed_spared (Ended port h got) = refl
-handed_spared (Spare h) = refl
 
 -- what names say of sockets
 pub names_of : (kept : List Kept) → map socket_name (map socket_view kept) ≡ map kept_name kept

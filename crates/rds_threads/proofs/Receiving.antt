@@ -31,13 +31,6 @@ from_host_is : (peer : ℕ) (list : List Datagram) → from_peer peer list ≡ f
 from_host_is peer [] = refl
 from_host_is peer (d ∷ list) = ap (λ (l : List Datagram). cond (d.from == peer) (d ∷ l) l) (from_host_is peer list)
 
--- what was kept of a place is all that its slot got
-has_all : (p : Place) (h : Holding ReaderView) (k : Kept) → HasAll p h k → (handed_out (socket_view k) ≡ got_by h) × AllGot h.inbox.get
-has_all (Vacant v) h k has = absurd has
-has_all (Bound o got) h k has = (ap₂ (λ (a b : List Datagram). a ++ b) has.0 has.1 ∙ append-nil (got_by h), has.2)
-has_all (Ended port e got) h k has = (ap (λ (l : List Datagram). l ++ k.unread.items) has.0 ∙ has.1, has.2)
-has_all (Spare s) h k has = absurd has
-
 module _ {E : Type 0} where
   -- what holds of each line's journal holds of all journals
   all_sides : (P : FinalJournal → Type 0) (lines : List (LineView E WriterView)) →
@@ -53,16 +46,16 @@ module _ {E : Type 0} where
     sides_received : (k : Kept) → IsLeft places closed k → All (HandsOutDelivered (socket_view k)) (map side_of lines)
     sides_received k left =
         let h = left.1 in
-        let has = has_all left.0 h k left.4 in
+        let has = left.4 in
         all_sides (HandsOutDelivered (socket_view k)) lines (λ place line at.
             sym (from_host_is (peer_of line) (handed_out (socket_view k)))
-            ∙ (ap (from_peer (peer_of line)) has.0 ∙ joined.all_got k.slot place h line left.3 at has.1 (told k.slot h left.3)))
+            ∙ (ap (from_peer (peer_of line)) has.all ∙ joined.all_got k.slot place h line left.3 at has.empty (told k.slot h left.3)))
 
     senders_known : (k : Kept) → IsLeft places closed k → All (λ (d : Datagram). IsWithPeer (map side_of lines) d.from) (handed_out (socket_view k))
     senders_known k left =
         let h = left.1 in
-        let has = has_all left.0 h k left.4 in
-        subst (λ (l : List Datagram). All (λ (d : Datagram). IsWithPeer (map side_of lines) d.from) l) (sym has.0)
+        let has = left.4 in
+        subst (λ (l : List Datagram). All (λ (d : Datagram). IsWithPeer (map side_of lines) d.from) l) (sym has.all)
         (All-weaker (λ (d : Datagram). IsPeer lines d.from) (λ (d : Datagram). IsWithPeer (map side_of lines) d.from) (λ d is. with_peer lines d.from is)
         (got_by h) (joined.known_senders some k.slot h left.3))
 

@@ -133,6 +133,15 @@ module _ {E : Type 0} where
     each = λ place line after stood stands. (goes.each place line after stood stands).keeps;
   }
 
+  -- what was made belongs together
+  pub tied_new : (slots : List (Holding ReaderView)) (places : List Place) (lines : List (LineView E WriterView)) → places ≡ vacant_places slots →
+      AreOfHost slots lines → AreAllPasses slots lines → AreTied places lines
+  tied_new slots places lines is host passes =
+      let same : holdings places ≡ slots = ap holdings is ∙ holdings_vacant slots in record {
+        host = subst (λ (l : List (Holding ReaderView)). AreOfHost l lines) (sym same) host;
+        passes = subst (λ (l : List (Holding ReaderView)). AreAllPasses l lines) (sym same) passes;
+      }
+
   module _ (host_law : (slots ended : List (Holding ReaderView)) (lines after : List (LineView E WriterView)) →
       AreOfHost slots lines → SlotsKeep slots ended → LinesKeep lines after → AreOfHost ended after)
       (passes_law : (slots ended : List (Holding ReaderView)) (lines after : List (LineView E WriterView)) →

@@ -1,8 +1,6 @@
 -- What the callers of a run did, and what came of it. Source: this project's own.
 use Rattle.std.specs.Prelude.{◌≡◌, ◌≢◌, ◌⊎◌, ℕ, List, [], ◌∷◌, ◌++◌, All, Option, Some, None, length, map, slice_get}
 use Rattle.rds_model.specs.declared.entry.Entry.{Entry}
-use Rattle.rds_model.specs.declared.order.Datagram.{Datagram}
-use Rattle.rds_model.specs.Honest.{Begins}
 use Rattle.rds_fmap.specs.Readers.{ReaderView}
 use Rattle.rds_parts.specs.Lanes.{IsLaneAt, Lane}
 use Rattle.rds_report.specs.FinalState.{FinalSocket}
@@ -32,12 +30,13 @@ pub record IsNewSlot (p : Place) : Type 0 where
   pub put : All (λ (lane : Lane ReaderView). lane.pass.put ≡ []) holding.routes
   pub got : holding.inbox.get.got ≡ []
 
--- what the socket of a slot had handed out when its host's commands were done
-abbrev pub handed_by : Place → List Datagram
-handed_by (Vacant h) = []
-handed_by (Bound o got) = got
-handed_by (Ended port h got) = got
-handed_by (Spare h) = []
+-- A socket that was open when its host's commands were done handed out all that it got. One that was closed before had handed out what its
+-- receives gave, and the rest is unread.
+abbrev pub HandedOutAt : Place → FinalSocket → Type 0
+HandedOutAt (Vacant h) s = ⊥
+HandedOutAt (Bound o got) s = s.unread ≡ []
+HandedOutAt (Ended port h got) s = s.got ≡ got
+HandedOutAt (Spare h) s = ⊥
 
 -- the slot and the port of a socket
 abbrev pub socket_name : FinalSocket → ℕ × ℕ
@@ -45,7 +44,7 @@ socket_name s = (s.slot, s.port)
 
 -- What a host with this journal and these sockets comes to did the script's commands: from slots that were new its caller did exactly
 -- its own commands. In the journal with its peer stand, for each slot, exactly the orders that its socket put, in order and each once.
--- There is one socket of each slot that was bound, with its port, and it handed out what its receives gave, and then the rest.
+-- There is one socket of each slot that was bound, in order, with its port.
 pub record IsOutcome (host : ℕ) (commands : List Placed) (past : List Entry) (sockets : List FinalSocket) : Type 0 where
   pub first : List Place
   pub last : List Place
@@ -54,4 +53,4 @@ pub record IsOutcome (host : ℕ) (commands : List Placed) (past : List Entry) (
   pub sent : (slot : ℕ) (p : Place) (lane : Lane ReaderView) → slice_get last slot ≡ Some p → IsLaneAt (holding_of p).routes 0 lane →
       orders_of slot past ≡ uncut lane.pass.put
   pub names : map socket_name sockets ≡ somes (map name_of last)
-  pub handed : All (λ (s : FinalSocket). (p : Place) × (slice_get last s.slot ≡ Some p) × Begins (handed_by p) s.got) sockets
+  pub handed : All (λ (s : FinalSocket). (p : Place) × (slice_get last s.slot ≡ Some p) × HandedOutAt p s) sockets

@@ -1,12 +1,15 @@
 -- A host of a run: the slots of its caller, and its lines. Source: this project's own.
 use Rattle.std.specs.Prelude.{◌≡◌, ℕ, ◌<◌, List, Some, length, map, slice_get, slice_set}
 use Rattle.rds_fmap.specs.Readers.{ReaderView, WriterView}
+use Rattle.rds_mail.specs.Passes.{Putter}
+use Rattle.rds_model.specs.declared.order.Datagram.{Datagram}
 use Rattle.rds_parts.specs.Lanes.{IsLaneAt, Lane}
+use Rattle.rds_line_parts.specs.Boxes.{IsBoxOf}
 use Rattle.rds_socket.specs.Holding.{Holding}
 use Rattle.rds_line.specs.Line.{LineView}
 use Rattle.rds_host.specs.Keeping.{LineKeeps, SlotKeeps}
 use Rattle.rds_host.specs.Passes.{AreAllPasses}
-use Rattle.rds_host.specs.Telling.{AreBoxesTold, AreOrdersTold}
+use Rattle.rds_host.specs.Telling.{AreBoxesTold, AreOrdersTold, IsTold}
 use Rattle.rds_host.specs.Ties.{AreOfHost}
 use Rattle.rds_callers.specs.Places.{IsUsed, Place, holding_of, with_holding}
 
@@ -54,3 +57,13 @@ module _ {E : Type 0} where
   -- each slot was told of all datagrams that the lines have put into its mailbox
   abbrev pub AreSlotsTold : List (Holding ReaderView) → List (LineView E WriterView) → Type 0
   AreSlotsTold slots lines = (slot : ℕ) (h : Holding ReaderView) → slice_get slots slot ≡ Some h → AreBoxesTold h lines
+
+  -- the line was told of what the first slots, up to this one, have put for it by their routes at this place
+  abbrev pub AreSlotsToldTo : (upto : ℕ) → List Place → (place : ℕ) → LineView E WriterView → Type 0
+  AreSlotsToldTo upto places place line = (slot : ℕ) (p : Place) (lane : Lane ReaderView) → slot < upto → slice_get places slot ≡ Some p →
+      IsLaneAt (holding_of p).routes place lane → IsTold line.orders.told lane.pass
+
+  -- the slot was told of what the first lines, up to this one, have put into its mailbox
+  abbrev pub AreLinesToldTo : (upto : ℕ) → List (LineView E WriterView) → Holding ReaderView → Type 0
+  AreLinesToldTo upto lines h = (place : ℕ) (line : LineView E WriterView) (box : Putter Datagram) → place < upto → slice_get lines place ≡ Some line →
+      IsBoxOf line.boxes h.words.slot box → IsTold h.inbox.get.told box

@@ -74,12 +74,12 @@ fn call_both<R: Threads + Wait + Sync, G: Gate + Sync>(
         rt,
         move || -> Result<Caller, Memory>
             requires { All (λ p. IsCommand 2 p.command) commands.now }
-            ensures did { IfOk result (λ after. HasObeyed 0 commands.now low.places after.places) }
+            ensures did { IfOk result (λ after. HasObeyed 0 commands.entry.now low.places after.places) }
             ensures keeps { IfOk result (λ after. PlacesKeep low.places after.places) }
         { call_all(rt, alloc, commands, 0, gate, low) },
         move || -> Result<Caller, Memory>
             requires { All (λ p. IsCommand 2 p.command) commands.now }
-            ensures did { IfOk result (λ after. HasObeyed 1 commands.now high.places after.places) }
+            ensures did { IfOk result (λ after. HasObeyed 1 commands.entry.now high.places after.places) }
             ensures keeps { IfOk result (λ after. PlacesKeep high.places after.places) }
         { call_all(rt, alloc, commands, 1, gate, high) },
     );
@@ -110,8 +110,8 @@ pub(crate) fn play_both<E: End + Send, R: Threads + Wait + Sync, G: Gate + Sync>
         rt,
         move || -> Result<(Caller, Caller), Memory>
             requires { All (λ p. IsCommand 2 p.command) commands.now }
-            ensures low_did { IfOk result (λ after. HasObeyed 0 commands.now callers.0.places after.0.places) }
-            ensures high_did { IfOk result (λ after. HasObeyed 1 commands.now callers.1.places after.1.places) }
+            ensures low_did { IfOk result (λ after. HasObeyed 0 commands.entry.now callers.0.places after.0.places) }
+            ensures high_did { IfOk result (λ after. HasObeyed 1 commands.entry.now callers.1.places after.1.places) }
             ensures low { IfOk result (λ after. PlacesKeep callers.0.places after.0.places) }
             ensures high { IfOk result (λ after. PlacesKeep callers.1.places after.1.places) }
         { call_both(rt, alloc, commands, gate, callers, stop) },

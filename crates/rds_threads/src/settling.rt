@@ -8,6 +8,7 @@ ghost use Rattle.rds_threads.specs.Tied.{AreLinesTold, AreSlotsTold, AreTied, Ca
 
 use rds_callers::Caller;
 use rds_fmap::Writer;
+use rds_host::laws::host_keeps;
 use rds_line::Line;
 use rds_link::End;
 
@@ -44,6 +45,7 @@ pub(crate) fn settle_slots<E: End>(caller: &mut Caller, lines: &mut [Line<E, Wri
     ensures told { AreSlotsTold (holdings caller.new.places) lines.new }
     ensures lines { lines.new ≡ lines.old }
 {
+    host_keeps::<E>();
     for slot in 0..caller.slots() {
         tell_slot(caller, slot, lines);
     }

@@ -1,4 +1,7 @@
+use Rattle.std.proofs.Common.{sym, subst}
+use Rattle.rds_mail.specs.Learning.{AllGot}
 use Rattle.rds_threads.proofs.Finishing.{at_first, done_first, full_first, full_kept}
+use Rattle.rds_threads.proofs.Keeping.{goes_first, goes_through, quiet_first}
 use Rattle.rds_threads.proofs.rounds.last_rounds.Goals as goal
 
 pub turn_until_quiet-end-requires : goal.turn_until_quiet-end-requires
@@ -36,3 +39,25 @@ returns-clause-spent g c = λ host entries is.
     full_first c.args.lines.now.0.items c.args.lines.now.1.items c.meet_lines.new.low c.meet_lines.new.high host entries two.low_count two.high_count
     (full_kept host entries c.turn_until_quiet-end.new.low c.turn_until_quiet-end.new.high c.meet_lines.new.low c.meet_lines.new.high
     (c.meet_lines.ensures.low_full entries) (c.meet_lines.ensures.high_full entries) (c.turn_until_quiet-end.ensures.spent host entries is))
+
+pub returns-clause-low : goal.returns-clause-low
+returns-clause-low g c =
+    let two = c.requires.1 in
+    goes_first c.args.lines.now.0.items c.index_mut-low.result.now c.meet_lines.new.low two.low_count
+    (at_first c.args.lines.now.0.items c.index_mut-low.result.now two.low_count c.index_mut-low.ensures.value)
+    (goes_through c.index_mut-low.result.now c.turn_until_quiet-end.new.low c.meet_lines.new.low c.turn_until_quiet-end.ensures.low c.meet_lines.ensures.low)
+
+pub returns-clause-high : goal.returns-clause-high
+returns-clause-high g c =
+    let two = c.requires.1 in
+    goes_first c.args.lines.now.1.items c.index_mut-high.result.now c.meet_lines.new.high two.high_count
+    (at_first c.args.lines.now.1.items c.index_mut-high.result.now two.high_count c.index_mut-high.ensures.value)
+    (goes_through c.index_mut-high.result.now c.turn_until_quiet-end.new.high c.meet_lines.new.high c.turn_until_quiet-end.ensures.high c.meet_lines.ensures.high)
+
+pub returns-clause-quiet : goal.returns-clause-quiet
+returns-clause-quiet g c = λ ended.
+    let two = c.requires.1 in
+    let quiet = c.turn_until_quiet-end.ensures.quiet ended in (
+      quiet_first c.args.lines.now.0.items c.meet_lines.new.low two.low_count (subst (λ g. AllGot g) (sym c.meet_lines.ensures.low_orders) quiet.0),
+      quiet_first c.args.lines.now.1.items c.meet_lines.new.high two.high_count (subst (λ g. AllGot g) (sym c.meet_lines.ensures.high_orders) quiet.1),
+    )

@@ -1,7 +1,9 @@
 use Rattle.std.proofs.Common.{ℕ}
 use Rattle.rds_threads.specs.Connection.{AreConnected}
+use Rattle.rds_threads.specs.Quiet.{LineGoesOn}
 use Rattle.rds_threads.proofs.rounds.turn_until_quiet.Given as goal
 
 abbrev pub invariant-loop : goal.invariant-loop
 invariant-loop g l =
-    (limit : ℕ) → AreConnected g.W.End.End.means limit l.fn.low l.fn.high → AreConnected g.W.End.End.means limit l.low l.high
+    ((limit : ℕ) → AreConnected g.W.End.End.means limit l.fn.low l.fn.high → AreConnected g.W.End.End.means limit l.low l.high)
+    × LineGoesOn l.fn.low l.low × LineGoesOn l.fn.high l.high
