@@ -56,7 +56,7 @@ module _ (states : List State) (whole : NoneAway states) where
       let m = mapped Some (slice_get (shown_all states) slot) (shown x) e in
       (m.0, sym m.2, m.1)
 
--- a slot was changed, and what is shown_all of it
+-- a slot was changed, and what contracts see of it
 pub record IsChanged (old new : List State) (slot : ℕ) (p q : Place) : Type 0 where
   pub sound : AreSlots new
   pub was : slice_get (shown_all old) slot ≡ Some p

@@ -36,19 +36,19 @@ UnreadFits (Ended port h got) k = k.got.items ≡ got
 UnreadFits (Spare h) k = ⊥
 
 -- what the socket of a place has: all that was taken from its mailbox, which was found empty
-pub record HasTaken (p : Place) (closed : Holding ReaderView) (k : Kept) : Type 0 where
+pub record TookAll (p : Place) (closed : Holding ReaderView) (k : Kept) : Type 0 where
   pub all : k.got.items ++ k.unread.items ≡ bare_items closed.inbox.get.got
   pub empty : AllGot closed.inbox.get
   pub unread : UnreadFits p k
 
 -- what is kept of one place
 abbrev pub HasLeft : Place → Holding ReaderView → Option Kept → Type 0
-HasLeft p closed (Some k) = HasTaken p closed k × (used_name p ≡ Some (kept_name k))
+HasLeft p closed (Some k) = TookAll p closed k × (used_name p ≡ Some (kept_name k))
 HasLeft p closed None = used_name p ≡ None
 
 -- the place and the end of its slot are those of what was kept
 abbrev pub IsLeft : List Place → List (Holding ReaderView) → Kept → Type 0
-IsLeft places closed k = (p : Place) × (h : Holding ReaderView) × (slice_get places k.slot ≡ Some p) × (slice_get closed k.slot ≡ Some h) × HasTaken p h k
+IsLeft places closed k = (p : Place) × (h : Holding ReaderView) × (slice_get places k.slot ≡ Some p) × (slice_get closed k.slot ≡ Some h) × TookAll p h k
 
 -- one is kept of each place that had a socket, in order of the slots, which ascend, with all that its socket has
 pub record AreLeft (places : List Place) (closed : List (Holding ReaderView)) (kept : List Kept) : Type 0 where
