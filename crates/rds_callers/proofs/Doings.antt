@@ -17,7 +17,7 @@ use Rattle.rds_socket.specs.Holding.{Holding, Open}
 use Rattle.rds_callers.specs.Places.{Place, Vacant, Bound, Ended, Spare, ArePlaces, HasKept, IsUsed, IsUnbound, IsVacantPlace, PlaceKeeps, holding_of, with_holding, told_by}
 use Rattle.rds_callers.specs.Tenants.{Asks, Cuts, ReceivesNext}
 use Rattle.rds_callers.specs.Doing.{IsFree, IsHeld, IsNext, NoneVacant, AtPort, BindsNext, CutsByLast}
-use Rattle.rds_callers.specs.States.{shown, seen, IsWhole, IsSound, AreNot, is_held_by, is_vacant}
+use Rattle.rds_callers.specs.States.{shown, shown_all, NoneAway, AreSlots, AreNot, holds_port, is_vacant}
 use Rattle.rds_callers.specs.declared.state.State.{State}
 use Rattle.rds_callers.specs.declared.state.State.TheVariants as state
 use Rattle.rds_callers.specs.declared.tenant.Tenant.{Tenant}
@@ -42,7 +42,7 @@ pub unbound_not : (p : Place) (o : Open ReaderView) (got : List Datagram) → Is
 unbound_not p o got not e = subst IsUnbound e not
 
 -- what shows as bound holds its port, and what shows as vacant is
-shows_held : (x : State) (o : Open ReaderView) (got : List Datagram) (port : ℕ) → shown x ≡ Some (Bound o got) → o.port ≡ port → is_held_by port x ≡ true
+shows_held : (x : State) (o : Open ReaderView) (got : List Datagram) (port : ℕ) → shown x ≡ Some (Bound o got) → o.port ≡ port → holds_port port x ≡ true
 shows_held (state.Vacant h) o got port e at = absurd (unbound_not (Vacant h) o got tt (same_Some (Vacant h) (Bound o got) e))
 shows_held (state.Bound t) o got port e at = eq-eqb t.socket.port port (ap (λ (p : Place). (socket_or o p).port) (same_Some (Bound t.socket t.got.items) (Bound o got) e) ∙ at)
 shows_held (state.Ended f) o got port e at = absurd (unbound_not (Ended f.port f.closed f.got.items) o got tt (same_Some (Ended f.port f.closed f.got.items) (Bound o got) e))
@@ -56,29 +56,29 @@ shows_vacant (state.Ended f) h e = absurd (used_not (Ended f.port f.closed f.got
 shows_vacant (state.Spare k) h e = absurd (used_not (Spare k) tt (h, same_Some (Spare k) (Vacant h) e))
 shows_vacant state.Away h e = absurd (cc)
 
-held_shows : (states : List State) (whole : IsWhole states) (slot port : ℕ) (x : State) → slice_get states slot ≡ Some x → is_held_by port x ≡ true → IsHeld (seen states) port
+held_shows : (states : List State) (whole : NoneAway states) (slot port : ℕ) (x : State) → slice_get states slot ≡ Some x → holds_port port x ≡ true → IsHeld (shown_all states) port
 held_shows states whole slot port (state.Vacant h) at held = absurd (cc)
 held_shows states whole slot port (state.Bound t) at held = (slot, t.socket, t.got.items, read_seen states whole slot (state.Bound t) at, eqb-true t.socket.port port held)
 held_shows states whole slot port (state.Ended f) at held = absurd (cc)
 held_shows states whole slot port (state.Spare h) at held = absurd (cc)
 held_shows states whole slot port state.Away at held = absurd (cc)
 
-module _ (states : List State) (whole : IsWhole states) where
-  pub free_seen : (port : ℕ) → AreNot (is_held_by port) states → IsFree (seen states) port
+module _ (states : List State) (whole : NoneAway states) where
+  pub free_seen : (port : ℕ) → AreNot (holds_port port) states → IsFree (shown_all states) port
   free_seen port none slot o got at e =
       let f = find_seen states whole slot (Bound o got) at in
       true_false (sym (shows_held f.0 o got port f.2 e) ∙ none slot f.0 f.1)
 
-  pub held_seen : (slot port : ℕ) → (x : State) × (slice_get states slot ≡ Some x) × (is_held_by port x ≡ true) → IsHeld (seen states) port
+  pub held_seen : (slot port : ℕ) → (x : State) × (slice_get states slot ≡ Some x) × (holds_port port x ≡ true) → IsHeld (shown_all states) port
   held_seen slot port f = held_shows states whole slot port f.0 f.1 f.2
 
-  pub none_seen : AreNot is_vacant states → NoneVacant (seen states)
+  pub none_seen : AreNot is_vacant states → NoneVacant (shown_all states)
   none_seen none slot h at =
       let f = find_seen states whole slot (Vacant h) at in
       true_false (sym (shows_vacant f.0 h f.2) ∙ none slot f.0 f.1)
 
   pub next_seen : (slot : ℕ) (h : Holding ReaderView) → ((other : ℕ) (x : State) → slice_get states other ≡ Some x → other < slot → is_vacant x ≡ false)
-      → slice_get states slot ≡ Some (state.Vacant h) → IsNext (seen states) slot h
+      → slice_get states slot ≡ Some (state.Vacant h) → IsNext (shown_all states) slot h
   next_seen slot h first at = (
     read_seen states whole slot (state.Vacant h) at,
     λ other k there.
@@ -89,7 +89,7 @@ module _ (states : List State) (whole : IsWhole states) where
   )
 
 -- the socket at a slot is another now
-pub tenant_put : (old new : List State) (slot : ℕ) (t u : Tenant) → IsSound old → slice_get old slot ≡ Some (state.Bound t) → u.socket.port ≡ t.socket.port
+pub tenant_put : (old new : List State) (slot : ℕ) (t u : Tenant) → AreSlots old → slice_get old slot ≡ Some (state.Bound t) → u.socket.port ≡ t.socket.port
     → PlaceKeeps t.socket.own u.socket.own → new ≡ set old slot (state.Bound u) → IsPut old new slot (Bound t.socket t.got.items) (Bound u.socket u.got.items)
 tenant_put old new slot t u sound at port keeps made =
     put_state old new slot (state.Bound t) (state.Bound u) (Bound t.socket t.got.items) (Bound u.socket u.got.items) sound at refl refl made keeps (λ was. record {
@@ -102,7 +102,7 @@ tenant_put old new slot t u sound at port keeps made =
     })
 
 -- the socket at a slot has ended
-pub former_put : (old new : List State) (slot : ℕ) (t : Tenant) (f : FormerTenant) → IsSound old → slice_get old slot ≡ Some (state.Bound t)
+pub former_put : (old new : List State) (slot : ℕ) (t : Tenant) (f : FormerTenant) → AreSlots old → slice_get old slot ≡ Some (state.Bound t)
     → PlaceKeeps t.socket.own f.closed → new ≡ set old slot (state.Ended f) → IsPut old new slot (Bound t.socket t.got.items) (Ended f.port f.closed f.got.items)
 former_put old new slot t f sound at keeps made =
     put_state old new slot (state.Bound t) (state.Ended f) (Bound t.socket t.got.items) (Ended f.port f.closed f.got.items) sound at refl refl made keeps (λ was. record {
@@ -114,8 +114,8 @@ former_put old new slot t f sound at keeps made =
     })
 
 -- a vacant slot is another now
-pub next_put : (old new : List State) (slot : ℕ) (h : Holding ReaderView) (y : State) (p : Place) → IsSound old → slice_get old slot ≡ Some (state.Vacant h) → IsNext (seen old) slot h
-    → shown y ≡ Some p → PlaceKeeps h (holding_of p) × HasKept p → ((o : Open ReaderView) (got : List Datagram) → p ≡ Bound o got → IsFree (seen old) o.port)
+pub next_put : (old new : List State) (slot : ℕ) (h : Holding ReaderView) (y : State) (p : Place) → AreSlots old → slice_get old slot ≡ Some (state.Vacant h) → IsNext (shown_all old) slot h
+    → shown y ≡ Some p → PlaceKeeps h (holding_of p) × HasKept p → ((o : Open ReaderView) (got : List Datagram) → p ≡ Bound o got → IsFree (shown_all old) o.port)
     → new ≡ set old slot y → IsPut old new slot (Vacant h) p
 next_put old new slot h y p sound at next shows keeps free made =
     put_state old new slot (state.Vacant h) y (Vacant h) p sound at refl shows made keeps.0 (λ was. record {
@@ -167,11 +167,11 @@ holds (Ended port k got) h = refl
 holds (Spare k) h = refl
 
 -- the slot holds something else now
-pub alike_change : (old new : List State) (slot : ℕ) (x y : State) (p : Place) (h : Holding ReaderView) → IsSound old → slice_get old slot ≡ Some x → shown x ≡ Some p
+pub alike_change : (old new : List State) (slot : ℕ) (x y : State) (p : Place) (h : Holding ReaderView) → AreSlots old → slice_get old slot ≡ Some x → shown x ≡ Some p
     → shown y ≡ Some (with_holding p h) → h.words.slot ≡ (holding_of p).words.slot → h.inbox.get.got ≡ (holding_of p).inbox.get.got → new ≡ set old slot y
     → IsChanged old new slot p (with_holding p h)
 alike_change old new slot x y p h sound at shows shows_new number got made =
-    change_state old new slot x y p (with_holding p h) sound at shows shows_new made (λ was. alike_stands (seen old) slot p h was sound.places number got)
+    change_state old new slot x y p (with_holding p h) sound at shows shows_new made (λ was. alike_stands (shown_all old) slot p h was sound.places number got)
 
 -- a slot by which a cut was asked for, or which is the same
 asks_got : (peer : ℕ) (item : Order) (old new : Holding ReaderView) → Asks peer item old new → new.inbox.get.got ≡ old.inbox.get.got
@@ -194,24 +194,24 @@ cut_outcome (Ok r) peer x y p shows same done =
     (h, d.2 ∙ ap Some d.1.2, asks_got peer order.Cut (holding_of p) h d.1.1, (h, d.1.1, refl))
 cut_outcome (Err r) peer x y p shows same done = (holding_of p, ap shown same ∙ (shows ∙ ap Some (with_same p)), refl, tt)
 
-pub cut_put : (old new : List State) (slot : ℕ) (x y : State) (p : Place) (h : Holding ReaderView) → IsSound old → slice_get old slot ≡ Some x → shown x ≡ Some p
+pub cut_put : (old new : List State) (slot : ℕ) (x y : State) (p : Place) (h : Holding ReaderView) → AreSlots old → slice_get old slot ≡ Some x → shown x ≡ Some p
     → shown y ≡ Some (with_holding p h) → h.inbox.get.got ≡ (holding_of p).inbox.get.got → ((p q : Place) → shown x ≡ Some p → shown y ≡ Some q → PlaceKeeps (holding_of p) (holding_of q))
     → new ≡ set old slot y → IsPut old new slot p (with_holding p h)
 cut_put old new slot x y p h sound at shows shows_new got keeps made =
     let k = keeps p (with_holding p h) shows shows_new in
     put_state old new slot x y p (with_holding p h) sound at shows shows_new made k
-    (λ was. alike_stands (seen old) slot p h was sound.places (sym (ap (λ (z : Holding ReaderView). z.words.slot) (holds p h)) ∙ k.stays.slot) got)
+    (λ was. alike_stands (shown_all old) slot p h was sound.places (sym (ap (λ (z : Holding ReaderView). z.words.slot) (holds p h)) ∙ k.stays.slot) got)
 
-pub cuts_by_last : (r : Result (Unit {0}) Memory) (peer : ℕ) (old new : List State) (places : List Place) (slot : ℕ) (p q : Place) → seen old ≡ places → IsPut old new slot p q
-    → slot + 1 ≡ length (seen old) → OnOk r (Cuts peer p q) → OnOk r (CutsByLast peer places (seen new))
+pub cuts_by_last : (r : Result (Unit {0}) Memory) (peer : ℕ) (old new : List State) (places : List Place) (slot : ℕ) (p q : Place) → shown_all old ≡ places → IsPut old new slot p q
+    → slot + 1 ≡ length (shown_all old) → OnOk r (Cuts peer p q) → OnOk r (CutsByLast peer places (shown_all new))
 cuts_by_last (Ok r) peer old new places slot p q view put last cuts =
-    subst (λ (l : List Place). CutsByLast peer l (seen new)) view (inl (slot, p, q, last, put.changed.was, cuts, put.changed.is))
+    subst (λ (l : List Place). CutsByLast peer l (shown_all new)) view (inl (slot, p, q, last, put.changed.was, cuts, put.changed.is))
 cuts_by_last (Err r) peer old new places slot p q view put last cuts = tt
 
 -- no socket holds the port, and nothing changed
-pub at_none : (port : ℕ) (Rel : Open ReaderView → List Datagram → Place → Type 0) (old new : List State) (places : List Place) → seen old ≡ places → IsWhole old
-    → AreNot (is_held_by port) old → new ≡ old → AtPort port Rel places (seen new)
-at_none port Rel old new places view whole none same = inr (subst (λ (l : List Place). IsFree l port) view (free_seen old whole port none), ap seen same ∙ view)
+pub at_none : (port : ℕ) (Rel : Open ReaderView → List Datagram → Place → Type 0) (old new : List State) (places : List Place) → shown_all old ≡ places → NoneAway old
+    → AreNot (holds_port port) old → new ≡ old → AtPort port Rel places (shown_all new)
+at_none port Rel old new places view whole none same = inr (subst (λ (l : List Place). IsFree l port) view (free_seen old whole port none), ap shown_all same ∙ view)
 
 pub receives : (any : Bool) (t u : Tenant) → (any ≡ true → (item : Datagram) × IsReceived item t.socket u.socket × (u.got.items ≡ t.got.items ++ item ∷ []))
     → (any ≡ false → (u.socket ≡ t.socket) × (u.got.items ≡ t.got.items)) → (any ≡ false → AllGot t.socket.own.inbox.get)
@@ -236,22 +236,22 @@ bind_outcome (Ok r) y port Fits at bound failed = (Bound bound.0 [], bound.2, λ
 bind_outcome (Err r) y port Fits at bound failed = (failed.0, failed.1, λ o got e. absurd (unbound_not failed.0 o got failed.2 e))
 
 pub binds_next : (r : Result (Unit {0}) Memory) (Fits : Holding ReaderView → Open ReaderView → Type 0) (old new : List State) (places : List Place) (slot : ℕ) (h : Holding ReaderView) (y : State) (p : Place)
-    → seen old ≡ places → IsPut old new slot (Vacant h) p → IsNext (seen old) slot h → shown y ≡ Some p → OnOk r ((o : Open ReaderView) × Fits h o × (shown y ≡ Some (Bound o [])))
-    → OnOk r (BindsNext Fits places (seen new))
+    → shown_all old ≡ places → IsPut old new slot (Vacant h) p → IsNext (shown_all old) slot h → shown y ≡ Some p → OnOk r ((o : Open ReaderView) × Fits h o × (shown y ≡ Some (Bound o [])))
+    → OnOk r (BindsNext Fits places (shown_all new))
 binds_next (Ok r) Fits old new places slot h y p view put next shows bound =
-    subst (λ (l : List Place). BindsNext Fits l (seen new)) view
-    (slot, h, bound.0, next, bound.1, put.changed.is ∙ ap (λ q. set (seen old) slot q) (same_Some p (Bound bound.0 []) (sym shows ∙ bound.2)))
+    subst (λ (l : List Place). BindsNext Fits l (shown_all new)) view
+    (slot, h, bound.0, next, bound.1, put.changed.is ∙ ap (λ q. set (shown_all old) slot q) (same_Some p (Bound bound.0 []) (sym shows ∙ bound.2)))
 binds_next (Err r) Fits old new places slot h y p view put next shows bound = tt
 
 -- what a call on the socket of a port came to
 pub at_port : (r : Result (Unit {0}) Memory) (port : ℕ) (Rel : Open ReaderView → List Datagram → Place → Type 0) (old new : List State) (places : List Place) (slot : ℕ) (t : Tenant) (q : Place)
-    → seen old ≡ places → IsPut old new slot (Bound t.socket t.got.items) q → t.socket.port ≡ port → OnOk r (Rel t.socket t.got.items q) → OnOk r (AtPort port Rel places (seen new))
+    → shown_all old ≡ places → IsPut old new slot (Bound t.socket t.got.items) q → t.socket.port ≡ port → OnOk r (Rel t.socket t.got.items q) → OnOk r (AtPort port Rel places (shown_all new))
 at_port (Ok r) port Rel old new places slot t q view put port_is rel =
-    subst (λ (l : List Place). AtPort port Rel l (seen new)) view (inl (slot, t.socket, t.got.items, put.changed.was, port_is, (q, rel, put.changed.is)))
+    subst (λ (l : List Place). AtPort port Rel l (shown_all new)) view (inl (slot, t.socket, t.got.items, put.changed.was, port_is, (q, rel, put.changed.is)))
 at_port (Err r) port Rel old new places slot t q view put port_is rel = tt
 
 -- the place that contracts see at a slot, which is read by an index
-pub standing : (states : List State) (places : List Place) (slot place : ℕ) (x : State) (p : Place) → IsWhole states → seen states ≡ places → place ≡ slot → x ≡ get_or states place x
+pub standing : (states : List State) (places : List Place) (slot place : ℕ) (x : State) (p : Place) → NoneAway states → shown_all states ≡ places → place ≡ slot → x ≡ get_or states place x
     → slice_get places slot ≡ Some p → (slice_get states place ≡ Some x) × (shown x ≡ Some p)
 standing states places slot place x p whole view same read at =
     let f = find_seen states whole slot p (ap (λ l. slice_get l slot) view ∙ at) in
@@ -260,9 +260,9 @@ standing states places slot place x p whole view same read at =
     (here, ap shown (same_Some x f.0 (sym here ∙ (ap (λ i. slice_get states i) same ∙ f.1))) ∙ f.2)
 
 -- a slot was told of what a putter had put
-pub heard : (states : List State) (places : List Place) (slot place : ℕ) (x y : State) (p : Place) (note : Putter Datagram) → IsSound states → seen states ≡ places → place ≡ slot
+pub heard : (states : List State) (places : List Place) (slot place : ℕ) (x y : State) (p : Place) (note : Putter Datagram) → AreSlots states → shown_all states ≡ places → place ≡ slot
     → x ≡ get_or states place x → slice_get places slot ≡ Some p → (shown x ≡ Some p → shown y ≡ Some (told_by p note))
-    → IsSound (set states place y) × (seen (set states place y) ≡ set places slot (told_by p note))
+    → AreSlots (set states place y) × (shown_all (set states place y) ≡ set places slot (told_by p note))
 heard states places slot place x y p note sound view same read at told =
     let stood = standing states places slot place x p sound.whole view same read at in
     let h = with_inbox (holding_of p) (record (holding_of p).inbox { get = after_note (holding_of p).inbox.get note }) in

@@ -11,8 +11,8 @@ use Rattle.rds_parts.specs.PlaceLaws.{there}
 use Rattle.rds_report.specs.declared.final_state.Kept.{Kept}
 use Rattle.rds_socket.specs.Holding.{Holding}
 use Rattle.rds_callers.specs.Places.{Place, Vacant, Bound, Ended, Spare, holding_of, somes}
-use Rattle.rds_callers.specs.Ends.{IsEndOf, AreEndsOf, AreLeft, IsLeft, HasLeft, name_of, kept_name}
-use Rattle.rds_callers.specs.States.{seen, IsSound}
+use Rattle.rds_callers.specs.Ends.{IsEndOf, AreEndsOf, AreLeft, IsLeft, HasLeft, used_name, kept_name}
+use Rattle.rds_callers.specs.States.{shown_all, AreSlots}
 use Rattle.rds_callers.specs.declared.state.State.{State}
 use Rattle.rds_callers.proofs.Seen.{count_seen}
 
@@ -21,11 +21,11 @@ pub record Leaves (states now : List State) (slot : ℕ) (kept : List Kept) (clo
   pub rest : (other : ℕ) (x : State) → slot ≤ other → slice_get states other ≡ Some x → slice_get now other ≡ Some x
   pub size : length now ≡ length states
   pub count : length closed ≡ slot
-  pub ends : (other : ℕ) (p : Place) (h : Holding ReaderView) → slice_get (seen states) other ≡ Some p → slice_get closed other ≡ Some h → IsEndOf (holding_of p) h
-  pub names : map kept_name kept ≡ somes (map name_of (take slot (seen states)))
+  pub ends : (other : ℕ) (p : Place) (h : Holding ReaderView) → slice_get (shown_all states) other ≡ Some p → slice_get closed other ≡ Some h → IsEndOf (holding_of p) h
+  pub names : map kept_name kept ≡ somes (map used_name (take slot (shown_all states)))
   pub ascend : Ascend (map (λ k. k.slot) kept)
   pub below : All (λ s. s < slot) (map (λ k. k.slot) kept)
-  pub each : All (IsLeft (seen states) closed) kept
+  pub each : All (IsLeft (shown_all states) closed) kept
 
 pub leaves_none : (states : List State) → Leaves states states 0 [] []
 leaves_none states = record {
@@ -78,13 +78,13 @@ ascend_push [] x a below = (λ k d small. absurd (omega arith), tt)
 ascend_push (y ∷ l) x a below = (All-push (λ later. y < later) l x a.0 (below 0 y (omega arith)), ascend_push l x a.1 (λ k d small. below (suc k) d (omega arith)))
 
 -- what is kept has the slot of its place
-slot_of_name : (p : Place) (k : Kept) → name_of p ≡ Some (kept_name k) → k.slot ≡ (holding_of p).words.slot
+slot_of_name : (p : Place) (k : Kept) → used_name p ≡ Some (kept_name k) → k.slot ≡ (holding_of p).words.slot
 slot_of_name (Vacant h) k e = absurd (cc)
 slot_of_name (Bound o got) k e = ap (λ (n : ℕ × ℕ). n.0) (sym (same_Some (o.own.words.slot, o.port) (kept_name k) e))
 slot_of_name (Ended port h got) k e = ap (λ (n : ℕ × ℕ). n.0) (sym (same_Some (h.words.slot, port) (kept_name k) e))
 slot_of_name (Spare h) k e = absurd (cc)
 
-named : (p : Place) (h : Holding ReaderView) (o : Option Kept) → HasLeft p h o → map kept_name (option_to_list o) ≡ option_to_list (name_of p)
+named : (p : Place) (h : Holding ReaderView) (o : Option Kept) → HasLeft p h o → map kept_name (option_to_list o) ≡ option_to_list (used_name p)
 named p h (Some k) left = sym (ap option_to_list left.1)
 named p h None left = sym (ap option_to_list left)
 
@@ -92,8 +92,8 @@ named p h None left = sym (ap option_to_list left)
 still_left : (places : List Place) (closed : List (Holding ReaderView)) (h : Holding ReaderView) (k : Kept) → IsLeft places closed k → IsLeft places (closed ++ h ∷ []) k
 still_left places closed h k l = (l.0, l.1, l.2, kept_place closed h l.1 k.slot l.3, l.4)
 
-pub leaves_more : (states now : List State) (slot : ℕ) (x y : State) (kept : List Kept) (closed : List (Holding ReaderView)) (h : Holding ReaderView) (o : Option Kept) → IsSound states
-    → Leaves states now slot kept closed → (p : Place) → slice_get (seen states) slot ≡ Some p → IsEndOf (holding_of p) h → HasLeft p h o
+pub leaves_more : (states now : List State) (slot : ℕ) (x y : State) (kept : List Kept) (closed : List (Holding ReaderView)) (h : Holding ReaderView) (o : Option Kept) → AreSlots states
+    → Leaves states now slot kept closed → (p : Place) → slice_get (shown_all states) slot ≡ Some p → IsEndOf (holding_of p) h → HasLeft p h o
     → Leaves states (set now slot y) (slot + 1) (kept ++ option_to_list o) (closed ++ h ∷ [])
 leaves_more states now slot x y kept closed h o sound l p at end left = record {
   rest = λ other z le stood. there now slot other y (λ e. absurd (omega arith)) ∙ l.rest other z (omega arith) stood;
@@ -102,11 +102,11 @@ leaves_more states now slot x y kept closed h o sound l p at end left = record {
   ends = λ other q k stood found. ⊎_elim
       (λ (t : slice_get closed other ≡ Some k). l.ends other q k stood t)
       (λ (t : (other ≡ length closed) × (h ≡ k)).
-      let same : p ≡ q = same_Some p q (sym at ∙ (ap (λ i. slice_get (seen states) i) (sym l.count ∙ sym t.0) ∙ stood)) in
+      let same : p ≡ q = same_Some p q (sym at ∙ (ap (λ i. slice_get (shown_all states) i) (sym l.count ∙ sym t.0) ∙ stood)) in
       subst (λ (z : Holding ReaderView). IsEndOf (holding_of q) z) t.1 (subst (λ (z : Place). IsEndOf (holding_of z) h) same end))
       (split_place closed h k other found);
   names = map-append kept_name kept (option_to_list o) ∙ ((λ i. l.names i ++ named p h o left i)
-      ∙ (sym (somes_push (map name_of (take slot (seen states))) (name_of p)) ∙ ap somes (sym (map_push name_of (take slot (seen states)) p) ∙ ap (map name_of) (sym (take_more (seen states) slot p at)))));
+      ∙ (sym (somes_push (map used_name (take slot (shown_all states))) (used_name p)) ∙ ap somes (sym (map_push used_name (take slot (shown_all states)) p) ∙ ap (map used_name) (sym (take_more (shown_all states) slot p at)))));
   ascend = rising o left;
   below = lower o left;
   each = every o left;
@@ -127,21 +127,21 @@ leaves_more states now slot x y kept closed h o sound l p at end left = record {
     rising (Some k) has = subst Ascend (sym (map_push (λ k. k.slot) kept k))
         (ascend_push (map (λ k. k.slot) kept) k.slot l.ascend (subst (λ (n : ℕ). All (λ s. s < n) (map (λ k. k.slot) kept)) (sym (slot_is k has)) l.below))
 
-    every : (o : Option Kept) → HasLeft p h o → All (IsLeft (seen states) (closed ++ h ∷ [])) (kept ++ option_to_list o)
-    every None has = subst (All (IsLeft (seen states) (closed ++ h ∷ []))) (sym (append-nil kept))
-        (all_weaker (IsLeft (seen states) closed) (IsLeft (seen states) (closed ++ h ∷ [])) (still_left (seen states) closed h) kept l.each)
-    every (Some k) has = All-push (IsLeft (seen states) (closed ++ h ∷ [])) kept k
-        (all_weaker (IsLeft (seen states) closed) (IsLeft (seen states) (closed ++ h ∷ [])) (still_left (seen states) closed h) kept l.each)
-        (p, h, ap (λ i. slice_get (seen states) i) (slot_is k has) ∙ at, ap (λ i. slice_get (closed ++ h ∷ []) i) (slot_is k has ∙ sym l.count) ∙ last_place closed h, has.0)
+    every : (o : Option Kept) → HasLeft p h o → All (IsLeft (shown_all states) (closed ++ h ∷ [])) (kept ++ option_to_list o)
+    every None has = subst (All (IsLeft (shown_all states) (closed ++ h ∷ []))) (sym (append-nil kept))
+        (all_weaker (IsLeft (shown_all states) closed) (IsLeft (shown_all states) (closed ++ h ∷ [])) (still_left (shown_all states) closed h) kept l.each)
+    every (Some k) has = All-push (IsLeft (shown_all states) (closed ++ h ∷ [])) kept k
+        (all_weaker (IsLeft (shown_all states) closed) (IsLeft (shown_all states) (closed ++ h ∷ [])) (still_left (shown_all states) closed h) kept l.each)
+        (p, h, ap (λ i. slice_get (shown_all states) i) (slot_is k has) ∙ at, ap (λ i. slice_get (closed ++ h ∷ []) i) (slot_is k has ∙ sym l.count) ∙ last_place closed h, has.0)
 
 -- all are left
-pub leaves_all : (states now : List State) (slot : ℕ) (kept : List Kept) (closed : List (Holding ReaderView)) → IsSound states → Leaves states now slot kept closed → slot ≡ length states
-    → AreEndsOf (seen states) closed × AreLeft (seen states) closed kept
+pub leaves_all : (states now : List State) (slot : ℕ) (kept : List Kept) (closed : List (Holding ReaderView)) → AreSlots states → Leaves states now slot kept closed → slot ≡ length states
+    → AreEndsOf (shown_all states) closed × AreLeft (shown_all states) closed kept
 leaves_all states now slot kept closed sound l all =
-    let size : slot ≡ length (seen states) = all ∙ sym (count_seen states sound.whole) in (
+    let size : slot ≡ length (shown_all states) = all ∙ sym (count_seen states sound.whole) in (
       record { count = l.count ∙ size; each = l.ends },
       record {
-        names = l.names ∙ ap (λ (m : List Place). somes (map name_of m)) (ap (λ n. take n (seen states)) size ∙ take-length (seen states));
+        names = l.names ∙ ap (λ (m : List Place). somes (map used_name m)) (ap (λ n. take n (shown_all states)) size ∙ take-length (shown_all states));
         ascend = l.ascend;
         each = l.each;
       },

@@ -8,7 +8,7 @@ use Rattle.rds_mail.proofs.Numbers.{cons_head, cons_tail}
 use Rattle.rds_fmap.specs.Readers.{ReaderView}
 use Rattle.rds_socket.specs.Holding.{Holding, Open}
 use Rattle.rds_callers.specs.Places.{Place, Vacant, Bound, Ended, Spare, ArePlaces, HasKept, holding_of, spared, somes}
-use Rattle.rds_callers.specs.States.{shown, seen, IsSound, spared_state}
+use Rattle.rds_callers.specs.States.{shown, shown_all, AreSlots, spared_state}
 use Rattle.rds_callers.specs.declared.state.State.{State}
 use Rattle.rds_callers.specs.declared.state.State.TheVariants as state
 use Rattle.rds_callers.proofs.Seen.{mapped, somes_some}
@@ -89,14 +89,14 @@ places_spared places a = record {
   order = λ slot other h p at there le. let f = back places slot (Vacant h) at in absurd (none_vacant f.0 h f.2);
 }
 
-pub sound_spared : (states : List State) → IsSound states → IsSound (map spared_state states) × (seen (map spared_state states) ≡ map spared (seen states))
+pub sound_spared : (states : List State) → AreSlots states → AreSlots (map spared_state states) × (shown_all (map spared_state states) ≡ map spared (shown_all states))
 sound_spared states s =
-    let shows = all_shown states (seen states) s.whole in
-    let is : seen (map spared_state states) ≡ map spared (seen states) = ap somes shows ∙ somes_some (map spared (seen states)) in (
+    let shows = all_shown states (shown_all states) s.whole in
+    let is : shown_all (map spared_state states) ≡ map spared (shown_all states) = ap somes shows ∙ somes_some (map spared (shown_all states)) in (
       record {
         whole = shows ∙ ap (map Some) (sym is);
         count = let c = s.count in let e = length-map states spared_state in omega arith;
-        places = subst ArePlaces (sym is) (places_spared (seen states) s.places);
+        places = subst ArePlaces (sym is) (places_spared (shown_all states) s.places);
       },
       is,
     )
@@ -110,10 +110,10 @@ vacant_back : (l : List (Holding ReaderView)) (slot : ℕ) (p : Place) → slice
 vacant_back l slot p at = mapped Vacant (slice_get l slot) p (sym (slice_get-map Vacant l slot) ∙ at)
 
 pub sound_vacant : (l : List (Holding ReaderView)) (states : List State) → states ≡ map state.Vacant l → length states ≤ 65535 → ((slot : ℕ) (h : Holding ReaderView) → slice_get l slot ≡ Some h → h.words.slot ≡ slot)
-    → ((slot : ℕ) (h : Holding ReaderView) → slice_get l slot ≡ Some h → h.inbox.get.got ≡ []) → IsSound states × (seen states ≡ map Vacant l)
+    → ((slot : ℕ) (h : Holding ReaderView) → slice_get l slot ≡ Some h → h.inbox.get.got ≡ []) → AreSlots states × (shown_all states ≡ map Vacant l)
 sound_vacant l states made count number empty =
     let shows = ap (map shown) made ∙ vacant_shown l in
-    let is : seen states ≡ map Vacant l = ap somes shows ∙ somes_some (map Vacant l) in (
+    let is : shown_all states ≡ map Vacant l = ap somes shows ∙ somes_some (map Vacant l) in (
       record {
         whole = shows ∙ ap (map Some) (sym is);
         count = count;

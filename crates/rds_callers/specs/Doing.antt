@@ -9,7 +9,7 @@ use Rattle.rds_parts.specs.Ports.{first_port, port_after}
 use Rattle.rds_socket.specs.Holding.{Holding, Open}
 use Rattle.rds_socket.specs.Binds.{BindFits, BindAnyFits}
 use Rattle.rds_callers.specs.Places.{Place, Vacant, Bound}
-use Rattle.rds_callers.specs.Tenants.{Sends, ReceivesNext, Cancels, Closes, Cuts}
+use Rattle.rds_callers.specs.Tenants.{SendsFrom, ReceivesNext, Cancels, Closes, Cuts}
 
 -- this socket, which handed these out, is bound at the slot
 abbrev pub IsBoundAt : List Place → ℕ → Open ReaderView → List Datagram → Type 0
@@ -67,7 +67,7 @@ CutsByLast peer old new = ((slot : ℕ) × (p q : Place) × (slot + 1 ≡ length
 abbrev pub IsDone : Command → List Place → List Place → Type 0
 IsDone (script.Bind host port sndbuf rcvbuf) old new = Binds port sndbuf rcvbuf old new
 IsDone (script.BindAny host port sndbuf rcvbuf) old new = BindsFirstFree port sndbuf rcvbuf old new
-IsDone (script.Send host port to dport payload) old new = AtPort port (Sends (address_of to) dport payload) old new
+IsDone (script.Send host port to dport payload) old new = AtPort port (SendsFrom (address_of to) dport payload) old new
 IsDone (script.Recv host port) old new = AtPort port ReceivesNext old new
 IsDone (script.Cancel host port to dport) old new = AtPort port (Cancels (address_of to) dport) old new
 IsDone (script.Close host port) old new = AtPort port Closes old new

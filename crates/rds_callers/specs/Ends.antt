@@ -19,39 +19,39 @@ pub record AreEndsOf (places : List Place) (closed : List (Holding ReaderView)) 
   pub each : (slot : ℕ) (p : Place) (h : Holding ReaderView) → slice_get places slot ≡ Some p → slice_get closed slot ≡ Some h → IsEndOf (holding_of p) h
 
 -- the slot and the port of a place that had a socket
-abbrev pub name_of : Place → Option (ℕ × ℕ)
-name_of (Vacant h) = None
-name_of (Bound o got) = Some (o.own.words.slot, o.port)
-name_of (Ended port h got) = Some (h.words.slot, port)
-name_of (Spare h) = None
+abbrev pub used_name : Place → Option (ℕ × ℕ)
+used_name (Vacant h) = None
+used_name (Bound o got) = Some (o.own.words.slot, o.port)
+used_name (Ended port h got) = Some (h.words.slot, port)
+used_name (Spare h) = None
 
 abbrev pub kept_name : Kept → ℕ × ℕ
 kept_name k = (k.slot, k.port)
 
 -- what an open socket still held it handed out in the end, and what an ended one held is unread
-abbrev pub HandsOut : Place → Kept → Type 0
-HandsOut (Vacant h) k = ⊥
-HandsOut (Bound o got) k = k.unread.items ≡ []
-HandsOut (Ended port h got) k = k.got.items ≡ got
-HandsOut (Spare h) k = ⊥
+abbrev pub UnreadFits : Place → Kept → Type 0
+UnreadFits (Vacant h) k = ⊥
+UnreadFits (Bound o got) k = k.unread.items ≡ []
+UnreadFits (Ended port h got) k = k.got.items ≡ got
+UnreadFits (Spare h) k = ⊥
 
 -- what the socket of a place has: all that was taken from its mailbox, which was found empty
-pub record HasAll (p : Place) (closed : Holding ReaderView) (k : Kept) : Type 0 where
+pub record TookAll (p : Place) (closed : Holding ReaderView) (k : Kept) : Type 0 where
   pub all : k.got.items ++ k.unread.items ≡ bare_items closed.inbox.get.got
   pub empty : AllGot closed.inbox.get
-  pub unread : HandsOut p k
+  pub unread : UnreadFits p k
 
 -- what is kept of one place
 abbrev pub HasLeft : Place → Holding ReaderView → Option Kept → Type 0
-HasLeft p closed (Some k) = HasAll p closed k × (name_of p ≡ Some (kept_name k))
-HasLeft p closed None = name_of p ≡ None
+HasLeft p closed (Some k) = TookAll p closed k × (used_name p ≡ Some (kept_name k))
+HasLeft p closed None = used_name p ≡ None
 
 -- the place and the end of its slot are those of what was kept
 abbrev pub IsLeft : List Place → List (Holding ReaderView) → Kept → Type 0
-IsLeft places closed k = (p : Place) × (h : Holding ReaderView) × (slice_get places k.slot ≡ Some p) × (slice_get closed k.slot ≡ Some h) × HasAll p h k
+IsLeft places closed k = (p : Place) × (h : Holding ReaderView) × (slice_get places k.slot ≡ Some p) × (slice_get closed k.slot ≡ Some h) × TookAll p h k
 
 -- one is kept of each place that had a socket, in order of the slots, which ascend, with all that its socket has
 pub record AreLeft (places : List Place) (closed : List (Holding ReaderView)) (kept : List Kept) : Type 0 where
-  pub names : map kept_name kept ≡ somes (map name_of places)
+  pub names : map kept_name kept ≡ somes (map used_name places)
   pub ascend : Ascend (map (λ k. k.slot) kept)
   pub each : All (IsLeft places closed) kept

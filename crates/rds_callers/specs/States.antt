@@ -15,12 +15,12 @@ shown (state.Spare h) = Some (Spare h)
 shown state.Away = None
 
 -- what contracts see of all slots
-abbrev pub seen : List State → List Place
-seen states = somes (map shown states)
+abbrev pub shown_all : List State → List Place
+shown_all states = somes (map shown states)
 
 -- no slot is in the hands of a call
-abbrev pub IsWhole : List State → Type 0
-IsWhole states = map shown states ≡ map Some (seen states)
+abbrev pub NoneAway : List State → Type 0
+NoneAway states = map shown states ≡ map Some (shown_all states)
 
 abbrev pub is_vacant : State → Bool
 is_vacant (state.Vacant h) = true
@@ -30,12 +30,12 @@ is_vacant (state.Spare h) = false
 is_vacant state.Away = false
 
 -- whether a socket holds the port
-abbrev pub is_held_by : ℕ → State → Bool
-is_held_by port (state.Vacant h) = false
-is_held_by port (state.Bound t) = t.socket.port == port
-is_held_by port (state.Ended f) = false
-is_held_by port (state.Spare h) = false
-is_held_by port state.Away = false
+abbrev pub holds_port : ℕ → State → Bool
+holds_port port (state.Vacant h) = false
+holds_port port (state.Bound t) = t.socket.port == port
+holds_port port (state.Ended f) = false
+holds_port port (state.Spare h) = false
+holds_port port state.Away = false
 
 -- a vacant slot is given up, and another stays as it is
 abbrev pub spared_state : State → State
@@ -53,7 +53,7 @@ abbrev pub vacant_states : List (Holding ReaderView) → List State
 vacant_states vacants = map state.Vacant vacants
 
 -- no slot is in the hands of a call, their number fits, and they are what a caller's slots are
-pub record IsSound (states : List State) : Type 0 where
-  pub whole : IsWhole states
+pub record AreSlots (states : List State) : Type 0 where
+  pub whole : NoneAway states
   pub count : length states ≤ 65535
-  pub places : ArePlaces (seen states)
+  pub places : ArePlaces (shown_all states)

@@ -30,8 +30,8 @@ abbrev pub SendsOrNot : ℕ → ℕ → List ℕ → Open ReaderView → Open Re
 SendsOrNot peer dport payload old new = IsSent IsLook peer dport payload old new ⊎ ((e : SendError) × (e ≢ Memory) × RefusalFits IsLook peer dport payload old e new)
 
 -- the same holds of a socket that keeps what it handed out
-abbrev pub Sends : ℕ → ℕ → List ℕ → Open ReaderView → List Datagram → Place → Type 0
-Sends peer dport payload o got p = (q : Open ReaderView) × SendsOrNot peer dport payload o q × (p ≡ Bound q got)
+abbrev pub SendsFrom : ℕ → ℕ → List ℕ → Open ReaderView → List Datagram → Place → Type 0
+SendsFrom peer dport payload o got p = (q : Open ReaderView) × SendsOrNot peer dport payload o q × (p ≡ Bound q got)
 
 -- one datagram was received and kept, or the mailbox was found empty and nothing changed
 abbrev pub ReceivesNext : Open ReaderView → List Datagram → Place → Type 0

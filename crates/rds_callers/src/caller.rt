@@ -5,7 +5,7 @@ ghost use Rattle.rds_script.specs.Script.{IsCommand};
 ghost use Rattle.rds_socket.specs.Holding.{Holding};
 ghost use Rattle.rds_callers.specs.Doing.{IsDone};
 ghost use Rattle.rds_callers.specs.Places.{ArePlaces, PlacesKeep, vacant_places};
-ghost use Rattle.rds_callers.specs.States.{IsSound, seen, vacant_states};
+ghost use Rattle.rds_callers.specs.States.{AreSlots, shown_all, vacant_states};
 
 use crate::state::State;
 use rds_fmap::Reader;
@@ -39,11 +39,11 @@ impl Model for Caller {
 
     ghost Value = { CallerView };
 
-    ghost use Rattle.rds_callers.specs.States.{seen, IsSound};
+    ghost use Rattle.rds_callers.specs.States.{shown_all, AreSlots};
 
-    ghost view = { λ c. record { host = c.host; places = seen c.states.items } };
+    ghost view = { λ c. record { host = c.host; places = shown_all c.states.items } };
 
-    ghost invariant = { λ c. IsSound c.states.items };
+    ghost invariant = { λ c. AreSlots c.states.items };
 }
 
 impl Caller {
@@ -64,8 +64,8 @@ impl Caller {
 
     // What became of each slot.
     pub(crate) fn into_states(self) -> Vec<State>
-        ensures sound { IsSound result.items }
-        ensures seen { seen result.items ≡ self.places }
+        ensures sound { AreSlots result.items }
+        ensures places { shown_all result.items ≡ self.places }
     {
         let Caller { host: _, states } = self;
         states

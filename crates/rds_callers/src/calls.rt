@@ -2,7 +2,7 @@
 ghost use Rattle.std.specs.Prelude.{◌≡◌, OnOk};
 ghost use Rattle.rds_callers.specs.Places.{PlacesKeep};
 ghost use Rattle.rds_callers.specs.Doing.{AtPort, CutsByLast};
-ghost use Rattle.rds_callers.specs.Tenants.{Sends, ReceivesNext, Cancels, Closes};
+ghost use Rattle.rds_callers.specs.Tenants.{SendsFrom, ReceivesNext, Cancels, Closes};
 
 use crate::caller::Caller;
 use crate::finding::lift_bound;
@@ -22,7 +22,7 @@ impl Caller {
     ) -> Result<(), Memory>
         ensures host { self.new.host ≡ self.old.host }
         ensures keeps { PlacesKeep self.old.places self.new.places }
-        ensures done { OnOk result (AtPort port (Sends peer dport payload.now) self.old.places self.new.places) }
+        ensures done { OnOk result (AtPort port (SendsFrom peer dport payload.now) self.old.places self.new.places) }
     {
         let payload = payload.share()?;
         let Some((slot, mut tenant)) = lift_bound(&mut self.states, port) else {

@@ -2,7 +2,7 @@
 ghost use Rattle.std.specs.Prelude.{◌≡◌, ◌++◌, IfOk, OnOk};
 ghost use Rattle.std.specs.Option.{option_to_list};
 ghost use Rattle.rds_callers.specs.Ends.{AreEndsOf, AreLeft};
-ghost use Rattle.rds_callers.specs.States.{IsSound, seen};
+ghost use Rattle.rds_callers.specs.States.{AreSlots, shown_all};
 
 use crate::caller::Caller;
 use crate::state::State;
@@ -38,9 +38,9 @@ impl Caller {
 
 // What the sockets of these slots have, and every slot's end.
 fn end_all<R: Wait>(rt: &R, alloc: Global, mut states: Vec<State>) -> Result<Left, Memory>
-    requires { IsSound states.items }
-    ensures slots { IfOk result (λ r. AreEndsOf (seen states.items) r.1.items) }
-    ensures kept { IfOk result (λ r. AreLeft (seen states.items) r.1.items r.0.items) }
+    requires { AreSlots states.items }
+    ensures slots { IfOk result (λ r. AreEndsOf (shown_all states.items) r.1.items) }
+    ensures kept { IfOk result (λ r. AreLeft (shown_all states.items) r.1.items r.0.items) }
 {
     let mut all_kept = Vec::new(alloc);
     let mut all_closed = Vec::with_capacity(alloc, states.len())?;

@@ -2,7 +2,7 @@
 ghost use Rattle.std.specs.Prelude.{◌≡◌, ◌<◌, ◌≤◌, ℕ, Some, false, true, IfSome, IfNone, slice_get, slice_set, vec_len};
 ghost use Rattle.rds_callers.specs.declared.state.State.{State as StateView};
 ghost use Rattle.rds_callers.specs.declared.state.State.TheVariants as state;
-ghost use Rattle.rds_callers.specs.States.{AreNot, is_vacant, is_held_by};
+ghost use Rattle.rds_callers.specs.States.{AreNot, is_vacant, holds_port};
 
 use crate::state::State;
 use crate::tenant::Tenant;
@@ -12,7 +12,7 @@ use std::mem;
 
 /// The slot of the socket that holds the port, and the socket, which is taken out of its place.
 pub(crate) fn lift_bound(states: &mut Vec<State>, port: u16) -> Option<(usize, Tenant)>
-    ensures none { IfNone result (AreNot (is_held_by port) states.old.items) }
+    ensures none { IfNone result (AreNot (holds_port port) states.old.items) }
     ensures same { IfNone result (states.new ≡ states.old) }
     ensures port { IfSome result (λ r. r.1.socket.port ≡ port) }
     ensures was { IfSome result (λ r. slice_get states.old.items r.0 ≡ Some (state.Bound r.1)) }
@@ -44,8 +44,8 @@ pub(crate) fn lift_vacant(states: &mut Vec<State>) -> Option<(usize, Vacant<Read
 
 /// The slot of the socket that holds the port.
 pub(crate) fn find_bound(states: &Vec<State>, port: u16) -> Option<usize>
-    ensures none { IfNone result (AreNot (is_held_by port) states.now.items) }
-    ensures found { IfSome result (λ slot. (x : StateView) × (slice_get states.now.items slot ≡ Some x) × (is_held_by port x ≡ true)) }
+    ensures none { IfNone result (AreNot (holds_port port) states.now.items) }
+    ensures found { IfSome result (λ slot. (x : StateView) × (slice_get states.now.items slot ≡ Some x) × (holds_port port x ≡ true)) }
     ensures within { IfSome result (λ slot. slot < vec_len states.now) }
 {
     for slot in 0..states.len() {

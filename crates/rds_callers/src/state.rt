@@ -6,7 +6,7 @@ ghost use Rattle.rds_fmap.specs.Readers.{ReaderView};
 ghost use Rattle.rds_callers.specs.Places.{Place, PlaceKeeps, holding_of, told_by, bind_note, IsUsed};
 ghost use Rattle.rds_callers.specs.Tenants.{Cuts};
 ghost use Rattle.rds_callers.specs.Ends.{IsEndOf, HasLeft};
-ghost use Rattle.rds_callers.specs.States.{shown, is_vacant, is_held_by, spared_state};
+ghost use Rattle.rds_callers.specs.States.{shown, is_vacant, holds_port, spared_state};
 
 use crate::former::FormerTenant;
 use crate::tenant::{Tenant, told};
@@ -45,7 +45,7 @@ impl State {
 
     /// Whether a socket holds the port.
     pub(crate) fn holds(&self, port: u16) -> bool
-        ensures { result ≡ is_held_by port self.now }
+        ensures { result ≡ holds_port port self.now }
     {
         match self {
             State::Bound(tenant) => tenant.port() == port,

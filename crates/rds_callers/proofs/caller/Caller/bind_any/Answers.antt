@@ -3,7 +3,7 @@ use Rattle.std.proofs.lemmas.Result.{on_ok_weaker}
 use Rattle.rds_socket.specs.Binds.{BindAnyFits}
 use Rattle.rds_callers.specs.Doing.{IsFree, IsFirstFree, NoneVacant}
 use Rattle.rds_callers.specs.Places.{Vacant, PlacesKeep}
-use Rattle.rds_callers.specs.States.{seen}
+use Rattle.rds_callers.specs.States.{shown_all}
 use Rattle.rds_callers.specs.declared.state.State.TheVariants as state
 use Rattle.rds_callers.proofs.Seen.{set_twice}
 use Rattle.rds_callers.proofs.Doings.{none_seen, next_seen, next_put, bind_outcome, binds_next}
@@ -12,7 +12,7 @@ use Rattle.rds_callers.proofs.caller.Caller.bind_any.Goals as goal
 pub returns-in_default-lift_vacant-clause-done : goal.returns-in_default-lift_vacant-clause-done
 returns-in_default-lift_vacant-clause-done c =
     let view = ap (λ v. v.places) c.self.view_is in
-    inr (subst NoneVacant view (none_seen c.self.inside.states.items c.self.invariant.whole c.in_default-lift_vacant.ensures.none), ap (λ v. seen v.items) c.in_default-lift_vacant.ensures.same ∙ view)
+    inr (subst NoneVacant view (none_seen c.self.inside.states.items c.self.invariant.whole c.in_default-lift_vacant.ensures.none), ap (λ v. shown_all v.items) c.in_default-lift_vacant.ensures.same ∙ view)
 
 pub bind_any_vacant-state-requires-clause-got : goal.bind_any_vacant-state-requires-clause-got
 bind_any_vacant-state-requires-clause-got c =
@@ -24,7 +24,7 @@ invariant_of-self-2 c =
     let next = next_seen c.self.inside.states.items c.self.invariant.whole c.in-Some-lift_vacant.slot c.in-Some-lift_vacant.vacant c.in-Some-lift_vacant.ensures.first c.in-Some-lift_vacant.ensures.was in
     let out = bind_outcome c.bind_any_vacant-state.result.1 c.bind_any_vacant-state.result.0 c.in-Some.port (λ o. BindAnyFits c.in-Some-lift_vacant.vacant c.args.start c.args.sndbuf c.args.rcvbuf (Ok o) × (o.port ≡ c.in-Some.port)) (λ o f. f.1) (on_ok_weaker c.bind_any_vacant-state.result.1 (λ b. (b.0, (b.1, b.2), b.3)) c.bind_any_vacant-state.ensures.bound) c.bind_any_vacant-state.ensures.failed in
     let put = next_put c.self.inside.states.items (set c.lift_vacant.new.states.items c.in-Some-lift_vacant.slot c.bind_any_vacant-state.result.0) c.in-Some-lift_vacant.slot c.in-Some-lift_vacant.vacant c.bind_any_vacant-state.result.0 out.0 c.self.invariant c.in-Some-lift_vacant.ensures.was next out.1 (c.bind_any_vacant-state.ensures.keeps out.0 out.1)
-    (λ o got e. subst (λ q. IsFree (seen c.self.inside.states.items) q) (sym (out.2 o got e)) (subst (λ l. IsFree l c.in-Some.port) (sym view) (c.in-Some.ensures.2)))
+    (λ o got e. subst (λ q. IsFree (shown_all c.self.inside.states.items) q) (sym (out.2 o got e)) (subst (λ l. IsFree l c.in-Some.port) (sym view) (c.in-Some.ensures.2)))
     (ap (λ l. set l c.in-Some-lift_vacant.slot c.bind_any_vacant-state.result.0) c.in-Some-lift_vacant.ensures.lifted ∙ set_twice c.self.inside.states.items c.in-Some-lift_vacant.slot state.Away c.bind_any_vacant-state.result.0) in
     put.changed.sound
 
@@ -34,9 +34,9 @@ returns-clause-keeps c =
     let next = next_seen c.self.inside.states.items c.self.invariant.whole c.in-Some-lift_vacant.slot c.in-Some-lift_vacant.vacant c.in-Some-lift_vacant.ensures.first c.in-Some-lift_vacant.ensures.was in
     let out = bind_outcome c.bind_any_vacant-state.result.1 c.bind_any_vacant-state.result.0 c.in-Some.port (λ o. BindAnyFits c.in-Some-lift_vacant.vacant c.args.start c.args.sndbuf c.args.rcvbuf (Ok o) × (o.port ≡ c.in-Some.port)) (λ o f. f.1) (on_ok_weaker c.bind_any_vacant-state.result.1 (λ b. (b.0, (b.1, b.2), b.3)) c.bind_any_vacant-state.ensures.bound) c.bind_any_vacant-state.ensures.failed in
     let put = next_put c.self.inside.states.items (set c.lift_vacant.new.states.items c.in-Some-lift_vacant.slot c.bind_any_vacant-state.result.0) c.in-Some-lift_vacant.slot c.in-Some-lift_vacant.vacant c.bind_any_vacant-state.result.0 out.0 c.self.invariant c.in-Some-lift_vacant.ensures.was next out.1 (c.bind_any_vacant-state.ensures.keeps out.0 out.1)
-    (λ o got e. subst (λ q. IsFree (seen c.self.inside.states.items) q) (sym (out.2 o got e)) (subst (λ l. IsFree l c.in-Some.port) (sym view) (c.in-Some.ensures.2)))
+    (λ o got e. subst (λ q. IsFree (shown_all c.self.inside.states.items) q) (sym (out.2 o got e)) (subst (λ l. IsFree l c.in-Some.port) (sym view) (c.in-Some.ensures.2)))
     (ap (λ l. set l c.in-Some-lift_vacant.slot c.bind_any_vacant-state.result.0) c.in-Some-lift_vacant.ensures.lifted ∙ set_twice c.self.inside.states.items c.in-Some-lift_vacant.slot state.Away c.bind_any_vacant-state.result.0) in
-    subst (λ l. PlacesKeep l (seen (set c.lift_vacant.new.states.items c.in-Some-lift_vacant.slot c.bind_any_vacant-state.result.0))) view put.keeps
+    subst (λ l. PlacesKeep l (shown_all (set c.lift_vacant.new.states.items c.in-Some-lift_vacant.slot c.bind_any_vacant-state.result.0))) view put.keeps
 
 pub returns-clause-done : goal.returns-clause-done
 returns-clause-done c =
@@ -44,7 +44,7 @@ returns-clause-done c =
     let next = next_seen c.self.inside.states.items c.self.invariant.whole c.in-Some-lift_vacant.slot c.in-Some-lift_vacant.vacant c.in-Some-lift_vacant.ensures.first c.in-Some-lift_vacant.ensures.was in
     let out = bind_outcome c.bind_any_vacant-state.result.1 c.bind_any_vacant-state.result.0 c.in-Some.port (λ o. BindAnyFits c.in-Some-lift_vacant.vacant c.args.start c.args.sndbuf c.args.rcvbuf (Ok o) × (o.port ≡ c.in-Some.port)) (λ o f. f.1) (on_ok_weaker c.bind_any_vacant-state.result.1 (λ b. (b.0, (b.1, b.2), b.3)) c.bind_any_vacant-state.ensures.bound) c.bind_any_vacant-state.ensures.failed in
     let put = next_put c.self.inside.states.items (set c.lift_vacant.new.states.items c.in-Some-lift_vacant.slot c.bind_any_vacant-state.result.0) c.in-Some-lift_vacant.slot c.in-Some-lift_vacant.vacant c.bind_any_vacant-state.result.0 out.0 c.self.invariant c.in-Some-lift_vacant.ensures.was next out.1 (c.bind_any_vacant-state.ensures.keeps out.0 out.1)
-    (λ o got e. subst (λ q. IsFree (seen c.self.inside.states.items) q) (sym (out.2 o got e)) (subst (λ l. IsFree l c.in-Some.port) (sym view) (c.in-Some.ensures.2)))
+    (λ o got e. subst (λ q. IsFree (shown_all c.self.inside.states.items) q) (sym (out.2 o got e)) (subst (λ l. IsFree l c.in-Some.port) (sym view) (c.in-Some.ensures.2)))
     (ap (λ l. set l c.in-Some-lift_vacant.slot c.bind_any_vacant-state.result.0) c.in-Some-lift_vacant.ensures.lifted ∙ set_twice c.self.inside.states.items c.in-Some-lift_vacant.slot state.Away c.bind_any_vacant-state.result.0) in
     on_ok_weaker c.bind_any_vacant-state.result.1 inl
     (binds_next c.bind_any_vacant-state.result.1 (λ h o. BindAnyFits h c.args.start c.args.sndbuf c.args.rcvbuf (Ok o) × IsFirstFree c.args.self.now.places c.args.start o.port) c.self.inside.states.items (set c.lift_vacant.new.states.items c.in-Some-lift_vacant.slot c.bind_any_vacant-state.result.0) c.args.self.now.places c.in-Some-lift_vacant.slot c.in-Some-lift_vacant.vacant

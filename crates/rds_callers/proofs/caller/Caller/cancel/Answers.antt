@@ -1,7 +1,7 @@
 use Rattle.std.proofs.Common.{set, ap, subst, ◌∙◌}
 use Rattle.std.proofs.lemmas.Result.{on_ok_weaker}
 use Rattle.rds_callers.specs.Places.{Bound, PlacesKeep}
-use Rattle.rds_callers.specs.States.{seen}
+use Rattle.rds_callers.specs.States.{shown_all}
 use Rattle.rds_callers.specs.Tenants.{Cancels}
 use Rattle.rds_callers.specs.declared.state.State.TheVariants as state
 use Rattle.rds_callers.proofs.Seen.{set_twice}
@@ -23,7 +23,7 @@ returns-clause-keeps g c =
     let put =
     tenant_put c.self.inside.states.items (set c.lift_bound.new.states.items c.in-Some.slot (state.Bound c.cancel-cancelled.new.self)) c.in-Some.slot c.in-Some.tenant c.cancel-cancelled.new.self c.self.invariant c.in-Some.ensures.was (ap (λ o. o.port) c.cancel-cancelled.ensures.rest) c.cancel-cancelled.ensures.keeps
     (ap (λ l. set l c.in-Some.slot (state.Bound c.cancel-cancelled.new.self)) c.in-Some.ensures.lifted ∙ set_twice c.self.inside.states.items c.in-Some.slot state.Away (state.Bound c.cancel-cancelled.new.self)) in
-    subst (λ l. PlacesKeep l (seen (set c.lift_bound.new.states.items c.in-Some.slot (state.Bound c.cancel-cancelled.new.self)))) (ap (λ v. v.places) c.self.view_is) put.keeps
+    subst (λ l. PlacesKeep l (shown_all (set c.lift_bound.new.states.items c.in-Some.slot (state.Bound c.cancel-cancelled.new.self)))) (ap (λ v. v.places) c.self.view_is) put.keeps
 
 pub returns-clause-done : goal.returns-clause-done
 returns-clause-done g c =

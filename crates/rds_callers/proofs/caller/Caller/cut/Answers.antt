@@ -2,7 +2,7 @@ use Rattle.std.proofs.Common.{◌-◌, set, sym, ap, subst, ◌∙◌, refl, ari
 use Rattle.std.proofs.lemmas.Bool.{eqb-false}
 use Rattle.rds_parts.specs.PlaceLaws.{stands}
 use Rattle.rds_callers.specs.Places.{PlacesKeep, with_holding}
-use Rattle.rds_callers.specs.States.{seen}
+use Rattle.rds_callers.specs.States.{shown_all}
 use Rattle.rds_callers.proofs.Seen.{here_seen, count_seen}
 use Rattle.rds_callers.proofs.Doings.{cut_outcome, cut_put, cuts_by_last}
 use Rattle.rds_callers.proofs.caller.Caller.cut.Goals as goal
@@ -35,7 +35,7 @@ returns-clause-keeps g c =
     let p = here_seen items c.self.invariant.whole last x at in
     let out = cut_outcome c.cut.result c.args.peer x y p.0 p.1 c.cut.ensures.same c.cut.ensures.done in
     let put = cut_put items (set items last y) last x y p.0 out.0 c.self.invariant at p.1 out.1 out.2 c.cut.ensures.keeps refl in
-    subst (λ l. PlacesKeep l (seen (set items last y))) (ap (λ v. v.places) c.self.view_is) put.keeps
+    subst (λ l. PlacesKeep l (shown_all (set items last y))) (ap (λ v. v.places) c.self.view_is) put.keeps
 
 pub returns-clause-done : goal.returns-clause-done
 returns-clause-done g c =

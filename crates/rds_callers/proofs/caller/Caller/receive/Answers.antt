@@ -1,6 +1,6 @@
 use Rattle.std.proofs.Common.{Ok, set, ap, subst, ◌∙◌}
 use Rattle.rds_callers.specs.Places.{Bound, PlacesKeep}
-use Rattle.rds_callers.specs.States.{seen}
+use Rattle.rds_callers.specs.States.{shown_all}
 use Rattle.rds_callers.specs.Tenants.{ReceivesNext}
 use Rattle.rds_callers.specs.declared.state.State.TheVariants as state
 use Rattle.rds_callers.proofs.Seen.{set_twice}
@@ -22,7 +22,7 @@ returns-in_err-received-clause-keeps g c =
     let put =
     tenant_put c.self.inside.states.items (set c.lift_bound.new.states.items c.in-Some.slot (state.Bound c.receive-received.new.self)) c.in-Some.slot c.in-Some.tenant c.receive-received.new.self c.self.invariant c.in-Some.ensures.was c.receive-received.ensures.port c.receive-received.ensures.keeps
     (ap (λ l. set l c.in-Some.slot (state.Bound c.receive-received.new.self)) c.in-Some.ensures.lifted ∙ set_twice c.self.inside.states.items c.in-Some.slot state.Away (state.Bound c.receive-received.new.self)) in
-    subst (λ l. PlacesKeep l (seen (set c.lift_bound.new.states.items c.in-Some.slot (state.Bound c.receive-received.new.self)))) (ap (λ v. v.places) c.self.view_is) put.keeps
+    subst (λ l. PlacesKeep l (shown_all (set c.lift_bound.new.states.items c.in-Some.slot (state.Bound c.receive-received.new.self)))) (ap (λ v. v.places) c.self.view_is) put.keeps
 
 pub invariant_of-self-2 : goal.invariant_of-self-2
 invariant_of-self-2 g c = (
@@ -35,7 +35,7 @@ returns-clause-keeps g c =
     let put =
     tenant_put c.self.inside.states.items (set c.lift_bound.new.states.items c.in-Some.slot (state.Bound c.receive-received.new.self)) c.in-Some.slot c.in-Some.tenant c.receive-received.new.self c.self.invariant c.in-Some.ensures.was c.receive-received.ensures.port c.receive-received.ensures.keeps
     (ap (λ l. set l c.in-Some.slot (state.Bound c.receive-received.new.self)) c.in-Some.ensures.lifted ∙ set_twice c.self.inside.states.items c.in-Some.slot state.Away (state.Bound c.receive-received.new.self)) in
-    subst (λ l. PlacesKeep l (seen (set c.lift_bound.new.states.items c.in-Some.slot (state.Bound c.receive-received.new.self)))) (ap (λ v. v.places) c.self.view_is) put.keeps
+    subst (λ l. PlacesKeep l (shown_all (set c.lift_bound.new.states.items c.in-Some.slot (state.Bound c.receive-received.new.self)))) (ap (λ v. v.places) c.self.view_is) put.keeps
 
 pub returns-clause-done : goal.returns-clause-done
 returns-clause-done g c =
