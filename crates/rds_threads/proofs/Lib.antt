@@ -11,3 +11,4 @@ pub mod Told
 pub mod Obeying
 pub mod Keeping
 pub mod Listening
+pub mod Finished

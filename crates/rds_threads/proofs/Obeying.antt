@@ -16,7 +16,7 @@ use Rattle.rds_script.specs.declared.script.Command.TheVariants as script
 use Rattle.rds_script.specs.declared.script.Placed.{Placed}
 use Rattle.rds_socket.specs.Holding.{Holding}
 use Rattle.rds_callers.specs.Commands.{binds, commander}
-use Rattle.rds_callers.specs.Ends.{AreEndsOf, AreLeft, HasAll, IsLeft, kept_name, name_of}
+use Rattle.rds_callers.specs.Ends.{kept_name, used_name}
 use Rattle.rds_callers.specs.Places.{Bound, Ended, Place, Spare, Vacant, holding_of, somes, spared, vacant_places, with_holding}
 use Rattle.rds_threads.specs.Obeyed.{HasObeyed, IsNewSlot, Obeys, HandedOutAt, socket_name}
 use Rattle.rds_threads.specs.Tied.{PlacesHear}
@@ -61,18 +61,18 @@ new_slots (h ∷ slots) got put =
     (new_slots slots (λ slot k at. got (suc slot) k at) (λ slot k at. put (suc slot) k at))
 
 -- the names of slots stay where they are given up
-name_spared : (p : Place) → name_of (spared p) ≡ name_of p
+name_spared : (p : Place) → used_name (spared p) ≡ used_name p
 name_spared (Vacant h) = refl
 name_spared (Bound o got) = refl
 name_spared (Ended port h got) = refl
 name_spared (Spare h) = refl
 
-pub names_spared : (places : List Place) → somes (map name_of (map spared places)) ≡ somes (map name_of places)
+pub names_spared : (places : List Place) → somes (map used_name (map spared places)) ≡ somes (map used_name places)
 names_spared places = ap (λ (l : List (Option (ℕ × ℕ))). somes l) (go places)
   where
-    go : (ps : List Place) → map name_of (map spared ps) ≡ map name_of ps
+    go : (ps : List Place) → map used_name (map spared ps) ≡ map used_name ps
     go [] = refl
-    go (p ∷ ps) = (λ i. name_spared p i ∷ map name_of (map spared ps)) ∙ ap (λ (l : List (Option (ℕ × ℕ))). name_of p ∷ l) (go ps)
+    go (p ∷ ps) = (λ i. name_spared p i ∷ map used_name (map spared ps)) ∙ ap (λ (l : List (Option (ℕ × ℕ))). used_name p ∷ l) (go ps)
 
 -- what names say of sockets
 pub names_of : (kept : List Kept) → map socket_name (map socket_view kept) ≡ map kept_name kept

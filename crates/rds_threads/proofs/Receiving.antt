@@ -1,9 +1,10 @@
 -- What the sockets of a host handed out is what its journals delivered, and what another host sent.
-use Rattle.std.proofs.Common.{◌≡◌, ℕ, suc, ◌≤◌, ◌<◌, ◌==◌, ◌&&◌, Bool, true, false, cond, Option, Some, List, [], ◌∷◌, ◌++◌, All, filter, length, map, option_map, slice_get, Vec, refl, sym, ap, ap₂, subst, ◌∙◌, arith}
+use Rattle.std.proofs.Common.{◌≡◌, ℕ, suc, ◌≤◌, ◌<◌, ◌==◌, ◌&&◌, Bool, true, false, cond, Option, Some, List, [], ◌∷◌, ◌++◌, All, filter, length, map, option_map, slice_get, Result, Ok, Err, IfOk, OnOk, Vec, refl, sym, ap, ap₂, subst, ◌∙◌, arith}
 use Rattle.std.specs.Global.{Global}
 use Rattle.std.proofs.lemmas.List.{append-nil}
 use Rattle.std.proofs.lemmas.List.Elements.{All-nil, All-cons, All-map, All-weaker}
 use Rattle.std.proofs.lemmas.Option.{slice_get-map}
+use Rattle.rds_wire.specs.declared.memory.Memory.{Memory}
 use Rattle.rds_model.specs.declared.entry.Entry.{Entry}
 use Rattle.rds_model.specs.declared.order.Datagram.{Datagram}
 use Rattle.rds_model.specs.Deliveries.{delivered_datagrams}
@@ -21,8 +22,8 @@ use Rattle.rds_line.specs.Line.{LineView}
 use Rattle.rds_host.specs.Telling.{AreBoxesTold}
 use Rattle.rds_gather.specs.Joined.{AreJoined, IsPeer, from_peer, got_by, peer_of}
 use Rattle.rds_gather.specs.Sides.{side_of}
-use Rattle.rds_callers.specs.Places.{Bound, Ended, Place, Spare, Vacant}
-use Rattle.rds_callers.specs.Ends.{HasAll, IsLeft}
+use Rattle.rds_callers.specs.Places.{Place}
+use Rattle.rds_callers.specs.Ends.{IsLeft}
 use Rattle.rds_threads.specs.Reliable.{HandsOutDelivered, HandsOutSent, HasReceived, IsReliableTo, IsWithPeer, from_host, handed_out}
 use Rattle.rds_threads.proofs.HandedOut.{AreAccepted, agrees_journal}
 
@@ -108,3 +109,9 @@ reliable_of h sender receiver host only received accepted once = record {
     first : (s : FinalSocket) → All (HandsOutDelivered s) (record { peer = address_of h; past = receiver } ∷ []) →
         from_host (address_of h) (handed_out s) ≡ delivered_datagrams (address_of h) s.slot receiver
     first s all = all 0 (record { peer = address_of h; past = receiver }) (omega arith)
+
+-- what follows of a host end that was gathered
+pub on_gathered : (r : Result HostEnd Memory) (P Q R : HostEnd → Type 0) (J : Type 0) → IfOk r P → IfOk r Q → OnOk r J → ((end : HostEnd) → P end → Q end → J → R end) →
+    IfOk r R
+on_gathered (Ok end) P Q R J p q j f = f end p q j
+on_gathered (Err e) P Q R J p q j f = tt

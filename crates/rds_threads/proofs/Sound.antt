@@ -13,7 +13,12 @@ use Rattle.rds_report.specs.Hosts.{IsAddress, address_of}
 use Rattle.rds_report.specs.Views.{AreFinalHosts, AreSides, host_view, host_views, side_view}
 use Rattle.rds_report.specs.declared.final_state.HostEnd.{HostEnd}
 use Rattle.rds_gather.specs.Sides.{side_of}
+use Rattle.rds_model.specs.Fifo.{IsFifo}
+use Rattle.rds_model.specs.Honest.{IsHonest}
+use Rattle.rds_model.specs.Legal.{IsLegal}
 use Rattle.rds_threads.specs.Done.{AreDone}
+use Rattle.rds_threads.specs.Reliable.{HasReceived}
+use Rattle.rds_threads.proofs.Receiving.{reliable_of}
 use Rattle.rds_threads.specs.Ends.{AreEnds, AreSound, HasJournal}
 use Rattle.rds_threads.proofs.Connected.{first_of}
 
@@ -32,30 +37,36 @@ only_of [] x one at = absurd (omega (arith, one))
 only_of (y ∷ []) x one at = ap (λ z. z ∷ []) (same_Some y x at)
 only_of (y ∷ z ∷ xs) x one at = absurd (omega (arith, one))
 
-module _ {E M : Type 0} (m : Means E) (limit : ℕ) (lows highs : List (LineView E M)) (done : AreDone m limit lows highs) where
+module _ {E M : Type 0} (m : Means E) (limit : ℕ) (lows highs : List (LineView E M)) (done : AreDone m limit lows highs)
+    (fifo : (a b : List Entry) → IsLegal a → IsLegal b → IsHonest a b → (IsFifo a b × IsFifo b a)) where
   pub ends_of : (first second : HostEnd) → first.addr ≡ address_of 0 → second.addr ≡ address_of 1 →
       map side_view first.journals.items ≡ map side_of lows → map side_view second.journals.items ≡ map side_of highs →
-      AreEnds m.tells (host_views (first ∷ second ∷ []))
-  ends_of first second first_addr second_addr first_sides second_sides =
+      HasReceived (host_view first) → HasReceived (host_view second) → AreEnds m.tells (host_views (first ∷ second ∷ []))
+  ends_of first second first_addr second_addr first_sides second_sides first_received second_received =
       let low = first_of lows done.low_count in
       let high = first_of highs done.high_count in
-      let hosts = done.hosts low.0 high.0 low.1 high.1 in record {
+      let hosts = done.hosts low.0 high.0 low.1 high.1 in
+      let sound = done.sound low.0 high.0 low.1 high.1 in
+      let low_sides = first_sides ∙ (ap (map side_of) (only_of lows low.0 done.low_count low.1)
+          ∙ ap (λ (peer : ℕ). let j : FinalJournal = record { peer = peer; past = line_past low.0 } in j ∷ []) hosts.low_peer) in
+      let high_sides = second_sides ∙ (ap (map side_of) (only_of highs high.0 done.high_count high.1)
+          ∙ ap (λ (peer : ℕ). let j : FinalJournal = record { peer = peer; past = line_past high.0 } in j ∷ []) hosts.high_peer) in record {
         low = host_view first;
         high = host_view second;
         low_past = line_past low.0;
         high_past = line_past high.0;
         all = refl;
-        low_journal = (
-          first_addr,
-          first_sides ∙ (ap (map side_of) (only_of lows low.0 done.low_count low.1)
-              ∙ ap (λ (peer : ℕ). let j : FinalJournal = record { peer = peer; past = line_past low.0 } in j ∷ []) hosts.low_peer),
-        );
-        high_journal = (
-          second_addr,
-          second_sides ∙ (ap (map side_of) (only_of highs high.0 done.high_count high.1)
-              ∙ ap (λ (peer : ℕ). let j : FinalJournal = record { peer = peer; past = line_past high.0 } in j ∷ []) hosts.high_peer),
-        );
-        sound = done.sound low.0 high.0 low.1 high.1;
+        low_journal = (first_addr, low_sides);
+        high_journal = (second_addr, high_sides);
+        sound = sound;
+        low_received = first_received;
+        high_received = second_received;
+        reliable_forth = λ told.
+            reliable_of 0 (line_past low.0) (line_past high.0) (host_view second) high_sides second_received
+            (fifo (line_past low.0) (line_past high.0) sound.low_legal.legal sound.high_legal.legal (sound.honest told)).0.accepted (sound.forth told);
+        reliable_back = λ told.
+            reliable_of 1 (line_past high.0) (line_past low.0) (host_view first) low_sides first_received
+            (fifo (line_past low.0) (line_past high.0) sound.low_legal.legal sound.high_legal.legal (sound.honest told)).1.accepted (sound.back told);
       }
 
 is_address : (host addr : ℕ) → host < 8 → addr ≡ address_of host → IsAddress addr

@@ -133,6 +133,12 @@ module _ {E : Type 0} where
     each = λ place line after stood stands. (goes.each place line after stood stands).keeps;
   }
 
+  pub lines_same : (lines : List (LineView E WriterView)) → LinesKeep lines lines
+  lines_same lines = record {
+    count = refl;
+    each = λ place line after stood stands. subst (LineKeeps line) (same_Some line after (sym stood ∙ stands)) (line_keeps_same line);
+  }
+
   -- what was made belongs together
   pub tied_new : (slots : List (Holding ReaderView)) (places : List Place) (lines : List (LineView E WriterView)) → places ≡ vacant_places slots →
       AreOfHost slots lines → AreAllPasses slots lines → AreTied places lines

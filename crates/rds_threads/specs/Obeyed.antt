@@ -10,7 +10,7 @@ use Rattle.rds_line.specs.Keeps.{uncut}
 use Rattle.rds_gather.specs.Joined.{orders_of}
 use Rattle.rds_callers.specs.Commands.{commander}
 use Rattle.rds_callers.specs.Doing.{IsDone}
-use Rattle.rds_callers.specs.Ends.{name_of}
+use Rattle.rds_callers.specs.Ends.{used_name}
 use Rattle.rds_callers.specs.Places.{Bound, Ended, Place, Spare, Vacant, holding_of, somes}
 
 -- The caller of a host did a command exactly as `IsDone` says, if it is the host's own; another it left out.
@@ -52,5 +52,5 @@ pub record IsOutcome (host : ℕ) (commands : List Placed) (past : List Entry) (
   pub obeyed : HasObeyed host commands first last
   pub sent : (slot : ℕ) (p : Place) (lane : Lane ReaderView) → slice_get last slot ≡ Some p → IsLaneAt (holding_of p).routes 0 lane →
       orders_of slot past ≡ uncut lane.pass.put
-  pub names : map socket_name sockets ≡ somes (map name_of last)
+  pub names : map socket_name sockets ≡ somes (map used_name last)
   pub handed : All (λ (s : FinalSocket). (p : Place) × (slice_get last s.slot ≡ Some p) × HandedOutAt p s) sockets

@@ -1,5 +1,5 @@
 //! The two hosts of a run.
-ghost use Rattle.std.specs.Prelude.{◌≡◌, ◌≤◌, ◌<◌, All, IfOk, Some, drop, length, slice_get, take};
+ghost use Rattle.std.specs.Prelude.{◌≡◌, ◌≤◌, ◌<◌, All, IfOk, OnOk, Some, true, drop, length, slice_get, take};
 ghost use Rattle.rds_model.specs.declared.entry.TheConstants.{MAX_SLOTS};
 ghost use Rattle.rds_model.specs.declared.journal.TheConstants.{MAX_ENTRIES, MIN_ENTRIES};
 ghost use Rattle.rds_report.specs.Hosts.{address_of};
@@ -8,8 +8,9 @@ ghost use Rattle.rds_line.specs.Line.{LineView};
 ghost use Rattle.rds_line_streams.specs.Streams.{AreNumbered, IsUnused};
 ghost use Rattle.rds_host.specs.Lines.{IsNewLine};
 ghost use Rattle.rds_fmap.specs.Readers.{WriterView};
+ghost use Rattle.rds_callers.specs.Commands.{binds};
 ghost use Rattle.rds_callers.specs.Places.{PlacesKeep};
-ghost use Rattle.rds_threads.specs.Obeyed.{HasObeyed, IsNewSlot};
+ghost use Rattle.rds_threads.specs.Obeyed.{HasObeyed, IsNewSlot, Obeys};
 ghost use Rattle.rds_threads.specs.Tied.{AreTied};
 
 use rds_callers::{Caller, host_of, is_bind};
@@ -68,6 +69,26 @@ pub(crate) fn party<E: End>(
     Ok((Caller::new(alloc, host, vacants)?, lines))
 }
 
+// Does a bind of one of the two hosts.
+fn bind<R: Wait>(
+    rt: &R,
+    alloc: Global,
+    placed: &Placed,
+    callers: &mut (Caller, Caller),
+) -> Result<(), Memory>
+    requires command { IsCommand 2 placed.now.command }
+    requires binds { binds placed.now.command ≡ true }
+    ensures low_did { OnOk result (Obeys 0 placed.now callers.old.0.places callers.new.0.places) }
+    ensures high_did { OnOk result (Obeys 1 placed.now callers.old.1.places callers.new.1.places) }
+    ensures low { PlacesKeep callers.old.0.places callers.new.0.places }
+    ensures high { PlacesKeep callers.old.1.places callers.new.1.places }
+{
+    if host_of(&placed.command) == Some(0) {
+        return callers.0.obey(rt, alloc, &placed.command);
+    }
+    callers.1.obey(rt, alloc, &placed.command)
+}
+
 /// Does the leading binds, and answers how many there are.
 pub(crate) fn bind_leading<R: Wait>(
     rt: &R,
@@ -87,11 +108,7 @@ pub(crate) fn bind_leading<R: Wait>(
         if !is_bind(&placed.command) {
             break;
         }
-        if host_of(&placed.command) == Some(0) {
-            callers.0.obey(rt, alloc, &placed.command)?;
-        } else {
-            callers.1.obey(rt, alloc, &placed.command)?;
-        }
+        bind(rt, alloc, placed, callers)?;
         count += 1;
     }
     Ok(count)

@@ -1,7 +1,7 @@
 //! The threads of a run.
-ghost use Rattle.std.specs.Prelude.{All, IfOk};
+ghost use Rattle.std.specs.Prelude.{All, IfOk, OnOk};
 ghost use Rattle.rds_callers.specs.Places.{PlacesKeep};
-ghost use Rattle.rds_threads.specs.Obeyed.{HasObeyed};
+ghost use Rattle.rds_threads.specs.Obeyed.{HasObeyed, Obeys};
 ghost use Rattle.rds_script.specs.Script.{IsCommand};
 ghost use Rattle.rds_host.specs.Lines.{AreTurned, pair_of};
 
@@ -30,6 +30,28 @@ fn wait_at<G: Gate>(gate: &G, host: u8, turn: u32) {
     }
 }
 
+// Does a command once the gate lets the caller go on, if it is one of the host's, and answers whether it is.
+fn call<R: Wait, G: Gate>(
+    rt: &R,
+    alloc: Global,
+    placed: &Placed,
+    host: u8,
+    gate: &G,
+    turn: u32,
+    caller: &mut Caller,
+) -> Result<bool, Memory>
+    requires { IsCommand 2 placed.now.command }
+    ensures did { OnOk result (Obeys host placed.now caller.old.places caller.new.places) }
+    ensures keeps { PlacesKeep caller.old.places caller.new.places }
+{
+    if host_of(&placed.command) != Some(host) {
+        return Ok(false);
+    }
+    wait_at(gate, host, turn);
+    caller.obey(rt, alloc, &placed.command)?;
+    Ok(true)
+}
+
 // Does all of a host's commands in their order, each once the gate lets it. Where memory runs out, the caller is given up.
 fn call_all<R: Wait, G: Gate>(
     rt: &R,
@@ -45,9 +67,7 @@ fn call_all<R: Wait, G: Gate>(
 {
     let mut turn = 0u32;
     for placed in commands {
-        if host_of(&placed.command) == Some(host) {
-            wait_at(gate, host, turn);
-            caller.obey(rt, alloc, &placed.command)?;
+        if call(rt, alloc, placed, host, gate, turn, &mut caller)? {
             turn = turn.saturating_add(1);
         }
     }

@@ -8,9 +8,10 @@ use Rattle.rds_threads.proofs.ending.host_ends.Goals as goal
 module _ (g : given.Over) (c : goal.After-both g) where
   known : AreEnds g.W.End.End.means.tells (host_views (c.in_ok-first.field-0 ∷ c.in_ok-second.field-0 ∷ []))
   known =
-      ends_of g.W.End.End.means c.requires.0 c.args.lines.0.items c.args.lines.1.items c.requires.1 c.in_ok-first.field-0 c.in_ok-second.field-0
+      ends_of g.W.End.End.means c.requires.done.0 c.args.lines.0.items c.args.lines.1.items c.requires.done.1 c.fifo_of_all.ensures
+      c.in_ok-first.field-0 c.in_ok-second.field-0
       (c.in_ok-first.ensures.addr ∙ c.address.ensures) (c.in_ok-second.ensures.addr ∙ c.address-2.ensures)
-      c.in_ok-first.ensures.journals c.in_ok-second.ensures.journals
+      c.in_ok-first.ensures.journals c.in_ok-second.ensures.journals c.in_ok-first.ensures.received c.in_ok-second.ensures.received
 
 pub returns-clause-ends : goal.returns-clause-ends
 returns-clause-ends g c =

@@ -1,12 +1,14 @@
 use Rattle.std.proofs.Common.{refl}
 use Rattle.rds_report.specs.Hosts.{address_of}
 use Rattle.rds_host.specs.Lines.{pair_of}
+use Rattle.rds_threads.specs.Connection.{AreTwo}
 use Rattle.rds_threads.proofs.Connected.{new_two, two_turned}
+use Rattle.rds_threads.proofs.Finished.{tied_after}
 use Rattle.rds_threads.proofs.running.ended.Goals as goal
 
-pub last_rounds-end-requires : goal.last_rounds-end-requires
-last_rounds-end-requires g c =
-    let two =
+pub finish-requires-clause-two : goal.finish-requires-clause-two
+finish-requires-clause-two g c =
+    let two : AreTwo g.W.End.End.means c.args.limit c.play_both-callers.result.1.0.items c.play_both-callers.result.1.1.items =
     two_turned g.W.End.End.means pair_of c.args.limit c.in_ok-low-2.low_lines.items c.in_ok-high.high_lines.items
     c.play_both-callers.result.1.0.items c.play_both-callers.result.1.1.items
     (new_two g.W.End.End.means c.args.limit (address_of 0) (address_of 1) (address_of 1) (address_of 0) c.in_ok-low.field-0.low.items c.in_ok-low.field-0.high.items
@@ -15,24 +17,23 @@ last_rounds-end-requires g c =
     c.play_both-callers.ensures.low c.play_both-callers.ensures.high in
     (c.args.limit, two)
 
-pub end_run-requires-clause-done : goal.end_run-requires-clause-done
-end_run-requires-clause-done g c =
-    let two =
-    two_turned g.W.End.End.means pair_of c.args.limit c.in_ok-low-2.low_lines.items c.in_ok-high.high_lines.items
-    c.play_both-callers.result.1.0.items c.play_both-callers.result.1.1.items
-    (new_two g.W.End.End.means c.args.limit (address_of 0) (address_of 1) (address_of 1) (address_of 0) c.in_ok-low.field-0.low.items c.in_ok-low.field-0.high.items
-    c.in_ok-low-2.low_lines.items c.in_ok-high.high_lines.items c.in_ok-low-2.ensures.one c.in_ok-high.ensures.one
-    c.in_ok-low.ensures.1.paired c.in_ok-low-2.ensures.new c.in_ok-high.ensures.new refl refl)
-    c.play_both-callers.ensures.low c.play_both-callers.ensures.high in
-    (c.args.limit, c.last_rounds-end.ensures.done c.args.limit two)
+pub finish-requires-clause-low : goal.finish-requires-clause-low
+finish-requires-clause-low g c =
+    tied_after c.host_keeps.ensures.host c.host_keeps.ensures.passes c.in_ok-low-2.ensures.tied c.bind_leading.ensures.low (rw c.in-Ok.is at c.play_both-callers.ensures.low_slots)
+    (c.turned_keeps.ensures _ _ c.play_both-callers.ensures.low)
+
+pub finish-requires-clause-high : goal.finish-requires-clause-high
+finish-requires-clause-high g c =
+    tied_after c.host_keeps.ensures.host c.host_keeps.ensures.passes c.in_ok-high.ensures.tied c.bind_leading.ensures.high (rw c.in-Ok.is at c.play_both-callers.ensures.high_slots)
+    (c.turned_keeps.ensures _ _ c.play_both-callers.ensures.high)
 
 pub returns-clause-end : goal.returns-clause-end
 returns-clause-end g c =
-    let two =
+    let two : AreTwo g.W.End.End.means c.args.limit c.play_both-callers.result.1.0.items c.play_both-callers.result.1.1.items =
     two_turned g.W.End.End.means pair_of c.args.limit c.in_ok-low-2.low_lines.items c.in_ok-high.high_lines.items
     c.play_both-callers.result.1.0.items c.play_both-callers.result.1.1.items
     (new_two g.W.End.End.means c.args.limit (address_of 0) (address_of 1) (address_of 1) (address_of 0) c.in_ok-low.field-0.low.items c.in_ok-low.field-0.high.items
     c.in_ok-low-2.low_lines.items c.in_ok-high.high_lines.items c.in_ok-low-2.ensures.one c.in_ok-high.ensures.one
     c.in_ok-low.ensures.1.paired c.in_ok-low-2.ensures.new c.in_ok-high.ensures.new refl refl)
     c.play_both-callers.ensures.low c.play_both-callers.ensures.high in
-    c.end_run.ensures.end c.args.limit (c.last_rounds-end.ensures.done c.args.limit two)
+    c.finish.ensures.end c.args.limit two
