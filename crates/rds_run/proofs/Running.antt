@@ -21,7 +21,7 @@ run_ends_unread source sink ended.Unfinished unread = absurd unread
 
 -- a script of two hosts ends it as its run ended
 pub run_ends_of_script : (source : SourceSeen) (sink : SinkSeen) (m : Meaning) (s : Status) → IsSpelled source.left m → m.hosts ≡ 2 →
-    IsEndOfScript sink s → IsEndOfRunCall source sink s
+    IsEndOfScript m sink s → IsEndOfRunCall source sink s
 run_ends_of_script source sink m ended.Written read two ran = (m, read, two, ran)
 run_ends_of_script source sink m ended.Refused read two ran = absurd ran
 run_ends_of_script source sink m ended.Usage read two ran = absurd ran

@@ -14,11 +14,11 @@ use Rattle.rds_run.specs.declared.status.Status.TheVariants as status
 use Rattle.rds_run.specs.ExitStatus.{HasFailedIn, HasTaken, HasTakenNothing, IsRefusal, IsSpelled, SinkSeen, SourceSeen}
 use Rattle.rds_run.specs.Texts.{bad_line, read_fault_line}
 
--- A run came to its end: what its two hosts have then is sound, and the sink took exactly the report on it. Streams in memory tell
--- their bytes.
-pub record IsRan (held_before held_after : Option (List ℕ)) : Type 0 where
+-- A run of the script came to its end: its two hosts did the script's commands, what they have then is sound, and the sink took exactly
+-- the report on it. Streams in memory tell their bytes.
+pub record IsRan (s : Meaning) (held_before held_after : Option (List ℕ)) : Type 0 where
   pub hosts : List FinalHost
-  pub ends : AreEnds true hosts
+  pub ends : AreEnds true s.commands hosts
   pub written : SinkGained held_before held_after (report hosts)
 
 -- a run filled the journal of a host with a peer: both journals are sound, and the sink took the line that says so
@@ -49,14 +49,14 @@ IsManyHosts left held_before held_after =
 -- A status for which `⊥` stands can't come.
 
 -- the status after a script was run
-abbrev pub IsEndOfScript : SinkSeen → Status → Type 0
-IsEndOfScript sink status.Written = IsRan sink.held_before sink.held_after
-IsEndOfScript sink status.WireFault = IsWireFault sink.held_before sink.held_after
-IsEndOfScript sink status.Spent = HasFilled sink.held_before sink.held_after
-IsEndOfScript sink status.Unfinished = IsUnfinished sink.held_before sink.held_after
-IsEndOfScript sink status.WriteFault = HasRisen sink.faults_before sink.faults_after
-IsEndOfScript sink status.Memory = HasTakenNothing sink
-IsEndOfScript sink _ = ⊥
+abbrev pub IsEndOfScript : Meaning → SinkSeen → Status → Type 0
+IsEndOfScript s sink status.Written = IsRan s sink.held_before sink.held_after
+IsEndOfScript s sink status.WireFault = IsWireFault sink.held_before sink.held_after
+IsEndOfScript s sink status.Spent = HasFilled sink.held_before sink.held_after
+IsEndOfScript s sink status.Unfinished = IsUnfinished sink.held_before sink.held_after
+IsEndOfScript s sink status.WriteFault = HasRisen sink.faults_before sink.faults_after
+IsEndOfScript s sink status.Memory = HasTakenNothing sink
+IsEndOfScript s sink _ = ⊥
 
 -- the status after a script was refused that has more hosts than can be run
 abbrev pub IsEndOfManyHosts : (line : ℕ) → SinkSeen → Status → Type 0
@@ -68,7 +68,7 @@ IsEndOfManyHosts line sink _ = ⊥
 -- the status of the command `run`
 abbrev pub IsEndOfRunCall : SourceSeen → SinkSeen → Status → Type 0
 IsEndOfRunCall source sink status.Written =
-    (s : Meaning) × IsSpelled source.left s × (s.hosts ≡ 2) × IsRan sink.held_before sink.held_after
+    (s : Meaning) × IsSpelled source.left s × (s.hosts ≡ 2) × IsRan s sink.held_before sink.held_after
 IsEndOfRunCall source sink status.Refused =
     IsRefusal source.left sink.held_before sink.held_after ⊎ IsManyHosts source.left sink.held_before sink.held_after
 IsEndOfRunCall source sink status.Usage = ⊥

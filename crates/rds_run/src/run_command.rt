@@ -58,7 +58,7 @@ fn run_script<K: Sink, G: Gate + Sync, R: Threads + Wait + Net + Sync>(
 ) -> Status
     requires script { IsScript script.now }
     requires two { script.now.hosts ≡ 2 }
-    ensures { IsEndOfScript
+    ensures { IsEndOfScript (meaning script.now)
         record { held_before = K.held sink.old; held_after = K.held sink.new; faults_before = K.faults sink.old; faults_after = K.faults sink.new }
         result }
 {

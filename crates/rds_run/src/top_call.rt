@@ -74,10 +74,10 @@ pub fn rds_main<S: Source, K: Sink, W: Wire, G: Gate + Sync, R: Threads + Wait +
     // The source's bytes spell a script. It was played to its end, what it came to is sound, and exactly its text was written.
     ensures played { ArePlay words.now → result ≡ 0 →
         (s : Meaning) × IsSpelled (S.left source.old) s × IsPlayed s (K.held sink.old) (K.held sink.new) }
-    // The source's bytes spell a script of two hosts. It was run to its end, what its hosts have then is sound, and exactly the
-    // report on it was written.
+    // The source's bytes spell a script of two hosts. It was run to its end, its hosts did its commands, what they have then is sound,
+    // and exactly the report on it was written.
     ensures ran { AreRun words.now → result ≡ 0 →
-        (s : Meaning) × IsSpelled (S.left source.old) s × (s.hosts ≡ 2) × IsRan (K.held sink.old) (K.held sink.new) }
+        (s : Meaning) × IsSpelled (S.left source.old) s × (s.hosts ≡ 2) × IsRan s (K.held sink.old) (K.held sink.new) }
     ensures written { ArePlay words.now → result ≡ 0 → (text : List ℕ) × SinkGained (K.held sink.old) (K.held sink.new) (text ++ end_line) }
     // The source's bytes spell a script. It filled a journal, and exactly its text was written, which is the line of that.
     ensures full { ArePlay words.now → result ≡ 7 →

@@ -12,3 +12,4 @@ pub mod Obeying
 pub mod Keeping
 pub mod Listening
 pub mod Finished
+pub mod Outcome

@@ -18,7 +18,7 @@ use Rattle.rds_socket.specs.Holding.{Holding}
 use Rattle.rds_callers.specs.Commands.{binds, commander}
 use Rattle.rds_callers.specs.Ends.{kept_name, used_name}
 use Rattle.rds_callers.specs.Places.{Bound, Ended, Place, Spare, Vacant, holding_of, somes, spared, vacant_places, with_holding}
-use Rattle.rds_threads.specs.Obeyed.{HasObeyed, IsNewSlot, Obeys, HandedOutAt, socket_name}
+use Rattle.rds_threads.specs.Obeyed.{HasDone, HasObeyed, IsNewSlot, Obeys, HandedOutAt, socket_name}
 use Rattle.rds_threads.specs.Tied.{PlacesHear}
 use Rattle.rds_threads.proofs.Tying.{at_map}
 
@@ -78,3 +78,18 @@ names_spared places = ap (λ (l : List (Option (ℕ × ℕ))). somes l) (go plac
 pub names_of : (kept : List Kept) → map socket_name (map socket_view kept) ≡ map kept_name kept
 names_of [] = refl
 names_of (k ∷ kept) = ap (λ (l : List (ℕ × ℕ)). kept_name k ∷ l) (names_of kept)
+
+-- the first commands, and then the others
+pub done_of : (host : ℕ) (commands : List Placed) (leading : ℕ) (first bound last : List Place) → All IsNewSlot first → HasObeyed host (take leading commands) first bound →
+    HasObeyed host (drop leading commands) bound last → HasDone host commands last
+done_of host commands leading first bound last new one two = record {
+  first = first;
+  new = new;
+  obeyed = subst (λ (l : List Placed). HasObeyed host l first last) (take_drop leading commands)
+      (obeyed_through host (take leading commands) (drop leading commands) first bound last one two);
+}
+  where
+    take_drop : (n : ℕ) (xs : List Placed) → take n xs ++ drop n xs ≡ xs
+    take_drop zero xs = refl
+    take_drop (suc n) [] = refl
+    take_drop (suc n) (x ∷ xs) = ap (λ (l : List Placed). x ∷ l) (take_drop n xs)

@@ -16,7 +16,12 @@ use Rattle.rds_gather.specs.Sides.{side_of}
 use Rattle.rds_model.specs.Fifo.{IsFifo}
 use Rattle.rds_model.specs.Honest.{IsHonest}
 use Rattle.rds_model.specs.Legal.{IsLegal}
+use Rattle.rds_fmap.specs.Readers.{WriterView}
+use Rattle.rds_callers.specs.Places.{Place}
+use Rattle.rds_script.specs.declared.script.Placed.{Placed}
 use Rattle.rds_threads.specs.Done.{AreDone}
+use Rattle.rds_threads.specs.Settled.{AreAllSent, AreKeptOf, HasDoneSpared}
+use Rattle.rds_threads.proofs.Outcome.{outcome_of}
 use Rattle.rds_threads.specs.Reliable.{HasReceived}
 use Rattle.rds_threads.proofs.Receiving.{reliable_of}
 use Rattle.rds_threads.specs.Ends.{AreEnds, AreSound, HasJournal}
@@ -37,35 +42,57 @@ only_of [] x one at = absurd (omega (arith, one))
 only_of (y ∷ []) x one at = ap (λ z. z ∷ []) (same_Some y x at)
 only_of (y ∷ z ∷ xs) x one at = absurd (omega (arith, one))
 
-module _ {E M : Type 0} (m : Means E) (limit : ℕ) (lows highs : List (LineView E M)) (done : AreDone m limit lows highs)
-    (fifo : (a b : List Entry) → IsLegal a → IsLegal b → IsHonest a b → (IsFifo a b × IsFifo b a)) where
-  pub ends_of : (first second : HostEnd) → first.addr ≡ address_of 0 → second.addr ≡ address_of 1 →
-      map side_view first.journals.items ≡ map side_of lows → map side_view second.journals.items ≡ map side_of highs →
-      HasReceived (host_view first) → HasReceived (host_view second) → AreEnds m.tells (host_views (first ∷ second ∷ []))
-  ends_of first second first_addr second_addr first_sides second_sides first_received second_received =
+module _ {E M : Type 0} (m : Means E) (limit : ℕ) (lows highs : List (LineView E M)) (done : AreDone m limit lows highs) where
+  -- each host has its journal, of its line with the other
+  pub low_journal_of : (first : HostEnd) → first.addr ≡ address_of 0 → map side_view first.journals.items ≡ map side_of lows →
+      HasJournal (address_of 0) (address_of 1) (line_past (first_of lows done.low_count).0) (host_view first)
+  low_journal_of first addr sides =
       let low = first_of lows done.low_count in
       let high = first_of highs done.high_count in
       let hosts = done.hosts low.0 high.0 low.1 high.1 in
+      (addr, sides ∙ (ap (map side_of) (only_of lows low.0 done.low_count low.1)
+          ∙ ap (λ (peer : ℕ). let j : FinalJournal = record { peer = peer; past = line_past low.0 } in j ∷ []) hosts.low_peer))
+
+  pub high_journal_of : (second : HostEnd) → second.addr ≡ address_of 1 → map side_view second.journals.items ≡ map side_of highs →
+      HasJournal (address_of 1) (address_of 0) (line_past (first_of highs done.high_count).0) (host_view second)
+  high_journal_of second addr sides =
+      let low = first_of lows done.low_count in
+      let high = first_of highs done.high_count in
+      let hosts = done.hosts low.0 high.0 low.1 high.1 in
+      (addr, sides ∙ (ap (map side_of) (only_of highs high.0 done.high_count high.1)
+          ∙ ap (λ (peer : ℕ). let j : FinalJournal = record { peer = peer; past = line_past high.0 } in j ∷ []) hosts.high_peer))
+
+module _ {E : Type 0} (m : Means E) (limit : ℕ) (lows highs : List (LineView E WriterView)) (done : AreDone m limit lows highs)
+    (fifo : (a b : List Entry) → IsLegal a → IsLegal b → IsHonest a b → (IsFifo a b × IsFifo b a)) where
+  pub ends_of : (commands : List Placed) (low_places high_places : List Place) (first second : HostEnd) → first.addr ≡ address_of 0 → second.addr ≡ address_of 1 →
+      map side_view first.journals.items ≡ map side_of lows → map side_view second.journals.items ≡ map side_of highs →
+      HasReceived (host_view first) → HasReceived (host_view second) → AreAllSent low_places lows → AreAllSent high_places highs →
+      AreKeptOf low_places first.kept.items → AreKeptOf high_places second.kept.items → HasDoneSpared 0 commands low_places → HasDoneSpared 1 commands high_places →
+      AreEnds m.tells commands (host_views (first ∷ second ∷ []))
+  ends_of commands low_places high_places first second first_addr second_addr first_sides second_sides first_received second_received low_sent high_sent low_kept high_kept
+      low_done high_done =
+      let low = first_of lows done.low_count in
+      let high = first_of highs done.high_count in
       let sound = done.sound low.0 high.0 low.1 high.1 in
-      let low_sides = first_sides ∙ (ap (map side_of) (only_of lows low.0 done.low_count low.1)
-          ∙ ap (λ (peer : ℕ). let j : FinalJournal = record { peer = peer; past = line_past low.0 } in j ∷ []) hosts.low_peer) in
-      let high_sides = second_sides ∙ (ap (map side_of) (only_of highs high.0 done.high_count high.1)
-          ∙ ap (λ (peer : ℕ). let j : FinalJournal = record { peer = peer; past = line_past high.0 } in j ∷ []) hosts.high_peer) in record {
+      let low_journal = low_journal_of m limit lows highs done first first_addr first_sides in
+      let high_journal = high_journal_of m limit lows highs done second second_addr second_sides in record {
         low = host_view first;
         high = host_view second;
         low_past = line_past low.0;
         high_past = line_past high.0;
         all = refl;
-        low_journal = (first_addr, low_sides);
-        high_journal = (second_addr, high_sides);
+        low_journal = low_journal;
+        high_journal = high_journal;
         sound = sound;
+        low_did = outcome_of 0 commands low_places lows low.0 first.kept.items low_done low_sent low.1 low_kept;
+        high_did = outcome_of 1 commands high_places highs high.0 second.kept.items high_done high_sent high.1 high_kept;
         low_received = first_received;
         high_received = second_received;
         reliable_forth = λ told.
-            reliable_of 0 (line_past low.0) (line_past high.0) (host_view second) high_sides second_received
+            reliable_of 0 (line_past low.0) (line_past high.0) (host_view second) high_journal.1 second_received
             (fifo (line_past low.0) (line_past high.0) sound.low_legal.legal sound.high_legal.legal (sound.honest told)).0.accepted (sound.forth told);
         reliable_back = λ told.
-            reliable_of 1 (line_past high.0) (line_past low.0) (host_view first) low_sides first_received
+            reliable_of 1 (line_past high.0) (line_past low.0) (host_view first) low_journal.1 first_received
             (fifo (line_past low.0) (line_past high.0) sound.low_legal.legal sound.high_legal.legal (sound.honest told)).1.accepted (sound.back told);
       }
 
@@ -79,25 +106,27 @@ sides_of addr peer past host has known =
       peers = All-cons (λ (s : FinalJournal). IsAddress s.peer) _ [] known (All-nil (λ (s : FinalJournal). IsAddress s.peer));
     })
 
-pub final_of : (tells : Bool) (hosts : List FinalHost) → AreEnds tells hosts → AreFinalHosts hosts
-final_of tells hosts e =
-    let low_is = is_address 0 e.low.addr (omega arith) e.low_journal.0 in
-    let high_is = is_address 1 e.high.addr (omega arith) e.high_journal.0 in
+-- two hosts with such journals can be reported on
+pub final_of : (low high : FinalHost) (low_past high_past : List Entry) → HasJournal (address_of 0) (address_of 1) low_past low →
+    HasJournal (address_of 1) (address_of 0) high_past high → AreFinalHosts (low ∷ high ∷ [])
+final_of low high low_past high_past low_journal high_journal =
+    let low_is = is_address 0 low.addr (omega arith) low_journal.0 in
+    let high_is = is_address 1 high.addr (omega arith) high_journal.0 in
     let low_peer = is_address 1 (address_of 1) (omega arith) refl in
     let high_peer = is_address 0 (address_of 0) (omega arith) refl in
-    let apart : e.low.addr ≢ e.high.addr = λ same. let a = e.low_journal.0 in let b = e.high_journal.0 in absurd (omega (arith, a, b, same)) in
-    subst AreFinalHosts (sym e.all) (record {
+    let apart : low.addr ≢ high.addr = λ same. let a = low_journal.0 in let b = high_journal.0 in absurd (omega (arith, a, b, same)) in
+    record {
       once =
-          AllPairs-cons (λ (a b : FinalHost). a.addr ≢ b.addr) e.low (e.high ∷ [])
-          (All-cons (λ (b : FinalHost). e.low.addr ≢ b.addr) e.high [] apart (All-nil (λ (b : FinalHost). e.low.addr ≢ b.addr)))
+          AllPairs-cons (λ (a b : FinalHost). a.addr ≢ b.addr) low (high ∷ [])
+          (All-cons (λ (b : FinalHost). low.addr ≢ b.addr) high [] apart (All-nil (λ (b : FinalHost). low.addr ≢ b.addr)))
           (λ i j d lt within. absurd (omega (arith, lt, within)));
       addresses =
-          All-cons (λ (h : FinalHost). IsAddress h.addr) e.low (e.high ∷ []) low_is
-          (All-cons (λ (h : FinalHost). IsAddress h.addr) e.high [] high_is (All-nil (λ (h : FinalHost). IsAddress h.addr)));
+          All-cons (λ (h : FinalHost). IsAddress h.addr) low (high ∷ []) low_is
+          (All-cons (λ (h : FinalHost). IsAddress h.addr) high [] high_is (All-nil (λ (h : FinalHost). IsAddress h.addr)));
       sides =
-          All-cons (λ (h : FinalHost). AreSides h.sides) e.low (e.high ∷ []) (sides_of _ _ _ e.low e.low_journal low_peer)
-          (All-cons (λ (h : FinalHost). AreSides h.sides) e.high [] (sides_of _ _ _ e.high e.high_journal high_peer) (All-nil (λ (h : FinalHost). AreSides h.sides)));
-    })
+          All-cons (λ (h : FinalHost). AreSides h.sides) low (high ∷ []) (sides_of _ _ _ low low_journal low_peer)
+          (All-cons (λ (h : FinalHost). AreSides h.sides) high [] (sides_of _ _ _ high high_journal high_peer) (All-nil (λ (h : FinalHost). AreSides h.sides)));
+    }
 
 -- what is known of a list is known where it was made
 pub on_made : (P : List FinalHost → Type 0) (hosts : List HostEnd) (result : Result (Vec HostEnd Global) Memory) →

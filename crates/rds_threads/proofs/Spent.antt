@@ -5,6 +5,7 @@ use Rattle.rds_link.specs.Ends.{Means}
 use Rattle.rds_model.specs.Log.{Log}
 use Rattle.rds_model.specs.declared.entry.Entry.{Entry}
 use Rattle.rds_line.specs.Line.{IsFull, LineView, line_past}
+use Rattle.rds_script.specs.declared.script.Placed.{Placed}
 use Rattle.rds_text.specs.Lines.{spent_line}
 use Rattle.rds_threads.specs.Connection.{IsFullHost}
 use Rattle.rds_threads.specs.Done.{AreDone}
@@ -15,13 +16,13 @@ use Rattle.rds_threads.proofs.Connected.{first_of}
 use Rattle.rds_threads.proofs.Sound.{sound_back}
 
 -- the line of the journal was written, or the sink failed
-spent_written : (tells : Bool) (limit : ℕ) (sink : Written) (host peer entries : ℕ) (own other : Log) → length own.past ≡ entries → limit < entries + 2 →
+spent_written : (tells : Bool) (limit : ℕ) (commands : List Placed) (sink : Written) (host peer entries : ℕ) (own other : Log) → length own.past ≡ entries → limit < entries + 2 →
     AreSound tells own.past other.past → (result : RunEnd) → Writes sink (spent_line host peer entries) (ended.Spent host peer entries own other) result →
-    IsEndOfRun tells limit sink result
-spent_written tells limit sink host peer entries own other count most sound result (inl said) =
-    subst (IsEndOfRun tells limit sink) (sym said.0) (count, most, sound, said.1)
-spent_written tells limit sink host peer entries own other count most sound result (inr failed) =
-    subst (IsEndOfRun tells limit sink) (sym failed.0) failed.1
+    IsEndOfRun tells limit commands sink result
+spent_written tells limit commands sink host peer entries own other count most sound result (inl said) =
+    subst (IsEndOfRun tells limit commands sink) (sym said.0) (count, most, sound, said.1)
+spent_written tells limit commands sink host peer entries own other count most sound result (inr failed) =
+    subst (IsEndOfRun tells limit commands sink) (sym failed.0) failed.1
 
 on_ok : (P Q : RunEnd → Type 0) (result : Result RunEnd Memory) → ((e : RunEnd) → P e → Q e) → IfOk result P → IfOk result Q
 on_ok P Q (Ok e) f p = f e p
@@ -39,22 +40,22 @@ module _ {E M : Type 0} (m : Means E) (limit : ℕ) (lows highs : List (LineView
   pub spent_end : (host entries : ℕ) → IsFullHost host entries lows highs → (low high : Log) →
       ((line : LineView E M) → slice_get lows 0 ≡ Some line → low.past ≡ line_past line) →
       ((line : LineView E M) → slice_get highs 0 ≡ Some line → high.past ≡ line_past line) →
-      AreSound m.tells low.past high.past → (sink : Written) (result : Result RunEnd Memory) →
+      AreSound m.tells low.past high.past → (commands : List Placed) (sink : Written) (result : Result RunEnd Memory) →
       (host ≡ 0 → IfOk result (Writes sink (spent_line 0 1 entries) (ended.Spent 0 1 entries low high))) →
       (host ≢ 0 → IfOk result (Writes sink (spent_line 1 0 entries) (ended.Spent 1 0 entries high low))) →
-      IfOk result (IsEndOfRun m.tells limit sink)
-  spent_end host entries full low high low_is high_is sound sink result first second =
+      IfOk result (IsEndOfRun m.tells limit commands sink)
+  spent_end host entries full low high low_is high_is sound commands sink result first second =
       let a = first_of lows done.low_count in
       let b = first_of highs done.high_count in
       let hosts = done.hosts a.0 b.0 a.1 b.1 in
       elim (full a.0 b.0 a.1 b.1) [
         | inl one ↦
             let f = full_of limit entries a.0 low.past (low_is a.0 a.1) hosts.low_limit one.1 in
-            on_ok (Writes sink (spent_line 0 1 entries) (ended.Spent 0 1 entries low high)) (IsEndOfRun m.tells limit sink) result
-            (spent_written m.tells limit sink 0 1 entries low high f.0 f.1 sound) (first one.0)
+            on_ok (Writes sink (spent_line 0 1 entries) (ended.Spent 0 1 entries low high)) (IsEndOfRun m.tells limit commands sink) result
+            (spent_written m.tells limit commands sink 0 1 entries low high f.0 f.1 sound) (first one.0)
         | inr two ↦
             let f = full_of limit entries b.0 high.past (high_is b.0 b.1) hosts.high_limit two.1 in
             let other : host ≢ 0 = λ e. let is = two.0 in absurd (omega (arith, e, is)) in
-            on_ok (Writes sink (spent_line 1 0 entries) (ended.Spent 1 0 entries high low)) (IsEndOfRun m.tells limit sink) result
-            (spent_written m.tells limit sink 1 0 entries high low f.0 f.1 (sound_back m.tells low.past high.past sound)) (second other)
+            on_ok (Writes sink (spent_line 1 0 entries) (ended.Spent 1 0 entries high low)) (IsEndOfRun m.tells limit commands sink) result
+            (spent_written m.tells limit commands sink 1 0 entries high low f.0 f.1 (sound_back m.tells low.past high.past sound)) (second other)
       ]

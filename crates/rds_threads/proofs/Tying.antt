@@ -33,7 +33,7 @@ map_same f g h same [] = refl
 map_same f g h same (x ∷ xs) = (λ i. same x i ∷ map g (map h xs)) ∙ ap (λ (l : List _). f x ∷ l) (map_same f g h same xs)
 
 -- a slot that is given up holds what it held
-spared_holds : (p : Place) → holding_of (spared p) ≡ holding_of p
+pub spared_holds : (p : Place) → holding_of (spared p) ≡ holding_of p
 spared_holds (Vacant h) = refl
 spared_holds (Bound o got) = refl
 spared_holds (Ended port h got) = refl

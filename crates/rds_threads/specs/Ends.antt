@@ -10,6 +10,8 @@ use Rattle.rds_report.specs.Hosts.{address_of}
 use Rattle.rds_report.specs.Report.{report}
 use Rattle.rds_report.specs.Views.{host_views}
 use Rattle.rds_text.specs.Lines.{spent_line}
+use Rattle.rds_script.specs.declared.script.Placed.{Placed}
+use Rattle.rds_threads.specs.Obeyed.{IsOutcome}
 use Rattle.rds_threads.specs.Reliable.{HasReceived, IsReliableTo}
 use Rattle.rds_threads.specs.Texts.{fault_line, unfinished_line}
 use Rattle.rds_threads.specs.declared.form.RunEnd.{RunEnd}
@@ -29,9 +31,9 @@ pub record AreSound (tells : Bool) (low high : List Entry) : Type 0 where
 abbrev pub HasJournal : (addr peer : ℕ) → List Entry → FinalHost → Type 0
 HasJournal addr peer past host = (host.addr ≡ addr) × (host.sides ≡ record { peer = peer; past = past } ∷ [])
 
--- There are two hosts, A and B, and their journals are sound. What the sockets of each handed out is what its journal delivered; where
+-- There are two hosts, A and B, which did the script's commands, and their journals are sound. What the sockets of each handed out is what its journal delivered; where
 -- ends tell their bytes, it is what the other host sent.
-pub record AreEnds (tells : Bool) (hosts : List FinalHost) : Type 0 where
+pub record AreEnds (tells : Bool) (commands : List Placed) (hosts : List FinalHost) : Type 0 where
   pub low : FinalHost
   pub high : FinalHost
   pub low_past : List Entry
@@ -40,6 +42,8 @@ pub record AreEnds (tells : Bool) (hosts : List FinalHost) : Type 0 where
   pub low_journal : HasJournal (address_of 0) (address_of 1) low_past low
   pub high_journal : HasJournal (address_of 1) (address_of 0) high_past high
   pub sound : AreSound tells low_past high_past
+  pub low_did : IsOutcome 0 commands low_past low.sockets
+  pub high_did : IsOutcome 1 commands high_past high.sockets
   pub low_received : HasReceived low
   pub high_received : HasReceived high
   pub reliable_forth : tells ≡ true → IsReliableTo 0 low_past high_past high.sockets
@@ -60,15 +64,15 @@ Writes sink text end result =
 
 -- How a run ended. It wrote the report on what its hosts have in the end, which is sound; or its line; or the sink failed; or
 -- memory ran out, and nothing was written.
-abbrev pub IsEndOfRun : (tells : Bool) (limit : ℕ) → Written → RunEnd → Type 0
-IsEndOfRun tells limit sink (ended.Ok ends) =
-    AreEnds tells (host_views ends.items) × SinkGained sink.held_before sink.held_after (report (host_views ends.items))
-IsEndOfRun tells limit sink (ended.WireFault low high stream) =
+abbrev pub IsEndOfRun : (tells : Bool) (limit : ℕ) (commands : List Placed) → Written → RunEnd → Type 0
+IsEndOfRun tells limit commands sink (ended.Ok ends) =
+    AreEnds tells commands (host_views ends.items) × SinkGained sink.held_before sink.held_after (report (host_views ends.items))
+IsEndOfRun tells limit commands sink (ended.WireFault low high stream) =
     SinkGained sink.held_before sink.held_after (fault_line low high stream)
-IsEndOfRun tells limit sink (ended.Spent host peer entries own other) =
+IsEndOfRun tells limit commands sink (ended.Spent host peer entries own other) =
     (length own.past ≡ entries) × (limit < entries + 2) × AreSound tells own.past other.past
     × SinkGained sink.held_before sink.held_after (spent_line host peer entries)
-IsEndOfRun tells limit sink (ended.Unfinished count ends) =
-    AreEnds tells (host_views ends.items) × SinkGained sink.held_before sink.held_after (unfinished_line count)
-IsEndOfRun tells limit sink ended.WriteFault = HasRisen sink.faults_before sink.faults_after
-IsEndOfRun tells limit sink ended.Memory = sink.held_after ≡ sink.held_before
+IsEndOfRun tells limit commands sink (ended.Unfinished count ends) =
+    AreEnds tells commands (host_views ends.items) × SinkGained sink.held_before sink.held_after (unfinished_line count)
+IsEndOfRun tells limit commands sink ended.WriteFault = HasRisen sink.faults_before sink.faults_after
+IsEndOfRun tells limit commands sink ended.Memory = sink.held_after ≡ sink.held_before

@@ -42,14 +42,18 @@ HandedOutAt (Spare h) s = ⊥
 abbrev pub socket_name : FinalSocket → ℕ × ℕ
 socket_name s = (s.slot, s.port)
 
+-- the caller of the host with these slots did its own of these commands, from slots that were new
+pub record HasDone (host : ℕ) (commands : List Placed) (places : List Place) : Type 0 where
+  pub first : List Place
+  pub new : All IsNewSlot first
+  pub obeyed : HasObeyed host commands first places
+
 -- What a host with this journal and these sockets comes to did the script's commands: from slots that were new its caller did exactly
 -- its own commands. In the journal with its peer stand, for each slot, exactly the orders that its socket put, in order and each once.
 -- There is one socket of each slot that was bound, in order, with its port.
 pub record IsOutcome (host : ℕ) (commands : List Placed) (past : List Entry) (sockets : List FinalSocket) : Type 0 where
-  pub first : List Place
   pub last : List Place
-  pub new : All IsNewSlot first
-  pub obeyed : HasObeyed host commands first last
+  pub done : HasDone host commands last
   pub sent : (slot : ℕ) (p : Place) (lane : Lane ReaderView) → slice_get last slot ≡ Some p → IsLaneAt (holding_of p).routes 0 lane →
       orders_of slot past ≡ uncut lane.pass.put
   pub names : map socket_name sockets ≡ somes (map used_name last)

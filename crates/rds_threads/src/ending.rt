@@ -1,5 +1,5 @@
 //! How a run ends: what is left of its hosts, and what is written.
-ghost use Rattle.std.specs.Prelude.{◌≡◌, ◌∷◌, ℕ, [], IfOk, OnErr, Some, length, map, slice_get};
+ghost use Rattle.std.specs.Prelude.{◌≡◌, ◌∷◌, ℕ, List, [], IfOk, OnErr, OnOk, Some, length, map, slice_get};
 ghost use Rattle.rds_fmap.specs.Readers.{WriterView};
 ghost use Rattle.rds_line.specs.Line.{LineView, line_past};
 ghost use Rattle.rds_gather.specs.Sides.{side_of};
@@ -9,7 +9,8 @@ ghost use Rattle.rds_threads.specs.Done.{AreDone};
 ghost use Rattle.rds_threads.specs.Ends.{AreEnds, AreSound, IsEndOfRun};
 ghost use Rattle.rds_threads.specs.Quiet.{IsQuietEnd};
 ghost use Rattle.rds_threads.specs.Reliable.{HasReceived};
-ghost use Rattle.rds_threads.specs.Settled.{IsSettled};
+ghost use Rattle.rds_script.specs.declared.script.Placed.{Placed};
+ghost use Rattle.rds_threads.specs.Settled.{AreAllSent, AreKeptOf, HasDoneSpared, IsSettled};
 ghost use Rattle.rds_threads.specs.declared.rounds.Rounds.TheVariants as rounds;
 
 use crate::answers::{end_by_fault, end_by_report, end_by_spent, end_unfinished};
@@ -78,7 +79,8 @@ fn host_ends<W: Wire, R: Wait>(
     requires done { (limit : ℕ) × AreDone W.End.means limit lines.0.items lines.1.items }
     requires low { IsSettled callers.0.places lines.0.items }
     requires high { IsSettled callers.1.places lines.1.items }
-    ensures ends { IfOk result (λ ends. AreEnds W.End.means.tells (host_views ends.items)) }
+    ensures ends { (commands : List Placed) → HasDoneSpared 0 commands callers.0.places → HasDoneSpared 1 commands callers.1.places →
+        IfOk result (λ ends. AreEnds W.End.means.tells commands (host_views ends.items)) }
     ensures hosts { IfOk result (λ ends. AreFinalHosts (host_views ends.items)) }
 {
     let (low, high) = callers;
@@ -102,6 +104,8 @@ fn host_end<W: Wire, R: Wait>(
     ensures addr { IfOk result (λ end. end.addr ≡ addr) }
     ensures journals { IfOk result (λ end. map side_view end.journals.items ≡ map side_of lines.items) }
     ensures received { IfOk result (λ end. HasReceived (host_view end)) }
+    ensures sent { OnOk result (AreAllSent caller.places lines.items) }
+    ensures kept { IfOk result (λ end. AreKeptOf caller.places end.kept.items) }
 {
     settle_slots(&mut caller, &mut lines);
     let Ok((kept, closed)) = caller.end(rt, alloc) else {
@@ -134,7 +138,8 @@ pub(crate) fn end_run<K: Sink, W: Wire, R: Wait>(
     requires low { IsQuietEnd end → IsSettled callers.0.places lines.0.items }
     requires high { IsQuietEnd end → IsSettled callers.1.places lines.1.items }
     requires spent { (host entries : ℕ) → end ≡ rounds.Spent host entries → IsFullHost host entries lines.0.items lines.1.items }
-    ensures end { (limit : ℕ) → AreDone W.End.means limit lines.0.items lines.1.items → IfOk result (IsEndOfRun W.End.means.tells limit
+    ensures end { (limit : ℕ) (commands : List Placed) → AreDone W.End.means limit lines.0.items lines.1.items →
+        HasDoneSpared 0 commands callers.0.places → HasDoneSpared 1 commands callers.1.places → IfOk result (IsEndOfRun W.End.means.tells limit commands
         record { held_before = K.held sink.old; held_after = K.held sink.new; faults_before = K.faults sink.old; faults_after = K.faults sink.new }) }
     ensures memory { OnErr result (K.held sink.new ≡ K.held sink.old) }
 {

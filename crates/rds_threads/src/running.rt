@@ -1,9 +1,11 @@
 //! A run.
-ghost use Rattle.std.specs.Prelude.{◌≡◌, ◌≤◌, ℕ, IfOk, OnErr};
+ghost use Rattle.std.specs.Prelude.{◌≡◌, ◌≤◌, ℕ, List, IfOk, OnErr};
 ghost use Rattle.rds_model.specs.declared.journal.TheConstants.{MAX_ENTRIES, MIN_ENTRIES};
 ghost use Rattle.rds_script.specs.Script.{IsScript};
 ghost use Rattle.rds_threads.specs.Connection.{AreTwo};
+ghost use Rattle.rds_script.specs.declared.script.Placed.{Placed};
 ghost use Rattle.rds_threads.specs.Ends.{IsEndOfRun};
+ghost use Rattle.rds_threads.specs.Obeyed.{HasDone};
 ghost use Rattle.rds_threads.specs.Tied.{AreTied};
 
 use crate::ending::{end_lines, end_run};
@@ -45,7 +47,7 @@ where
     requires two { script.now.hosts ≡ 2 }
     requires least { MIN_ENTRIES ≤ limit }
     requires most { limit ≤ MAX_ENTRIES }
-    ensures { IsEndOfRun W.End.means.tells limit
+    ensures { IsEndOfRun W.End.means.tells limit script.now.commands.items
         record { held_before = K.held sink.old; held_after = K.held sink.new; faults_before = K.faults sink.old; faults_after = K.faults sink.new }
         result }
 {
@@ -73,7 +75,7 @@ where
     requires two { script.now.hosts ≡ 2 }
     requires least { MIN_ENTRIES ≤ limit }
     requires most { limit ≤ MAX_ENTRIES }
-    ensures end { IfOk result (IsEndOfRun W.End.means.tells limit
+    ensures end { IfOk result (IsEndOfRun W.End.means.tells limit script.now.commands.items
         record { held_before = K.held sink.old; held_after = K.held sink.new; faults_before = K.faults sink.old; faults_after = K.faults sink.new }) }
     ensures memory { OnErr result (K.held sink.new ≡ K.held sink.old) }
 {
@@ -113,7 +115,8 @@ fn finish<K: Sink, W: Wire, R: Wait>(
     requires two { (limit : ℕ) × AreTwo W.End.means limit lines.0.items lines.1.items }
     requires low { AreTied callers.0.places lines.0.items }
     requires high { AreTied callers.1.places lines.1.items }
-    ensures end { (limit : ℕ) → AreTwo W.End.means limit lines.0.items lines.1.items → IfOk result (IsEndOfRun W.End.means.tells limit
+    ensures end { (limit : ℕ) (commands : List Placed) → AreTwo W.End.means limit lines.0.items lines.1.items → HasDone 0 commands callers.0.places →
+        HasDone 1 commands callers.1.places → IfOk result (IsEndOfRun W.End.means.tells limit commands
         record { held_before = K.held sink.old; held_after = K.held sink.new; faults_before = K.faults sink.old; faults_after = K.faults sink.new }) }
     ensures memory { OnErr result (K.held sink.new ≡ K.held sink.old) }
 {

@@ -1,0 +1,128 @@
+-- What a host that has ended did of a script's commands.
+use Rattle.std.proofs.Common.{◌≡◌, ℕ, suc, arith, All, List, [], ◌∷◌, Some, Option, length, map, option_map, slice_get, Result, Ok, Err, IfOk, OnOk, Vec, refl, sym, ap, subst, ◌∙◌}
+use Rattle.std.specs.Global.{Global}
+use Rattle.std.proofs.lemmas.List.Elements.{All-map, All-weaker}
+use Rattle.std.proofs.lemmas.Option.{slice_get-map}
+use Rattle.rds_fmap.specs.Readers.{ReaderView, WriterView}
+use Rattle.rds_parts.specs.Lanes.{IsLaneAt, Lane}
+use Rattle.rds_report.specs.FinalState.{FinalSocket}
+use Rattle.rds_report.specs.Views.{socket_view}
+use Rattle.rds_report.specs.declared.final_state.HostEnd.{HostEnd}
+use Rattle.rds_report.specs.declared.final_state.Kept.{Kept}
+use Rattle.rds_wire.specs.declared.memory.Memory.{Memory}
+use Rattle.rds_script.specs.declared.script.Placed.{Placed}
+use Rattle.rds_socket.specs.Holding.{Holding}
+use Rattle.rds_line.specs.Line.{LineView, line_past}
+use Rattle.rds_host.specs.Telling.{AreOrdersTold}
+use Rattle.rds_gather.specs.Joined.{AreJoined}
+use Rattle.rds_callers.specs.Ends.{AreEndsOf, AreLeft, IsLeft, UnreadFits, kept_name, used_name}
+use Rattle.rds_callers.specs.Places.{Bound, Ended, Place, Spare, Vacant, holding_of, somes, spared, with_holding}
+use Rattle.rds_threads.specs.Obeyed.{HandedOutAt, IsOutcome, socket_name}
+use Rattle.rds_threads.specs.Quiet.{AreQuiet}
+use Rattle.rds_threads.specs.Settled.{AreAllSent, AreKeptOf, HasDoneSpared}
+use Rattle.rds_threads.specs.Tied.{AreLinesTold, PlaceHears, PlacesHear, holdings}
+use Rattle.rds_threads.proofs.Listening.{held_at}
+use Rattle.rds_threads.proofs.Obeying.{names_of, names_spared}
+use Rattle.rds_threads.proofs.Told.{stood_at}
+use Rattle.rds_threads.proofs.Tying.{at_map, spared_holds}
+
+-- a slot whose mailbox was told, and which has ended then, has the routes that it had
+routes_kept : (places told : List Place) (closed : List (Holding ReaderView)) → PlacesHear places told → AreEndsOf told closed →
+    (slot : ℕ) (h : Holding ReaderView) → slice_get closed slot ≡ Some h → (p : Place) × (slice_get places slot ≡ Some p) × (h.routes ≡ (holding_of p).routes)
+routes_kept places told closed hear ends slot h at =
+    let q = stood_at told closed slot h ends.count at in
+    let p = stood_at places told slot q.0 hear.count q.1 in
+    (p.0, p.1, (ends.each slot q.0 h q.1 at).routes ∙ ap (λ (x : Holding ReaderView). x.routes) (hear.each slot p.0 q.0 p.1 q.1).1)
+
+module _ {E : Type 0} where
+  -- what the slots put stands in the journals
+  pub all_sent : (places told : List Place) (closed : List (Holding ReaderView)) (lines : List (LineView E WriterView)) → PlacesHear places told → AreEndsOf told closed →
+      AreJoined closed lines → AreLinesTold (holdings places) lines → AreQuiet lines → AreAllSent places lines
+  all_sent places told closed lines hear ends joined all quiet slot place p lane line at at_lane at_line =
+      let q = stood_at told places slot p (sym hear.count) at in
+      let heard = hear.each slot p q.0 at q.1 in
+      let h = stood_at closed told slot q.0 (sym ends.count) q.1 in
+      let routes = (ends.each slot q.0 h.0 q.1 h.1).routes ∙ ap (λ (x : Holding ReaderView). x.routes) heard.1 in
+      joined.all_taken slot place h.0 lane line h.1 (subst (λ (l : List (Lane ReaderView)). IsLaneAt l place lane) (sym routes) at_lane) at_line (quiet place line at_line)
+      (λ other k way at_k at_way.
+          let was = routes_kept places told closed hear ends other k at_k in
+          all place line at_line other (holding_of was.0) way (held_at places other was.0 was.1)
+          (subst (λ (l : List (Lane ReaderView)). IsLaneAt l place way) was.2 at_way))
+
+-- a place that was told has the name and hands out what it had
+name_heard : (p : Place) (k : Holding ReaderView) → k.words.slot ≡ (holding_of p).words.slot → used_name (with_holding p k) ≡ used_name p
+name_heard (Vacant h) k same = refl
+name_heard (Bound o got) k same = ap (λ (s : ℕ). Some (s, o.port)) same
+name_heard (Ended port h got) k same = ap (λ (s : ℕ). Some (s, port)) same
+name_heard (Spare h) k same = refl
+
+names_heard : (places told : List Place) → PlacesHear places told → map used_name told ≡ map used_name places
+names_heard [] [] hear = refl
+names_heard [] (q ∷ told) hear = absurd (let count = hear.count in omega (arith, count))
+names_heard (p ∷ places) [] hear = absurd (let count = hear.count in omega (arith, count))
+names_heard (p ∷ places) (q ∷ told) hear =
+    let heard = hear.each 0 p q refl refl in
+    let name : used_name q ≡ used_name p = ap used_name heard.0 ∙ name_heard p (holding_of q) (ap (λ (x : Holding ReaderView). x.words.slot) heard.1) in
+    let count = hear.count in
+    (λ i. name i ∷ map used_name told)
+    ∙ ap (λ (l : List (Option (ℕ × ℕ))). used_name p ∷ l)
+    (names_heard places told (record { count = omega (arith, count); each = λ slot x y at_x at_y. hear.each (suc slot) x y at_x at_y }))
+
+hands_as : (p : Place) (h : Holding ReaderView) (k : Kept) → UnreadFits (with_holding p h) k → HandedOutAt p (socket_view k)
+hands_as (Vacant v) h k fits = absurd fits
+hands_as (Bound o got) h k fits = fits
+hands_as (Ended port e got) h k fits = fits
+hands_as (Spare s) h k fits = absurd fits
+
+pub kept_of : (places told : List Place) (closed : List (Holding ReaderView)) (kept : List Kept) → PlacesHear places told → AreLeft told closed kept → AreKeptOf places kept
+kept_of places told closed kept hear left = record {
+  names = left.names ∙ ap (λ (l : List (Option (ℕ × ℕ))). somes l) (names_heard places told hear);
+  handed = All-weaker (IsLeft told closed) (λ (k : Kept). (p : Place) × (slice_get places k.slot ≡ Some p) × HandedOutAt p (socket_view k)) handed kept left.each;
+}
+  where
+    handed : (k : Kept) → IsLeft told closed k → (p : Place) × (slice_get places k.slot ≡ Some p) × HandedOutAt p (socket_view k)
+    handed k is =
+        let p = stood_at places told k.slot is.0 hear.count is.2 in
+        let heard = hear.each k.slot p.0 is.0 p.1 is.2 in
+        (p.0, p.1, hands_as p.0 (holding_of is.0) k (subst (λ (x : Place). UnreadFits x k) heard.0 is.4.unread))
+
+-- giving up slots that no socket had changes nothing of that
+hands_spared : (p : Place) (s : FinalSocket) → HandedOutAt (spared p) s → HandedOutAt p s
+hands_spared (Vacant h) s is = absurd is
+hands_spared (Bound o got) s is = is
+hands_spared (Ended port h got) s is = is
+hands_spared (Spare h) s is = absurd is
+
+module _ {E : Type 0} where
+  pub outcome_of : (host : ℕ) (commands : List Placed) (places : List Place) (lines : List (LineView E WriterView)) (line : LineView E WriterView) (kept : List Kept) →
+      HasDoneSpared host commands places → AreAllSent places lines → slice_get lines 0 ≡ Some line → AreKeptOf places kept →
+      IsOutcome host commands (line_past line) (map socket_view kept)
+  outcome_of host commands places lines line kept did sent at_line of_kept = record {
+    last = did.last;
+    done = did.done;
+    sent = λ slot p lane at at_lane.
+        sent slot 0 (spared p) lane line (here slot p at) (subst (λ (h : Holding ReaderView). IsLaneAt h.routes 0 lane) (sym (spared_holds p)) at_lane) at_line;
+    names = names_of kept ∙ (of_kept.names ∙ (ap (λ (l : List Place). somes (map used_name l)) did.left ∙ names_spared did.last));
+    handed = All-map (λ (s : FinalSocket). (p : Place) × (slice_get did.last s.slot ≡ Some p) × HandedOutAt p s) socket_view kept
+        (All-weaker (λ (k : Kept). (p : Place) × (slice_get places k.slot ≡ Some p) × HandedOutAt p (socket_view k))
+        (λ (k : Kept). (p : Place) × (slice_get did.last k.slot ≡ Some p) × HandedOutAt p (socket_view k)) back kept of_kept.handed);
+  }
+    where
+      here : (slot : ℕ) (p : Place) → slice_get did.last slot ≡ Some p → slice_get places slot ≡ Some (spared p)
+      here slot p at =
+          subst (λ (l : List Place). slice_get l slot ≡ Some (spared p)) (sym did.left) (slice_get-map spared did.last slot ∙ ap (option_map spared) at)
+
+      back : (k : Kept) → (p : Place) × (slice_get places k.slot ≡ Some p) × HandedOutAt p (socket_view k) →
+          (p : Place) × (slice_get did.last k.slot ≡ Some p) × HandedOutAt p (socket_view k)
+      back k is =
+          let was = at_map spared did.last k.slot is.0 (subst (λ (l : List Place). slice_get l k.slot ≡ Some is.0) did.left is.1) in
+          (was.0, was.1, hands_spared was.0 (socket_view k) (subst (λ (x : Place). HandedOutAt x (socket_view k)) was.2 is.2))
+
+-- what follows of a host end that was made
+pub on_ok : (r : Result HostEnd Memory) (J K : Type 0) → OnOk r J → (J → K) → OnOk r K
+on_ok (Ok end) J K j f = f j
+on_ok (Err e) J K j f = tt
+
+pub on_kept : (r : Result HostEnd Memory) (kept : Vec Kept Global) (P : List Kept → Type 0) → P kept.items → IfOk r (λ end. end.kept ≡ kept) → IfOk r (λ end. P end.kept.items)
+on_kept (Ok end) kept P known is = subst (λ (v : Vec Kept Global). P v.items) (sym is) known
+on_kept (Err e) kept P known is = tt
