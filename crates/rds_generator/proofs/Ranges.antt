@@ -1,5 +1,5 @@
 -- The script is in range.
-use Rattle.std.proofs.Common.{◌≡◌, ◌≢◌, ℕ, zero, suc, ◌+◌, ◌*◌, ◌/◌, ◌%◌, ◌^◌, ◌<◌, ◌≤◌, Bool, true, false, cond, eqb, List, [], ◌∷◌, ◌++◌, length, All, refl, ap, sym, subst, ◌∙◌, zero-add, arith}
+use Rattle.std.proofs.Common.{◌≡◌, ◌≢◌, ℕ, zero, suc, ◌+◌, ◌*◌, ◌%◌, ◌<◌, ◌≤◌, Bool, true, false, cond, List, [], ◌∷◌, ◌++◌, length, All, refl, ap, sym, subst, ◌∙◌, zero-add, arith}
 use Rattle.std.specs.Prelude.{map, flat_map, sum_by, ◌==◌}
 use Rattle.std.specs.List.{range_with_len, enumerate_from, AllByRecursion}
 use Rattle.std.proofs.lemmas.Bool.{eqb-true}
@@ -9,10 +9,10 @@ use Rattle.std.proofs.lemmas.List.Sums.{sum_by-append, sum_by-cons, sum_by-le}
 use Rattle.rds_script.specs.declared.script.Script.{Script}
 use Rattle.rds_script.specs.declared.script.Placed.{Placed}
 use Rattle.rds_script.specs.declared.script.Command.{Command}
-use Rattle.rds_script.specs.declared.script.Command.TheVariants.{Bind, Send, Cut}
-use Rattle.rds_script.specs.Script.{IsSocket, IsCommand, IsScript, payload_len, payload_total, cut_count, cut_total}
+use Rattle.rds_script.specs.declared.script.Command.TheVariants.{Cut}
+use Rattle.rds_script.specs.Script.{IsCommand, IsScript, payload_len, payload_total, cut_count, cut_total}
 use Rattle.rds_script.specs.Reading.{counting}
-use Rattle.rds_generator.specs.Generator.{answer, state_after, sender, sender_port, receiver, receiver_port, the_send, the_cut, turn, turns, bind, binds_of, binds, placed, on_lines}
+use Rattle.rds_generator.specs.Generator.{state_after, sender, receiver, the_send, turn, turns, bind, binds_of, binds, placed, on_lines}
 use Rattle.rds_generator.proofs.Turns.{below_more, turns_count}
 
 -- ---- a fact of what stands for each number
@@ -49,7 +49,7 @@ bind_range host port h p = record {
 binds_of_range : (host : ℕ) → host < 8 → All (IsCommand 8) (binds_of host)
 binds_of_range host h =
     All-from_recursion (IsCommand 8) (binds_of host)
-      (bind_range host 4000 h (omega arith), (bind_range host 4001 h (omega arith), (bind_range host 4002 h (omega arith), (bind_range host 4003 h (omega arith), tt))))
+    (bind_range host 4000 h (omega arith), (bind_range host 4001 h (omega arith), (bind_range host 4002 h (omega arith), (bind_range host 4003 h (omega arith), tt))))
 
 -- ---- the sends and cuts
 
@@ -90,8 +90,8 @@ turn_short x i = All-from_recursion (λ c. payload_len c ≤ 63) (turn x i) (go 
 each_in_range : (sends seed : ℕ) → All (IsCommand 8) (binds ++ turns sends seed)
 each_in_range sends seed =
     All-append (IsCommand 8) binds (turns sends seed)
-      (all_below (IsCommand 8) binds_of 0 8 8 (omega arith) binds_of_range)
-      (all_below (IsCommand 8) (λ i. turn (state_after (4 * i) seed) i) 0 sends sends (omega arith) (λ i lt. turn_range (state_after (4 * i) seed) i))
+    (all_below (IsCommand 8) binds_of 0 8 8 (omega arith) binds_of_range)
+    (all_below (IsCommand 8) (λ i. turn (state_after (4 * i) seed) i) 0 sends sends (omega arith) (λ i lt. turn_range (state_after (4 * i) seed) i))
 
 -- ---- the two totals
 
@@ -137,7 +137,7 @@ is_script s sends seed le hosts-is items-is =
   where
     each : All (λ (p : Placed). IsCommand 8 p.command) (on_lines (binds ++ turns sends seed))
     each = All-from_recursion (λ (p : Placed). IsCommand 8 p.command) (on_lines (binds ++ turns sends seed))
-      (all_placed (IsCommand 8) 2 (binds ++ turns sends seed) (recursion_from_All (IsCommand 8) (binds ++ turns sends seed) (each_in_range sends seed)))
+        (all_placed (IsCommand 8) 2 (binds ++ turns sends seed) (recursion_from_All (IsCommand 8) (binds ++ turns sends seed) (each_in_range sends seed)))
 
     few : sum_by cut_count (turns sends seed) ≤ 1024
     few = omega (arith, cuts_few sends seed)

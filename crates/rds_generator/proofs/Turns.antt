@@ -1,10 +1,9 @@
 -- One socket, host or send more, and how many commands there are then.
-use Rattle.std.proofs.Common.{◌≡◌, ℕ, zero, suc, ◌+◌, ◌*◌, ◌%◌, ◌≤◌, Bool, true, false, cond, List, [], ◌∷◌, ◌++◌, length, refl, ap, sym, subst, ◌∙◌, arith}
+use Rattle.std.proofs.Common.{◌≡◌, ℕ, suc, ◌+◌, ◌*◌, ◌%◌, ◌≤◌, Bool, true, false, cond, List, [], ◌∷◌, ◌++◌, length, refl, ap, sym, subst, ◌∙◌, arith}
 use Rattle.std.specs.Prelude.{map, flat_map, sum_by, ◌==◌}
 use Rattle.std.specs.List.{range_with_len}
 use Rattle.std.proofs.lemmas.List.{append_assoc, flat_map_more, map-id}
 use Rattle.std.proofs.lemmas.List.Concat.{length-flat_map}
-use Rattle.std.proofs.lemmas.List.Elements.{All-from_recursion}
 use Rattle.std.proofs.lemmas.List.FromFn.{map-range_with_len_more, length-range_with_len}
 use Rattle.std.proofs.lemmas.List.Sums.{sum_by-le}
 use Rattle.rds_script.specs.declared.script.Command.{Command}
@@ -41,8 +40,8 @@ state_more n x = ap (λ (k : ℕ). state_after k x) plus
 count_below : {A : Type 0} (f : ℕ → List A) (m n : ℕ) → ((k : ℕ) → length (f k) ≤ m) → length (flat_map f (range_with_len 0 n)) ≤ n * m
 count_below f m n h =
     subst (λ (k : ℕ). k ≤ n * m) (sym (length-flat_map f (range_with_len 0 n)))
-      (subst (λ (k : ℕ). sum_by (λ i. length (f i)) (range_with_len 0 n) ≤ k * m) (length-range_with_len 0 n)
-        (sum_by-le (λ k. length (f k)) m (range_with_len 0 n) (λ i d lt. h _)))
+    (subst (λ (k : ℕ). sum_by (λ i. length (f i)) (range_with_len 0 n) ≤ k * m) (length-range_with_len 0 n)
+    (sum_by-le (λ k. length (f k)) m (range_with_len 0 n) (λ i d lt. h _)))
 
 turn_count : (x i : ℕ) → length (turn x i) ≤ 2
 turn_count x i = go ((i + 1) % 500 == 0)

@@ -1,15 +1,19 @@
 //! The commands of a script, while it is made.
 
-ghost use Rattle.std.specs.Prelude.{◌≡◌, ◌≤◌, ◌++◌, ◌∷◌, [], IfOk, length};
+ghost use Rattle.std.specs.Prelude.{◌≡◌, ◌<◌, ◌++◌, ◌∷◌, [], IfOk, length};
 ghost use Rattle.rds_generator.specs.Generator.{on_lines};
+ghost use Rattle.rds_generator.specs.declared.listing.TheConstants.{MAX_COMMANDS};
 
 use rds_script::{Command, Placed};
 use rds_wire::Memory;
 use std::alloc::Global;
 use std::marker::Model;
 
-/// The line of the first command after `hosts`.
-const FIRST_LINE: u32 = 2;
+/// The line of `hosts`, which is the first.
+pub(crate) const HOSTS_LINE: u32 = 1;
+
+/// More commands than the script of the most sends has.
+pub(crate) const MAX_COMMANDS: usize = 250_000;
 
 /// Commands on lines that follow one another. Contracts see the list of the commands.
 #[derive(Drop)]
@@ -40,10 +44,10 @@ impl Listing {
 
     /// Adds a command on the next line.
     pub(crate) fn add(&mut self, command: Command) -> Result<(), Memory>
-        requires { length self.old ≤ 1000000 }
+        requires { length self.old < MAX_COMMANDS }
         ensures { IfOk result (λ _. self.new ≡ self.old ++ command ∷ []) }
     {
-        let line = FIRST_LINE + self.placed.len() as u32;
+        let line = HOSTS_LINE + 1 + self.placed.len() as u32;
         self.placed.push(Placed { line, command })?;
         Ok(())
     }

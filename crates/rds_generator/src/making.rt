@@ -1,13 +1,15 @@
 //! The script of a number of sends and a seed.
 
-ghost use Rattle.std.specs.Prelude.{◌≡◌, ◌≤◌, ◌<◌, ◌*◌, ◌++◌, [], IfOk, length};
+ghost use Rattle.std.specs.Prelude.{◌≡◌, ◌≤◌, ◌<◌, ◌+◌, ◌*◌, ◌++◌, [], IfOk, length};
 ghost use Rattle.rds_script.specs.Script.{IsScript};
 ghost use Rattle.rds_script.specs.Grammar.{meaning};
 ghost use Rattle.rds_generator.specs.Generator.{binds, binds_of, generated, state_after, turn, turns};
+ghost use Rattle.rds_generator.specs.declared.listing.TheConstants.{MAX_COMMANDS};
+ghost use Rattle.rds_generator.specs.declared.making.TheConstants.{MAX_SENDS};
 
 use crate::draws::Draws;
 use crate::filling::Filling;
-use crate::listing::Listing;
+use crate::listing::{HOSTS_LINE, Listing};
 use crate::route::{FIRST_PORT, HOSTS, Route, SOCKETS};
 use rds_script::{Command, Script};
 use rds_wire::Memory;
@@ -22,15 +24,18 @@ const BUFFER: u32 = 16_777_216;
 /// After so many sends stands a cut.
 const CUT_EVERY: u32 = 500;
 
-/// The script of so many sends, 1 to 100,000, that this seed gives: 32 sockets on 8 hosts are bound, each send draws its two
-/// sockets, and after each 500th send its stream is cut. The lines are those of the script's text.
+/// The script of so many sends, 1 to 100,000, that this seed gives. It binds 4 sockets on each of 8 hosts, sends from sockets
+/// to sockets of other hosts as the seed's draws say, and after each 500th send cuts the stream between its two hosts.
+/// Commands have the lines that they would have in a text, where `hosts 8` is line 1.
+///
+/// It takes time linear in the sends. The payloads share their memory, and count up from 0 with 0 to 63 bytes.
 ///
 /// # Errors
 ///
 /// Where there is no memory for the commands or their payloads.
 pub fn generate(alloc: Global, sends: u32, seed: u64) -> Result<Script, Memory>
     requires least { 1 ≤ sends }
-    requires most { sends ≤ 100000 }
+    requires most { sends ≤ MAX_SENDS }
     ensures script { IfOk result (λ script. meaning script ≡ generated sends seed) }
     // Each host, port, buffer and payload is in range.
     ensures known { IfOk result IsScript }
@@ -40,7 +45,7 @@ pub fn generate(alloc: Global, sends: u32, seed: u64) -> Result<Script, Memory>
     add_turns(&mut listing, alloc, sends, seed)?;
     Ok(Script {
         hosts: HOSTS,
-        hosts_line: 1,
+        hosts_line: HOSTS_LINE,
         commands: listing.into_placed(),
     })
 }
@@ -58,7 +63,7 @@ fn add_binds(listing: &mut Listing) -> Result<(), Memory>
 
 /// The sockets of a host are bound.
 fn add_binds_of(listing: &mut Listing, host: u8) -> Result<(), Memory>
-    requires few { length listing.old ≤ 28 }
+    requires few { length listing.old + 4 ≤ MAX_COMMANDS }
     ensures { IfOk result (λ _. listing.new ≡ listing.old ++ binds_of host) }
 {
     for socket in 0..SOCKETS {
@@ -75,7 +80,7 @@ fn add_binds_of(listing: &mut Listing, host: u8) -> Result<(), Memory>
 /// All sends and the cuts.
 fn add_turns(listing: &mut Listing, alloc: Global, sends: u32, seed: u64) -> Result<(), Memory>
     requires few { length listing.old ≤ 32 }
-    requires most { sends ≤ 100000 }
+    requires most { sends ≤ MAX_SENDS }
     ensures { IfOk result (λ _. listing.new ≡ listing.old ++ turns sends seed) }
 {
     let mut draws = Draws::new(seed);
@@ -93,18 +98,17 @@ fn add_turn(
     filling: &mut Filling,
     i: u32,
 ) -> Result<(), Memory>
-    requires few { length listing.old ≤ 900000 }
-    requires number { i < 100000 }
+    requires few { length listing.old + 2 ≤ MAX_COMMANDS }
+    requires number { i < MAX_SENDS }
     ensures state { IfOk result (λ _. draws.new.state ≡ state_after 4 draws.old.state) }
     ensures turn { IfOk result (λ _. listing.new ≡ listing.old ++ turn draws.old.state i) }
 {
-    let route = Route::next(draws);
     let Route {
         host,
         port,
         to,
         dport,
-    } = route;
+    } = Route::next(draws);
     let payload = filling.payload(i)?;
     listing.add(Command::Send {
         host,

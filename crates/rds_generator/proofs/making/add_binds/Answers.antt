@@ -1,4 +1,4 @@
-use Rattle.std.proofs.Common.{rules, [], ◌∙◌, length, ap, arith}
+use Rattle.std.proofs.Common.{rules, [], length, ap, arith}
 use Rattle.rds_generator.specs.Generator.{binds_of}
 use Rattle.rds_generator.proofs.Turns.{below_more, binds_count}
 use Rattle.rds_generator.proofs.making.add_binds.Goals as goal
