@@ -16,7 +16,7 @@ abbrev pub state_after : ℕ → ℕ → ℕ
 state_after zero x = x
 state_after (suc n) x = next_state (state_after n x)
 
--- what a draw below m answers that leads to the state x
+-- what a draw below m answers where it leads to the state x
 abbrev pub answer : ℕ → ℕ → ℕ
 answer m x = x / 2 ^ 33 % m
 
@@ -24,7 +24,7 @@ answer m x = x / 2 ^ 33 % m
 abbrev pub draw : ℕ → ℕ → ℕ → ℕ
 draw n m x = answer m (state_after n x)
 
--- where a send goes whose four draws are the first after the state x
+-- the sockets of a send whose four draws are the first after the state x
 abbrev pub sender : ℕ → ℕ
 sender x = draw 1 8 x
 
@@ -37,7 +37,7 @@ receiver x = (sender x + 1 + draw 3 7 x) % 8
 abbrev pub receiver_port : ℕ → ℕ
 receiver_port x = 4000 + draw 4 4 x
 
--- the send of number i
+-- the send of number i, whose draws begin after the state x
 abbrev pub the_send : ℕ → ℕ → Command
 the_send x i = Send (sender x) (sender_port x) (receiver x) (receiver_port x) (counting (i % 64))
 
@@ -53,7 +53,7 @@ turn x i = the_send x i ∷ the_cut x i
 abbrev pub turns : ℕ → ℕ → List Command
 turns sends seed = flat_map (λ i. turn (state_after (4 * i) seed) i) (range_with_len 0 sends)
 
--- a socket, with limits of its buffers that no script of this kind reaches
+-- a socket whose two buffers may have 16,777,216 bytes each
 abbrev pub bind : ℕ → ℕ → Command
 bind host port = Bind host port 16777216 16777216
 

@@ -50,7 +50,7 @@ pub fn generate(alloc: Global, sends: u32, seed: u64) -> Result<Script, Memory>
     })
 }
 
-/// The sockets of all hosts are bound.
+/// Adds the binds of all hosts.
 fn add_binds(listing: &mut Listing) -> Result<(), Memory>
     requires { listing.old ≡ [] }
     ensures { IfOk result (λ _. listing.new ≡ binds) }
@@ -61,7 +61,7 @@ fn add_binds(listing: &mut Listing) -> Result<(), Memory>
     Ok(())
 }
 
-/// The sockets of a host are bound.
+/// Adds the binds of a host.
 fn add_binds_of(listing: &mut Listing, host: u8) -> Result<(), Memory>
     requires few { length listing.old + 4 ≤ MAX_COMMANDS }
     ensures { IfOk result (λ _. listing.new ≡ listing.old ++ binds_of host) }
@@ -77,7 +77,7 @@ fn add_binds_of(listing: &mut Listing, host: u8) -> Result<(), Memory>
     Ok(())
 }
 
-/// All sends and the cuts.
+/// Adds all sends and the cuts.
 fn add_turns(listing: &mut Listing, alloc: Global, sends: u32, seed: u64) -> Result<(), Memory>
     requires few { length listing.old ≤ 32 }
     requires most { sends ≤ MAX_SENDS }
@@ -91,7 +91,7 @@ fn add_turns(listing: &mut Listing, alloc: Global, sends: u32, seed: u64) -> Res
     Ok(())
 }
 
-/// The send of this number, and a cut if one stands after it.
+/// Adds the send of this number, and a cut if one stands after it.
 fn add_turn(
     listing: &mut Listing,
     draws: &mut Draws,

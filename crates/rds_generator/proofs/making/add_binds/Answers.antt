@@ -11,3 +11,6 @@ pub loop-host-preserved : goal.loop-host-preserved
 loop-host-preserved c =
     let more = below_more binds_of [] c.loop-host.host in
     search rules
+
+pub returns : goal.returns
+returns c = search rules
