@@ -17,6 +17,6 @@ returns-in-Ok-2-clause-ends g c =
       faults_before = g.K.Sink.faults c.args.sink.now;
       faults_after = g.K.Sink.faults c.run_script.new.sink;
     } in
-    let two : c.in-Ok-2.script.hosts ≡ 2 = search rules in
-    let ran = rw c.in-Ok-2.ensures.same at c.run_script.ensures in
-    run_ends_of_script source sink (meaning c.in-Ok-2.script) c.run_script.result c.in-Ok-2.ensures.spelled two ran
+    let two : c.in-Ok.script.hosts ≡ 2 = search rules in
+    let ran = rw c.in-Ok.ensures.same at c.run_script.ensures in
+    run_ends_of_script source sink (meaning c.in-Ok.script) c.run_script.result c.in-Ok.ensures.spelled two ran
