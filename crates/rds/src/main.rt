@@ -19,7 +19,15 @@ fn main(rt: HostRuntime) -> ExitCode {
     let mut sink = StdSink::new(io::writer(&rt));
     let alloc = rt.alloc();
     let mut wire = MemWire::new(alloc, Vec::new(alloc), Vec::new(alloc));
-    ExitCode::from(rds_main(&rt, alloc, &words, &mut source, &mut sink, &mut wire, &OpenGate))
+    ExitCode::from(rds_main(
+        &rt,
+        alloc,
+        &words,
+        &mut source,
+        &mut sink,
+        &mut wire,
+        &OpenGate,
+    ))
 }
 
 // The words behind the program's name, or none where one of them isn't UTF-8: no command has none.

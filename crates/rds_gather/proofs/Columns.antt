@@ -10,7 +10,7 @@ use Rattle.std.proofs.lemmas.List.Edits.{map_over_more}
 use Rattle.std.proofs.lemmas.List.Elements.{filter_map-append}
 use Rattle.std.proofs.lemmas.Option.{same_Some, slice_get_within}
 use Rattle.rds_host.proofs.Columns.{pushed_at, there_is}
-use Rattle.rds_gather.specs.Columns.{AtEach, column}
+use Rattle.rds_gather.specs.Columns.{AtEachPlace, column}
 
 -- each row has something at this place
 abbrev pub AreFull : {X : Type 0} → ℕ → List (List X) → Type 0
@@ -75,11 +75,11 @@ module _ {X : Type 0} where
       ap (λ (l : List X). l ∷ map (drop 1) (map (drop n) rows)) (drop-drop 1 n row)
       ∙ ap (λ (l : List (List X)). drop (n + 1) row ∷ l) (one_more_left n rows)
 
-  pub at_none : {Y : Type 0} (P : Y → List X → Type 0) (rows : List (List X)) → AtEach P [] rows
+  pub at_none : {Y : Type 0} (P : Y → List X → Type 0) (rows : List (List X)) → AtEachPlace P [] rows
   at_none P rows place y at = absurd (let small = slice_get_within [] place y at in omega arith)
 
   -- one more value suits its column
-  pub at_one_more : {Y : Type 0} (P : Y → List X → Type 0) (ys : List Y) (y : Y) (rows : List (List X)) → AtEach P ys rows → P y (column (length ys) rows) → AtEach P (ys ++ y ∷ []) rows
+  pub at_one_more : {Y : Type 0} (P : Y → List X → Type 0) (ys : List Y) (y : Y) (rows : List (List X)) → AtEachPlace P ys rows → P y (column (length ys) rows) → AtEachPlace P (ys ++ y ∷ []) rows
   at_one_more {Y} P ys y rows all more place z at =
       ⊎_elim
       (λ (there : slice_get ys place ≡ Some z). all place z there)
@@ -134,6 +134,6 @@ pushed_map {Y} {Z} g xs new ys x y is same one =
     is ∙ (ap (λ (l : List Z). l ++ x ∷ []) same ∙ (ap (λ (z : Z). map g ys ++ z ∷ []) one ∙ sym (map_push g ys y)))
 
 -- the same values and the same rows
-pub each_same : {Y X : Type 0} (P : Y → List X → Type 0) (ys zs : List Y) (rows others : List (List X)) → ys ≡ zs → rows ≡ others → AtEach P ys rows → AtEach P zs others
+pub each_same : {Y X : Type 0} (P : Y → List X → Type 0) (ys zs : List Y) (rows others : List (List X)) → ys ≡ zs → rows ≡ others → AtEachPlace P ys rows → AtEachPlace P zs others
 each_same {Y} {X} P ys zs rows others same alike all =
-    subst (λ (l : List Y). AtEach P l others) same (subst (λ (r : List (List X)). AtEach P ys r) alike all)
+    subst (λ (l : List Y). AtEachPlace P l others) same (subst (λ (r : List (List X)). AtEachPlace P ys r) alike all)

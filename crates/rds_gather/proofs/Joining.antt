@@ -23,9 +23,9 @@ use Rattle.rds_host.specs.Passes.{AreAllPasses}
 use Rattle.rds_host.specs.Telling.{IsTold}
 use Rattle.rds_host.specs.Ties.{AreOfHost}
 use Rattle.rds_host.proofs.Columns.{all_at, mapped_at, there_is}
-use Rattle.rds_gather.specs.Columns.{AtEach, column, passes_left, passes_of, rows_left}
+use Rattle.rds_gather.specs.Columns.{AtEachPlace, column, passes_left, passes_of, rows_left}
 use Rattle.rds_gather.specs.Joined.{AreJoined, IsPeer, orders_of, peer_of}
-use Rattle.rds_gather.specs.Shown.{ArePuttersOf, IsShown}
+use Rattle.rds_gather.specs.Shown.{ArePuttersOf, ShowsAllPuts}
 use Rattle.rds_gather.proofs.Columns.{AreFull, column_count, column_row, row_column}
 use Rattle.rds_gather.proofs.Keys.{delivered_from, key_from, key_own, key_uncut, one_place}
 use Rattle.rds_gather.proofs.Marks.{AreApart, AreInOrder, all_got_there, all_there, begins_there, putter_of}
@@ -117,7 +117,7 @@ module _ {E : Type 0} where
 
     module _ (host : AreOfHost slots lines) where
       -- each line's queue has the putters of its column
-      pub orders_fit : AtEach ArePuttersOf (map (λ line. line.orders) lines) (lane_rows slots)
+      pub orders_fit : AtEachPlace ArePuttersOf (map (λ line. line.orders) lines) (lane_rows slots)
       orders_fit place g at =
           let line = mapped_at (λ (x : LineView E WriterView). x.orders) lines g place at in
           let puts = column place (lane_rows slots) in
@@ -132,7 +132,7 @@ module _ {E : Type 0} where
           })
 
       -- and each slot's mailbox those of its column
-      pub boxes_fit : AtEach ArePuttersOf (map (λ h. h.inbox.get) slots) (box_rows lines)
+      pub boxes_fit : AtEachPlace ArePuttersOf (map (λ h. h.inbox.get) slots) (box_rows lines)
       boxes_fit slot g at =
           let h = mapped_at (λ (x : Holding ReaderView). x.inbox.get) slots g slot at in
           let puts = column slot (box_rows lines) in
@@ -194,13 +194,13 @@ module _ {E : Type 0} where
             (slice_get-get_or (map peer_of lines) j 0 (omega arith) ∙ ap Some (sym same));
       }
 
-      module _ (orders_shown : AtEach (IsShown slot_of_order IsOf) (map (λ line. line.orders) lines) (lane_rows slots))
-          (boxes_shown : AtEach (IsShown sender_in IsFrom) (map (λ h. h.inbox.get) slots) (box_rows lines)) where
-        shown_orders : (place : ℕ) (line : LineView E WriterView) → slice_get lines place ≡ Some line → IsShown slot_of_order IsOf line.orders (column place (lane_rows slots))
+      module _ (orders_shown : AtEachPlace (ShowsAllPuts slot_of_order IsOf) (map (λ line. line.orders) lines) (lane_rows slots))
+          (boxes_shown : AtEachPlace (ShowsAllPuts sender_in IsFrom) (map (λ h. h.inbox.get) slots) (box_rows lines)) where
+        shown_orders : (place : ℕ) (line : LineView E WriterView) → slice_get lines place ≡ Some line → ShowsAllPuts slot_of_order IsOf line.orders (column place (lane_rows slots))
         shown_orders place line at_line =
             orders_shown place line.orders (slice_get-map (λ (x : LineView E WriterView). x.orders) lines place ∙ ap (option_map (λ (x : LineView E WriterView). x.orders)) at_line)
 
-        shown_boxes : (slot : ℕ) (h : Holding ReaderView) → slice_get slots slot ≡ Some h → IsShown sender_in IsFrom h.inbox.get (column slot (box_rows lines))
+        shown_boxes : (slot : ℕ) (h : Holding ReaderView) → slice_get slots slot ≡ Some h → ShowsAllPuts sender_in IsFrom h.inbox.get (column slot (box_rows lines))
         shown_boxes slot h at_slot =
             boxes_shown slot h.inbox.get (slice_get-map (λ (x : Holding ReaderView). x.inbox.get) slots slot ∙ ap (option_map (λ (x : Holding ReaderView). x.inbox.get)) at_slot)
 

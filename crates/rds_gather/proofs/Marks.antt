@@ -13,10 +13,10 @@ use Rattle.rds_mail.specs.Passes.{Getter, Putter, account_of}
 use Rattle.rds_mail.specs.Shared.{IsPart}
 use Rattle.rds_mail.proofs.Numbers.{same_here}
 use Rattle.rds_joins.specs.Joins.{AreMarked, PutsAreTold}
-use Rattle.rds_host.specs.Passes.{number_at, splits_at}
+use Rattle.rds_host.specs.Passes.{putter_number, splits_at}
 use Rattle.rds_host.specs.Telling.{IsTold}
 use Rattle.rds_host.proofs.Columns.{mapped_at, there_is}
-use Rattle.rds_gather.specs.Shown.{IsShown}
+use Rattle.rds_gather.specs.Shown.{ShowsAllPuts}
 
 pub got_at : {X : Type 0} (xs : List X) (i : ℕ) (x : X) → At xs i x → slice_get xs i ≡ Some x
 got_at [] i x at = absurd (some-ne-none x (sym at))
@@ -33,12 +33,12 @@ abbrev pub place_of : Number → ℕ
 place_of [] = 0
 place_of (k ∷ rest) = suc k
 
-pub place_again : (i : ℕ) → place_of (number_at i) ≡ i
+pub place_again : (i : ℕ) → place_of (putter_number i) ≡ i
 place_again zero = refl
 place_again (suc i) = refl
 
 -- what a putter has split off has a number of a later place
-later : (count i k : ℕ) → k < splits_at count i → (k ∷ number_at i ≡ number_at (suc k)) × (suc k < count)
+later : (count i k : ℕ) → k < splits_at count i → (k ∷ putter_number i ≡ putter_number (suc k)) × (suc k < count)
 later count zero k below = (refl, omega arith)
 later count (suc i) k below = absurd (omega arith)
 
@@ -46,7 +46,7 @@ module _ {T : Type 0} where
   -- so many putters, each with the number of its place
   pub record AreInOrder (count : ℕ) (puts : List (Putter T)) : Type 0 where
     pub size : length puts ≡ count
-    pub each : (i : ℕ) (p : Putter T) → slice_get puts i ≡ Some p → (p.number ≡ number_at i) × (p.splits ≡ splits_at count i)
+    pub each : (i : ℕ) (p : Putter T) → slice_get puts i ≡ Some p → (p.number ≡ putter_number i) × (p.splits ≡ splits_at count i)
 
   account_at : (puts : List (Putter T)) (i : ℕ) (p : Putter T) → slice_get puts i ≡ Some p → At (map account_of puts) i (account_of p)
   account_at puts i p is = at_got (map account_of puts) i (account_of p) (slice_get-map account_of puts i ∙ ap (option_map account_of) is)
@@ -54,7 +54,7 @@ module _ {T : Type 0} where
   putter_at : (puts : List (Putter T)) (i : ℕ) (a : Account T) → At (map account_of puts) i a → (p : Putter T) × (slice_get puts i ≡ Some p) × (account_of p ≡ a)
   putter_at puts i a at = mapped_at account_of puts a i (got_at (map account_of puts) i a at)
 
-  number_there : (count : ℕ) (puts : List (Putter T)) → AreInOrder count puts → (i : ℕ) → i < count → HasNumber (map account_of puts) (number_at i)
+  number_there : (count : ℕ) (puts : List (Putter T)) → AreInOrder count puts → (i : ℕ) → i < count → HasNumber (map account_of puts) (putter_number i)
   number_there count puts are i small =
       let size = are.size in
       let p = there_is puts i (omega arith) in
@@ -67,7 +67,7 @@ module _ {T : Type 0} where
     each = λ i a at k below.
         let p = putter_at puts i a at in
         let is = are.each i p.0 p.1 in
-        let number : a.number ≡ number_at i = ap (λ (b : Account T). b.number) (sym p.2) ∙ is.0 in
+        let number : a.number ≡ putter_number i = ap (λ (b : Account T). b.number) (sym p.2) ∙ is.0 in
         let splits : a.splits ≡ splits_at count i = ap (λ (b : Account T). b.splits) (sym p.2) ∙ is.1 in
         let next = later count i k (subst (λ (n : ℕ). k < n) splits below) in
         subst (λ (n : Number). HasNumber (map account_of puts) n) (sym (ap (λ (n : Number). k ∷ n) number ∙ next.0)) (number_there count puts are (suc k) next.1);
@@ -100,10 +100,10 @@ module _ {T : Type 0} where
           let marks : mark i ≡ mark j =
           sym (mark_there count puts are i p.0 p.1) ∙ (ap (λ (x : Account T). mark_of x.number) p.2 ∙ (same ∙ (sym (ap (λ (x : Account T). mark_of x.number) q.2) ∙ mark_there count puts are j q.0 q.1))) in
           let place : i ≡ j = apart.apart i j (omega arith) (omega arith) marks in
-          ap (λ (x : Account T). x.number) (sym p.2) ∙ ((are.each i p.0 p.1).0 ∙ (ap number_at place ∙ (sym (are.each j q.0 q.1).0 ∙ ap (λ (x : Account T). x.number) q.2)));
+          ap (λ (x : Account T). x.number) (sym p.2) ∙ ((are.each i p.0 p.1).0 ∙ (ap putter_number place ∙ (sym (are.each j q.0 q.1).0 ∙ ap (λ (x : Account T). x.number) q.2)));
     }
 
-    module _ (key : T → Option ℕ) (g : Getter T) (count : ℕ) (puts : List (Putter T)) (are : AreInOrder count puts) (apart : AreApart count puts) (shown : IsShown key Own g puts) where
+    module _ (key : T → Option ℕ) (g : Getter T) (count : ℕ) (puts : List (Putter T)) (are : AreInOrder count puts) (apart : AreApart count puts) (shown : ShowsAllPuts key Own g puts) where
       -- what the getter got with the mark of a place begins what the putter there has put with it
       pub begins_there : (i : ℕ) (p : Putter T) → slice_get puts i ≡ Some p → Begins (by_key key (mark i) (bare_items g.got)) (by_key key (mark i) p.put)
       begins_there i p at =

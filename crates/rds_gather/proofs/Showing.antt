@@ -8,7 +8,7 @@ use Rattle.rds_mail.specs.Numbers.{Number, Numbered}
 use Rattle.rds_mail.specs.Passes.{Getter, Putter, account_of, with_joined}
 use Rattle.rds_mail.specs.Shared.{IsPart}
 use Rattle.rds_joins.specs.Joins.{AreMarked, KeysAre, PutsAreTold}
-use Rattle.rds_gather.specs.Shown.{IsShown}
+use Rattle.rds_gather.specs.Shown.{ShowsAllPuts}
 
 module _ {T : Type 0} (key : T → Option ℕ) (Own : ℕ → T → Type 0) where
   -- what joined putters show of what was got, with what notes told
@@ -17,7 +17,7 @@ module _ {T : Type 0} (key : T → Option ℕ) (Own : ℕ → T → Type 0) wher
     pub begin : (mark : Number → ℕ) → AreMarked Own mark puts → KeysBegin key mark got puts
     pub all : (mark : Number → ℕ) → AreMarked Own mark puts → Each told (IsPart got) → PutsAreTold told puts → KeysAre key mark got puts
 
-  pub shown_by : (g new : Getter T) (puts : List (Putter T)) → new ≡ with_joined g (map account_of puts) → g.joined ≡ [] → AreFacts new.got new.told new.joined → IsShown key Own g puts
+  pub shown_by : (g new : Getter T) (puts : List (Putter T)) → new ≡ with_joined g (map account_of puts) → g.joined ≡ [] → AreFacts new.got new.told new.joined → ShowsAllPuts key Own g puts
   shown_by g new puts is none facts =
       let joined : new.joined ≡ map account_of puts = ap (λ (x : Getter T). x.joined) is ∙ ap (λ (l : List (Account T)). l ++ map account_of puts) none in
       let known : AreFacts g.got g.told (map account_of puts) =
@@ -30,7 +30,7 @@ module _ {T : Type 0} (key : T → Option ℕ) (Own : ℕ → T → Type 0) wher
         merged = λ enough. known.merged;
       }
 
-  nothing_shown : (g : Getter T) → IsShown key Own g []
+  nothing_shown : (g : Getter T) → ShowsAllPuts key Own g []
   nothing_shown g = record {
     begin = λ mark marked i a at. absurd (some-ne-none a (sym at));
     all = λ mark marked parts told i a at. absurd (some-ne-none a (sym at));
@@ -38,5 +38,5 @@ module _ {T : Type 0} (key : T → Option ℕ) (Own : ℕ → T → Type 0) wher
   }
 
   -- no putter shows nothing
-  pub shown_by_none : (g : Getter T) (puts : List (Putter T)) → puts ≡ [] → IsShown key Own g puts
-  shown_by_none g puts none = subst (λ (l : List (Putter T)). IsShown key Own g l) (sym none) (nothing_shown g)
+  pub shown_by_none : (g : Getter T) (puts : List (Putter T)) → puts ≡ [] → ShowsAllPuts key Own g puts
+  shown_by_none g puts none = subst (λ (l : List (Putter T)). ShowsAllPuts key Own g l) (sym none) (nothing_shown g)

@@ -14,8 +14,8 @@ abbrev pub column : {X : Type 0} → ℕ → List (List X) → List X
 column place rows = filter_map (λ row. slice_get row place) rows
 
 -- each value suits the column at its own place
-abbrev pub AtEach : {Y X : Type 0} → (Y → List X → Type 0) → List Y → List (List X) → Type 0
-AtEach {Y} P values rows = (place : ℕ) (y : Y) → slice_get values place ≡ Some y → P y (column place rows)
+abbrev pub AtEachPlace : {Y X : Type 0} → (Y → List X → Type 0) → List Y → List (List X) → Type 0
+AtEachPlace {Y} P values rows = (place : ℕ) (y : Y) → slice_get values place ≡ Some y → P y (column place rows)
 
 -- the putters of a slot's routes
 abbrev pub passes_of : {R : Type 0} → List (Lane R) → List (Putter Order)

@@ -34,8 +34,8 @@ module _ {E M : Type 0} where
   peer_of line = line.channel.conn.peer
 
   -- what the journal of a line delivered to a slot, in order
-  abbrev pub delivered_to : (slot : ℕ) → LineView E M → List Datagram
-  delivered_to slot line = delivered_datagrams (peer_of line) slot (line_past line)
+  abbrev pub line_delivered : (slot : ℕ) → LineView E M → List Datagram
+  line_delivered slot line = delivered_datagrams (peer_of line) slot (line_past line)
 
   -- some line has this peer
   abbrev pub IsPeer : List (LineView E M) → ℕ → Type 0
@@ -53,10 +53,10 @@ module _ {R E M : Type 0} where
         AllGot line.orders → AreOrdersTold slots place line → orders_of slot (line_past line) ≡ uncut lane.pass.put
     -- what a slot got of a peer begins what the journal with that peer delivered to the slot
     pub begin_got : (slot place : ℕ) (h : Holding R) (line : LineView E M) → slice_get slots slot ≡ Some h → slice_get lines place ≡ Some line →
-        Begins (from_peer (peer_of line) (got_by h)) (delivered_to slot line)
+        Begins (from_peer (peer_of line) (got_by h)) (line_delivered slot line)
     -- it is all of it where the slot was told of all that the lines have put, and then found its mailbox empty
     pub all_got : (slot place : ℕ) (h : Holding R) (line : LineView E M) → slice_get slots slot ≡ Some h → slice_get lines place ≡ Some line →
-        AllGot h.inbox.get → AreBoxesTold h lines → from_peer (peer_of line) (got_by h) ≡ delivered_to slot line
+        AllGot h.inbox.get → AreBoxesTold h lines → from_peer (peer_of line) (got_by h) ≡ line_delivered slot line
     -- and where there are lines it got nothing from anyone else
     pub known_senders : 1 ≤ length lines → (slot : ℕ) (h : Holding R) → slice_get slots slot ≡ Some h →
         All (λ item. IsPeer lines item.from) (got_by h)

@@ -16,7 +16,7 @@ module _ {T : Type 0} where
 
   -- What the getter got with each putter's mark begins what that has put with it. It is all of it where the getter was told of
   -- all that was put, and got that. And what it got is theirs, where there are any.
-  pub record IsShown (key : T → Option ℕ) (Own : ℕ → T → Type 0) (g : Getter T) (puts : List (Putter T)) : Type 0 where
+  pub record ShowsAllPuts (key : T → Option ℕ) (Own : ℕ → T → Type 0) (g : Getter T) (puts : List (Putter T)) : Type 0 where
     pub begin : (mark : Number → ℕ) → AreMarked Own mark (map account_of puts) → KeysBegin key mark g.got (map account_of puts)
     pub all : (mark : Number → ℕ) → AreMarked Own mark (map account_of puts) → Each g.told (IsPart g.got) → PutsAreTold g.told (map account_of puts) →
         KeysAre key mark g.got (map account_of puts)

@@ -3,5 +3,5 @@ use Rattle.rds_report.specs.FinalState.{FinalJournal}
 use Rattle.rds_line.specs.Line.{LineView, line_past}
 
 -- the peer of a line and what its journal has
-abbrev pub side_of : {E M : Type 0} → LineView E M → FinalJournal
-side_of line = record { peer = line.channel.conn.peer; past = line_past line }
+abbrev pub line_side : {E M : Type 0} → LineView E M → FinalJournal
+line_side line = record { peer = line.channel.conn.peer; past = line_past line }

@@ -3,7 +3,7 @@ ghost use Rattle.rds_report.specs.Views.{side_view};
 ghost use Rattle.rds_host.specs.Passes.{AreAllPasses};
 ghost use Rattle.rds_host.specs.Ties.{AreOfHost};
 ghost use Rattle.rds_gather.specs.Joined.{AreJoined};
-ghost use Rattle.rds_gather.specs.Sides.{side_of};
+ghost use Rattle.rds_gather.specs.Sides.{line_side};
 
 use crate::lines::take_lines;
 use crate::orders::join_all_orders;
@@ -36,7 +36,7 @@ pub fn gather<W: Wire, R: Wait>(
     requires host { AreOfHost closed.items lines.items }
     requires passes { AreAllPasses closed.items lines.items }
     ensures addr { IfOk result (λ end. end.addr ≡ addr) }
-    ensures journals { IfOk result (λ end. map side_view end.journals.items ≡ map side_of lines.items) }
+    ensures journals { IfOk result (λ end. map side_view end.journals.items ≡ map line_side lines.items) }
     ensures kept { IfOk result (λ end. end.kept ≡ kept) }
     ensures joined { OnOk result (AreJoined closed.items lines.items) }
 {

@@ -4,7 +4,7 @@ ghost use Rattle.rds_report.specs.Views.{side_view};
 ghost use Rattle.rds_line.specs.Keeps.{KeepsLine};
 ghost use Rattle.rds_line.specs.Line.{line_past};
 ghost use Rattle.rds_gather.specs.Columns.{rows_left};
-ghost use Rattle.rds_gather.specs.Sides.{side_of};
+ghost use Rattle.rds_gather.specs.Sides.{line_side};
 
 use rds_fmap::Writer;
 use rds_line::{Line, LineParts};
@@ -74,7 +74,7 @@ pub(crate) fn take_lines<W: Wire, R: Wait>(
     wire: &mut W,
     lines: Vec<Line<W::End, Writer>>,
 ) -> Result<LinesLeft, Memory>
-    ensures journals { IfOk result (λ left. map side_view left.journals.items ≡ map side_of lines.items) }
+    ensures journals { IfOk result (λ left. map side_view left.journals.items ≡ map line_side lines.items) }
     ensures orders { IfOk result (λ left. left.orders.items ≡ map (λ line. line.orders) lines.items) }
     ensures boxes { IfOk result (λ left. rows_left left.boxes.items ≡ map (λ line. line.boxes) lines.items) }
     ensures kept { All (KeepsLine (λ w. w.published)) lines.items }

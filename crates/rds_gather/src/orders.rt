@@ -3,8 +3,8 @@ ghost use Rattle.std.specs.Prelude.{◌≡◌, ◌++◌, IfOk, OnOk, Option, dro
 ghost use Rattle.std.specs.Option.{option_to_list};
 ghost use Rattle.rds_parts.specs.Lanes.{IsOf};
 ghost use Rattle.rds_joins.specs.Joins.{slot_of_order};
-ghost use Rattle.rds_gather.specs.Columns.{AtEach, column, passes_left, passes_of};
-ghost use Rattle.rds_gather.specs.Shown.{ArePuttersOf, IsShown};
+ghost use Rattle.rds_gather.specs.Columns.{AtEachPlace, column, passes_left, passes_of};
+ghost use Rattle.rds_gather.specs.Shown.{ArePuttersOf, ShowsAllPuts};
 
 use rds_fmap::Reader;
 use rds_joins::join_orders;
@@ -23,8 +23,8 @@ pub(crate) fn join_all_orders<R: Wait>(
     orders: Vec<LineOrders>,
     routes: &mut [IntoIter<Route<Reader>>],
 ) -> Result<(), Memory>
-    requires putters { AtEach ArePuttersOf orders.items (passes_left routes.old) }
-    ensures shown { OnOk result (AtEach (IsShown slot_of_order IsOf) orders.items (passes_left routes.old)) }
+    requires putters { AtEachPlace ArePuttersOf orders.items (passes_left routes.old) }
+    ensures shown { OnOk result (AtEachPlace (ShowsAllPuts slot_of_order IsOf) orders.items (passes_left routes.old)) }
 {
     for own in orders {
         let passes = next_passes(alloc, routes)?;
@@ -70,7 +70,7 @@ fn add_pass(passes: &mut Vec<PutPass<Asked>>, route: Option<Route<Reader>>) -> R
 // Joins all putters of a line's order queue into its getter. A host without slots has none.
 fn join_line<R: Wait>(rt: &R, own: LineOrders, passes: Vec<PutPass<Asked>>)
     requires putters { ArePuttersOf own passes.items }
-    ensures shown { IsShown slot_of_order IsOf own passes.items }
+    ensures shown { ShowsAllPuts slot_of_order IsOf own passes.items }
 {
     if passes.is_empty() {
         return;

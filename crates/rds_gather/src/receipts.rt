@@ -2,8 +2,8 @@
 ghost use Rattle.std.specs.Prelude.{◌≡◌, ◌++◌, IfOk, OnOk, Option, drop, map};
 ghost use Rattle.std.specs.Option.{option_to_list};
 ghost use Rattle.rds_joins.specs.Joins.{IsFrom, sender_in};
-ghost use Rattle.rds_gather.specs.Columns.{AtEach, column, rows_left};
-ghost use Rattle.rds_gather.specs.Shown.{ArePuttersOf, IsShown};
+ghost use Rattle.rds_gather.specs.Columns.{AtEachPlace, column, rows_left};
+ghost use Rattle.rds_gather.specs.Shown.{ArePuttersOf, ShowsAllPuts};
 
 use rds_joins::join_receipts;
 use rds_line_parts::SlotBox;
@@ -22,8 +22,8 @@ pub(crate) fn join_all_receipts<R: Wait>(
     inboxes: Vec<Inbox>,
     boxes: &mut [IntoIter<SlotBox>],
 ) -> Result<(), Memory>
-    requires putters { AtEach ArePuttersOf (map (λ b. b.get) inboxes.items) (rows_left boxes.old) }
-    ensures shown { OnOk result (AtEach (IsShown sender_in IsFrom) (map (λ b. b.get) inboxes.items) (rows_left boxes.old)) }
+    requires putters { AtEachPlace ArePuttersOf (map (λ b. b.get) inboxes.items) (rows_left boxes.old) }
+    ensures shown { OnOk result (AtEachPlace (ShowsAllPuts sender_in IsFrom) (map (λ b. b.get) inboxes.items) (rows_left boxes.old)) }
 {
     for own in inboxes {
         let passes = next_passes(alloc, boxes)?;
@@ -62,7 +62,7 @@ fn add_pass(passes: &mut Vec<PutPass<Datagram>>, held: Option<SlotBox>) -> Resul
 // Joins all putters of a slot's mailbox into its getter. A host without lines has none.
 fn join_slot<R: Wait>(rt: &R, own: Inbox, passes: Vec<PutPass<Datagram>>)
     requires putters { ArePuttersOf own.get passes.items }
-    ensures shown { IsShown sender_in IsFrom own.get passes.items }
+    ensures shown { ShowsAllPuts sender_in IsFrom own.get passes.items }
 {
     if passes.is_empty() {
         return;

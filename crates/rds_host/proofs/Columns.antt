@@ -17,9 +17,9 @@ use Rattle.rds_line.specs.Line.{LineView}
 use Rattle.rds_model.specs.declared.entry.TheConstants.{MAX_SLOTS}
 use Rattle.rds_line_channel.specs.Channel.{ChannelView, new_channel}
 use Rattle.rds_host.specs.Lines.{AreNewLines}
-use Rattle.rds_host.specs.Passes.{AreAllPasses, number_at, splits_at}
+use Rattle.rds_host.specs.Passes.{AreAllPasses, putter_number, splits_at}
 use Rattle.rds_host.specs.Slots.{AreInPlace}
-use Rattle.rds_host.specs.Ties.{Way, ColumnView, IsSlotOf, IsLineOf, AreLinesOf, AreOfHost, IsFilled, AreFilled, IsNextOf, AreNextOf, new_putter, putters_from, popped, inbox_of, with_box, with_boxes, ways_of, peers_to, lane_way}
+use Rattle.rds_host.specs.Ties.{Way, ColumnView, IsSlotOf, IsLineOf, AreLinesOf, AreOfHost, IsColumnFilled, AreColumnsFilled, IsNextOf, AreNextOf, new_putter, putters_from, popped, inbox_of, with_box, with_boxes, ways_of, peers_to, lane_way}
 
 -- what stands in a list after one push stood there, or is what was pushed
 pub pushed_at : {X : Type 0} (xs : List X) (x y : X) (place : ℕ) → slice_get (xs ++ x ∷ []) place ≡ Some y → (slice_get xs place ≡ Some y) ⊎ ((place ≡ length xs) × (x ≡ y))
@@ -193,8 +193,8 @@ pub count_next : (mail : QueueId) (columns : List ColumnView) → length (next_c
 count_next mail columns = count_with_boxes mail (length columns) 0 (map popped columns) ∙ length-map columns popped
 
 -- they have one putter fewer for slots, and one more at a mailbox
-pub filled_more : (slots : ℕ) (mails : List QueueId) (mail : QueueId) (columns : List ColumnView) → length mails < slots → AreFilled slots mails columns
-    → AreFilled slots (mails ++ mail ∷ []) (next_columns mail columns)
+pub filled_more : (slots : ℕ) (mails : List QueueId) (mail : QueueId) (columns : List ColumnView) → length mails < slots → AreColumnsFilled slots mails columns
+    → AreColumnsFilled slots (mails ++ mail ∷ []) (next_columns mail columns)
 filled_more slots mails mail columns small all place after at =
     let lines = length columns in
     let boxed = boxed_at mail lines 0 (map popped columns) after place at in
@@ -207,15 +207,15 @@ filled_more slots mails mail columns small all place after at =
     let left : (popped c).passes ≡ reverse (putters_from c.way.mail slots (suc (length mails)) (slots - (suc (length mails)))) =
     sym (popped_list c.passes (reverse (putters_from c.way.mail slots (suc (length mails)) (slots - (suc (length mails))))) (new_putter c.way.mail slots (length mails))
     (held.passes ∙ left_are c.way.mail slots (length mails) small)) in
-    subst (λ (n : ℕ). IsFilled slots n place (mails ++ mail ∷ []) after) (sym (count_next mail columns))
-    (subst (IsFilled slots lines place (mails ++ mail ∷ [])) (sym is)
+    subst (λ (n : ℕ). IsColumnFilled slots n place (mails ++ mail ∷ []) after) (sym (count_next mail columns))
+    (subst (IsColumnFilled slots lines place (mails ++ mail ∷ [])) (sym is)
     (record {
       passes = left ∙ ap (λ (n : ℕ). reverse (putters_from c.way.mail slots n (slots - n))) (sym size);
       boxes = ap (λ (l : List (Putter Datagram)). l ++ new_putter mail lines place ∷ []) held.boxes ∙ sym (map_push (λ (m : QueueId). new_putter m lines place) mails mail);
     }))
 
 -- columns of which nothing was taken
-pub filled_first : (slots : ℕ) (columns : List ColumnView) → All (λ c. c.passes ≡ reverse (putters_from c.way.mail slots 0 slots)) columns → All (λ c. c.boxes ≡ []) columns → AreFilled slots [] columns
+pub filled_first : (slots : ℕ) (columns : List ColumnView) → All (λ c. c.passes ≡ reverse (putters_from c.way.mail slots 0 slots)) columns → All (λ c. c.boxes ≡ []) columns → AreColumnsFilled slots [] columns
 filled_first slots columns passes boxes place c at = let none : slots ≡ slots - 0 = omega arith in record {
   passes =
       all_at (λ (c : ColumnView). c.passes ≡ reverse (putters_from c.way.mail slots 0 slots)) columns c place passes at
@@ -224,7 +224,7 @@ filled_first slots columns passes boxes place c at = let none : slots ≡ slots 
 }
 
 -- each column has a putter at each of these mailboxes
-pub filled_boxes : (slots : ℕ) (mails : List QueueId) (columns : List ColumnView) (count : ℕ) → length mails ≡ count → AreFilled slots mails columns → All (λ c. length c.boxes ≡ count) columns
+pub filled_boxes : (slots : ℕ) (mails : List QueueId) (columns : List ColumnView) (count : ℕ) → length mails ≡ count → AreColumnsFilled slots mails columns → All (λ c. length c.boxes ≡ count) columns
 filled_boxes slots mails columns count many all k d small =
     let c = get_or columns k d in
     ap length (all k c (slice_get-get_or columns k d small)).boxes ∙ (length-map mails (λ (m : QueueId). new_putter m (length columns) k) ∙ many)
@@ -242,7 +242,7 @@ next_push columns routes lane c at next all place other d at_lane at_column =
 
 -- the routes of the next slot have its putters
 pub slot_passes : (slots slot : ℕ) (mails : List QueueId) (columns : List ColumnView) (routes : List (Lane ReaderView)) → length mails < slots → slot ≡ length mails → length routes ≡ length columns
-    → AreFilled slots mails columns → AreNextOf columns routes → All (λ lane. lane.pass ≡ new_putter lane.pass.mail slots slot) routes
+    → AreColumnsFilled slots mails columns → AreNextOf columns routes → All (λ lane. lane.pass ≡ new_putter lane.pass.mail slots slot) routes
 slot_passes slots slot mails columns routes small is count all next k d within =
     let lane = get_or routes k d in
     let column = there_is columns k (omega (arith, count, within)) in
@@ -328,7 +328,7 @@ module _ {E : Type 0} where
 
   module _ (me limit : ℕ) (table meter : Table) (columns : List ColumnView) (streams : List (List (ℕ × E))) (lines : List (LineView E WriterView)) (slots : ℕ) (vacants : List (Holding ReaderView))
       (all : AreLinesOf me limit table meter columns streams lines) (count : length streams ≡ length columns) (are : All (IsSlotOf slots (ways_of columns) table meter) vacants) (in_place : AreInPlace vacants)
-      (filled : AreFilled slots (map inbox_of vacants) columns) where
+      (filled : AreColumnsFilled slots (map inbox_of vacants) columns) where
     -- the column of a line
     column_of : (place : ℕ) (line : LineView E WriterView) → slice_get lines place ≡ Some line
         → (column : ColumnView) × (slice_get columns place ≡ Some column) × ((list : List (ℕ × E)) × IsLineOf me limit table meter column list line)
@@ -388,7 +388,7 @@ module _ {E : Type 0} where
           orders = λ slot place h lane at_slot at_lane.
               let is = all_at (λ (l : Lane ReaderView). l.pass ≡ new_putter l.pass.mail slots h.words.slot) h.routes lane place (slot_is slot h at_slot).passes at_lane in
               let at = in_place slot h at_slot in (
-                ap (λ (p : Putter Order). p.number) is ∙ ap number_at at,
+                ap (λ (p : Putter Order). p.number) is ∙ ap putter_number at,
                 ap (λ (p : Putter Order). p.splits) is ∙ (ap (splits_at slots) at ∙ ap (λ (n : ℕ). splits_at n slot) (sym made)),
               );
           boxes = λ slot place line box at_line at_box.

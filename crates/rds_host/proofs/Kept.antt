@@ -16,7 +16,7 @@ use Rattle.rds_line.specs.Line.{LineView}
 use Rattle.rds_line.specs.Stays.{AreSameBoxes}
 use Rattle.rds_host.specs.Keeping.{LineKeeps, LinesKeep, SlotKeeps, SlotsKeep}
 use Rattle.rds_host.specs.Lines.{AreTurned, pair_of}
-use Rattle.rds_host.specs.Passes.{AreAllPasses, number_at, splits_at}
+use Rattle.rds_host.specs.Passes.{AreAllPasses, putter_number, splits_at}
 use Rattle.rds_host.specs.Ties.{AreOfHost, inbox_of}
 use Rattle.rds_host.proofs.Columns.{mapped_at, there_is}
 use Rattle.rds_host.proofs.Staying.{boxes_same, boxes_through}

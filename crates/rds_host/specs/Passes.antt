@@ -11,9 +11,9 @@ use Rattle.rds_host.specs.Slots.{AreInPlace}
 
 -- The number of the putter that the slot or the line at a place has: the first has the queue's first putter, and each later one the
 -- next that this one split off.
-abbrev pub number_at : ℕ → Number
-number_at zero = []
-number_at (suc k) = k ∷ []
+abbrev pub putter_number : ℕ → Number
+putter_number zero = []
+putter_number (suc k) = k ∷ []
 
 -- how many putters it has split off, where the queue has so many in all
 abbrev pub splits_at : (count place : ℕ) → ℕ
@@ -29,8 +29,8 @@ module _ {R E M : Type 0} where
     pub lanes : (slot : ℕ) (h : Holding R) → slice_get slots slot ≡ Some h → length h.routes ≡ length lines
     pub held : (place : ℕ) (line : LineView E M) → slice_get lines place ≡ Some line → length line.boxes ≡ length slots
     pub orders : (slot place : ℕ) (h : Holding R) (lane : Lane R) → slice_get slots slot ≡ Some h → IsLaneAt h.routes place lane →
-        (lane.pass.number ≡ number_at slot) × (lane.pass.splits ≡ splits_at (length slots) slot)
+        (lane.pass.number ≡ putter_number slot) × (lane.pass.splits ≡ splits_at (length slots) slot)
     pub boxes : (slot place : ℕ) (line : LineView E M) (box : Putter Datagram) → slice_get lines place ≡ Some line → IsBoxOf line.boxes slot box →
-        (box.number ≡ number_at place) × (box.splits ≡ splits_at (length lines) place)
+        (box.number ≡ putter_number place) × (box.splits ≡ splits_at (length lines) place)
     pub no_order_joined : (place : ℕ) (line : LineView E M) → slice_get lines place ≡ Some line → line.orders.joined ≡ []
     pub no_box_joined : (slot : ℕ) (h : Holding R) → slice_get slots slot ≡ Some h → h.inbox.get.joined ≡ []

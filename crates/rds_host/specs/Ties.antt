@@ -12,7 +12,7 @@ use Rattle.rds_line_parts.specs.Boxes.{IsBoxOf}
 use Rattle.rds_socket.specs.Holding.{Holding}
 use Rattle.rds_line_channel.specs.Channel.{new_channel}
 use Rattle.rds_line.specs.Line.{LineView}
-use Rattle.rds_host.specs.Passes.{number_at, splits_at}
+use Rattle.rds_host.specs.Passes.{putter_number, splits_at}
 
 -- what a route and the line that it leads to have in common: the peer, the queue of orders, and the pair of the peer's map
 pub record Way : Type 0 where
@@ -29,7 +29,7 @@ pub record ColumnView : Type 0 where
 
 -- the putter of the slot or the line at this place, of so many, which has put nothing
 abbrev pub new_putter : {T : Type 0} → QueueId → (count place : ℕ) → Putter T
-new_putter mail count place = record { mail = mail; number = number_at place; splits = splits_at count place; put = [] }
+new_putter mail count place = record { mail = mail; number = putter_number place; splits = splits_at count place; put = [] }
 
 -- the putters of so many slots, of `count` in all, from this one upward
 abbrev pub putters_from : QueueId → (count slot left : ℕ) → List (Putter Order)
@@ -82,12 +82,12 @@ pub record IsColumn (mail : QueueId) (orders : Getter Order) (passes : List (Put
 
 -- What a host of so many slots has for the peer at this place, of so many, once the slots with these mailboxes were made: the putters
 -- of all later slots, and one at each mailbox.
-pub record IsFilled (slots lines place : ℕ) (mails : List QueueId) (c : ColumnView) : Type 0 where
+pub record IsColumnFilled (slots lines place : ℕ) (mails : List QueueId) (c : ColumnView) : Type 0 where
   pub passes : c.passes ≡ reverse (putters_from c.way.mail slots (length mails) (slots - length mails))
   pub boxes : c.boxes ≡ map (λ mail. new_putter mail lines place) mails
 
-abbrev pub AreFilled : (slots : ℕ) → List QueueId → List ColumnView → Type 0
-AreFilled slots mails columns = (place : ℕ) (c : ColumnView) → slice_get columns place ≡ Some c → IsFilled slots (length columns) place mails c
+abbrev pub AreColumnsFilled : (slots : ℕ) → List QueueId → List ColumnView → Type 0
+AreColumnsFilled slots mails columns = (place : ℕ) (c : ColumnView) → slice_get columns place ≡ Some c → IsColumnFilled slots (length columns) place mails c
 
 -- a new slot of so many, whose routes are these ways, at these tables
 pub record IsSlotOf (slots : ℕ) (along : List Way) (table meter : Table) (h : Holding ReaderView) : Type 0 where

@@ -11,7 +11,7 @@ ghost use Rattle.rds_host.specs.Lines.{AreNewLines};
 ghost use Rattle.rds_host.specs.Slots.{AreInPlace, AreNewSlots};
 ghost use Rattle.rds_mail.specs.Passes.{first_getter, first_putter};
 ghost use Rattle.rds_host.specs.Passes.{AreAllPasses};
-ghost use Rattle.rds_host.specs.Ties.{AreFilled, AreLinesOf, AreNextOf, AreOfHost, IsSlotOf, inbox_of, lane_way, new_putter, peers_to, popped, ways_of, with_boxes};
+ghost use Rattle.rds_host.specs.Ties.{AreColumnsFilled, AreLinesOf, AreNextOf, AreOfHost, IsSlotOf, inbox_of, lane_way, new_putter, peers_to, popped, ways_of, with_boxes};
 
 use crate::column::Column;
 use crate::seats::{Seats, SlotSeats};
@@ -67,7 +67,7 @@ pub fn make<E: End>(
 fn columns(alloc: Global, peers: &[u32], slots: u16) -> Result<Vec<Column>, Memory>
     requires { 1 ≤ slots }
     ensures peers { IfOk result (λ columns. peers_to (ways_of columns.items) ≡ peers.now) }
-    ensures filled { IfOk result (λ columns. AreFilled slots [] columns.items) }
+    ensures filled { IfOk result (λ columns. AreColumnsFilled slots [] columns.items) }
 {
     let mut columns = Vec::with_capacity(alloc, peers.len())?;
     for peer in peers {
@@ -85,7 +85,7 @@ fn vacants(
 ) -> Result<Vec<Vacant<Reader>>, Memory>
     requires some { 1 ≤ length columns.old }
     requires ascend { Ascend (peers_to (ways_of columns.old)) }
-    requires filled { AreFilled slots [] columns.old }
+    requires filled { AreColumnsFilled slots [] columns.old }
     requires slots { (arc_value seats.old.table).slots ≡ slots }
     requires alone { IsAlone seats.old.seat.view }
     requires draws { seats.old.seat.view.draws ≡ 0 }
@@ -96,7 +96,7 @@ fn vacants(
     ensures seats { OnOk result (seats.new.seat.view.splits ≡ 4094) }
     ensures words { OnOk result (seats.new.own.view.splits + slots ≡ 4094) }
     ensures ways { OnOk result (ways_of columns.new ≡ ways_of columns.old) }
-    ensures filled { IfOk result (λ v. AreFilled slots (map inbox_of v.items) columns.new) }
+    ensures filled { IfOk result (λ v. AreColumnsFilled slots (map inbox_of v.items) columns.new) }
     ensures count { IfOk result (λ v. length v.items ≡ slots) }
     ensures number { IfOk result (λ v. AreInPlace v.items) }
     ensures slot { IfOk result (λ v. All (IsSlotOf slots (ways_of columns.old) (arc_value seats.old.table) (arc_value seats.old.meter)) v.items) }

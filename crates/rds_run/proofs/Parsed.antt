@@ -38,6 +38,7 @@ wire_found app words m is has =
 -- `run` takes words without a fault exactly where the wire that they name is that in memory
 pub takes : (words : List (List ℕ)) (is_memory : Bool) (found : Option (List ℕ)) → run_faults words ≡ [] → found ≡ wire_named words →
     IsTrue is_memory ↔ IsMemoryWire found → IsTrue is_memory ↔ TakesRun words
-takes words is_memory found none same decides =
-    (λ t. record { faults = none; wire = subst IsMemoryWire same (decides.0 t) },
-     λ taken. decides.1 (subst IsMemoryWire (sym same) taken.wire))
+takes words is_memory found none same decides = (
+  λ t. record { faults = none; wire = subst IsMemoryWire same (decides.0 t) },
+  λ taken. decides.1 (subst IsMemoryWire (sym same) taken.wire),
+)

@@ -80,15 +80,15 @@ IsRefusal left held_before held_after =
     (line : ℕ) × (cause : Cause) × IsRefusedAt left line cause × SinkGained held_before held_after (bad_line line (cause_text cause))
 
 -- what is to be written where no script is read
-pub data IsUnread (source : SourceSeen) : List ℕ → Type 0 where
+pub data IsNoScriptAnswer (source : SourceSeen) : List ℕ → Type 0 where
   -- a read of the source failed: the line that says so
-  OfReadFault : HasRisen source.faults_before source.faults_after → IsUnread source read_fault_line
+  OfReadFault : HasRisen source.faults_before source.faults_after → IsNoScriptAnswer source read_fault_line
   -- the source's bytes are refused: the line that says where and why
-  OfRefusal : (line : ℕ) (cause : Cause) → IsRefusedAt source.left line cause → IsUnread source (bad_line line (cause_text cause))
+  OfRefusal : (line : ℕ) (cause : Cause) → IsRefusedAt source.left line cause → IsNoScriptAnswer source (bad_line line (cause_text cause))
 
 -- what the command `play` has to write: that, or the text of the script that the source's bytes spell
 pub data IsAnswer (source : SourceSeen) : List ℕ → Type 0 where
-  OfUnread : (answer : List ℕ) → IsUnread source answer → IsAnswer source answer
+  OfUnread : (answer : List ℕ) → IsNoScriptAnswer source answer → IsAnswer source answer
   OfScript : (s : Meaning) → IsSpelled source.left s → IsAnswer source (text s MAX_ENTRIES)
 
 -- A status for which `⊥` stands can't come.

@@ -6,7 +6,7 @@ use Rattle.rds_script.specs.declared.script.Script.{Script}
 use Rattle.rds_script.specs.Grammar.{Meaning, meaning}
 use Rattle.rds_run.specs.declared.status.Status.{Status}
 use Rattle.rds_run.specs.declared.status.Status.TheVariants as status
-use Rattle.rds_run.specs.ExitStatus.{HasFailedIn, HasTaken, HasTakenNothing, IsEndOfRefusal, IsRefusal, SinkSeen, SourceSeen, IsUnread}
+use Rattle.rds_run.specs.ExitStatus.{HasFailedIn, HasTaken, HasTakenNothing, IsEndOfRefusal, IsRefusal, SinkSeen, SourceSeen, IsNoScriptAnswer}
 use Rattle.rds_run.specs.Texts.{read_fault_line}
 
 -- The status where no script was read. A status for which `⊥` stands can't come.
@@ -14,7 +14,7 @@ abbrev pub IsEndOfReading : SourceSeen → SinkSeen → Status → Type 0
 IsEndOfReading source sink status.Refused = IsRefusal source.left sink.held_before sink.held_after
 IsEndOfReading source sink status.ReadFault =
     HasRisen source.faults_before source.faults_after × HasTaken sink read_fault_line
-IsEndOfReading source sink status.WriteFault = (answer : List ℕ) × IsUnread source answer × HasFailedIn sink answer
+IsEndOfReading source sink status.WriteFault = (answer : List ℕ) × IsNoScriptAnswer source answer × HasFailedIn sink answer
 IsEndOfReading source sink status.Memory = HasTakenNothing sink
 IsEndOfReading source sink _ = ⊥
 

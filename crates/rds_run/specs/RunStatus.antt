@@ -7,7 +7,7 @@ use Rattle.rds_script.specs.Grammar.{Meaning}
 use Rattle.rds_text.specs.Lines.{spent_line}
 use Rattle.rds_report.specs.FinalState.{FinalHost}
 use Rattle.rds_report.specs.Report.{report}
-use Rattle.rds_threads.specs.Ends.{AreEnds, AreSound}
+use Rattle.rds_threads.specs.Ends.{AreEnds, AreSoundJournals}
 use Rattle.rds_threads.specs.Texts.{fault_line, unfinished_line}
 use Rattle.rds_run.specs.declared.status.Status.{Status}
 use Rattle.rds_run.specs.declared.status.Status.TheVariants as status
@@ -30,7 +30,7 @@ pub record HasFilled (held_before held_after : Option (List ℕ)) : Type 0 where
   pub other : List Entry
   pub count : length own ≡ entries
   pub most : MAX_ENTRIES < entries + 2
-  pub sound : AreSound true own other
+  pub sound : AreSoundJournals true own other
   pub written : SinkGained held_before held_after (spent_line host peer entries)
 
 -- a stream of two hosts couldn't be opened, and the sink took the line that says so
@@ -38,8 +38,8 @@ abbrev pub IsWireFault : (held_before held_after : Option (List ℕ)) → Type 0
 IsWireFault held_before held_after = (low high stream : ℕ) × SinkGained held_before held_after (fault_line low high stream)
 
 -- so many datagrams of the hosts aren't acknowledged, and the sink took the line that says so
-abbrev pub IsUnfinished : (held_before held_after : Option (List ℕ)) → Type 0
-IsUnfinished held_before held_after = (count : ℕ) × SinkGained held_before held_after (unfinished_line count)
+abbrev pub IsRunUnfinished : (held_before held_after : Option (List ℕ)) → Type 0
+IsRunUnfinished held_before held_after = (count : ℕ) × SinkGained held_before held_after (unfinished_line count)
 
 -- the script has more hosts than can be run, and the sink took the line that says so
 abbrev pub IsManyHosts : (left held_before held_after : Option (List ℕ)) → Type 0
@@ -53,7 +53,7 @@ abbrev pub IsEndOfScript : Meaning → SinkSeen → Status → Type 0
 IsEndOfScript s sink status.Written = IsRan s sink.held_before sink.held_after
 IsEndOfScript s sink status.WireFault = IsWireFault sink.held_before sink.held_after
 IsEndOfScript s sink status.Spent = HasFilled sink.held_before sink.held_after
-IsEndOfScript s sink status.Unfinished = IsUnfinished sink.held_before sink.held_after
+IsEndOfScript s sink status.Unfinished = IsRunUnfinished sink.held_before sink.held_after
 IsEndOfScript s sink status.WriteFault = HasRisen sink.faults_before sink.faults_after
 IsEndOfScript s sink status.Memory = HasTakenNothing sink
 IsEndOfScript s sink _ = ⊥
@@ -79,4 +79,4 @@ IsEndOfRunCall source sink status.WireFault = IsWireFault sink.held_before sink.
 IsEndOfRunCall source sink status.Memory = HasTakenNothing sink
 IsEndOfRunCall source sink status.Spent =
     (s : Meaning) × IsSpelled source.left s × (s.hosts ≡ 2) × HasFilled sink.held_before sink.held_after
-IsEndOfRunCall source sink status.Unfinished = IsUnfinished sink.held_before sink.held_after
+IsEndOfRunCall source sink status.Unfinished = IsRunUnfinished sink.held_before sink.held_after

@@ -63,7 +63,17 @@ fn run_script<K: Sink, G: Gate + Sync, R: Threads + Wait + Net + Sync>(
         result }
 {
     let mut wire = MemWire::new(alloc, Vec::new(alloc), Vec::new(alloc));
-    match run(rt, alloc, script, &mut wire, gate, Form::Report, MAX_ENTRIES, BUDGET, sink) {
+    match run(
+        rt,
+        alloc,
+        script,
+        &mut wire,
+        gate,
+        Form::Report,
+        MAX_ENTRIES,
+        BUDGET,
+        sink,
+    ) {
         RunEnd::Ok { .. } => Status::Written,
         RunEnd::WireFault { .. } => Status::WireFault,
         RunEnd::Spent { .. } => Status::Spent,

@@ -92,7 +92,11 @@ fn a_lone_pair_of_dashes_after_play(rt: HostRuntime) -> Result<(), Fail> {
 
 #[test]
 fn a_run_over_memory(rt: HostRuntime) -> Result<(), Fail> {
-    let lines: [&[&str]; 3] = [&["run"], &["run", "--wire", "memory"], &["run", "--wire=memory"]];
+    let lines: [&[&str]; 3] = [
+        &["run"],
+        &["run", "--wire", "memory"],
+        &["run", "--wire=memory"],
+    ];
     for words in lines {
         let (status, sink) = answer(&rt, rt.alloc(), words, BINDS)?;
         assert_eq!(rt; status, 0);

@@ -5,7 +5,7 @@ ghost use Rattle.rds_script.specs.declared.cause.Cause.{Cause as Why};
 ghost use Rattle.rds_script.specs.Grammar.{Meaning};
 ghost use Rattle.rds_text.specs.Lines.{end_line, spent_line};
 ghost use Rattle.rds_run.specs.ExitStatus.{IsAnswer, IsPlayed, IsRefusal, IsSpelled, IsSpent, IsToldRefused, IsToldSpelled};
-ghost use Rattle.rds_run.specs.RunStatus.{HasFilled, IsManyHosts, IsRan, IsUnfinished, IsWireFault};
+ghost use Rattle.rds_run.specs.RunStatus.{HasFilled, IsManyHosts, IsRan, IsRunUnfinished, IsWireFault};
 ghost use Rattle.rds_run.specs.RunWords.{AreRun};
 ghost use Rattle.rds_run.specs.Texts.{ArePlay, usage_line, read_fault_line, bad_line};
 
@@ -93,7 +93,7 @@ pub fn rds_main<S: Source, K: Sink, W: Wire, G: Gate + Sync, R: Threads + Wait +
         (result ≡ 0) ⊎ ((result ≡ 6) ⊎ (result ≡ 7)) }
 
     ensures wire_fault { result ≡ 5 → AreRun words.now × IsWireFault (K.held sink.old) (K.held sink.new) }
-    ensures unfinished { result ≡ 8 → AreRun words.now × IsUnfinished (K.held sink.old) (K.held sink.new) }
+    ensures unfinished { result ≡ 8 → AreRun words.now × IsRunUnfinished (K.held sink.old) (K.held sink.new) }
     ensures known { result ≤ 8 }
 {
     match work_of(alloc, words) {

@@ -11,7 +11,7 @@ use Rattle.rds_host.specs.Ties.{AreOfHost}
 use Rattle.rds_callers.specs.Places.{IsUsed, Place, PlacesKeep, spared}
 use Rattle.rds_threads.specs.Connection.{AreTwo}
 use Rattle.rds_threads.specs.Quiet.{AreQuiet, LinesGoOn}
-use Rattle.rds_threads.specs.Settled.{IsSettled}
+use Rattle.rds_threads.specs.Settled.{HasSettled}
 use Rattle.rds_threads.specs.Tied.{AreLinesTold, AreTied, LinesHear, holdings}
 use Rattle.rds_threads.proofs.Keeping.{keeps_through, lines_told_on, slots_spared, two_heard}
 use Rattle.rds_threads.proofs.Told.{settled_on}
@@ -31,7 +31,7 @@ module _ {E : Type 0} where
       AreAllPasses slots lines → SlotsKeep slots ended → LinesKeep lines after → AreAllPasses ended after) where
     -- the host has settled
     pub settled_end : {places new : List Place} {lines told back after : List (LineView E WriterView)} → AreTied places lines → length lines ≡ 1 →
-        new ≡ map spared places → LinesHear lines told → AreLinesTold (holdings new) told → back ≡ told → LinesGoOn back after → AreQuiet after → IsSettled new after
+        new ≡ map spared places → LinesHear lines told → AreLinesTold (holdings new) told → back ≡ told → LinesGoOn back after → AreQuiet after → HasSettled new after
     settled_end {places} {new} {lines} {told} {back} {after} tied one is hear all same goes quiet =
         let goes_on = subst (λ (l : List (LineView E WriterView)). LinesGoOn l after) same goes in
         let count = hear.count in

@@ -5,7 +5,7 @@ use Rattle.rds_link.specs.Ends.{Means}
 use Rattle.rds_line.specs.Line.{IsFull, LineView, line_past}
 use Rattle.rds_threads.specs.Connection.{AreOfHosts, IsFullAt, IsFullHost}
 use Rattle.rds_threads.specs.Done.{AreDone}
-use Rattle.rds_threads.specs.Ends.{AreSound}
+use Rattle.rds_threads.specs.Ends.{AreSoundJournals}
 
 -- the element that is lent out first
 pub at_first : {T : Type 0} (xs : List T) (x : T) → length xs ≡ 1 → x ≡ get_or xs 0 x → slice_get xs 0 ≡ Some x
@@ -22,7 +22,7 @@ module _ {E M : Type 0} where
       (subst (λ (h : LineView E M). IsFullAt host entries low h) (same_Some high b at_b) full)
 
   pub done_first : (m : Means E) (limit : ℕ) (xs ys : List (LineView E M)) (low high : LineView E M) → length xs ≡ 1 → length ys ≡ 1 →
-      AreOfHosts limit low high → AreSound m.tells (line_past low) (line_past high) →
+      AreOfHosts limit low high → AreSoundJournals m.tells (line_past low) (line_past high) →
       AreDone m limit (slice_set xs 0 low) (slice_set ys 0 high)
   done_first m limit [] ys low high one two hosts sound = absurd (omega (arith, one))
   done_first m limit (x ∷ xs) [] low high one two hosts sound = absurd (omega (arith, two))
@@ -33,8 +33,8 @@ module _ {E M : Type 0} where
         subst (λ (l : LineView E M). AreOfHosts limit l b) (same_Some low a at_a)
         (subst (λ (h : LineView E M). AreOfHosts limit low h) (same_Some high b at_b) hosts);
     sound = λ a b at_a at_b.
-        subst (λ (l : LineView E M). AreSound m.tells (line_past l) (line_past b)) (same_Some low a at_a)
-        (subst (λ (h : LineView E M). AreSound m.tells (line_past low) (line_past h)) (same_Some high b at_b) sound);
+        subst (λ (l : LineView E M). AreSoundJournals m.tells (line_past l) (line_past b)) (same_Some low a at_a)
+        (subst (λ (h : LineView E M). AreSoundJournals m.tells (line_past low) (line_past h)) (same_Some high b at_b) sound);
   }
 
   -- a full journal stays full where both lines keep theirs

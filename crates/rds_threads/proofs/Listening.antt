@@ -13,7 +13,7 @@ use Rattle.rds_socket.specs.Holding.{Holding}
 use Rattle.rds_line.specs.Line.{LineView}
 use Rattle.rds_host.specs.Telling.{AreBoxesTold, AreOrdersTold, IsTold}
 use Rattle.rds_callers.specs.Places.{Bound, Ended, IsUsed, Place, Spare, Vacant, holding_of, told_by, with_holding}
-use Rattle.rds_threads.specs.Tied.{AreLinesToldTo, AreSlotsToldTo, AreTied, CanTell, LineHears, LinesHear, PlaceHears, PlacesHear, holdings}
+use Rattle.rds_threads.specs.Tied.{AreLinesToldTo, AreSlotsToldTo, AreTied, CanTellLine, LineHears, LinesHear, PlaceHears, PlacesHear, holdings}
 use Rattle.rds_threads.proofs.Told.{stood_at, told_last, told_more}
 use Rattle.rds_threads.proofs.Tying.{at_map, length_map}
 
@@ -100,11 +100,11 @@ held_at places slot p at = slice_get-map holding_of places slot ∙ ap (option_m
 
 module _ {E : Type 0} where
   -- what a line asks of the slot at a place
-  pub used_at : (places : List Place) (place slot : ℕ) (line : LineView E WriterView) → CanTell places place line → slot < length places →
+  pub used_at : (places : List Place) (place slot : ℕ) (line : LineView E WriterView) → CanTellLine places place line → slot < length places →
       (p : Place) × (slice_get places slot ≡ Some p) × IsUsed p × (place < length (holding_of p).routes)
   used_at places place slot line can below = let p = some_at places slot below in (p.0, p.1, can.used slot p.0 p.1, can.routes slot p.0 p.1)
 
-  pub note_mail : (places : List Place) (place slot : ℕ) (first line : LineView E WriterView) (note : Putter Order) → CanTell places place first → slot < length places →
+  pub note_mail : (places : List Place) (place slot : ℕ) (first line : LineView E WriterView) (note : Putter Order) → CanTellLine places place first → slot < length places →
       LineHears first line → ((p : Place) → slice_get places slot ≡ Some p → (lane : Lane ReaderView) × IsLaneAt (holding_of p).routes place lane × (note ≡ lane.pass)) →
       note.mail ≡ line.orders.mail
   note_mail places place slot first line note can below hears is =
@@ -137,7 +137,7 @@ module _ {E : Type 0} where
   -- a line of a host can be told by the slots of that host
   pub can_tell : (places : List Place) (spares : List Place) (first lines : List (LineView E WriterView)) (place : ℕ) (line : LineView E WriterView) → AreTied places first →
       holdings spares ≡ holdings places → ((slot : ℕ) (p : Place) → slice_get spares slot ≡ Some p → IsUsed p) → LinesHear first lines → slice_get lines place ≡ Some line →
-      CanTell spares place line
+      CanTellLine spares place line
   can_tell places spares first lines place line tied same used hear at =
       let old = stood_at first lines place line hear.count at in
       let heard = hear.each place old.0 line old.1 at in

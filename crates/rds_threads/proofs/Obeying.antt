@@ -18,7 +18,7 @@ use Rattle.rds_socket.specs.Holding.{Holding}
 use Rattle.rds_callers.specs.Commands.{binds, commander}
 use Rattle.rds_callers.specs.Ends.{kept_name, used_name}
 use Rattle.rds_callers.specs.Places.{Bound, Ended, Place, Spare, Vacant, holding_of, somes, spared, vacant_places, with_holding}
-use Rattle.rds_threads.specs.Obeyed.{HasDone, HasObeyed, IsNewSlot, Obeys, HandedOutAt, socket_name}
+use Rattle.rds_threads.specs.Obeyed.{HasDone, HasObeyed, IsNewSlot, DoesCommand, HandedOutAt, socket_name}
 use Rattle.rds_threads.specs.Tied.{PlacesHear}
 use Rattle.rds_threads.proofs.Tying.{at_map}
 
@@ -30,7 +30,7 @@ obeyed_through host (placed ∷ some) more first middle last one two = (one.0, o
 
 -- one command more
 pub obeyed_next : (host : ℕ) (commands : List Placed) (placed : Placed) (first middle last : List Place) → HasObeyed host commands first middle →
-    Obeys host placed middle last → HasObeyed host (commands ++ placed ∷ []) first last
+    DoesCommand host placed middle last → HasObeyed host (commands ++ placed ∷ []) first last
 obeyed_next host commands placed first middle last before this = obeyed_through host commands (placed ∷ []) first middle last before (last, this, refl)
 
 one_of : (host : ℕ) → host < 2 → (Some host ≡ Some 0 → ⊥) → Some host ≡ Some 1

@@ -45,9 +45,9 @@ module _ {E : Type 0} where
       let routes = (ends.each slot q.0 h.0 q.1 h.1).routes ∙ ap (λ (x : Holding ReaderView). x.routes) heard.1 in
       joined.all_taken slot place h.0 lane line h.1 (subst (λ (l : List (Lane ReaderView)). IsLaneAt l place lane) (sym routes) at_lane) at_line (quiet place line at_line)
       (λ other k way at_k at_way.
-          let was = routes_kept places told closed hear ends other k at_k in
-          all place line at_line other (holding_of was.0) way (held_at places other was.0 was.1)
-          (subst (λ (l : List (Lane ReaderView)). IsLaneAt l place way) was.2 at_way))
+      let was = routes_kept places told closed hear ends other k at_k in
+      all place line at_line other (holding_of was.0) way (held_at places other was.0 was.1)
+      (subst (λ (l : List (Lane ReaderView)). IsLaneAt l place way) was.2 at_way))
 
 -- a place that was told has the name and hands out what it had
 name_heard : (p : Place) (k : Holding ReaderView) → k.words.slot ≡ (holding_of p).words.slot → used_name (with_holding p k) ≡ used_name p

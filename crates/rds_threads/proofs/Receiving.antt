@@ -21,10 +21,10 @@ use Rattle.rds_socket.specs.Holding.{Holding}
 use Rattle.rds_line.specs.Line.{LineView}
 use Rattle.rds_host.specs.Telling.{AreBoxesTold}
 use Rattle.rds_gather.specs.Joined.{AreJoined, IsPeer, from_peer, got_by, peer_of}
-use Rattle.rds_gather.specs.Sides.{side_of}
+use Rattle.rds_gather.specs.Sides.{line_side}
 use Rattle.rds_callers.specs.Places.{Place}
 use Rattle.rds_callers.specs.Ends.{IsLeft}
-use Rattle.rds_threads.specs.Reliable.{HandsOutDelivered, HandsOutSent, HasReceived, IsReliableTo, IsWithPeer, from_host, handed_out}
+use Rattle.rds_threads.specs.Reliable.{HandsOutDelivered, HandsOutSent, HasReceived, IsReliableTo, IsWithPeer, from_host, all_handed}
 use Rattle.rds_threads.proofs.HandedOut.{AreAccepted, agrees_journal}
 
 -- those from a peer, by both definitions
@@ -35,41 +35,41 @@ from_host_is peer (d ∷ list) = ap (λ (l : List Datagram). cond (d.from == pee
 module _ {E : Type 0} where
   -- what holds of each line's journal holds of all journals
   all_sides : (P : FinalJournal → Type 0) (lines : List (LineView E WriterView)) →
-      ((place : ℕ) (line : LineView E WriterView) → slice_get lines place ≡ Some line → P (side_of line)) → All P (map side_of lines)
+      ((place : ℕ) (line : LineView E WriterView) → slice_get lines place ≡ Some line → P (line_side line)) → All P (map line_side lines)
   all_sides P [] each = All-nil P
-  all_sides P (line ∷ lines) each = All-cons P (side_of line) (map side_of lines) (each 0 line refl) (all_sides P lines (λ place l at. each (suc place) l at))
+  all_sides P (line ∷ lines) each = All-cons P (line_side line) (map line_side lines) (each 0 line refl) (all_sides P lines (λ place l at. each (suc place) l at))
 
-  with_peer : (lines : List (LineView E WriterView)) (addr : ℕ) → IsPeer lines addr → IsWithPeer (map side_of lines) addr
-  with_peer lines addr (place, line, at, is) = (place, side_of line, slice_get-map side_of lines place ∙ ap (option_map side_of) at, is)
+  with_peer : (lines : List (LineView E WriterView)) (addr : ℕ) → IsPeer lines addr → IsWithPeer (map line_side lines) addr
+  with_peer lines addr (place, line, at, is) = (place, line_side line, slice_get-map line_side lines place ∙ ap (option_map line_side) at, is)
 
   module _ (places : List Place) (closed : List (Holding ReaderView)) (lines : List (LineView E WriterView)) (joined : AreJoined closed lines)
       (some : 1 ≤ length lines) (told : (slot : ℕ) (h : Holding ReaderView) → slice_get closed slot ≡ Some h → AreBoxesTold h lines) where
-    sides_received : (k : Kept) → IsLeft places closed k → All (HandsOutDelivered (socket_view k)) (map side_of lines)
+    sides_received : (k : Kept) → IsLeft places closed k → All (HandsOutDelivered (socket_view k)) (map line_side lines)
     sides_received k left =
         let h = left.1 in
         let has = left.4 in
         all_sides (HandsOutDelivered (socket_view k)) lines (λ place line at.
-            sym (from_host_is (peer_of line) (handed_out (socket_view k)))
-            ∙ (ap (from_peer (peer_of line)) has.all ∙ joined.all_got k.slot place h line left.3 at has.empty (told k.slot h left.3)))
+        sym (from_host_is (peer_of line) (all_handed (socket_view k)))
+        ∙ (ap (from_peer (peer_of line)) has.all ∙ joined.all_got k.slot place h line left.3 at has.empty (told k.slot h left.3)))
 
-    senders_known : (k : Kept) → IsLeft places closed k → All (λ (d : Datagram). IsWithPeer (map side_of lines) d.from) (handed_out (socket_view k))
+    senders_known : (k : Kept) → IsLeft places closed k → All (λ (d : Datagram). IsWithPeer (map line_side lines) d.from) (all_handed (socket_view k))
     senders_known k left =
         let h = left.1 in
         let has = left.4 in
-        subst (λ (l : List Datagram). All (λ (d : Datagram). IsWithPeer (map side_of lines) d.from) l) (sym has.all)
-        (All-weaker (λ (d : Datagram). IsPeer lines d.from) (λ (d : Datagram). IsWithPeer (map side_of lines) d.from) (λ d is. with_peer lines d.from is)
+        subst (λ (l : List Datagram). All (λ (d : Datagram). IsWithPeer (map line_side lines) d.from) l) (sym has.all)
+        (All-weaker (λ (d : Datagram). IsPeer lines d.from) (λ (d : Datagram). IsWithPeer (map line_side lines) d.from) (λ d is. with_peer lines d.from is)
         (got_by h) (joined.known_senders some k.slot h left.3))
 
-    pub received_of : (end : HostEnd) (kept : Vec Kept Global) → map side_view end.journals.items ≡ map side_of lines → end.kept ≡ kept →
+    pub received_of : (end : HostEnd) (kept : Vec Kept Global) → map side_view end.journals.items ≡ map line_side lines → end.kept ≡ kept →
         All (IsLeft places closed) kept.items → HasReceived (host_view end)
     received_of end kept sides is left =
         subst (λ (l : List FinalJournal). HasReceived (record { addr = end.addr; sides = l; sockets = map socket_view end.kept.items })) (sym sides)
-        (subst (λ (v : Vec Kept Global). HasReceived (record { addr = end.addr; sides = map side_of lines; sockets = map socket_view v.items })) (sym is)
+        (subst (λ (v : Vec Kept Global). HasReceived (record { addr = end.addr; sides = map line_side lines; sockets = map socket_view v.items })) (sym is)
         (record {
-          delivered = All-map (λ (s : FinalSocket). All (HandsOutDelivered s) (map side_of lines)) socket_view kept.items
-              (All-weaker (IsLeft places closed) (λ (k : Kept). All (HandsOutDelivered (socket_view k)) (map side_of lines)) sides_received kept.items left);
-          known = All-map (λ (s : FinalSocket). All (λ (d : Datagram). IsWithPeer (map side_of lines) d.from) (handed_out s)) socket_view kept.items
-              (All-weaker (IsLeft places closed) (λ (k : Kept). All (λ (d : Datagram). IsWithPeer (map side_of lines) d.from) (handed_out (socket_view k)))
+          delivered = All-map (λ (s : FinalSocket). All (HandsOutDelivered s) (map line_side lines)) socket_view kept.items
+              (All-weaker (IsLeft places closed) (λ (k : Kept). All (HandsOutDelivered (socket_view k)) (map line_side lines)) sides_received kept.items left);
+          known = All-map (λ (s : FinalSocket). All (λ (d : Datagram). IsWithPeer (map line_side lines) d.from) (all_handed s)) socket_view kept.items
+              (All-weaker (IsLeft places closed) (λ (k : Kept). All (λ (d : Datagram). IsWithPeer (map line_side lines) d.from) (all_handed (socket_view k)))
               senders_known kept.items left);
         }))
 
@@ -90,9 +90,9 @@ ports_among h sport dport (d ∷ list) = ports_step h sport dport d list (ports_
 
 -- what a socket handed out for a port pair is what was sent under the numbers delivered to it
 sent_of : (h sport dport : ℕ) (sender receiver : List Entry) (s : FinalSocket) → AreAccepted sender receiver →
-    from_host (address_of h) (handed_out s) ≡ delivered_datagrams (address_of h) s.slot receiver → HandsOutSent h sport dport sender receiver s
+    from_host (address_of h) (all_handed s) ≡ delivered_datagrams (address_of h) s.slot receiver → HandsOutSent h sport dport sender receiver s
 sent_of h sport dport sender receiver s accepted delivered =
-    ap (map (λ (d : Datagram). Some d)) (sym (ports_among h sport dport (handed_out s)) ∙ ap (of_ports h sport dport) delivered)
+    ap (map (λ (d : Datagram). Some d)) (sym (ports_among h sport dport (all_handed s)) ∙ ap (of_ports h sport dport) delivered)
     ∙ agrees_journal h sport dport s.slot sender receiver accepted
 
 -- a host whose only journal is with host h hands out reliably what h sent
@@ -107,7 +107,7 @@ reliable_of h sender receiver host only received accepted once = record {
 }
   where
     first : (s : FinalSocket) → All (HandsOutDelivered s) (record { peer = address_of h; past = receiver } ∷ []) →
-        from_host (address_of h) (handed_out s) ≡ delivered_datagrams (address_of h) s.slot receiver
+        from_host (address_of h) (all_handed s) ≡ delivered_datagrams (address_of h) s.slot receiver
     first s all = all 0 (record { peer = address_of h; past = receiver }) (omega arith)
 
 -- what follows of a host end that was gathered

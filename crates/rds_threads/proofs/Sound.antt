@@ -12,7 +12,7 @@ use Rattle.rds_report.specs.FinalState.{FinalHost, FinalJournal}
 use Rattle.rds_report.specs.Hosts.{IsAddress, address_of}
 use Rattle.rds_report.specs.Views.{AreFinalHosts, AreSides, host_view, host_views, side_view}
 use Rattle.rds_report.specs.declared.final_state.HostEnd.{HostEnd}
-use Rattle.rds_gather.specs.Sides.{side_of}
+use Rattle.rds_gather.specs.Sides.{line_side}
 use Rattle.rds_model.specs.Fifo.{IsFifo}
 use Rattle.rds_model.specs.Honest.{IsHonest}
 use Rattle.rds_model.specs.Legal.{IsLegal}
@@ -24,11 +24,11 @@ use Rattle.rds_threads.specs.Settled.{AreAllSent, AreKeptOf, HasDoneSpared}
 use Rattle.rds_threads.proofs.Outcome.{outcome_of}
 use Rattle.rds_threads.specs.Reliable.{HasReceived}
 use Rattle.rds_threads.proofs.Receiving.{reliable_of}
-use Rattle.rds_threads.specs.Ends.{AreEnds, AreSound, HasJournal}
+use Rattle.rds_threads.specs.Ends.{AreEnds, AreSoundJournals, HasJournal}
 use Rattle.rds_threads.proofs.Connected.{first_of}
 
 -- they are sound seen from the other side, too
-pub sound_back : (tells : Bool) (low high : List Entry) → AreSound tells low high → AreSound tells high low
+pub sound_back : (tells : Bool) (low high : List Entry) → AreSoundJournals tells low high → AreSoundJournals tells high low
 sound_back tells low high s = record {
   low_legal = s.high_legal;
   high_legal = s.low_legal;
@@ -44,28 +44,32 @@ only_of (y ∷ z ∷ xs) x one at = absurd (omega (arith, one))
 
 module _ {E M : Type 0} (m : Means E) (limit : ℕ) (lows highs : List (LineView E M)) (done : AreDone m limit lows highs) where
   -- each host has its journal, of its line with the other
-  pub low_journal_of : (first : HostEnd) → first.addr ≡ address_of 0 → map side_view first.journals.items ≡ map side_of lows →
+  pub low_journal_of : (first : HostEnd) → first.addr ≡ address_of 0 → map side_view first.journals.items ≡ map line_side lows →
       HasJournal (address_of 0) (address_of 1) (line_past (first_of lows done.low_count).0) (host_view first)
   low_journal_of first addr sides =
       let low = first_of lows done.low_count in
       let high = first_of highs done.high_count in
-      let hosts = done.hosts low.0 high.0 low.1 high.1 in
-      (addr, sides ∙ (ap (map side_of) (only_of lows low.0 done.low_count low.1)
-          ∙ ap (λ (peer : ℕ). let j : FinalJournal = record { peer = peer; past = line_past low.0 } in j ∷ []) hosts.low_peer))
+      let hosts = done.hosts low.0 high.0 low.1 high.1 in (
+        addr,
+        sides ∙ (ap (map line_side) (only_of lows low.0 done.low_count low.1)
+            ∙ ap (λ (peer : ℕ). let j : FinalJournal = record { peer = peer; past = line_past low.0 } in j ∷ []) hosts.low_peer),
+      )
 
-  pub high_journal_of : (second : HostEnd) → second.addr ≡ address_of 1 → map side_view second.journals.items ≡ map side_of highs →
+  pub high_journal_of : (second : HostEnd) → second.addr ≡ address_of 1 → map side_view second.journals.items ≡ map line_side highs →
       HasJournal (address_of 1) (address_of 0) (line_past (first_of highs done.high_count).0) (host_view second)
   high_journal_of second addr sides =
       let low = first_of lows done.low_count in
       let high = first_of highs done.high_count in
-      let hosts = done.hosts low.0 high.0 low.1 high.1 in
-      (addr, sides ∙ (ap (map side_of) (only_of highs high.0 done.high_count high.1)
-          ∙ ap (λ (peer : ℕ). let j : FinalJournal = record { peer = peer; past = line_past high.0 } in j ∷ []) hosts.high_peer))
+      let hosts = done.hosts low.0 high.0 low.1 high.1 in (
+        addr,
+        sides ∙ (ap (map line_side) (only_of highs high.0 done.high_count high.1)
+            ∙ ap (λ (peer : ℕ). let j : FinalJournal = record { peer = peer; past = line_past high.0 } in j ∷ []) hosts.high_peer),
+      )
 
 module _ {E : Type 0} (m : Means E) (limit : ℕ) (lows highs : List (LineView E WriterView)) (done : AreDone m limit lows highs)
     (fifo : (a b : List Entry) → IsLegal a → IsLegal b → IsHonest a b → (IsFifo a b × IsFifo b a)) where
   pub ends_of : (commands : List Placed) (low_places high_places : List Place) (first second : HostEnd) → first.addr ≡ address_of 0 → second.addr ≡ address_of 1 →
-      map side_view first.journals.items ≡ map side_of lows → map side_view second.journals.items ≡ map side_of highs →
+      map side_view first.journals.items ≡ map line_side lows → map side_view second.journals.items ≡ map line_side highs →
       HasReceived (host_view first) → HasReceived (host_view second) → AreAllSent low_places lows → AreAllSent high_places highs →
       AreKeptOf low_places first.kept.items → AreKeptOf high_places second.kept.items → HasDoneSpared 0 commands low_places → HasDoneSpared 1 commands high_places →
       AreEnds m.tells commands (host_views (first ∷ second ∷ []))

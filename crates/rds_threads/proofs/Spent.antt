@@ -9,7 +9,7 @@ use Rattle.rds_script.specs.declared.script.Placed.{Placed}
 use Rattle.rds_text.specs.Lines.{spent_line}
 use Rattle.rds_threads.specs.Connection.{IsFullHost}
 use Rattle.rds_threads.specs.Done.{AreDone}
-use Rattle.rds_threads.specs.Ends.{AreSound, IsEndOfRun, Writes, Written}
+use Rattle.rds_threads.specs.Ends.{AreSoundJournals, IsEndOfRun, Writes, Written}
 use Rattle.rds_threads.specs.declared.form.RunEnd.{RunEnd}
 use Rattle.rds_threads.specs.declared.form.RunEnd.TheVariants as ended
 use Rattle.rds_threads.proofs.Connected.{first_of}
@@ -17,7 +17,7 @@ use Rattle.rds_threads.proofs.Sound.{sound_back}
 
 -- the line of the journal was written, or the sink failed
 spent_written : (tells : Bool) (limit : ℕ) (commands : List Placed) (sink : Written) (host peer entries : ℕ) (own other : Log) → length own.past ≡ entries → limit < entries + 2 →
-    AreSound tells own.past other.past → (result : RunEnd) → Writes sink (spent_line host peer entries) (ended.Spent host peer entries own other) result →
+    AreSoundJournals tells own.past other.past → (result : RunEnd) → Writes sink (spent_line host peer entries) (ended.Spent host peer entries own other) result →
     IsEndOfRun tells limit commands sink result
 spent_written tells limit commands sink host peer entries own other count most sound result (inl said) =
     subst (IsEndOfRun tells limit commands sink) (sym said.0) (count, most, sound, said.1)
@@ -40,7 +40,7 @@ module _ {E M : Type 0} (m : Means E) (limit : ℕ) (lows highs : List (LineView
   pub spent_end : (host entries : ℕ) → IsFullHost host entries lows highs → (low high : Log) →
       ((line : LineView E M) → slice_get lows 0 ≡ Some line → low.past ≡ line_past line) →
       ((line : LineView E M) → slice_get highs 0 ≡ Some line → high.past ≡ line_past line) →
-      AreSound m.tells low.past high.past → (commands : List Placed) (sink : Written) (result : Result RunEnd Memory) →
+      AreSoundJournals m.tells low.past high.past → (commands : List Placed) (sink : Written) (result : Result RunEnd Memory) →
       (host ≡ 0 → IfOk result (Writes sink (spent_line 0 1 entries) (ended.Spent 0 1 entries low high))) →
       (host ≢ 0 → IfOk result (Writes sink (spent_line 1 0 entries) (ended.Spent 1 0 entries high low))) →
       IfOk result (IsEndOfRun m.tells limit commands sink)

@@ -16,7 +16,7 @@ use Rattle.rds_host.specs.Telling.{AreBoxesTold, AreOrdersTold, IsTold}
 use Rattle.rds_callers.specs.Places.{IsUsed, Place, holding_of}
 use Rattle.rds_callers.specs.Ends.{AreEndsOf, IsEndOf}
 use Rattle.rds_threads.specs.Quiet.{AreQuiet, LinesGoOn}
-use Rattle.rds_threads.specs.Settled.{IsSettled}
+use Rattle.rds_threads.specs.Settled.{HasSettled}
 use Rattle.rds_threads.specs.Tied.{AreLinesTold, AreSlotsTold, AreTied, LinesHear, PlaceHears, PlacesHear, holdings}
 use Rattle.rds_threads.proofs.Tying.{at_map}
 
@@ -72,7 +72,7 @@ module _ {E : Type 0} where
   -- so a host whose lines turned until they were quiet has settled
   pub settled_on : (places : List Place) (lines after : List (LineView E WriterView)) → AreTied places after → 1 ≤ length lines →
       ((slot : ℕ) (p : Place) → slice_get places slot ≡ Some p → IsUsed p) → AreLinesTold (holdings places) lines → LinesGoOn lines after → AreQuiet after →
-      IsSettled places after
+      HasSettled places after
   settled_on places lines after tied some used told goes quiet =
       let count = goes.count in record {
         tied = tied;

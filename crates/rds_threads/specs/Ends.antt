@@ -20,7 +20,7 @@ use Rattle.rds_threads.specs.declared.form.RunEnd.TheVariants as ended
 -- Both journals of the connection follow the rules. Where the ends of its streams tell their bytes, each host got a beginning of
 -- what the other wrote, and for each port pair the datagrams that were delivered are accepted ones, in order and each once, and each
 -- accepted one up to the last that arrived is accounted for.
-pub record AreSound (tells : Bool) (low high : List Entry) : Type 0 where
+pub record AreSoundJournals (tells : Bool) (low high : List Entry) : Type 0 where
   pub low_legal : IsWhole low
   pub high_legal : IsWhole high
   pub honest : tells ≡ true → IsHonest low high
@@ -41,7 +41,7 @@ pub record AreEnds (tells : Bool) (commands : List Placed) (hosts : List FinalHo
   pub all : hosts ≡ low ∷ high ∷ []
   pub low_journal : HasJournal (address_of 0) (address_of 1) low_past low
   pub high_journal : HasJournal (address_of 1) (address_of 0) high_past high
-  pub sound : AreSound tells low_past high_past
+  pub sound : AreSoundJournals tells low_past high_past
   pub low_did : IsOutcome 0 commands low_past low.sockets
   pub high_did : IsOutcome 1 commands high_past high.sockets
   pub low_received : HasReceived low
@@ -70,7 +70,7 @@ IsEndOfRun tells limit commands sink (ended.Ok ends) =
 IsEndOfRun tells limit commands sink (ended.WireFault low high stream) =
     SinkGained sink.held_before sink.held_after (fault_line low high stream)
 IsEndOfRun tells limit commands sink (ended.Spent host peer entries own other) =
-    (length own.past ≡ entries) × (limit < entries + 2) × AreSound tells own.past other.past
+    (length own.past ≡ entries) × (limit < entries + 2) × AreSoundJournals tells own.past other.past
     × SinkGained sink.held_before sink.held_after (spent_line host peer entries)
 IsEndOfRun tells limit commands sink (ended.Unfinished count ends) =
     AreEnds tells commands (host_views ends.items) × SinkGained sink.held_before sink.held_after (unfinished_line count)

@@ -14,14 +14,14 @@ use Rattle.rds_callers.specs.Ends.{used_name}
 use Rattle.rds_callers.specs.Places.{Bound, Ended, Place, Spare, Vacant, holding_of, somes}
 
 -- The caller of a host did a command exactly as `IsDone` says, if it is the host's own; another it left out.
-abbrev pub Obeys : (host : ℕ) → Placed → List Place → List Place → Type 0
-Obeys host placed old new =
+abbrev pub DoesCommand : (host : ℕ) → Placed → List Place → List Place → Type 0
+DoesCommand host placed old new =
     ((commander placed.command ≡ Some host) × IsDone placed.command old new) ⊎ ((commander placed.command ≢ Some host) × (new ≡ old))
 
 -- so it did these commands, one after the other
 abbrev pub HasObeyed : (host : ℕ) → List Placed → List Place → List Place → Type 0
 HasObeyed host [] first last = last ≡ first
-HasObeyed host (placed ∷ commands) first last = (middle : List Place) × Obeys host placed first middle × HasObeyed host commands middle last
+HasObeyed host (placed ∷ commands) first last = (middle : List Place) × DoesCommand host placed first middle × HasObeyed host commands middle last
 
 -- a slot that no socket had: it has put no order and got no datagram
 pub record IsNewSlot (p : Place) : Type 0 where

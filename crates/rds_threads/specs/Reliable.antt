@@ -11,8 +11,8 @@ use Rattle.rds_report.specs.FinalState.{FinalHost, FinalJournal, FinalSocket}
 use Rattle.rds_history.specs.Sound.{as_sent, of_ports}
 
 -- what a socket handed out, and then what it left unread
-abbrev pub handed_out : FinalSocket → List Datagram
-handed_out s = s.got ++ s.unread
+abbrev pub all_handed : FinalSocket → List Datagram
+all_handed s = s.got ++ s.unread
 
 -- those of some datagrams that come from the host at an address
 abbrev pub from_host : (addr : ℕ) → List Datagram → List Datagram
@@ -20,7 +20,7 @@ from_host addr datagrams = filter (λ (d : Datagram). d.from == addr) datagrams
 
 -- of what came from a peer, the socket handed out exactly what the journal with that peer delivered to its slot, in order
 abbrev pub HandsOutDelivered : FinalSocket → FinalJournal → Type 0
-HandsOutDelivered s side = from_host side.peer (handed_out s) ≡ delivered_datagrams side.peer s.slot side.past
+HandsOutDelivered s side = from_host side.peer (all_handed s) ≡ delivered_datagrams side.peer s.slot side.past
 
 -- one of these journals is with the host at this address
 abbrev pub IsWithPeer : List FinalJournal → ℕ → Type 0
@@ -29,13 +29,13 @@ IsWithPeer sides addr = (place : ℕ) × (side : FinalJournal) × (slice_get sid
 -- each socket of the host handed out exactly what its journals delivered to it, and nothing from anyone else
 pub record HasReceived (host : FinalHost) : Type 0 where
   pub delivered : All (λ (s : FinalSocket). All (HandsOutDelivered s) host.sides) host.sockets
-  pub known : All (λ (s : FinalSocket). All (λ (d : Datagram). IsWithPeer host.sides d.from) (handed_out s)) host.sockets
+  pub known : All (λ (s : FinalSocket). All (λ (d : Datagram). IsWithPeer host.sides d.from) (all_handed s)) host.sockets
 
 -- From port sport of host h, with this journal, to port dport of a host with that journal and this socket: what the socket handed out,
 -- and then what it left unread, is in this order the datagrams that h sent under the numbers delivered to its slot.
 abbrev pub HandsOutSent : (h sport dport : ℕ) (sender receiver : List Entry) → FinalSocket → Type 0
 HandsOutSent h sport dport sender receiver s =
-    map (λ (d : Datagram). Some d) (of_ports h sport dport (handed_out s))
+    map (λ (d : Datagram). Some d) (of_ports h sport dport (all_handed s))
     ≡ map (λ (n : ℕ). option_map (as_sent h) (datagram sender n)) (delivered_to s.slot sport dport receiver)
 
 -- Each port pair from host h to the host with these sockets is reliable: what was delivered was sent, in order and each once, and each

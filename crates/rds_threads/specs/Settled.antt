@@ -32,7 +32,7 @@ pub record AreKeptOf (places : List Place) (kept : List Kept) : Type 0 where
 
 -- A host of a run that has ended: its slots and lines belong together, and each line was told of all orders that the slots have put for
 -- it, and got them.
-pub record IsSettled {E : Type 0} (places : List Place) (lines : List (LineView E WriterView)) : Type 0 where
+pub record HasSettled {E : Type 0} (places : List Place) (lines : List (LineView E WriterView)) : Type 0 where
   pub tied : AreTied places lines
   pub some : 1 ≤ length lines
   pub used : (slot : ℕ) (p : Place) → slice_get places slot ≡ Some p → IsUsed p

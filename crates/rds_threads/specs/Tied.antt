@@ -36,7 +36,7 @@ module _ {E : Type 0} where
     pub passes : AreAllPasses (holdings places) lines
 
   -- no slot is vacant, and the route at this place of each is to the line
-  pub record CanTell (places : List Place) (place : ℕ) (line : LineView E WriterView) : Type 0 where
+  pub record CanTellLine (places : List Place) (place : ℕ) (line : LineView E WriterView) : Type 0 where
     pub used : (slot : ℕ) (p : Place) → slice_get places slot ≡ Some p → IsUsed p
     pub routes : (slot : ℕ) (p : Place) → slice_get places slot ≡ Some p → place < length (holding_of p).routes
     pub mails : (slot : ℕ) (p : Place) (lane : Lane ReaderView) → slice_get places slot ≡ Some p → IsLaneAt (holding_of p).routes place lane →

@@ -2,15 +2,15 @@
 ghost use Rattle.std.specs.Prelude.{◌≡◌, ◌∷◌, ℕ, List, [], IfOk, OnErr, OnOk, Some, length, map, slice_get};
 ghost use Rattle.rds_fmap.specs.Readers.{WriterView};
 ghost use Rattle.rds_line.specs.Line.{LineView, line_past};
-ghost use Rattle.rds_gather.specs.Sides.{side_of};
+ghost use Rattle.rds_gather.specs.Sides.{line_side};
 ghost use Rattle.rds_report.specs.Views.{AreFinalHosts, host_view, host_views, side_view};
 ghost use Rattle.rds_threads.specs.Connection.{IsFullHost};
 ghost use Rattle.rds_threads.specs.Done.{AreDone};
-ghost use Rattle.rds_threads.specs.Ends.{AreEnds, AreSound, IsEndOfRun};
+ghost use Rattle.rds_threads.specs.Ends.{AreEnds, AreSoundJournals, IsEndOfRun};
 ghost use Rattle.rds_threads.specs.Quiet.{IsQuietEnd};
 ghost use Rattle.rds_threads.specs.Reliable.{HasReceived};
 ghost use Rattle.rds_script.specs.declared.script.Placed.{Placed};
-ghost use Rattle.rds_threads.specs.Settled.{AreAllSent, AreKeptOf, HasDoneSpared, IsSettled};
+ghost use Rattle.rds_threads.specs.Settled.{AreAllSent, AreKeptOf, HasDoneSpared, HasSettled};
 ghost use Rattle.rds_threads.specs.declared.rounds.Rounds.TheVariants as rounds;
 
 use crate::answers::{end_by_fault, end_by_report, end_by_spent, end_unfinished};
@@ -59,7 +59,7 @@ fn end_only<W: Wire, R: Wait>(rt: &R, wire: &mut W, mut lines: Vec<Line<W::End, 
 // The journals of both hosts. Every end is given back.
 fn journals<W: Wire, R: Wait>(rt: &R, wire: &mut W, lines: Lines<W::End>) -> (Journal, Journal)
     requires { (limit : ℕ) × AreDone W.End.means limit lines.0.items lines.1.items }
-    ensures sound { AreSound W.End.means.tells result.0.past result.1.past }
+    ensures sound { AreSoundJournals W.End.means.tells result.0.past result.1.past }
     ensures low { (line : LineView W.End WriterView) → slice_get lines.0.items 0 ≡ Some line → result.0.past ≡ line_past line }
     ensures high { (line : LineView W.End WriterView) → slice_get lines.1.items 0 ≡ Some line → result.1.past ≡ line_past line }
 {
@@ -77,8 +77,8 @@ fn host_ends<W: Wire, R: Wait>(
     lines: Lines<W::End>,
 ) -> Result<Vec<HostEnd>, Memory>
     requires done { (limit : ℕ) × AreDone W.End.means limit lines.0.items lines.1.items }
-    requires low { IsSettled callers.0.places lines.0.items }
-    requires high { IsSettled callers.1.places lines.1.items }
+    requires low { HasSettled callers.0.places lines.0.items }
+    requires high { HasSettled callers.1.places lines.1.items }
     ensures ends { (commands : List Placed) → HasDoneSpared 0 commands callers.0.places → HasDoneSpared 1 commands callers.1.places →
         IfOk result (λ ends. AreEnds W.End.means.tells commands (host_views ends.items)) }
     ensures hosts { IfOk result (λ ends. AreFinalHosts (host_views ends.items)) }
@@ -100,9 +100,9 @@ fn host_end<W: Wire, R: Wait>(
     mut caller: Caller,
     mut lines: Vec<Line<W::End, Writer>>,
 ) -> Result<HostEnd, Memory>
-    requires { IsSettled caller.places lines.items }
+    requires { HasSettled caller.places lines.items }
     ensures addr { IfOk result (λ end. end.addr ≡ addr) }
-    ensures journals { IfOk result (λ end. map side_view end.journals.items ≡ map side_of lines.items) }
+    ensures journals { IfOk result (λ end. map side_view end.journals.items ≡ map line_side lines.items) }
     ensures received { IfOk result (λ end. HasReceived (host_view end)) }
     ensures sent { OnOk result (AreAllSent caller.places lines.items) }
     ensures kept { IfOk result (λ end. AreKeptOf caller.places end.kept.items) }
@@ -135,8 +135,8 @@ pub(crate) fn end_run<K: Sink, W: Wire, R: Wait>(
     sink: &mut K,
 ) -> Result<RunEnd, Memory>
     requires done { (limit : ℕ) × AreDone W.End.means limit lines.0.items lines.1.items }
-    requires low { IsQuietEnd end → IsSettled callers.0.places lines.0.items }
-    requires high { IsQuietEnd end → IsSettled callers.1.places lines.1.items }
+    requires low { IsQuietEnd end → HasSettled callers.0.places lines.0.items }
+    requires high { IsQuietEnd end → HasSettled callers.1.places lines.1.items }
     requires spent { (host entries : ℕ) → end ≡ rounds.Spent host entries → IsFullHost host entries lines.0.items lines.1.items }
     ensures end { (limit : ℕ) (commands : List Placed) → AreDone W.End.means limit lines.0.items lines.1.items →
         HasDoneSpared 0 commands callers.0.places → HasDoneSpared 1 commands callers.1.places → IfOk result (IsEndOfRun W.End.means.tells limit commands

@@ -2,7 +2,7 @@
 ghost use Rattle.std.specs.Prelude.{◌≡◌, ℕ};
 ghost use Rattle.rds_line.specs.Line.{IsFull, line_past};
 ghost use Rattle.rds_threads.specs.Connection.{AreConnected, AreOfHosts};
-ghost use Rattle.rds_threads.specs.Ends.{AreSound};
+ghost use Rattle.rds_threads.specs.Ends.{AreSoundJournals};
 ghost use Rattle.rds_threads.specs.Quiet.{LineGoesOn};
 
 use rds_fmap::Writer;
@@ -21,7 +21,7 @@ pub(crate) fn meet_lines<W: Wire>(low: &mut Line<W::End, Writer>, high: &mut Lin
     ensures high_orders { high.new.orders ≡ high.old.orders }
     ensures low_full { (entries : ℕ) → IsFull entries low.old → IsFull entries low.new }
     ensures high_full { (entries : ℕ) → IsFull entries high.old → IsFull entries high.new }
-    ensures sound { AreSound W.End.means.tells (line_past low.new) (line_past high.new) }
+    ensures sound { AreSoundJournals W.End.means.tells (line_past low.new) (line_past high.new) }
 {
     meet::<W, Writer>(low, high);
     low.known();

@@ -10,7 +10,7 @@ ghost use Rattle.rds_host.specs.Lines.{IsNewLine};
 ghost use Rattle.rds_fmap.specs.Readers.{WriterView};
 ghost use Rattle.rds_callers.specs.Commands.{binds};
 ghost use Rattle.rds_callers.specs.Places.{PlacesKeep};
-ghost use Rattle.rds_threads.specs.Obeyed.{HasObeyed, IsNewSlot, Obeys};
+ghost use Rattle.rds_threads.specs.Obeyed.{HasObeyed, IsNewSlot, DoesCommand};
 ghost use Rattle.rds_threads.specs.Tied.{AreTied};
 
 use rds_callers::{Caller, host_of, is_bind};
@@ -78,8 +78,8 @@ fn bind<R: Wait>(
 ) -> Result<(), Memory>
     requires command { IsCommand 2 placed.now.command }
     requires binds { binds placed.now.command ≡ true }
-    ensures low_did { OnOk result (Obeys 0 placed.now callers.old.0.places callers.new.0.places) }
-    ensures high_did { OnOk result (Obeys 1 placed.now callers.old.1.places callers.new.1.places) }
+    ensures low_did { OnOk result (DoesCommand 0 placed.now callers.old.0.places callers.new.0.places) }
+    ensures high_did { OnOk result (DoesCommand 1 placed.now callers.old.1.places callers.new.1.places) }
     ensures low { PlacesKeep callers.old.0.places callers.new.0.places }
     ensures high { PlacesKeep callers.old.1.places callers.new.1.places }
 {

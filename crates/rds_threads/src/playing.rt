@@ -1,7 +1,7 @@
 //! The threads of a run.
 ghost use Rattle.std.specs.Prelude.{All, IfOk, OnOk};
 ghost use Rattle.rds_callers.specs.Places.{PlacesKeep};
-ghost use Rattle.rds_threads.specs.Obeyed.{HasObeyed, Obeys};
+ghost use Rattle.rds_threads.specs.Obeyed.{HasObeyed, DoesCommand};
 ghost use Rattle.rds_script.specs.Script.{IsCommand};
 ghost use Rattle.rds_host.specs.Lines.{AreTurned, pair_of};
 
@@ -41,7 +41,7 @@ fn call<R: Wait, G: Gate>(
     caller: &mut Caller,
 ) -> Result<bool, Memory>
     requires { IsCommand 2 placed.now.command }
-    ensures did { OnOk result (Obeys host placed.now caller.old.places caller.new.places) }
+    ensures did { OnOk result (DoesCommand host placed.now caller.old.places caller.new.places) }
     ensures keeps { PlacesKeep caller.old.places caller.new.places }
 {
     if host_of(&placed.command) != Some(host) {

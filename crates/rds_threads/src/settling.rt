@@ -4,7 +4,7 @@ ghost use Rattle.rds_fmap.specs.Readers.{WriterView};
 ghost use Rattle.rds_line.specs.Line.{LineView};
 ghost use Rattle.rds_host.specs.Telling.{AreBoxesTold, AreOrdersTold};
 ghost use Rattle.rds_callers.specs.Places.{IsUsed, Place, holding_of, spared};
-ghost use Rattle.rds_threads.specs.Tied.{AreLinesTold, AreSlotsTold, AreTied, CanTell, LineHears, LinesHear, PlaceHears, PlacesHear, holdings};
+ghost use Rattle.rds_threads.specs.Tied.{AreLinesTold, AreSlotsTold, AreTied, CanTellLine, LineHears, LinesHear, PlaceHears, PlacesHear, holdings};
 
 use rds_callers::Caller;
 use rds_fmap::Writer;
@@ -27,7 +27,7 @@ pub(crate) fn settle_lines<E: End>(caller: &mut Caller, lines: &mut [Line<E, Wri
 
 // Tells a line all orders that the slots have put on its queue, which is that of their route at this place.
 fn tell_line<E: End>(caller: &mut Caller, place: usize, line: &mut Line<E, Writer>)
-    requires { CanTell caller.old.places place line.old }
+    requires { CanTellLine caller.old.places place line.old }
     ensures same { caller.new.places ≡ caller.old.places }
     ensures told { AreOrdersTold (holdings caller.old.places) place line.new }
     ensures line { LineHears line.old line.new }

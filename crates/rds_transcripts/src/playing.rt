@@ -22,7 +22,15 @@ pub fn answer_to<R: Threads + Wait + Net + Sync>(
     let mut source = MemSource::new(script.to_vec(alloc)?, Vec::new(alloc));
     let mut sink = MemSink::new(alloc, Vec::new(alloc));
     let mut tcp = MemWire::new(alloc, Vec::new(alloc), Vec::new(alloc));
-    let status = rds_main(rt, alloc, &words, &mut source, &mut sink, &mut tcp, &OpenGate);
+    let status = rds_main(
+        rt,
+        alloc,
+        &words,
+        &mut source,
+        &mut sink,
+        &mut tcp,
+        &OpenGate,
+    );
     told(alloc, &sink, status == 6)
 }
 

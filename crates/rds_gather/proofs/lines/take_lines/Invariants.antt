@@ -2,13 +2,13 @@ use Rattle.std.proofs.Common.{◌≡◌, All, map, is_ok, true}
 use Rattle.rds_report.specs.Views.{side_view}
 use Rattle.rds_line.specs.Keeps.{KeepsLine}
 use Rattle.rds_gather.specs.Columns.{rows_left}
-use Rattle.rds_gather.specs.Sides.{side_of}
+use Rattle.rds_gather.specs.Sides.{line_side}
 use Rattle.rds_gather.proofs.lines.take_lines.Given as goal
 
 abbrev pub invariant-loop-line : goal.invariant-loop-line
 invariant-loop-line g l =
     All (KeepsLine (λ w. w.published)) l.yielded
     × (is_ok l.all ≡ true →
-    (map side_view l.left.journals.items ≡ map side_of l.yielded)
+    (map side_view l.left.journals.items ≡ map line_side l.yielded)
     × (l.left.orders.items ≡ map (λ line. line.orders) l.yielded)
     × (rows_left l.left.boxes.items ≡ map (λ line. line.boxes) l.yielded))

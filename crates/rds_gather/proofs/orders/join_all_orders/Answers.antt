@@ -8,14 +8,14 @@ use Rattle.rds_mail.specs.Passes.{Putter}
 use Rattle.rds_parts.specs.Lanes.{IsOf}
 use Rattle.rds_joins.specs.Joins.{slot_of_order}
 use Rattle.rds_gather.specs.Columns.{column, passes_left}
-use Rattle.rds_gather.specs.Shown.{ArePuttersOf, IsShown}
+use Rattle.rds_gather.specs.Shown.{ArePuttersOf, ShowsAllPuts}
 use Rattle.rds_gather.proofs.Columns.{at_none, at_one_more, column_left, none_left, one_more_left}
 use Rattle.rds_gather.proofs.orders.join_all_orders.Goals as goal
 
 pub loop-own-init : goal.loop-own-init
 loop-own-init g c =
     let rows = passes_left c.args.routes.now in
-    (sym (none_left rows), at_none (IsShown slot_of_order IsOf) rows)
+    (sym (none_left rows), at_none (ShowsAllPuts slot_of_order IsOf) rows)
 
 -- refused where a line gets another one's putters
 pub join_line-requires : goal.join_line-requires
@@ -40,6 +40,6 @@ loop-own-preserved g c =
     let puts : c.in_ok-passes.passes.items ≡ column n rows = c.in_ok-passes.ensures.next ∙ (ap (column 0) c.loop-own.invariant.0 ∙ column_left n rows) in
     let size : length (seen ++ own ∷ []) ≡ n + 1 = length_push seen own in (
       c.in_ok-passes.ensures.left ∙ (ap (map (drop 1)) c.loop-own.invariant.0 ∙ (one_more_left n rows ∙ ap (λ (m : ℕ). map (drop m) rows) (sym size))),
-      at_one_more (IsShown slot_of_order IsOf) seen own rows c.loop-own.invariant.1
-          (subst (λ (l : List (Putter Order)). IsShown slot_of_order IsOf own l) puts c.join_line.ensures.shown),
+      at_one_more (ShowsAllPuts slot_of_order IsOf) seen own rows c.loop-own.invariant.1
+          (subst (λ (l : List (Putter Order)). ShowsAllPuts slot_of_order IsOf own l) puts c.join_line.ensures.shown),
     )

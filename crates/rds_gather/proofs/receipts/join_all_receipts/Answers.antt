@@ -7,15 +7,15 @@ use Rattle.rds_model.specs.declared.order.Datagram.{Datagram}
 use Rattle.rds_mail.specs.Passes.{Getter, Putter}
 use Rattle.rds_parts.specs.Boxes.{Box}
 use Rattle.rds_joins.specs.Joins.{IsFrom, sender_in}
-use Rattle.rds_gather.specs.Columns.{AtEach, column, rows_left}
-use Rattle.rds_gather.specs.Shown.{ArePuttersOf, IsShown}
+use Rattle.rds_gather.specs.Columns.{AtEachPlace, column, rows_left}
+use Rattle.rds_gather.specs.Shown.{ArePuttersOf, ShowsAllPuts}
 use Rattle.rds_gather.proofs.Columns.{at_none, at_one_more, column_left, none_left, one_more_left}
 use Rattle.rds_gather.proofs.receipts.join_all_receipts.Goals as goal
 
 pub loop-own-init : goal.loop-own-init
 loop-own-init g c =
     let rows = rows_left c.args.boxes.now in
-    (sym (none_left rows), at_none (IsShown sender_in IsFrom) rows)
+    (sym (none_left rows), at_none (ShowsAllPuts sender_in IsFrom) rows)
 
 -- refused where a slot gets another one's putters
 pub join_slot-requires : goal.join_slot-requires
@@ -41,10 +41,10 @@ loop-own-preserved g c =
     let get : Box → Getter Datagram = λ (b : Box). b.get in
     let puts : c.in_ok-passes.passes.items ≡ column n rows = c.in_ok-passes.ensures.next ∙ (ap (column 0) c.loop-own.invariant.0 ∙ column_left n rows) in
     let size : length (seen ++ own ∷ []) ≡ n + 1 = length_push seen own in
-    let shown : IsShown sender_in IsFrom own.get (column (length (map get seen)) rows) =
-    subst (λ (m : ℕ). IsShown sender_in IsFrom own.get (column m rows)) (sym (length-map seen get))
-    (subst (λ (l : List (Putter Datagram)). IsShown sender_in IsFrom own.get l) puts c.join_slot.ensures.shown) in (
+    let shown : ShowsAllPuts sender_in IsFrom own.get (column (length (map get seen)) rows) =
+    subst (λ (m : ℕ). ShowsAllPuts sender_in IsFrom own.get (column m rows)) (sym (length-map seen get))
+    (subst (λ (l : List (Putter Datagram)). ShowsAllPuts sender_in IsFrom own.get l) puts c.join_slot.ensures.shown) in (
       c.in_ok-passes.ensures.left ∙ (ap (map (drop 1)) c.loop-own.invariant.0 ∙ (one_more_left n rows ∙ ap (λ (m : ℕ). map (drop m) rows) (sym size))),
-      subst (λ (l : List (Getter Datagram)). AtEach (IsShown sender_in IsFrom) l rows) (sym (map_push get seen own))
-          (at_one_more (IsShown sender_in IsFrom) (map get seen) own.get rows c.loop-own.invariant.1 shown),
+      subst (λ (l : List (Getter Datagram)). AtEachPlace (ShowsAllPuts sender_in IsFrom) l rows) (sym (map_push get seen own))
+          (at_one_more (ShowsAllPuts sender_in IsFrom) (map get seen) own.get rows c.loop-own.invariant.1 shown),
     )

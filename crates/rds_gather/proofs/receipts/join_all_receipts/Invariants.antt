@@ -1,10 +1,10 @@
 use Rattle.std.proofs.Common.{◌≡◌, length, map, drop}
 use Rattle.rds_joins.specs.Joins.{IsFrom, sender_in}
-use Rattle.rds_gather.specs.Columns.{AtEach, rows_left}
-use Rattle.rds_gather.specs.Shown.{IsShown}
+use Rattle.rds_gather.specs.Columns.{AtEachPlace, rows_left}
+use Rattle.rds_gather.specs.Shown.{ShowsAllPuts}
 use Rattle.rds_gather.proofs.receipts.join_all_receipts.Given as goal
 
 abbrev pub invariant-loop-own : goal.invariant-loop-own
 invariant-loop-own g l =
     (rows_left l.boxes ≡ map (drop (length l.yielded)) (rows_left l.fn.boxes))
-    × AtEach (IsShown sender_in IsFrom) (map (λ b. b.get) l.yielded) (rows_left l.fn.boxes)
+    × AtEachPlace (ShowsAllPuts sender_in IsFrom) (map (λ b. b.get) l.yielded) (rows_left l.fn.boxes)

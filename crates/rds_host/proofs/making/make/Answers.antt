@@ -9,12 +9,12 @@ use Rattle.rds_mail.specs.Passes.{Getter, Putter}
 use Rattle.rds_fmap.specs.Readers.{ReaderView}
 use Rattle.rds_parts.specs.Lanes.{Ascend}
 use Rattle.rds_socket.specs.Holding.{Holding}
-use Rattle.rds_host.specs.Ties.{AreFilled, AreLinesOf, ColumnView, IsSlotOf, inbox_of, peers_to, ways_of}
+use Rattle.rds_host.specs.Ties.{AreColumnsFilled, AreLinesOf, ColumnView, IsSlotOf, inbox_of, peers_to, ways_of}
 use Rattle.rds_host.proofs.Columns.{all_at, all_passes, count_of, filled_boxes, lanes_peers, new_lines, of_host, same_count, written_back}
 use Rattle.rds_host.proofs.making.make.Goals as goal
 
 pub vacants-requires-clause-filled : goal.vacants-requires-clause-filled
-vacants-requires-clause-filled g c = subst (AreFilled c.args.slots []) (sym c.deref_mut.ensures.value) c.in_ok-columns.ensures.filled
+vacants-requires-clause-filled g c = subst (AreColumnsFilled c.args.slots []) (sym c.deref_mut.ensures.value) c.in_ok-columns.ensures.filled
 
 pub lines-requires-clause-boxes : goal.lines-requires-clause-boxes
 lines-requires-clause-boxes g c =

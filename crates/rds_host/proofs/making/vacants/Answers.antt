@@ -4,7 +4,7 @@ use Rattle.std.proofs.lemmas.List.{length-map, length_push, map_push}
 use Rattle.std.proofs.lemmas.List.Elements.{All-nil, All-push}
 use Rattle.rds_mail.specs.Passes.{QueueId}
 use Rattle.rds_host.specs.Slots.{AreInPlace}
-use Rattle.rds_host.specs.Ties.{AreFilled, ColumnView, IsSlotOf, inbox_of, lane_way, ways_of}
+use Rattle.rds_host.specs.Ties.{AreColumnsFilled, ColumnView, IsSlotOf, inbox_of, lane_way, ways_of}
 use Rattle.rds_host.proofs.Columns.{count_next, filled_more, in_place_push, next_columns, none_in_place, slot_passes, ways_next}
 use Rattle.rds_host.proofs.making.vacants.Goals as goal
 
@@ -19,7 +19,7 @@ loop-init c =
       search rules,
       refl,
       refl,
-      subst (λ (l : List QueueId). AreFilled c.args.slots l c.args.columns.now) (sym none) c.requires.filled,
+      subst (λ (l : List QueueId). AreColumnsFilled c.args.slots l c.args.columns.now) (sym none) c.requires.filled,
       search rules,
       subst AreInPlace (sym c.in_ok-vacants.ensures.items) none_in_place,
       subst (All (IsSlotOf c.args.slots (ways_of c.args.columns.now) (arc_value c.args.seats.now.table) (arc_value c.args.seats.now.meter))) (sym c.in_ok-vacants.ensures.items)
@@ -63,8 +63,8 @@ loop-preserved c =
       omega (arith, words, inv.5, c.loop-test.true, c.requires.slots, c.args.seats.now.few),
       ap ways_of given ∙ (ways_next mail columns ∙ inv.6),
       ap length given ∙ (count_next mail columns ∙ inv.7),
-      subst (λ (l : List QueueId). AreFilled slots l c.vacant.new.columns) (sym mails)
-          (subst (AreFilled slots (map inbox_of old ++ mail ∷ [])) (sym given) (filled_more slots (map inbox_of old) mail columns few inv.8)),
+      subst (λ (l : List QueueId). AreColumnsFilled slots l c.vacant.new.columns) (sym mails)
+          (subst (AreColumnsFilled slots (map inbox_of old ++ mail ∷ [])) (sym given) (filled_more slots (map inbox_of old) mail columns few inv.8)),
       omega (arith, size, longer, inv.9),
       subst AreInPlace (sym pushed) (in_place_push old v inv.10 number),
       subst (All (IsSlotOf slots (ways_of c.args.columns.now) (arc_value c.args.seats.now.table) (arc_value c.args.seats.now.meter))) (sym pushed)

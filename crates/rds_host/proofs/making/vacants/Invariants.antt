@@ -1,7 +1,7 @@
 use Rattle.std.proofs.Common.{◌≡◌, ◌+◌, All, length, map}
 use Rattle.std.specs.Arc.{arc_value}
 use Rattle.rds_host.specs.Slots.{AreInPlace}
-use Rattle.rds_host.specs.Ties.{AreFilled, IsSlotOf, inbox_of, ways_of}
+use Rattle.rds_host.specs.Ties.{AreColumnsFilled, IsSlotOf, inbox_of, ways_of}
 use Rattle.rds_host.proofs.making.vacants.Given as goal
 
 abbrev pub invariant-loop : goal.invariant-loop
@@ -14,7 +14,7 @@ invariant-loop l =
     × (l.seats.own.view.splits + l.counter ≡ 4094)
     × (ways_of l.columns ≡ ways_of l.fn.columns)
     × (length l.columns ≡ length l.fn.columns)
-    × AreFilled l.fn.slots (map inbox_of l.vacants.items) l.columns
+    × AreColumnsFilled l.fn.slots (map inbox_of l.vacants.items) l.columns
     × (length l.vacants.items ≡ l.counter)
     × AreInPlace l.vacants.items
     × All (IsSlotOf l.fn.slots (ways_of l.fn.columns) (arc_value l.fn.seats.table) (arc_value l.fn.seats.meter)) l.vacants.items

@@ -9,7 +9,7 @@ returns-in-Ok c =
     let wire_is : rule_of c.action-wire.result ≡ wire_rule = search rules in
     let is : app_of c.in_ok-command.command ≡ run_app = c.in_ok-command.ensures.shape (search rules) ∙ ap₂ with_rule c.new-2.ensures.app wire_is in
     takes _ c.is_memory.result _ (run_no_fault _ _ is c.in-Ok.ensures.kinds)
-        (c.get_str.ensures ∙ wire_found _ _ c.in-Ok.matches is c.in-Ok.ensures.matches) c.is_memory.ensures
+    (c.get_str.ensures ∙ wire_found _ _ c.in-Ok.matches is c.in-Ok.ensures.matches) c.is_memory.ensures
 
 pub returns : goal.returns
 returns c =

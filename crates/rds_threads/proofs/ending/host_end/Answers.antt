@@ -5,7 +5,7 @@ use Rattle.rds_line.specs.Line.{LineView}
 use Rattle.rds_host.specs.Passes.{AreAllPasses}
 use Rattle.rds_host.specs.Ties.{AreOfHost}
 use Rattle.rds_gather.specs.Joined.{AreJoined}
-use Rattle.rds_gather.specs.Sides.{side_of}
+use Rattle.rds_gather.specs.Sides.{line_side}
 use Rattle.rds_report.specs.Views.{host_view, side_view}
 use Rattle.rds_report.specs.declared.final_state.HostEnd.{HostEnd}
 use Rattle.rds_threads.specs.Reliable.{HasReceived}
@@ -24,7 +24,7 @@ gather-requires-clause-host g c =
     let lent = c.settle_slots.ensures.lines ∙ c.deref_mut.ensures.value in
     let same = back_of c.args.lines.items c.settle_slots.new.lines c.args.lines.len len (ap length lent) ∙ lent in
     subst (λ (l : List (LineView g.row.W-End.Denot WriterView)). AreOfHost c.in-Ok.closed.items l) (sym same)
-    (c.host_keeps.ensures.host (holdings c.args.caller.places) c.in-Ok.closed.items c.args.lines.items c.args.lines.items c.requires.tied.host 
+    (c.host_keeps.ensures.host (holdings c.args.caller.places) c.in-Ok.closed.items c.args.lines.items c.args.lines.items c.requires.tied.host
     (slots_ended c.args.caller.places c.settle_slots.new.caller.places c.in-Ok.closed.items c.settle_slots.ensures.places c.in-Ok.ensures.slots)
     (lines_same c.args.lines.items))
 
@@ -34,7 +34,7 @@ gather-requires-clause-passes g c =
     let lent = c.settle_slots.ensures.lines ∙ c.deref_mut.ensures.value in
     let same = back_of c.args.lines.items c.settle_slots.new.lines c.args.lines.len len (ap length lent) ∙ lent in
     subst (λ (l : List (LineView g.row.W-End.Denot WriterView)). AreAllPasses c.in-Ok.closed.items l) (sym same)
-    (c.host_keeps.ensures.passes (holdings c.args.caller.places) c.in-Ok.closed.items c.args.lines.items c.args.lines.items c.requires.tied.passes 
+    (c.host_keeps.ensures.passes (holdings c.args.caller.places) c.in-Ok.closed.items c.args.lines.items c.args.lines.items c.requires.tied.passes
     (slots_ended c.args.caller.places c.settle_slots.new.caller.places c.in-Ok.closed.items c.settle_slots.ensures.places c.in-Ok.ensures.slots)
     (lines_same c.args.lines.items))
 
@@ -45,11 +45,11 @@ returns-clause-received g c =
     let same = back_of c.args.lines.items c.settle_slots.new.lines c.args.lines.len len (ap length lent) ∙ lent in
     on_gathered c.gather.result _ _ (λ (end : HostEnd). HasReceived (host_view end)) _ c.gather.ensures.journals c.gather.ensures.kept c.gather.ensures.joined
     (λ end sides kept joined.
-        received_of c.settle_slots.new.caller.places c.in-Ok.closed.items c.args.lines.items
-        (subst (λ (l : List (LineView g.row.W-End.Denot WriterView)). AreJoined c.in-Ok.closed.items l) same joined) c.requires.some
-        (subst (λ (l : List (LineView g.row.W-End.Denot WriterView)). AreSlotsTold c.in-Ok.closed.items l) lent
-        (ends_told c.settle_slots.new.caller.places c.in-Ok.closed.items c.settle_slots.new.lines c.in-Ok.ensures.slots c.settle_slots.ensures.told))
-        end c.in-Ok.kept (sides ∙ ap (map side_of) same) kept c.in-Ok.ensures.kept.each)
+    received_of c.settle_slots.new.caller.places c.in-Ok.closed.items c.args.lines.items
+    (subst (λ (l : List (LineView g.row.W-End.Denot WriterView)). AreJoined c.in-Ok.closed.items l) same joined) c.requires.some
+    (subst (λ (l : List (LineView g.row.W-End.Denot WriterView)). AreSlotsTold c.in-Ok.closed.items l) lent
+    (ends_told c.settle_slots.new.caller.places c.in-Ok.closed.items c.settle_slots.new.lines c.in-Ok.ensures.slots c.settle_slots.ensures.told))
+    end c.in-Ok.kept (sides ∙ ap (map line_side) same) kept c.in-Ok.ensures.kept.each)
 
 pub returns-clause-sent : goal.returns-clause-sent
 returns-clause-sent g c =
@@ -58,8 +58,8 @@ returns-clause-sent g c =
     let same = back_of c.args.lines.items c.settle_slots.new.lines c.args.lines.len len (ap length lent) ∙ lent in
     on_ok c.gather.result _ (AreAllSent c.args.caller.places c.args.lines.items) c.gather.ensures.joined
     (λ joined.
-        all_sent c.args.caller.places c.settle_slots.new.caller.places c.in-Ok.closed.items c.args.lines.items c.settle_slots.ensures.places c.in-Ok.ensures.slots
-        (subst (λ (l : List (LineView g.row.W-End.Denot WriterView)). AreJoined c.in-Ok.closed.items l) same joined) c.requires.told c.requires.quiet)
+    all_sent c.args.caller.places c.settle_slots.new.caller.places c.in-Ok.closed.items c.args.lines.items c.settle_slots.ensures.places c.in-Ok.ensures.slots
+    (subst (λ (l : List (LineView g.row.W-End.Denot WriterView)). AreJoined c.in-Ok.closed.items l) same joined) c.requires.told c.requires.quiet)
 
 pub returns-clause-kept : goal.returns-clause-kept
 returns-clause-kept g c =

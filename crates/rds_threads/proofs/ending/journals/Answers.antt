@@ -1,7 +1,7 @@
 use Rattle.std.proofs.Common.{List, sym, subst}
 use Rattle.rds_model.specs.declared.entry.Entry.{Entry}
 use Rattle.rds_line.specs.Line.{line_past}
-use Rattle.rds_threads.specs.Ends.{AreSound}
+use Rattle.rds_threads.specs.Ends.{AreSoundJournals}
 use Rattle.rds_threads.proofs.Connected.{first_of}
 use Rattle.rds_threads.proofs.ending.journals.Goals as goal
 
@@ -11,6 +11,6 @@ returns-clause-sound g c =
     let tells = g.W.End.End.means.tells in
     let low = first_of c.args.lines.0.items done.low_count in
     let high = first_of c.args.lines.1.items done.high_count in
-    subst (λ (p : List Entry). AreSound tells p c.end_only.result.past) (sym (c.end_only-low.ensures low.0 low.1))
-    (subst (λ (p : List Entry). AreSound tells (line_past low.0) p) (sym (c.end_only.ensures high.0 high.1))
+    subst (λ (p : List Entry). AreSoundJournals tells p c.end_only.result.past) (sym (c.end_only-low.ensures low.0 low.1))
+    (subst (λ (p : List Entry). AreSoundJournals tells (line_past low.0) p) (sym (c.end_only.ensures high.0 high.1))
     (done.sound low.0 high.0 low.1 high.1))

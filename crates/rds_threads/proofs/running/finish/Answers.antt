@@ -24,9 +24,11 @@ end_run-requires-clause-done g c =
     let low_hear = subst (λ (l : List (LineView g.row.W-End.Denot WriterView)). LinesHear l c.settle_lines.new.lines) c.deref_mut.ensures.value c.settle_lines.ensures.lines in
     let low = back_of c.args.lines.0.items c.settle_lines.new.lines c.args.lines.0.len low_len low_hear.count in
     let high_hear = subst (λ (l : List (LineView g.row.W-End.Denot WriterView)). LinesHear l c.settle_lines-2.new.lines) c.deref_mut-2.ensures.value c.settle_lines-2.ensures.lines in
-    let high = back_of c.args.lines.1.items c.settle_lines-2.new.lines c.args.lines.1.len high_len high_hear.count in
-    (c.requires.two.0, c.last_rounds-end.ensures.done c.requires.two.0
-        (after_told g.W.End.End.means c.requires.two.0 c.requires.two.1 low_hear high_hear low high))
+    let high = back_of c.args.lines.1.items c.settle_lines-2.new.lines c.args.lines.1.len high_len high_hear.count in (
+      c.requires.two.0,
+      c.last_rounds-end.ensures.done c.requires.two.0
+          (after_told g.W.End.End.means c.requires.two.0 c.requires.two.1 low_hear high_hear low high),
+    )
 
 pub end_run-requires-clause-low : goal.end_run-requires-clause-low
 end_run-requires-clause-low g c = λ quiet.
@@ -53,6 +55,6 @@ returns-clause-end g c = λ limit commands two low_done high_done.
     let high_hear = subst (λ (l : List (LineView g.row.W-End.Denot WriterView)). LinesHear l c.settle_lines-2.new.lines) c.deref_mut-2.ensures.value c.settle_lines-2.ensures.lines in
     let high = back_of c.args.lines.1.items c.settle_lines-2.new.lines c.args.lines.1.len high_len high_hear.count in
     c.end_run.ensures.end limit commands (c.last_rounds-end.ensures.done limit
-        (after_told g.W.End.End.means limit two low_hear high_hear low high))
+    (after_told g.W.End.End.means limit two low_hear high_hear low high))
     (record { last = c.args.callers.0.places; done = low_done; left = c.settle_lines.ensures.places })
     (record { last = c.args.callers.1.places; done = high_done; left = c.settle_lines-2.ensures.places })

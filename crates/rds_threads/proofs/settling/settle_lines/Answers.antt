@@ -2,7 +2,7 @@ use Rattle.std.proofs.Common.{◌≡◌, ◌<◌, List, Some, get_or, length, ma
 use Rattle.std.proofs.lemmas.Option.{slice_get-get_or}
 use Rattle.rds_callers.specs.Places.{IsUsed, Place, spared}
 use Rattle.rds_host.specs.Telling.{AreOrdersTold}
-use Rattle.rds_threads.specs.Tied.{CanTell, holdings}
+use Rattle.rds_threads.specs.Tied.{CanTellLine, holdings}
 use Rattle.rds_threads.proofs.Listening.{below_at, can_tell, hear_same, hear_set, lines_told_next}
 use Rattle.rds_threads.proofs.Tying.{all_used, holdings_spared}
 use Rattle.rds_threads.proofs.settling.settle_lines.Given as given
@@ -13,7 +13,7 @@ tell_line-requires g c =
     let test = c.loop-place-test.true in
     let count = c.loop-place.invariant.1.count in
     let small : c.loop-place.place < length c.loop-place.lines = omega (arith, test, count) in
-    subst (λ (ps : List Place). CanTell ps c.loop-place.place (get_or c.loop-place.lines c.loop-place.place c.index-lines-place.result)) (sym c.loop-place.invariant.0)
+    subst (λ (ps : List Place). CanTellLine ps c.loop-place.place (get_or c.loop-place.lines c.loop-place.place c.index-lines-place.result)) (sym c.loop-place.invariant.0)
     (can_tell c.args.caller.now.places (map spared c.args.caller.now.places) c.args.lines.now c.loop-place.lines c.loop-place.place (get_or c.loop-place.lines c.loop-place.place c.index-lines-place.result) c.requires
     (holdings_spared c.args.caller.now.places) (all_used c.args.caller.now.places) c.loop-place.invariant.1
     (slice_get-get_or c.loop-place.lines c.loop-place.place c.index-lines-place.result small))
@@ -23,14 +23,14 @@ loop-place-preserved g c =
     let test = c.loop-place-test.true in
     let count = c.loop-place.invariant.1.count in
     let small : c.loop-place.place < length c.loop-place.lines = omega (arith, test, count) in (
-  c.tell_line.ensures.same ∙ c.loop-place.invariant.0,
-  hear_set c.args.lines.now c.loop-place.lines c.loop-place.place (get_or c.loop-place.lines c.loop-place.place c.index-lines-place.result) c.tell_line.new.line
-      (slice_get-get_or c.loop-place.lines c.loop-place.place c.index-lines-place.result small) c.loop-place.invariant.1 c.tell_line.ensures.line,
-  lines_told_next (holdings c.tell_line.new.caller.places) c.loop-place.lines c.loop-place.place c.tell_line.new.line
-      (subst (λ (ps : List Place). AreOrdersTold (holdings ps) c.loop-place.place c.tell_line.new.line) (sym c.tell_line.ensures.same) c.tell_line.ensures.told)
-      (λ place line below at. subst (λ (ps : List Place). AreOrdersTold (holdings ps) place line) (sym c.tell_line.ensures.same)
+      c.tell_line.ensures.same ∙ c.loop-place.invariant.0,
+      hear_set c.args.lines.now c.loop-place.lines c.loop-place.place (get_or c.loop-place.lines c.loop-place.place c.index-lines-place.result) c.tell_line.new.line
+          (slice_get-get_or c.loop-place.lines c.loop-place.place c.index-lines-place.result small) c.loop-place.invariant.1 c.tell_line.ensures.line,
+      lines_told_next (holdings c.tell_line.new.caller.places) c.loop-place.lines c.loop-place.place c.tell_line.new.line
+          (subst (λ (ps : List Place). AreOrdersTold (holdings ps) c.loop-place.place c.tell_line.new.line) (sym c.tell_line.ensures.same) c.tell_line.ensures.told)
+          (λ place line below at. subst (λ (ps : List Place). AreOrdersTold (holdings ps) place line) (sym c.tell_line.ensures.same)
           (c.loop-place.invariant.2 place line below at)),
-)
+    )
 
 pub returns-clause-told : goal.returns-clause-told
 returns-clause-told g c = λ place line at.

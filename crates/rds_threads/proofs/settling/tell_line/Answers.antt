@@ -23,8 +23,8 @@ hear_orders-requires g c =
     note_mail c.args.caller.now.places c.args.place c.loop-slot.slot c.args.line.now c.loop-slot.line c.order_note.result c.requires (omega (arith, count, test))
     c.loop-slot.invariant.1
     (subst (λ (ps : List Place). (p : Place) → slice_get ps c.loop-slot.slot ≡ Some p →
-        (lane : Lane ReaderView) × IsLaneAt (holding_of p).routes c.args.place lane × (c.order_note.result ≡ lane.pass))
-        c.loop-slot.invariant.0 c.order_note.ensures.note)
+    (lane : Lane ReaderView) × IsLaneAt (holding_of p).routes c.args.place lane × (c.order_note.result ≡ lane.pass))
+    c.loop-slot.invariant.0 c.order_note.ensures.note)
 
 pub loop-slot-preserved : goal.loop-slot-preserved
 loop-slot-preserved g c = (
@@ -33,8 +33,8 @@ loop-slot-preserved g c = (
   subst (AreSlotsToldTo (c.loop-slot.slot + 1) c.args.caller.now.places c.args.place) (sym c.hear_orders.ensures)
       (told_next c.loop-slot.slot c.args.place c.args.caller.now.places c.loop-slot.line c.order_note.result
       (subst (λ (ps : List Place). (p : Place) → slice_get ps c.loop-slot.slot ≡ Some p →
-          (lane : Lane ReaderView) × IsLaneAt (holding_of p).routes c.args.place lane × (c.order_note.result ≡ lane.pass))
-          c.loop-slot.invariant.0 c.order_note.ensures.note)
+      (lane : Lane ReaderView) × IsLaneAt (holding_of p).routes c.args.place lane × (c.order_note.result ≡ lane.pass))
+      c.loop-slot.invariant.0 c.order_note.ensures.note)
       c.loop-slot.invariant.2),
 )
 

@@ -33,9 +33,13 @@ hear-requires g c =
     let line = subst (λ l. slice_get l c.loop-place.place ≡ Some (get_or c.loop-place.lines c.loop-place.place c.index-lines-place.result)) c.loop-place.invariant.0
     (slice_get-get_or c.loop-place.lines c.loop-place.place c.index-lines-place.result small) in
     record {
-      used = (now.0, there, used_hearing p.0 now.0 now.2 p.2,
-          box_mail c.args.caller.now.places c.args.lines.now c.args.slot c.loop-place.place p.0 now.0 (get_or c.loop-place.lines c.loop-place.place c.index-lines-place.result) c.inbox_note.result c.requires.tied p.1 line now.2
-          c.inbox_note.ensures.note);
+      used = (
+        now.0,
+        there,
+        used_hearing p.0 now.0 now.2 p.2,
+        box_mail c.args.caller.now.places c.args.lines.now c.args.slot c.loop-place.place p.0 now.0 (get_or c.loop-place.lines c.loop-place.place c.index-lines-place.result) c.inbox_note.result c.requires.tied p.1 line now.2
+            c.inbox_note.ensures.note,
+      );
     }
 
 pub loop-place-preserved : goal.loop-place-preserved
