@@ -1,7 +1,7 @@
 #!/bin/sh
 # Times `rds run` beside `rds play` of the same script: sh bench/run.sh [COUNT ..]
 cd "$(dirname "$0")/.." || exit 2
-PROGRAM=crates/rds/out/rds
+PROGRAM=${RDS:-crates/rds/out/rds}
 [ -x "$PROGRAM" ] || (cd crates/rds && rt run -- play < ../../examples/hello.rds > /dev/null) || exit 1
 [ $# -gt 0 ] || set -- 10000 100000
 for count in "$@"; do

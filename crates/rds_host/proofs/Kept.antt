@@ -11,13 +11,12 @@ use Rattle.rds_parts.specs.Lanes.{Ascend, Fixed, IsLaneAt, Lane, RoutesStay, fix
 use Rattle.rds_link.specs.Ends.{Means}
 use Rattle.rds_line_parts.specs.Boxes.{IsBoxOf}
 use Rattle.rds_socket.specs.Holding.{Holding}
-use Rattle.rds_socket.specs.Stays.{HoldingStays}
 use Rattle.rds_line.specs.Line.{LineView}
 use Rattle.rds_line.specs.Stays.{AreSameBoxes}
 use Rattle.rds_host.specs.Keeping.{LineKeeps, LinesKeep, SlotKeeps, SlotsKeep}
 use Rattle.rds_host.specs.Lines.{AreTurned, pair_of}
-use Rattle.rds_host.specs.Passes.{AreAllPasses, putter_number, splits_at}
-use Rattle.rds_host.specs.Ties.{AreOfHost, inbox_of}
+use Rattle.rds_host.specs.Passes.{AreAllPasses, splits_at}
+use Rattle.rds_host.specs.Ties.{AreOfHost}
 use Rattle.rds_host.proofs.Columns.{mapped_at, there_is}
 use Rattle.rds_host.proofs.Staying.{boxes_same, boxes_through}
 

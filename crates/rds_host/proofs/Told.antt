@@ -23,7 +23,6 @@ use Rattle.rds_line.specs.Stays.{AreSameBoxes}
 use Rattle.rds_host.specs.Keeping.{LineKeeps, LinesKeep, SlotKeeps, SlotsKeep}
 use Rattle.rds_host.specs.Settled.{AreLinesToldMore, AreSettled, AreSlotsToldMore, CanTell, IsLineToldMore, IsToldMore}
 use Rattle.rds_host.specs.Telling.{IsTold}
-use Rattle.rds_host.specs.Ties.{AreOfHost}
 use Rattle.rds_host.proofs.Columns.{all_at}
 use Rattle.rds_host.proofs.Kept.{beside, host_kept, slots_same}
 use Rattle.rds_host.proofs.Staying.{begins_through, boxes_same}
