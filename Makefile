@@ -2,7 +2,9 @@
 
 # The crates below the program `rds`. `make` proves those side by side that don't stand on one another.
 BELOW := rds_wire rds_views rds_frame rds_model rds_cong rds_script rds_link rds_msgs rds_conn rds_text \
-	rds_report rds_history rds_pair rds_joint rds_mesh rds_hosts rds_world rds_play rds_run
+	rds_report rds_history rds_pair rds_joint rds_mesh rds_hosts rds_world rds_play \
+	rds_bindtab rds_meter rds_mail rds_fmap rds_parts rds_socket rds_joins rds_line_parts rds_line_streams \
+	rds_line_channel rds_line rds_host rds_gather rds_callers rds_threads rds_run
 
 .PHONY: hello test below $(BELOW)
 
@@ -31,7 +33,20 @@ rds_mesh: rds_joint rds_report
 rds_hosts: rds_history
 rds_world: rds_mesh rds_hosts
 rds_play: rds_world rds_link
-rds_run: rds_play
+rds_bindtab rds_meter: rds_model rds_views
+rds_mail: rds_model rds_views
+rds_fmap: rds_cong rds_views
+rds_parts: rds_bindtab rds_meter rds_mail rds_fmap
+rds_socket rds_joins: rds_parts
+rds_line_parts: rds_conn rds_bindtab rds_meter rds_mail
+rds_line_streams: rds_link rds_model
+rds_line_channel: rds_line_parts rds_line_streams
+rds_line: rds_line_channel rds_fmap
+rds_host: rds_line rds_socket
+rds_gather: rds_host rds_joins rds_report
+rds_callers: rds_script rds_socket rds_report
+rds_threads: rds_gather rds_callers rds_history
+rds_run: rds_play rds_threads
 
 # Every proof, test, must-fail edit and program.
 test:
