@@ -1,5 +1,5 @@
 #!/bin/sh
-# Times `rds run` beside `rds play` of the same script: sh bench/run.sh [COUNT ..]
+# Times `rds run` beside `rds play` of the same script, and beside libzmq where it is installed: sh bench/run.sh [COUNT ..]
 cd "$(dirname "$0")/.." || exit 2
 PROGRAM=${RDS:-crates/rds/out/rds}
 [ -x "$PROGRAM" ] || (cd crates/rds && rt run -- play < ../../examples/hello.rds > /dev/null) || exit 1
@@ -29,4 +29,9 @@ print(f"{word} {count}: {best[0] * each:.0f} ns of wall time and {best[1] * each
 PY
     done
     rm -f "$script"
+    if [ -f /usr/include/zmq.h ]; then
+        peer=$(mktemp)
+        g++ -O2 -o "$peer" bench/peers/zmq_inproc.cc -lzmq -lpthread && "$peer" "$count"
+        rm -f "$peer"
+    fi
 done
