@@ -18,7 +18,7 @@ use Rattle.rds_socket.specs.Holding.{Holding}
 use Rattle.rds_callers.specs.Commands.{binds, commander}
 use Rattle.rds_callers.specs.Ends.{kept_name, used_name}
 use Rattle.rds_callers.specs.Places.{Bound, Ended, Place, Spare, Vacant, holding_of, somes, spared, vacant_places, with_holding}
-use Rattle.rds_threads.specs.Obeyed.{HasDone, HasObeyed, IsNewSlot, DoesCommand, HandedOutAt, socket_name}
+use Rattle.rds_threads.specs.Obeyed.{HasObeyed, IsNewSlot, DoesCommand, HandedOutAt, socket_name}
 use Rattle.rds_threads.specs.Tied.{PlacesHear}
 use Rattle.rds_threads.proofs.Tying.{at_map}
 
@@ -51,6 +51,10 @@ second_binds (script.Move host to bytes) known is other = absurd (cc)
 second_binds (script.Cut host to) known is other = absurd (cc)
 second_binds script.Drain known is other = absurd (cc)
 
+pub length_vacant : (slots : List (Holding ReaderView)) → length (vacant_places slots) ≡ length slots
+length_vacant [] = refl
+length_vacant (h ∷ slots) = ap suc (length_vacant slots)
+
 -- new slots are vacant
 pub new_slots : (slots : List (Holding ReaderView)) → ((slot : ℕ) (h : Holding ReaderView) → slice_get slots slot ≡ Some h → h.inbox.get.got ≡ []) →
     ((slot : ℕ) (h : Holding ReaderView) → slice_get slots slot ≡ Some h → All (λ (lane : Lane ReaderView). lane.pass.put ≡ []) h.routes) →
@@ -80,14 +84,11 @@ names_of [] = refl
 names_of (k ∷ kept) = ap (λ (l : List (ℕ × ℕ)). kept_name k ∷ l) (names_of kept)
 
 -- the first commands, and then the others
-pub done_of : (host : ℕ) (commands : List Placed) (leading : ℕ) (first bound last : List Place) → All IsNewSlot first → HasObeyed host (take leading commands) first bound →
-    HasObeyed host (drop leading commands) bound last → HasDone host commands last
-done_of host commands leading first bound last new one two = record {
-  first = first;
-  new = new;
-  obeyed = subst (λ (l : List Placed). HasObeyed host l first last) (take_drop leading commands)
-      (obeyed_through host (take leading commands) (drop leading commands) first bound last one two);
-}
+pub obeyed_of : (host : ℕ) (commands : List Placed) (leading : ℕ) (first bound last : List Place) → HasObeyed host (take leading commands) first bound →
+    HasObeyed host (drop leading commands) bound last → HasObeyed host commands first last
+obeyed_of host commands leading first bound last one two =
+    subst (λ (l : List Placed). HasObeyed host l first last) (take_drop leading commands)
+    (obeyed_through host (take leading commands) (drop leading commands) first bound last one two)
   where
     take_drop : (n : ℕ) (xs : List Placed) → take n xs ++ drop n xs ≡ xs
     take_drop zero xs = refl

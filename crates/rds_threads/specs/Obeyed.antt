@@ -1,6 +1,7 @@
 -- What the callers of a run did, and what came of it. Source: this project's own.
-use Rattle.std.specs.Prelude.{◌≡◌, ◌≢◌, ◌⊎◌, ℕ, List, [], ◌∷◌, ◌++◌, All, Option, Some, None, length, map, slice_get}
+use Rattle.std.specs.Prelude.{◌≡◌, ◌≢◌, ◌⊎◌, ℕ, ◌==◌, ◌&&◌, Bool, false, List, [], ◌∷◌, All, Option, Some, None, filter, if◌then◌else◌, length, map, nat_lt, slice_get}
 use Rattle.rds_model.specs.declared.entry.Entry.{Entry}
+use Rattle.rds_model.specs.declared.entry.TheConstants.{MAX_SLOTS}
 use Rattle.rds_fmap.specs.Readers.{ReaderView}
 use Rattle.rds_parts.specs.Lanes.{IsLaneAt, Lane}
 use Rattle.rds_report.specs.FinalState.{FinalSocket}
@@ -8,7 +9,7 @@ use Rattle.rds_script.specs.declared.script.Placed.{Placed}
 use Rattle.rds_socket.specs.Holding.{Holding, Open}
 use Rattle.rds_line.specs.Keeps.{uncut}
 use Rattle.rds_gather.specs.Joined.{orders_of}
-use Rattle.rds_callers.specs.Commands.{commander}
+use Rattle.rds_callers.specs.Commands.{binds, commander}
 use Rattle.rds_callers.specs.Doing.{IsDone}
 use Rattle.rds_callers.specs.Ends.{used_name}
 use Rattle.rds_callers.specs.Places.{Bound, Ended, Place, Spare, Vacant, holding_of, somes}
@@ -42,9 +43,27 @@ HandedOutAt (Spare h) s = ⊥
 abbrev pub socket_name : FinalSocket → ℕ × ℕ
 socket_name s = (s.slot, s.port)
 
--- the caller of the host with these slots did its own of these commands, from slots that were new
+-- whether it is this host
+abbrev pub is_host : ℕ → Option ℕ → Bool
+is_host host None = false
+is_host host (Some other) = other == host
+
+-- this number, but at least one and at most the most slots that a host may have
+abbrev pub within_slots : ℕ → ℕ
+within_slots n = if nat_lt n 1 then 1 else if nat_lt MAX_SLOTS n then MAX_SLOTS else n
+
+-- whether the command binds a socket of the host
+abbrev pub is_bind_of : ℕ → Placed → Bool
+is_bind_of host placed = binds placed.command && is_host host (commander placed.command)
+
+-- how many slots a host of a run has: one for each bind of its own, but at least one and at most 1,024
+abbrev pub slot_count : ℕ → List Placed → ℕ
+slot_count host commands = within_slots (length (filter (is_bind_of host) commands))
+
+-- the caller of the host with these slots did its own of these commands, from so many slots that were new
 pub record HasDone (host : ℕ) (commands : List Placed) (places : List Place) : Type 0 where
   pub first : List Place
+  pub count : length first ≡ slot_count host commands
   pub new : All IsNewSlot first
   pub obeyed : HasObeyed host commands first places
 

@@ -1,5 +1,5 @@
 //! The two hosts of a run.
-ghost use Rattle.std.specs.Prelude.{◌≡◌, ◌≤◌, ◌<◌, All, IfOk, OnOk, Some, true, drop, length, slice_get, take};
+ghost use Rattle.std.specs.Prelude.{◌≡◌, ◌≤◌, ◌<◌, All, IfOk, OnOk, Some, true, filter, drop, length, slice_get, take};
 ghost use Rattle.rds_model.specs.declared.entry.TheConstants.{MAX_SLOTS};
 ghost use Rattle.rds_model.specs.declared.journal.TheConstants.{MAX_ENTRIES, MIN_ENTRIES};
 ghost use Rattle.rds_report.specs.Hosts.{address_of};
@@ -10,7 +10,7 @@ ghost use Rattle.rds_host.specs.Lines.{IsNewLine};
 ghost use Rattle.rds_fmap.specs.Readers.{WriterView};
 ghost use Rattle.rds_callers.specs.Commands.{binds};
 ghost use Rattle.rds_callers.specs.Places.{PlacesKeep};
-ghost use Rattle.rds_threads.specs.Obeyed.{HasObeyed, IsNewSlot, DoesCommand};
+ghost use Rattle.rds_threads.specs.Obeyed.{DoesCommand, HasObeyed, IsNewSlot, is_bind_of as is_bind_of_host, slot_count};
 ghost use Rattle.rds_threads.specs.Tied.{AreTied};
 
 use rds_callers::{Caller, host_of, is_bind};
@@ -28,17 +28,36 @@ use std::sync::Wait;
 /// The lines of both hosts.
 pub(crate) type Lines<E> = (Vec<Line<E, Writer>>, Vec<Line<E, Writer>>);
 
+// Whether the command binds a socket of the host.
+fn is_bind_of(placed: &Placed, host: u8) -> bool
+    ensures { result ≡ is_bind_of_host host placed.now }
+{
+    is_bind(&placed.command) && host_of(&placed.command) == Some(host)
+}
+
+// How many of the commands bind a socket of the host.
+fn binds_of(commands: &[Placed], host: u8) -> usize
+    ensures { result ≡ length (filter (is_bind_of_host host) commands.now) }
+{
+    commands
+        .iter()
+        .filter(|placed| is_bind_of(placed, host))
+        .count()
+}
+
 // How many slots a host gets: one for each socket that it may bind, but at least one and at most 1,024.
 fn slots(script: &Script, host: u8) -> u16
-    ensures { (1 ≤ result) × (result ≤ MAX_SLOTS) }
+    ensures some { (1 ≤ result) × (result ≤ MAX_SLOTS) }
+    ensures count { result ≡ slot_count host script.now.commands.items }
 {
-    let mut binds = 0u16;
-    for placed in &script.commands {
-        if is_bind(&placed.command) && host_of(&placed.command) == Some(host) {
-            binds = binds.saturating_add(1);
-        }
+    let binds = binds_of(script.commands.as_slice(), host);
+    if binds < 1 {
+        return 1;
     }
-    binds.max(1).min(MAX_SLOTS)
+    if binds > usize::from(MAX_SLOTS) {
+        return MAX_SLOTS;
+    }
+    binds as u16
 }
 
 /// The caller of a host, and its line to the peer over these streams.
@@ -56,6 +75,7 @@ pub(crate) fn party<E: End>(
     requires unused { All (λ stream. IsUnused E.means stream.1) streams.items }
     requires least { MIN_ENTRIES ≤ limit }
     requires most { limit ≤ MAX_ENTRIES }
+    ensures count { IfOk result (λ p. length p.0.places ≡ slot_count host script.now.commands.items) }
     ensures slots { IfOk result (λ p. All IsNewSlot p.0.places) }
     ensures tied { IfOk result (λ p. AreTied p.0.places p.1.items) }
     ensures one { IfOk result (λ p. length p.1.items ≡ 1) }

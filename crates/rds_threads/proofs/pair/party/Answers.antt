@@ -1,10 +1,10 @@
-use Rattle.std.proofs.Common.{◌≡◌, [], ◌∷◌, All, List, map, rules, refl, sym, subst}
+use Rattle.std.proofs.Common.{◌≡◌, [], ◌∷◌, All, List, ap, length, ◌∙◌, map, rules, refl, sym, subst}
 use Rattle.rds_report.specs.Hosts.{address_of}
 use Rattle.rds_host.specs.Lines.{IsNewLine}
 use Rattle.rds_callers.specs.Places.{Place}
 use Rattle.rds_threads.proofs.Connected.{new_of}
 use Rattle.rds_threads.specs.Obeyed.{IsNewSlot}
-use Rattle.rds_threads.proofs.Obeying.{new_slots}
+use Rattle.rds_threads.proofs.Obeying.{length_vacant, new_slots}
 use Rattle.rds_threads.proofs.Tying.{tied_new}
 use Rattle.rds_threads.proofs.pair.party.Goals as goal
 
@@ -24,3 +24,8 @@ pub returns-clause-tied : goal.returns-clause-tied
 returns-clause-tied g c =
     tied_new c.in_ok-vacants.vacants.items c.in_ok-new.field-0.places c.in_ok-vacants.lines.items c.in_ok-new.ensures.places
     c.in_ok-vacants.ensures.host c.in_ok-vacants.ensures.passes
+
+pub returns-clause-count : goal.returns-clause-count
+returns-clause-count g c =
+    ap length c.in_ok-new.ensures.places
+    ∙ (length_vacant c.in_ok-vacants.vacants.items ∙ (c.in_ok-vacants.ensures.slots.count ∙ c.slots-slots.ensures.count))

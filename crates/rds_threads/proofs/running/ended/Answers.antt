@@ -4,7 +4,7 @@ use Rattle.rds_host.specs.Lines.{pair_of}
 use Rattle.rds_threads.specs.Connection.{AreTwo}
 use Rattle.rds_threads.proofs.Connected.{new_two, two_turned}
 use Rattle.rds_threads.proofs.Finished.{tied_after}
-use Rattle.rds_threads.proofs.Obeying.{done_of}
+use Rattle.rds_threads.proofs.Obeying.{obeyed_of}
 use Rattle.rds_threads.proofs.running.ended.Goals as goal
 
 pub finish-requires-clause-two : goal.finish-requires-clause-two
@@ -41,8 +41,10 @@ returns-clause-end g c =
     let low = rw c.in-Ok.is at c.play_both-callers.ensures.low_did in
     let high = rw c.in-Ok.is at c.play_both-callers.ensures.high_did in
     let commands = c.as_slice-commands.result.now in
-    let low_done = done_of 0 commands leading c.in_ok-low-2.low.places c.bind_leading.new.callers.0.places _ c.in_ok-low-2.ensures.slots c.in_ok-leading.ensures.low_did
+    let low_did = obeyed_of 0 commands leading c.in_ok-low-2.low.places c.bind_leading.new.callers.0.places _ c.in_ok-leading.ensures.low_did
     (rw c.commands_from-rest.ensures.rest at low) in
-    let high_done = done_of 1 commands leading c.in_ok-high.high.places c.bind_leading.new.callers.1.places _ c.in_ok-high.ensures.slots c.in_ok-leading.ensures.high_did
+    let high_did = obeyed_of 1 commands leading c.in_ok-high.high.places c.bind_leading.new.callers.1.places _ c.in_ok-leading.ensures.high_did
     (rw c.commands_from-rest.ensures.rest at high) in
-    c.finish.ensures.end c.args.limit c.args.script.now.commands.items two (rw c.as_slice-commands.ensures.value at low_done) (rw c.as_slice-commands.ensures.value at high_done)
+    c.finish.ensures.end c.args.limit c.args.script.now.commands.items two
+    (record { first = c.in_ok-low-2.low.places; count = c.in_ok-low-2.ensures.count; new = c.in_ok-low-2.ensures.slots; obeyed = rw c.as_slice-commands.ensures.value at low_did })
+    (record { first = c.in_ok-high.high.places; count = c.in_ok-high.ensures.count; new = c.in_ok-high.ensures.slots; obeyed = rw c.as_slice-commands.ensures.value at high_did })
