@@ -24,6 +24,8 @@ pub fn meet<W: Wire, M: MapWriter>(a: &mut Line<W::End, M>, b: &mut Line<W::End,
     ensures back { W.End.means.tells ≡ true → (sport dport : ℕ) → IsDeliveredOnce sport dport (line_past b.new) (line_past a.new) }
     ensures met { AreMet W.End.means a.old.channel.streams.list a.new.channel.streams.list b.old.channel.streams.list b.new.channel.streams.list }
     ensures pairs { AtEach W.End.means.meets a.new.channel.streams.list b.new.channel.streams.list }
+    ensures one_numbers { numbers a.new.channel.streams.list ≡ numbers a.old.channel.streams.list }
+    ensures other_numbers { numbers b.new.channel.streams.list ≡ numbers b.old.channel.streams.list }
     ensures one { a.new ≡ record a.old { channel = record a.old.channel { streams = with_list a.old.channel.streams a.new.channel.streams.list } } }
     ensures other { b.new ≡ record b.old { channel = record b.old.channel { streams = with_list b.old.channel.streams b.new.channel.streams.list } } }
 {
