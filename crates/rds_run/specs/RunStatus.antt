@@ -7,7 +7,8 @@ use Rattle.rds_script.specs.Grammar.{Meaning}
 use Rattle.rds_text.specs.Lines.{spent_line}
 use Rattle.rds_report.specs.FinalState.{FinalHost}
 use Rattle.rds_report.specs.Report.{report}
-use Rattle.rds_threads.specs.Ends.{AreEnds, AreSoundJournals}
+use Rattle.rds_rounds.specs.Sound.{AreSoundJournals}
+use Rattle.rds_threads.specs.Ends.{AreEnds}
 use Rattle.rds_threads.specs.Texts.{fault_line, unfinished_line}
 use Rattle.rds_run.specs.declared.status.Status.{Status}
 use Rattle.rds_run.specs.declared.status.Status.TheVariants as status

@@ -5,7 +5,7 @@ use Rattle.rds_line.specs.Line.{LineView}
 use Rattle.rds_report.specs.Hosts.{address_of}
 use Rattle.rds_line.specs.Stays.{LineStays}
 use Rattle.rds_host.specs.Lines.{AreNewLines, AreTurned, IsNewLine}
-use Rattle.rds_threads.specs.Connection.{AreConnected, ArePaired, AreTwo}
+use Rattle.rds_rounds.specs.Connection.{AreConnected, ArePaired, AreTwo}
 
 -- the one element of a list
 pub first_of : {T : Type 0} (xs : List T) → length xs ≡ 1 → (x : T) × (slice_get xs 0 ≡ Some x)
@@ -19,24 +19,9 @@ pub new_of : {E M : Type 0} (me peer limit : ℕ) (streams : List (ℕ × E)) (p
 new_of me peer limit streams peers lists lines peers_are lists_are new line at =
     new.each 0 peer streams line (ap (λ l. slice_get l 0) peers_are) (ap (λ l. slice_get l 0) lists_are) at
 
-module _ {E M Name : Type 0} (m : Means E) (pair : M → Name) where
-  pub connected_stays : (limit : ℕ) (low high low_after high_after : LineView E M) → AreConnected m limit low high →
-      LineStays m pair low low_after → LineStays m pair high high_after → AreConnected m limit low_after high_after
-  connected_stays limit low high low_after high_after c first second = record {
-    hosts = record {
-      low_limit = first.channel.limit ∙ c.hosts.low_limit;
-      high_limit = second.channel.limit ∙ c.hosts.high_limit;
-      low_peer = first.channel.peer ∙ c.hosts.low_peer;
-      high_peer = second.channel.peer ∙ c.hosts.high_peer;
-    };
-    streams = record {
-      same = second.channel.streams.numbers ∙ (c.streams.same ∙ sym first.channel.streams.numbers);
-      pairs =
-          second.channel.streams.paired.back low_after.channel.streams.list
-          (first.channel.streams.paired.forth high.channel.streams.list c.streams.pairs);
-    };
-  }
-
+module _ {E M Name : Type 0} (m : Means E) (pair : M → Name)
+    (connected_law : (limit : ℕ) (low high low_after high_after : LineView E M) → AreConnected m limit low high →
+    LineStays m pair low low_after → LineStays m pair high high_after → AreConnected m limit low_after high_after) where
   pub two_turned : (limit : ℕ) (lows highs lows_after highs_after : List (LineView E M)) → AreTwo m limit lows highs →
       AreTurned m pair lows lows_after → AreTurned m pair highs highs_after → AreTwo m limit lows_after highs_after
   two_turned limit lows highs lows_after highs_after two first second =
@@ -45,7 +30,7 @@ module _ {E M Name : Type 0} (m : Means E) (pair : M → Name) where
         low_count = first.count ∙ two.low_count;
         high_count = second.count ∙ two.high_count;
         connected = λ low_after high_after at_low at_high.
-            connected_stays limit low.0 high.0 low_after high_after (two.connected low.0 high.0 low.1 high.1)
+            connected_law limit low.0 high.0 low_after high_after (two.connected low.0 high.0 low.1 high.1)
             (first.each 0 low.0 low_after low.1 at_low) (second.each 0 high.0 high_after high.1 at_high);
       }
 

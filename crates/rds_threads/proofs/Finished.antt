@@ -9,8 +9,8 @@ use Rattle.rds_host.specs.Lines.{AreTurned, pair_of}
 use Rattle.rds_host.specs.Passes.{AreAllPasses}
 use Rattle.rds_host.specs.Ties.{AreOfHost}
 use Rattle.rds_callers.specs.Places.{IsUsed, Place, PlacesKeep, spared}
-use Rattle.rds_threads.specs.Connection.{AreTwo}
-use Rattle.rds_threads.specs.Quiet.{AreQuiet, LinesGoOn}
+use Rattle.rds_rounds.specs.Connection.{AreTwo}
+use Rattle.rds_rounds.specs.Quiet.{AreQuiet, LinesGoOn}
 use Rattle.rds_threads.specs.Settled.{HasSettled}
 use Rattle.rds_threads.specs.Tied.{AreLinesTold, AreTied, LinesHear, holdings}
 use Rattle.rds_threads.proofs.Keeping.{keeps_through, lines_told_on, slots_spared, two_heard}

@@ -15,8 +15,8 @@ use Rattle.rds_host.specs.Keeping.{LineKeeps, LinesKeep, SlotKeeps, SlotsKeep}
 use Rattle.rds_host.specs.Lines.{pair_of}
 use Rattle.rds_callers.specs.Places.{Place, PlaceKeeps, PlacesKeep, holding_of, spared}
 use Rattle.rds_callers.specs.Ends.{AreEndsOf}
-use Rattle.rds_threads.specs.Quiet.{AreQuiet, LineGoesOn, LinesGoOn}
-use Rattle.rds_threads.specs.Connection.{ArePaired, AreTwo}
+use Rattle.rds_rounds.specs.Quiet.{AreQuiet, LineGoesOn, LinesGoOn}
+use Rattle.rds_rounds.specs.Connection.{ArePaired, AreTwo}
 use Rattle.rds_threads.specs.Tied.{LinesHear, PlacesHear, holdings}
 use Rattle.rds_threads.proofs.Tying.{holdings_spared, line_keeps_same, lines_of_hearing, slots_of_ends, slots_of_hearing}
 use Rattle.rds_threads.proofs.Told.{stood_at}
@@ -69,63 +69,6 @@ boxes_through old middle new first second = record {
       (two.0 ∙ one.0, two.1 ∙ one.1, two.2 ∙ one.2);
 }
 
-module _ {E : Type 0} where
-  pub goes_same : (line : LineView E WriterView) → LineGoesOn line line
-  goes_same line = record { keeps = line_keeps_same line; told = refl }
-
-  pub goes_through : (a b c : LineView E WriterView) → LineGoesOn a b → LineGoesOn b c → LineGoesOn a c
-  goes_through a b c one two = record {
-    keeps = record {
-      peer = two.keeps.peer ∙ one.keeps.peer;
-      mail = two.keeps.mail ∙ one.keeps.mail;
-      joined = two.keeps.joined ∙ one.keeps.joined;
-      boxes = boxes_through a.boxes b.boxes c.boxes one.keeps.boxes two.keeps.boxes;
-      ports = two.keeps.ports ∙ one.keeps.ports;
-      words = two.keeps.words ∙ one.keeps.words;
-      pair = two.keeps.pair ∙ one.keeps.pair;
-    };
-    told = two.told ∙ one.told;
-  }
-
-  -- a line that turned goes on
-  pub goes_of_stays : (m : Means E) (line after : LineView E WriterView) → LineStays m pair_of line after → LineGoesOn line after
-  goes_of_stays m line after stays = record {
-    keeps = record {
-      peer = stays.channel.peer;
-      mail = stays.mail;
-      joined = stays.joined;
-      boxes = stays.boxes;
-      ports = stays.ports;
-      words = stays.words;
-      pair = stays.map;
-    };
-    told = stays.told;
-  }
-
-  -- the only line of a list goes on
-  pub goes_first : (xs : List (LineView E WriterView)) (line after : LineView E WriterView) → length xs ≡ 1 → slice_get xs 0 ≡ Some line → LineGoesOn line after →
-      LinesGoOn xs (slice_set xs 0 after)
-  goes_first [] line after one at goes = absurd (omega (arith, one))
-  goes_first (x ∷ []) line after one at goes = record {
-    count = refl;
-    each = λ place old new stood stands. only place old new stood stands;
-  }
-    where
-      only : (place : ℕ) (old new : LineView E WriterView) → slice_get (x ∷ []) place ≡ Some old → slice_get (after ∷ []) place ≡ Some new → LineGoesOn old new
-      only zero old new stood stands =
-          subst (λ (l : LineView E WriterView). LineGoesOn l new) (same_Some x old stood)
-          (subst (LineGoesOn x) (same_Some after new stands) (subst (λ (l : LineView E WriterView). LineGoesOn l after) (sym (same_Some x line at)) goes))
-      only (suc place) old new stood stands = absurd (cc)
-  goes_first (x ∷ y ∷ xs) line after one at goes = absurd (omega (arith, one))
-
-  pub quiet_first : (xs : List (LineView E WriterView)) (after : LineView E WriterView) → length xs ≡ 1 → AllGot after.orders → AreQuiet (slice_set xs 0 after)
-  quiet_first [] after one got = absurd (omega (arith, one))
-  quiet_first (x ∷ []) after one got = only
-    where
-      only : (place : ℕ) (line : LineView E WriterView) → slice_get (after ∷ []) place ≡ Some line → AllGot line.orders
-      only zero line at = subst (λ (l : LineView E WriterView). AllGot l.orders) (same_Some after line at) got
-      only (suc place) line at = absurd (cc)
-  quiet_first (x ∷ y ∷ xs) after one got = absurd (omega (arith, one))
 
 -- slots that were given up are the same
 pub slots_spared : (places : List Place) → SlotsKeep (holdings places) (holdings (map spared places))

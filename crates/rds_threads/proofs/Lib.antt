@@ -3,7 +3,6 @@ pub mod Sound
 pub mod Preparing
 pub mod Commands
 pub mod Spent
-pub mod Finishing
 pub mod HandedOut
 pub mod Tying
 pub mod Receiving

@@ -18,7 +18,7 @@ use Rattle.rds_gather.specs.Joined.{AreJoined}
 use Rattle.rds_callers.specs.Ends.{AreEndsOf, AreLeft, IsLeft, UnreadFits, kept_name, used_name}
 use Rattle.rds_callers.specs.Places.{Bound, Ended, Place, Spare, Vacant, holding_of, somes, spared, with_holding}
 use Rattle.rds_threads.specs.Obeyed.{HandedOutAt, IsOutcome, socket_name}
-use Rattle.rds_threads.specs.Quiet.{AreQuiet}
+use Rattle.rds_rounds.specs.Quiet.{AreQuiet}
 use Rattle.rds_threads.specs.Settled.{AreAllSent, AreKeptOf, HasDoneSpared}
 use Rattle.rds_threads.specs.Tied.{AreLinesTold, PlaceHears, PlacesHear, holdings}
 use Rattle.rds_threads.proofs.Listening.{held_at}

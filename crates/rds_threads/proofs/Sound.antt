@@ -19,12 +19,13 @@ use Rattle.rds_model.specs.Legal.{IsLegal}
 use Rattle.rds_fmap.specs.Readers.{WriterView}
 use Rattle.rds_callers.specs.Places.{Place}
 use Rattle.rds_script.specs.declared.script.Placed.{Placed}
-use Rattle.rds_threads.specs.Done.{AreDone}
+use Rattle.rds_rounds.specs.Done.{AreDone}
 use Rattle.rds_threads.specs.Settled.{AreAllSent, AreKeptOf, HasDoneSpared}
 use Rattle.rds_threads.proofs.Outcome.{outcome_of}
 use Rattle.rds_threads.specs.Reliable.{HasReceived}
 use Rattle.rds_threads.proofs.Receiving.{reliable_of}
-use Rattle.rds_threads.specs.Ends.{AreEnds, AreSoundJournals, HasJournal}
+use Rattle.rds_rounds.specs.Sound.{AreSoundJournals}
+use Rattle.rds_threads.specs.Ends.{AreEnds, HasJournal}
 use Rattle.rds_threads.proofs.Connected.{first_of}
 
 -- they are sound seen from the other side, too

@@ -7,9 +7,10 @@ use Rattle.rds_model.specs.declared.entry.Entry.{Entry}
 use Rattle.rds_line.specs.Line.{IsFull, LineView, line_past}
 use Rattle.rds_script.specs.declared.script.Placed.{Placed}
 use Rattle.rds_text.specs.Lines.{spent_line}
-use Rattle.rds_threads.specs.Connection.{IsFullHost}
-use Rattle.rds_threads.specs.Done.{AreDone}
-use Rattle.rds_threads.specs.Ends.{AreSoundJournals, IsEndOfRun, Writes, Written}
+use Rattle.rds_rounds.specs.Connection.{IsFullHost}
+use Rattle.rds_rounds.specs.Done.{AreDone}
+use Rattle.rds_rounds.specs.Sound.{AreSoundJournals}
+use Rattle.rds_threads.specs.Ends.{IsEndOfRun, Writes, Written}
 use Rattle.rds_threads.specs.declared.form.RunEnd.{RunEnd}
 use Rattle.rds_threads.specs.declared.form.RunEnd.TheVariants as ended
 use Rattle.rds_threads.proofs.Connected.{first_of}

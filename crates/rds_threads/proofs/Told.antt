@@ -15,7 +15,7 @@ use Rattle.rds_line.specs.Line.{LineView}
 use Rattle.rds_host.specs.Telling.{AreBoxesTold, AreOrdersTold, IsTold}
 use Rattle.rds_callers.specs.Places.{IsUsed, Place, holding_of}
 use Rattle.rds_callers.specs.Ends.{AreEndsOf, IsEndOf}
-use Rattle.rds_threads.specs.Quiet.{AreQuiet, LinesGoOn}
+use Rattle.rds_rounds.specs.Quiet.{AreQuiet, LinesGoOn}
 use Rattle.rds_threads.specs.Settled.{HasSettled}
 use Rattle.rds_threads.specs.Tied.{AreLinesTold, AreSlotsTold, AreTied, LinesHear, PlaceHears, PlacesHear, holdings}
 use Rattle.rds_threads.proofs.Tying.{at_map}

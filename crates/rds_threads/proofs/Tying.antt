@@ -15,7 +15,7 @@ use Rattle.rds_host.specs.Passes.{AreAllPasses}
 use Rattle.rds_host.specs.Ties.{AreOfHost}
 use Rattle.rds_callers.specs.Places.{Bound, Ended, IsUsed, Place, PlacesKeep, Spare, Vacant, holding_of, spared, vacant_places}
 use Rattle.rds_callers.specs.Ends.{AreEndsOf}
-use Rattle.rds_threads.specs.Quiet.{AreQuiet, LineGoesOn, LinesGoOn}
+use Rattle.rds_rounds.specs.Quiet.{AreQuiet, LineGoesOn, LinesGoOn}
 use Rattle.rds_threads.specs.Tied.{AreLinesTold, AreTied, LineHears, LinesHear, PlaceHears, PlacesHear, SlotHears, holdings}
 
 -- what stands at a place of a mapped list is made of what stands there

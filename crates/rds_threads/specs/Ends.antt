@@ -2,30 +2,18 @@
 use Rattle.std.specs.Prelude.{◌≡◌, ◌⊎◌, ℕ, ◌+◌, ◌<◌, Bool, true, List, [], ◌∷◌, length, Option}
 use Rattle.rds_link.specs.Streaming.{HasRisen, SinkGained}
 use Rattle.rds_model.specs.declared.entry.Entry.{Entry}
-use Rattle.rds_model.specs.Legal.{IsWhole}
-use Rattle.rds_model.specs.Honest.{IsHonest}
-use Rattle.rds_model.specs.Pairs.{IsDeliveredOnce}
 use Rattle.rds_report.specs.FinalState.{FinalHost}
 use Rattle.rds_report.specs.Hosts.{address_of}
 use Rattle.rds_report.specs.Report.{report}
 use Rattle.rds_report.specs.Views.{host_views}
 use Rattle.rds_text.specs.Lines.{spent_line}
 use Rattle.rds_script.specs.declared.script.Placed.{Placed}
+use Rattle.rds_rounds.specs.Sound.{AreSoundJournals}
 use Rattle.rds_threads.specs.Obeyed.{IsOutcome}
 use Rattle.rds_threads.specs.Reliable.{HasReceived, IsReliableTo}
 use Rattle.rds_threads.specs.Texts.{fault_line, unfinished_line}
 use Rattle.rds_threads.specs.declared.form.RunEnd.{RunEnd}
 use Rattle.rds_threads.specs.declared.form.RunEnd.TheVariants as ended
-
--- Both journals of the connection follow the rules. Where the ends of its streams tell their bytes, each host got a beginning of
--- what the other wrote, and for each port pair the datagrams that were delivered are accepted ones, in order and each once, and each
--- accepted one up to the last that arrived is accounted for.
-pub record AreSoundJournals (tells : Bool) (low high : List Entry) : Type 0 where
-  pub low_legal : IsWhole low
-  pub high_legal : IsWhole high
-  pub honest : tells ≡ true → IsHonest low high
-  pub forth : tells ≡ true → (sport dport : ℕ) → IsDeliveredOnce sport dport low high
-  pub back : tells ≡ true → (sport dport : ℕ) → IsDeliveredOnce sport dport high low
 
 -- the host has this address, and one journal, of its connection with this peer
 abbrev pub HasJournal : (addr peer : ℕ) → List Entry → FinalHost → Type 0

@@ -1,10 +1,7 @@
-pub mod Connection
 pub mod Texts
 pub mod Reliable
 pub mod Obeyed
 pub mod Ends
-pub mod Done
 pub mod Preparing
 pub mod Tied
-pub mod Quiet
 pub mod Settled

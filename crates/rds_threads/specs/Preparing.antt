@@ -2,7 +2,7 @@
 use Rattle.std.specs.Prelude.{ℕ, ◌≤◌, List, All}
 use Rattle.rds_link.specs.Ends.{Means}
 use Rattle.rds_line_streams.specs.Streams.{AreNumbered, IsUnused}
-use Rattle.rds_threads.specs.Connection.{ArePaired}
+use Rattle.rds_rounds.specs.Connection.{ArePaired}
 
 module _ {E : Type 0} (m : Means E) where
   -- the streams that were opened so far, with numbers up to this one

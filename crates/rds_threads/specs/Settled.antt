@@ -11,7 +11,7 @@ use Rattle.rds_callers.specs.Ends.{kept_name, used_name}
 use Rattle.rds_callers.specs.Places.{IsUsed, Place, holding_of, somes, spared}
 use Rattle.rds_script.specs.declared.script.Placed.{Placed}
 use Rattle.rds_threads.specs.Obeyed.{HandedOutAt, HasDone}
-use Rattle.rds_threads.specs.Quiet.{AreQuiet}
+use Rattle.rds_rounds.specs.Quiet.{AreQuiet}
 use Rattle.rds_threads.specs.Tied.{AreLinesTold, AreTied, holdings}
 
 -- the orders that stand in the journals of lines are, for each slot, exactly those that its socket has put

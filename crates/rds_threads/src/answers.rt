@@ -8,10 +8,10 @@ ghost use Rattle.rds_threads.specs.Texts.{fault_line, unfinished_line};
 ghost use Rattle.rds_threads.specs.declared.form.RunEnd.TheVariants as ended;
 
 use crate::form::{Form, RunEnd};
-use crate::verdict::last_stream;
 use rds_link::{Sink, write_all};
 use rds_model::Journal;
 use rds_report::{HostEnd, report};
+use rds_rounds::last_stream;
 use rds_text::{HostName, spent_line};
 use rds_wire::Memory;
 use std::alloc::Global;

@@ -4,16 +4,13 @@
 mod answers;
 mod ending;
 mod form;
-mod meeting;
 mod pair;
 mod playing;
-mod rounds;
 mod running;
 mod settling;
 mod streams;
 #[cfg(test)]
 mod tests;
-mod verdict;
 
 pub use form::{Form, RunEnd};
 pub use running::run;

@@ -25,9 +25,6 @@ use rds_wire::Memory;
 use std::alloc::Global;
 use std::sync::Wait;
 
-/// The lines of both hosts.
-pub(crate) type Lines<E> = (Vec<Line<E, Writer>>, Vec<Line<E, Writer>>);
-
 // Whether the command binds a socket of the host.
 fn is_bind_of(placed: &Placed, host: u8) -> bool
     ensures { result ≡ is_bind_of_host host placed.now }

@@ -5,12 +5,12 @@ ghost use Rattle.rds_threads.specs.Obeyed.{HasObeyed, DoesCommand};
 ghost use Rattle.rds_script.specs.Script.{IsCommand};
 ghost use Rattle.rds_host.specs.Lines.{AreTurned, pair_of};
 
-use crate::pair::Lines;
 use rds_callers::{Caller, host_of};
 use rds_fmap::Writer;
 use rds_host::{Stop, work};
 use rds_line::Line;
 use rds_link::{End, Gate};
+use rds_rounds::Lines;
 use rds_script::Placed;
 use rds_wire::Memory;
 use std::alloc::Global;

@@ -2,7 +2,7 @@
 ghost use Rattle.std.specs.Prelude.{◌≡◌, ◌≤◌, ℕ, List, IfOk, OnErr};
 ghost use Rattle.rds_model.specs.declared.journal.TheConstants.{MAX_ENTRIES, MIN_ENTRIES};
 ghost use Rattle.rds_script.specs.Script.{IsScript};
-ghost use Rattle.rds_threads.specs.Connection.{AreTwo};
+ghost use Rattle.rds_rounds.specs.Connection.{AreTwo};
 ghost use Rattle.rds_script.specs.declared.script.Placed.{Placed};
 ghost use Rattle.rds_threads.specs.Ends.{IsEndOfRun};
 ghost use Rattle.rds_threads.specs.Obeyed.{HasDone};
@@ -10,15 +10,15 @@ ghost use Rattle.rds_threads.specs.Tied.{AreTied};
 
 use crate::ending::{end_lines, end_run};
 use crate::form::{Form, RunEnd};
-use crate::pair::{Lines, bind_leading, commands_from, party};
+use crate::pair::{bind_leading, commands_from, party};
 use crate::playing::play_both;
-use crate::rounds::last_rounds;
 use crate::settling::settle_lines;
 use crate::streams::{Prepared, cuts, prepare};
-use crate::verdict::Wanted;
 use rds_callers::Caller;
 use rds_host::laws::{host_keeps, turned_keeps};
 use rds_link::{Gate, Sink, Wire};
+use rds_rounds::laws::connected_keeps;
+use rds_rounds::{Lines, Wanted, last_rounds};
 use rds_script::Script;
 use rds_wire::Memory;
 use std::alloc::Global;
@@ -97,6 +97,7 @@ where
     };
     host_keeps::<W::End>();
     turned_keeps::<W::End>();
+    connected_keeps::<W::End>();
     finish(rt, alloc, wire, form, wanted, budget, callers, lines, sink)
 }
 

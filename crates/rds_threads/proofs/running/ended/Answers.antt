@@ -1,7 +1,7 @@
 use Rattle.std.proofs.Common.{refl}
 use Rattle.rds_report.specs.Hosts.{address_of}
 use Rattle.rds_host.specs.Lines.{pair_of}
-use Rattle.rds_threads.specs.Connection.{AreTwo}
+use Rattle.rds_rounds.specs.Connection.{AreTwo}
 use Rattle.rds_threads.proofs.Connected.{new_two, two_turned}
 use Rattle.rds_threads.proofs.Finished.{tied_after}
 use Rattle.rds_threads.proofs.Obeying.{obeyed_of}
@@ -10,7 +10,7 @@ use Rattle.rds_threads.proofs.running.ended.Goals as goal
 pub finish-requires-clause-two : goal.finish-requires-clause-two
 finish-requires-clause-two g c =
     let two : AreTwo g.W.End.End.means c.args.limit c.play_both-callers.result.1.0.items c.play_both-callers.result.1.1.items =
-    two_turned g.W.End.End.means pair_of c.args.limit c.in_ok-low-2.low_lines.items c.in_ok-high.high_lines.items
+    two_turned g.W.End.End.means pair_of c.connected_keeps.ensures c.args.limit c.in_ok-low-2.low_lines.items c.in_ok-high.high_lines.items
     c.play_both-callers.result.1.0.items c.play_both-callers.result.1.1.items
     (new_two g.W.End.End.means c.args.limit (address_of 0) (address_of 1) (address_of 1) (address_of 0) c.in_ok-low.field-0.low.items c.in_ok-low.field-0.high.items
     c.in_ok-low-2.low_lines.items c.in_ok-high.high_lines.items c.in_ok-low-2.ensures.one c.in_ok-high.ensures.one
@@ -31,7 +31,7 @@ finish-requires-clause-high g c =
 pub returns-clause-end : goal.returns-clause-end
 returns-clause-end g c =
     let two : AreTwo g.W.End.End.means c.args.limit c.play_both-callers.result.1.0.items c.play_both-callers.result.1.1.items =
-    two_turned g.W.End.End.means pair_of c.args.limit c.in_ok-low-2.low_lines.items c.in_ok-high.high_lines.items
+    two_turned g.W.End.End.means pair_of c.connected_keeps.ensures c.args.limit c.in_ok-low-2.low_lines.items c.in_ok-high.high_lines.items
     c.play_both-callers.result.1.0.items c.play_both-callers.result.1.1.items
     (new_two g.W.End.End.means c.args.limit (address_of 0) (address_of 1) (address_of 1) (address_of 0) c.in_ok-low.field-0.low.items c.in_ok-low.field-0.high.items
     c.in_ok-low-2.low_lines.items c.in_ok-high.high_lines.items c.in_ok-low-2.ensures.one c.in_ok-high.ensures.one

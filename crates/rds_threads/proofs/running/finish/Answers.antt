@@ -1,7 +1,7 @@
 use Rattle.std.proofs.Common.{◌≡◌, ◌∙◌, ℕ, List, length, rules, subst, sym}
 use Rattle.rds_fmap.specs.Readers.{WriterView}
 use Rattle.rds_line.specs.Line.{LineView}
-use Rattle.rds_threads.specs.Connection.{AreTwo}
+use Rattle.rds_rounds.specs.Connection.{AreTwo}
 use Rattle.rds_threads.specs.Tied.{LinesHear}
 use Rattle.rds_threads.proofs.Finished.{after_told, settled_end}
 use Rattle.rds_threads.proofs.Keeping.{back_of}

@@ -4,8 +4,8 @@ use Rattle.rds_fmap.specs.Readers.{WriterView}
 use Rattle.rds_mail.specs.Learning.{AllGot}
 use Rattle.rds_line.specs.Line.{LineView}
 use Rattle.rds_host.specs.Keeping.{LineKeeps}
-use Rattle.rds_threads.specs.declared.rounds.Rounds.{Rounds}
-use Rattle.rds_threads.specs.declared.rounds.Rounds.TheVariants as ended
+use Rattle.rds_rounds.specs.declared.rounds.Rounds.{Rounds}
+use Rattle.rds_rounds.specs.declared.rounds.Rounds.TheVariants as ended
 
 -- the rounds ended since they were quiet
 abbrev pub IsQuietEnd : Rounds → Type 0

@@ -1,7 +1,7 @@
 use Rattle.rds_host.specs.Lines.{pair_of}
-use Rattle.rds_threads.proofs.Connected.{connected_stays}
-use Rattle.rds_threads.proofs.Keeping.{goes_of_stays, goes_same, goes_through}
-use Rattle.rds_threads.proofs.rounds.turn_until_quiet.Goals as goal
+use Rattle.rds_rounds.proofs.Connected.{connected_stays}
+use Rattle.rds_rounds.proofs.Going.{goes_of_stays, goes_same, goes_through}
+use Rattle.rds_rounds.proofs.rounds.turn_until_quiet.Goals as goal
 
 pub loop-init : goal.loop-init
 loop-init g c = (λ limit connected. connected, goes_same c.args.low.now, goes_same c.args.high.now)

@@ -3,24 +3,26 @@ ghost use Rattle.std.specs.Prelude.{◌≡◌, ◌≢◌, ℕ, Some};
 ghost use Rattle.rds_mail.specs.Learning.{AllGot};
 ghost use Rattle.rds_line.specs.Stays.{LineStays};
 ghost use Rattle.rds_host.specs.Lines.{pair_of};
-ghost use Rattle.rds_threads.specs.Quiet.{AreQuiet, IsQuietEnd, LineGoesOn, LinesGoOn};
-ghost use Rattle.rds_threads.specs.Connection.{AreConnected, AreTwo, IsFullAt, IsFullHost};
-ghost use Rattle.rds_threads.specs.Done.{AreDone};
-ghost use Rattle.rds_threads.specs.declared.rounds.Rounds.{Rounds as RoundsView};
-ghost use Rattle.rds_threads.specs.declared.rounds.Rounds.TheVariants as ended;
-ghost use Rattle.rds_threads.specs.declared.verdict.Round.TheVariants as round;
+ghost use Rattle.rds_rounds.specs.Quiet.{AreQuiet, IsQuietEnd, LineGoesOn, LinesGoOn};
+ghost use Rattle.rds_rounds.specs.Connection.{AreConnected, AreTwo, IsFullAt, IsFullHost};
+ghost use Rattle.rds_rounds.specs.Done.{AreDone};
+ghost use Rattle.rds_rounds.specs.declared.rounds.Rounds.{Rounds as RoundsView};
+ghost use Rattle.rds_rounds.specs.declared.rounds.Rounds.TheVariants as ended;
+ghost use Rattle.rds_rounds.specs.declared.verdict.Round.TheVariants as round;
 
 use crate::meeting::meet_lines;
-use crate::pair::Lines;
 use crate::verdict::{Round, Wanted, turn};
 use rds_fmap::Writer;
 use rds_line::Line;
 use rds_link::{End, Wire};
 use std::sync::Wait;
 
+/// The lines of both hosts.
+pub type Lines<E> = (Vec<Line<E, Writer>>, Vec<Line<E, Writer>>);
+
 /// How the last rounds ended.
 #[derive(Clone, Copy, Debug, PartialEq, Eq)]
-pub(crate) enum Rounds {
+pub enum Rounds {
     /// Nothing is left to move.
     Done,
     /// So many datagrams aren't acknowledged, and the budget of quiet rounds is spent.
@@ -61,7 +63,7 @@ fn unacked<E: End>(low: &Line<E, Writer>, high: &Line<E, Writer>) -> u64 {
 /// Turns both lines in rounds, and lets them meet after the last. Over ends that tell their bytes they stop after
 /// an idle round that left nothing to be written. Over others they stop once rounds were quiet and all is acknowledged, or as many
 /// were quiet as the budget allows.
-pub(crate) fn last_rounds<W: Wire, R: Wait>(
+pub fn last_rounds<W: Wire, R: Wait>(
     rt: &R,
     wire: &W,
     wanted: Wanted,

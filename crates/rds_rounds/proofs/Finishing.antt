@@ -3,9 +3,9 @@ use Rattle.std.proofs.Common.{◌≡◌, inl, inr, ℕ, List, [], ◌∷◌, Som
 use Rattle.std.proofs.lemmas.Option.{same_Some}
 use Rattle.rds_link.specs.Ends.{Means}
 use Rattle.rds_line.specs.Line.{IsFull, LineView, line_past}
-use Rattle.rds_threads.specs.Connection.{AreOfHosts, IsFullAt, IsFullHost}
-use Rattle.rds_threads.specs.Done.{AreDone}
-use Rattle.rds_threads.specs.Ends.{AreSoundJournals}
+use Rattle.rds_rounds.specs.Connection.{AreOfHosts, IsFullAt, IsFullHost}
+use Rattle.rds_rounds.specs.Done.{AreDone}
+use Rattle.rds_rounds.specs.Sound.{AreSoundJournals}
 
 -- the element that is lent out first
 pub at_first : {T : Type 0} (xs : List T) (x : T) → length xs ≡ 1 → x ≡ get_or xs 0 x → slice_get xs 0 ≡ Some x

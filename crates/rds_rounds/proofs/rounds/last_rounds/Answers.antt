@@ -1,8 +1,8 @@
 use Rattle.std.proofs.Common.{sym, subst}
 use Rattle.rds_mail.specs.Learning.{AllGot}
-use Rattle.rds_threads.proofs.Finishing.{at_first, done_first, full_first, full_kept}
-use Rattle.rds_threads.proofs.Keeping.{goes_first, goes_through, quiet_first}
-use Rattle.rds_threads.proofs.rounds.last_rounds.Goals as goal
+use Rattle.rds_rounds.proofs.Finishing.{at_first, done_first, full_first, full_kept}
+use Rattle.rds_rounds.proofs.Going.{goes_first, goes_through, quiet_first}
+use Rattle.rds_rounds.proofs.rounds.last_rounds.Goals as goal
 
 pub turn_until_quiet-end-requires : goal.turn_until_quiet-end-requires
 turn_until_quiet-end-requires g c =

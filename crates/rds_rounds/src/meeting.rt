@@ -1,9 +1,9 @@
 //! The meeting of the two lines of a run.
 ghost use Rattle.std.specs.Prelude.{◌≡◌, ℕ};
 ghost use Rattle.rds_line.specs.Line.{IsFull, line_past};
-ghost use Rattle.rds_threads.specs.Connection.{AreConnected, AreOfHosts};
-ghost use Rattle.rds_threads.specs.Ends.{AreSoundJournals};
-ghost use Rattle.rds_threads.specs.Quiet.{LineGoesOn};
+ghost use Rattle.rds_rounds.specs.Connection.{AreConnected, AreOfHosts};
+ghost use Rattle.rds_rounds.specs.Sound.{AreSoundJournals};
+ghost use Rattle.rds_rounds.specs.Quiet.{LineGoesOn};
 
 use rds_fmap::Writer;
 use rds_line::{Line, meet};

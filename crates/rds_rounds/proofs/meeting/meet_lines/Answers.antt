@@ -1,6 +1,6 @@
 use Rattle.std.proofs.Common.{sym, ap, subst, ◌∙◌}
 use Rattle.rds_line.specs.Line.{IsFull}
-use Rattle.rds_threads.proofs.meeting.meet_lines.Goals as goal
+use Rattle.rds_rounds.proofs.meeting.meet_lines.Goals as goal
 
 pub returns-clause-hosts : goal.returns-clause-hosts
 returns-clause-hosts g c = λ limit hosts. record {

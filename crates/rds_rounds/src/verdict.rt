@@ -4,7 +4,7 @@ ghost use Rattle.rds_mail.specs.Learning.{AllGot};
 ghost use Rattle.rds_line.specs.Line.{IsFull};
 ghost use Rattle.rds_line.specs.Stays.{LineStays};
 ghost use Rattle.rds_host.specs.Lines.{pair_of};
-ghost use Rattle.rds_threads.specs.declared.verdict.Round.TheVariants as round;
+ghost use Rattle.rds_rounds.specs.declared.verdict.Round.TheVariants as round;
 
 use rds_fmap::Writer;
 use rds_line::{Line, Turn};
@@ -29,11 +29,11 @@ pub(crate) enum Round {
 
 /// What is to be known beside the journals where a line is over.
 #[derive(Clone, Copy)]
-pub(crate) struct Wanted {
+pub struct Wanted {
     /// Whether some streams weren't opened.
-    pub(crate) lacks: bool,
+    pub lacks: bool,
     /// How many cuts the script has.
-    pub(crate) cuts: u32,
+    pub cuts: u32,
 }
 
 // How many entries of a journal are shuts of streams.
@@ -87,7 +87,7 @@ pub(crate) fn turn<E: End, R: Wait>(
 }
 
 /// The stream that a journal opened last, or 0.
-pub(crate) fn last_stream(journal: &Journal) -> u32 {
+pub fn last_stream(journal: &Journal) -> u32 {
     let mut last = 0;
     for i in 0..journal.len() {
         if let Some(Entry::Open { stream }) = journal.at(i) {

@@ -2,8 +2,8 @@
 use Rattle.std.specs.Prelude.{◌≡◌, ℕ, Some, List, length, slice_get}
 use Rattle.rds_link.specs.Ends.{Means}
 use Rattle.rds_line.specs.Line.{LineView, line_past}
-use Rattle.rds_threads.specs.Connection.{AreOfHosts}
-use Rattle.rds_threads.specs.Ends.{AreSoundJournals}
+use Rattle.rds_rounds.specs.Connection.{AreOfHosts}
+use Rattle.rds_rounds.specs.Sound.{AreSoundJournals}
 
 -- each host has one line, and what the journals of these have is sound
 pub record AreDone {E M : Type 0} (m : Means E) (limit : ℕ) (lows highs : List (LineView E M)) : Type 0 where

@@ -1,7 +1,7 @@
 use Rattle.std.proofs.Common.{ℕ}
-use Rattle.rds_threads.specs.Connection.{AreConnected}
-use Rattle.rds_threads.specs.Quiet.{LineGoesOn}
-use Rattle.rds_threads.proofs.rounds.turn_until_quiet.Given as goal
+use Rattle.rds_rounds.specs.Connection.{AreConnected}
+use Rattle.rds_rounds.specs.Quiet.{LineGoesOn}
+use Rattle.rds_rounds.proofs.rounds.turn_until_quiet.Given as goal
 
 abbrev pub invariant-loop : goal.invariant-loop
 invariant-loop g l =

@@ -1,0 +1,3 @@
+pub mod Connected
+pub mod Going
+pub mod Finishing

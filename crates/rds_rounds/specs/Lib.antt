@@ -1,0 +1,4 @@
+pub mod Connection
+pub mod Sound
+pub mod Done
+pub mod Quiet
