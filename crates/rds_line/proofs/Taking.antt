@@ -223,8 +223,11 @@ stays_taken m pair v channel getter number o is stays = record {
   got = ((number, o) ∷ [], ap (λ (h : Getter Order). h.got) is);
   boxes = boxes_same v.boxes;
   ports = refl;
+  port_view = refl;
+  looks = same_list v.ports.view.steps;
   words = refl;
   slot = refl;
+  meter_view = refl;
   steps = same_list v.words.view.steps;
   map = refl;
 }
@@ -253,6 +256,9 @@ module _ {E M : Type 0} (v : LineView E M) (roomy new : ChannelView E) (first : 
 
   pub roomy_past : new.conn.log.past ≡ line_past v
   roomy_past = ap (λ (c : ChannelView E). c.conn.log.past) second ∙ ap (λ (c : ChannelView E). c.conn.log.past) first
+
+  pub roomy_streams : new.streams ≡ v.channel.streams
+  roomy_streams = ap (λ (c : ChannelView E). c.streams) second ∙ ap (λ (c : ChannelView E). c.streams) first
 
   pub keeps_roomy : (published : M → List (List ℕ)) → KeepsLine published v → KeepsLine published (record v { channel = new })
   keeps_roomy published k = keeps_still published v new roomy_past

@@ -6,7 +6,8 @@ use Rattle.rds_line.specs.Stays.{LineStays}
 use Rattle.rds_line.specs.Turns.{SendsBytes}
 use Rattle.rds_line.proofs.Fields.{view_in}
 use Rattle.rds_line.proofs.Longer.{longer}
-use Rattle.rds_line.proofs.Looking.{LeavesOwn, leaves_of, leaves_same, loads_wider, pulls_wider, roomy_leaves}
+use Rattle.rds_line.proofs.Looking.{LeavesOwn, leaves_same, loads_wider, pulls_wider, roomy_leaves}
+use Rattle.rds_line.proofs.Quiet.{leaves_quiet}
 use Rattle.rds_line.proofs.Staying.{channel_of, channel_same, line_inside, line_same, line_through}
 use Rattle.rds_line.proofs.Written.{made_room}
 use Rattle.rds_line.proofs.line.Line.send.Given as given
@@ -61,7 +62,7 @@ module _ (g : given.Over) (c : goal.After-write g) where
 pub returns-clause-stays : goal.returns-clause-stays
 returns-clause-stays g c =
     line_through g.E.End.means g.M.MapWriter.pair c.args.self.now c.else-unwritten-eq0.self c.write.new.self
-    (middle_stays g c) c.write.ensures.stays
+    (middle_stays g c) c.write.ensures.quiet.stays
 
 pub returns-clause-bytes : goal.returns-clause-bytes
 returns-clause-bytes g c same =
@@ -102,7 +103,7 @@ returns-clause-pulls g c =
     let first : LeavesOwn now (ready g c) =
     roomy_leaves (view_in c.self.inside) now c.reserve.new.self c.self.view_is c.in_ok-reserve.ensures.ok in
     let last : LeavesOwn middle new =
-    leaves_of g.E.End.means g.M.MapWriter.pair middle new c.write.ensures.stays c.write.ensures.own c.write.ensures.pulls in
+    leaves_quiet c.write.ensures.quiet in
     elim c.else-unwritten-eq0.branch [
       | else-unwritten-eq0-via-then-unwritten-eq0+in_ok-pull+else-not-branch w ↦
           let pulled = w.pull.new.self in
