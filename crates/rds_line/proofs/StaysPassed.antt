@@ -37,7 +37,7 @@ use Rattle.rds_line_channel.specs.Changes.{EndsRefused, TakesBytes}
 use Rattle.rds_line_channel.specs.declared.channel.Taken.{Taken}
 use Rattle.rds_line_channel.specs.declared.channel.Taken.TheVariants as taken
 use Rattle.rds_line.specs.Line.{LineView, line_past, pulls_in}
-use Rattle.rds_line.specs.Stays.{AreSameBoxes, ChannelStays, LineStays}
+use Rattle.rds_line.specs.Stays.{AreSameBoxes, ChannelStays}
 use Rattle.rds_line.specs.Steps.{PassesOne, StaysQuiet}
 use Rattle.rds_line.proofs.Passing.{moment_after, passes_reads, read_past}
 use Rattle.rds_line.proofs.Staying.{begins_of, begins_through, boxes_same, channel_of, channel_same, conn_stays, ending_stays, same_port_view, same_view}

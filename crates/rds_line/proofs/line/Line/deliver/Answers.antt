@@ -61,8 +61,7 @@ invariant_of-self-then-is_err g c =
     let looked : LineView g.row.E.Denot g.row.M.Denot = record (view_in c.self.inside) { ports = c.look.new.self } in
     let same = at_err c.put.result c.if-is_err.ensures.value c.put.ensures.same in
     subst (λ (boxes : List (Putter Datagram)). KeepsLine g.M.MapWriter.published (record looked { boxes = boxes })
-    × IsPulled c.self.inside.own_pulled (record looked { boxes = boxes })) (sym same)
-    (
+    × IsPulled c.self.inside.own_pulled (record looked { boxes = boxes })) (sym same) (
       keeps_looked g.M.MapWriter.published (view_in c.self.inside) c.look.new.self c.args.port c.look.result c.look.ensures.seat
           c.self.invariant.0,
       c.self.invariant.1,

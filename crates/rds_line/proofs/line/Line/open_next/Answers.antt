@@ -1,14 +1,12 @@
 use Rattle.std.proofs.Common.{List, ◌∷◌, length, ap, refl, ◌∙◌, arith}
 use Rattle.rds_model.specs.declared.entry.Entry.{Entry}
 use Rattle.rds_model.specs.declared.entry.Entry.TheVariants as entry
-use Rattle.rds_conn.specs.Connection.{with_room}
-use Rattle.rds_line_channel.specs.Channel.{ChannelView, with_conn}
+use Rattle.rds_line_channel.specs.Channel.{ChannelView}
 use Rattle.rds_line.specs.Line.{LineView, line_past, pulls_in}
-use Rattle.rds_line.specs.Steps.{StaysQuiet}
 use Rattle.rds_line.proofs.Fields.{view_in}
 use Rattle.rds_line.proofs.Keeping.{keeps_plain}
 use Rattle.rds_line.proofs.Quiet.{quiet_inside, quiet_of}
-use Rattle.rds_line.proofs.Staying.{channel_of, channel_same, channel_through, room_stays, opening_stays}
+use Rattle.rds_line.proofs.Staying.{channel_of, channel_same, channel_through, opening_stays}
 use Rattle.rds_line.proofs.Written.{made_room}
 use Rattle.rds_line.proofs.line.Line.open_next.Goals as goal
 use Rattle.rds_line.proofs.line.Line.open_next.Goals.{else-not-is_open-via-then-not-is_open+else-open_next, else-not-is_open-via-else-not-is_open}

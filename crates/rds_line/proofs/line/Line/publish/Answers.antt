@@ -1,9 +1,8 @@
-use Rattle.std.proofs.Common.{◌≡◌, ℕ, ◌++◌, [], ◌∷◌, List, length, refl, ap, subst, ◌∙◌, arith}
+use Rattle.std.proofs.Common.{◌≡◌, ℕ, ◌++◌, [], ◌∷◌, List, length, refl, ap, ◌∙◌, arith}
 use Rattle.std.proofs.lemmas.Option.{same_Some}
 use Rattle.rds_wire.specs.declared.frame.Frame.{Frame}
 use Rattle.rds_wire.specs.declared.kind.TheConstants.{MAP_LENGTH}
 use Rattle.rds_model.specs.SumLaws.{few_maps}
-use Rattle.rds_conn.specs.declared.conn.Found.TheVariants as found
 use Rattle.rds_line.proofs.Staying.{boxes_same, channel_same}
 use Rattle.rds_line.proofs.Passing.{keeps_passed, keeps_unpublished}
 use Rattle.rds_line.proofs.Delivering.{map_is, map_length, passes_map, ready_inside, verdict_here, waits_inside}

@@ -111,8 +111,7 @@ invariant_of-self-2 g c =
     let first = (c.in_ok-reserve.ensures {u = tt}).ok in
     let got = (c.in-Some.ensures {u = tt}).got in
     keeps_obeyed g.E.End.means (roomy g c) c.obey.new.channel c.take_order.new.self got.0 c.in-Some.order got.1 (obeys g c)
-    g.M.MapWriter.published c.self.inside.own_pulled (c.in-Some.ensures {u = tt}).asked
-    (
+    g.M.MapWriter.published c.self.inside.own_pulled (c.in-Some.ensures {u = tt}).asked (
       keeps_roomy v c.reserve.new.self c.reserve_cut.new.self first (second g c) g.M.MapWriter.published c.self.invariant.0,
       pulled_roomy v c.reserve.new.self c.reserve_cut.new.self first (second g c) c.self.inside.own_pulled c.self.invariant.1,
     )
