@@ -16,6 +16,8 @@ use Rattle.rds_line_streams.specs.ChangeLaws.{same_length, each_through}
 use Rattle.rds_line_streams.specs.Streams.{StreamsView}
 use Rattle.rds_line_channel.specs.Channel.{ChannelView}
 use Rattle.rds_line.specs.Line.{LineView}
+use Rattle.rds_bindtab.specs.declared.view.View.{View as PortView}
+use Rattle.rds_meter.specs.declared.view.View.{View as MeterView}
 use Rattle.rds_line.specs.Stays.{AreSameBoxes, GoesFurther, StreamsStay, ChannelStays, LineStays}
 use Rattle.rds_host.specs.Lines.{AreTurned}
 
@@ -112,8 +114,11 @@ module _ {E : Type 0} (m : Means E) where
       got = same_list old.orders.got;
       boxes = boxes_same old.boxes;
       ports = refl;
+      port_view = refl;
+      looks = same_list old.ports.view.steps;
       words = refl;
       slot = refl;
+      meter_view = refl;
       steps = same_list old.words.view.steps;
       map = refl;
     }
@@ -130,8 +135,13 @@ module _ {E : Type 0} (m : Means E) where
       got = begins_through old.orders.got middle.orders.got new.orders.got first.got second.got;
       boxes = boxes_through old.boxes middle.boxes new.boxes first.boxes second.boxes;
       ports = second.ports ∙ first.ports;
+      port_view = second.port_view ∙ ap (λ (v : PortView). record v { steps = new.ports.view.steps }) first.port_view;
+      looks = begins_through old.ports.view.steps middle.ports.view.steps new.ports.view.steps first.looks second.looks;
       words = second.words ∙ first.words;
       slot = second.slot ∙ first.slot;
+      meter_view =
+          second.meter_view
+          ∙ ap (λ (v : MeterView). record v { checks = new.words.view.checks; steps = new.words.view.steps }) first.meter_view;
       steps = begins_through old.words.view.steps middle.words.view.steps new.words.view.steps first.steps second.steps;
       map = second.map ∙ first.map;
     }

@@ -125,6 +125,7 @@ impl Column {
         limit: u32,
     ) -> Result<Line<E, Writer>, Memory>
         requires boxes { length self.boxes ≡ (arc_value seats.table).slots }
+        requires looks { seats.seat.view.steps ≡ [] }
         requires numbered { AreNumbered streams.items }
         requires unused { All (λ stream. IsUnused E.means stream.1) streams.items }
         requires least { MIN_ENTRIES ≤ limit }

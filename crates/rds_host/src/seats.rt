@@ -82,6 +82,7 @@ impl Seats {
         ensures words { OnOk result (self.new.own.view.splits ≡ self.old.own.view.splits - 1) }
         ensures same_table { IfOk result (λ s. arc_value s.table ≡ arc_value self.old.table) }
         ensures same_meter { IfOk result (λ s. arc_value s.meter ≡ arc_value self.old.meter) }
+        ensures looks { IfOk result (λ s. s.seat.view.steps ≡ []) }
     {
         let table = Arc::try_clone(&self.table)?;
         let meter = Arc::try_clone(&self.meter)?;
@@ -132,6 +133,7 @@ impl Seats {
         ensures ports { result.0.table ≡ arc_value self.table }
         ensures words { result.1.table ≡ arc_value self.meter }
         ensures few { result.0.table.slots ≤ MAX_SLOTS }
+        ensures looks { result.0.view.steps ≡ self.seat.view.steps }
         ensures steps { result.1.view.steps ≡ [] }
         ensures checks { result.1.view.checks ≡ [] }
     {

@@ -9,7 +9,9 @@ use Rattle.rds_wire.specs.declared.kind.Kind.{Kind}
 use Rattle.rds_wire.specs.declared.kind.Kind.TheVariants.{Data, Ack, Map, OddMap}
 use Rattle.rds_wire.specs.declared.kind.TheConstants.{MAP_LENGTH}
 use Rattle.rds_wire.specs.Kinds.{kind_of}
-use Rattle.rds_bindtab.specs.Seats.{PortSeat}
+use Rattle.rds_bindtab.specs.declared.view.Step.{Step}
+use Rattle.rds_bindtab.specs.Seats.{PortSeat, after_look, knowing}
+use Rattle.rds_meter.specs.Seats.{MeterSeat}
 use Rattle.rds_model.specs.declared.entry.Entry.{Entry}
 use Rattle.rds_model.specs.declared.entry.Entry.TheVariants.{Read}
 use Rattle.rds_model.specs.declared.entry.Outcome.{Outcome}
@@ -41,7 +43,10 @@ use Rattle.rds_line_parts.specs.Own.{IsAsRead}
 use Rattle.rds_line_channel.specs.Channel.{with_conn}
 use Rattle.rds_line.specs.Line.{LineView, line_past}
 use Rattle.rds_line.specs.Steps.{IsWaiting}
+use Rattle.rds_line.specs.Seats.{AreLooksFor, HasLooked, StoresNothing}
 use Rattle.rds_line.proofs.Passing.{PassesWith, passes_reads}
+use Rattle.rds_line.proofs.PortLooks.{looked_last, looks_again, looks_beside, looks_nobody, looks_slot}
+use Rattle.rds_line.proofs.Storing.{delivery_stores}
 
 -- what a step asks of the view of a line is known of its parts
 pub ready_inside : {E M : Type 0} {inside old : LineView E M} → inside ≡ old →
@@ -123,6 +128,60 @@ unmapped verdict.AckOnly other payload earlier = refl
 unmapped verdict.Map other payload earlier = absurd (other refl)
 unmapped verdict.OddMap other payload earlier = refl
 
+-- no look is made for a frame that goes to no port
+pub unasked_looks : (v : Verdict) → ((port : ℕ) → v ≢ verdict.Deliver port) → (s : ℕ) (f : Frame) (past : List Entry) (steps : List Step) →
+    AreLooksFor past steps → AreLooksFor (Read s f (outcome_of v found.Unasked) ∷ past) steps
+unasked_looks (verdict.Deliver port) other s f past steps was = absurd (other port refl)
+unasked_looks verdict.Old other s f past steps was =
+    looks_beside past steps (Read s f outcome.Old) (λ stream slot frame is. absurd (cc)) (λ stream frame is. absurd (cc)) was
+unasked_looks verdict.Ping other s f past steps was =
+    looks_beside past steps (Read s f outcome.Ping) (λ stream slot frame is. absurd (cc)) (λ stream frame is. absurd (cc)) was
+unasked_looks verdict.Void other s f past steps was =
+    looks_beside past steps (Read s f outcome.Void) (λ stream slot frame is. absurd (cc)) (λ stream frame is. absurd (cc)) was
+unasked_looks verdict.AckOnly other s f past steps was =
+    looks_beside past steps (Read s f outcome.AckOnly) (λ stream slot frame is. absurd (cc)) (λ stream frame is. absurd (cc)) was
+unasked_looks verdict.Map other s f past steps was =
+    looks_beside past steps (Read s f outcome.Map) (λ stream slot frame is. absurd (cc)) (λ stream frame is. absurd (cc)) was
+unasked_looks verdict.OddMap other s f past steps was =
+    looks_beside past steps (Read s f outcome.OddMap) (λ stream slot frame is. absurd (cc)) (λ stream frame is. absurd (cc)) was
+
+-- a look was made at the port that the header names, and it found this
+looked_there : (seat : PortSeat) (port dport : ℕ) (found : Option ℕ) → dport ≡ port →
+    HasLooked dport found (after_look seat.view port found).steps
+looked_there seat port dport found is =
+    subst (λ (q : ℕ). HasLooked q found (after_look seat.view port found).steps) (sym is)
+    (looked_last seat.view.steps port found seat.view.told)
+
+-- it found nobody
+pub nobody_looks : (seat after : PortSeat) (port s : ℕ) (f : Frame) (past : List Entry) → after ≡ knowing seat (after_look seat.view port None) →
+    f.header.dport ≡ port → AreLooksFor past seat.view.steps → AreLooksFor (Read s f outcome.NoSocket ∷ past) after.view.steps
+nobody_looks seat after port s f past is there was =
+    subst (λ (h : PortSeat). AreLooksFor (Read s f outcome.NoSocket ∷ past) h.view.steps) (sym is)
+    (looks_nobody past (after_look seat.view port None).steps s f (looked_there seat port f.header.dport None there)
+    (looks_again past seat.view.steps port None seat.view.told was))
+
+-- it found a slot, and the delivery to that slot makes at most one look more
+slot_looks : {slot port n : ℕ} {old new : MeterSeat} {ports after : PortSeat} (seat : PortSeat) (s : ℕ) (f : Frame) (past : List Entry) →
+    ports ≡ knowing seat (after_look seat.view port (Some slot)) → f.header.dport ≡ port → IsDelivery slot port n old new ports after →
+    AreLooksFor past seat.view.steps → AreLooksFor (Read s f (outcome.Slot slot) ∷ past) after.view.steps
+slot_looks {slot} {port} {n} {old} {new} {ports} {after} seat s f past is there d was = go d.mark.set refl
+  where
+    next : List Entry
+    next = Read s f (outcome.Slot slot) ∷ past
+
+    first : AreLooksFor next ports.view.steps
+    first =
+        subst (λ (h : PortSeat). AreLooksFor next h.view.steps) (sym is)
+        (looks_slot past (after_look seat.view port (Some slot)).steps s slot f (looked_there seat port f.header.dport (Some slot) there)
+        (looks_again past seat.view.steps port (Some slot) seat.view.told was))
+
+    go : (b : Bool) → d.mark.set ≡ b → AreLooksFor next after.view.steps
+    go true set =
+        let second = d.raised set in
+        subst (λ (h : PortSeat). AreLooksFor next h.view.steps) (sym second.ports)
+        (looks_again next ports.view.steps d.mark.port second.holder ports.view.told first)
+    go false unset = subst (λ (h : PortSeat). AreLooksFor next h.view.steps) (sym (d.other unset).1) first
+
 -- the bytes of a datagram that is delivered may be counted
 pub delivery_fits : {slot : ℕ} {old new : Connection} {v : View} (p : Passes (found.Slot slot) old new) (port : ℕ) →
     verdict_of old.log.past p.frame.header ≡ verdict.Deliver port →
@@ -146,9 +205,10 @@ module _ {E M : Type 0} (published : M → List (List ℕ)) where
       outcome_of (verdict_of (line_past old) p.frame.header) came ≡ o →
       is_delivery o ≡ false → ((payload : List ℕ) (earlier : List (List ℕ)) → with_map o payload earlier ≡ earlier) →
       new.channel ≡ with_conn old.channel new.channel.conn → new.ports.table ≡ old.ports.table →
+      (AreLooksFor (line_past old) old.ports.view.steps → AreLooksFor (Read p.stream p.frame o ∷ line_past old) new.ports.view.steps) →
       new ≡ record old { channel = new.channel; ports = new.ports } →
       PassesWith published (pong_for o p.frame.header.sport) p.stream p.frame o old new
-  passes_quietly came old new p o is kept unread rest ports same =
+  passes_quietly came old new p o is kept unread rest ports looks same =
       let past = line_past old in
       let words = ap (λ (v : LineView E M). v.words.view) same in
       let boxes = ap (λ (v : LineView E M). v.boxes) same in
@@ -169,6 +229,8 @@ module _ {E M : Type 0} (published : M → List (List ℕ)) where
         read = λ was. subst (λ (v : View). IsAsRead old.own v.steps) (sym words) was;
         boxes = ap length boxes;
         ports = ports;
+        looks = looks;
+        stored = λ was. subst (λ (v : View). StoresNothing v.steps) (sym words) was;
       }
 
   -- its map was published
@@ -199,6 +261,12 @@ module _ {E M : Type 0} (published : M → List (List ℕ)) where
         read = λ was. subst (λ (v : View). IsAsRead old.own v.steps) (sym words) was;
         boxes = ap length boxes;
         ports = ap (λ (v : LineView E M). v.ports.table) same;
+        looks = λ was.
+            subst (λ (h : PortSeat). AreLooksFor (Read p.stream p.frame outcome.Map ∷ past) h.view.steps)
+            (sym (ap (λ (v : LineView E M). v.ports) same))
+            (looks_beside past old.ports.view.steps (Read p.stream p.frame outcome.Map) (λ stream slot frame is. absurd (cc))
+            (λ stream frame is. absurd (cc)) was);
+        stored = λ was. subst (λ (v : View). StoresNothing v.steps) (sym words) was;
       }
 
   -- its datagram was put into the box of a slot, and counted
@@ -206,12 +274,12 @@ module _ {E M : Type 0} (published : M → List (List ℕ)) where
       (p : Passes (found.Slot slot) old.channel.conn new.channel.conn) →
       verdict_of (line_past old) p.frame.header ≡ verdict.Deliver port → slot < MAX_SLOTS →
       IsPutInto slot (datagram_from old.channel.conn.peer p.frame) old.boxes new.boxes →
-      (ports : PortSeat) → new.ports.table ≡ old.ports.table →
+      (ports : PortSeat) → ports ≡ knowing old.ports (after_look old.ports.view port (Some slot)) → new.ports.table ≡ old.ports.table →
       IsDelivery slot port (length p.frame.payload) old.words new.words ports new.ports →
       new.channel ≡ with_conn old.channel new.channel.conn →
       new ≡ record old { channel = new.channel; boxes = new.boxes; ports = new.ports; words = new.words } →
       PassesWith published None p.stream p.frame (outcome.Slot slot) old new
-  passes_delivery slot port old new p is small put ports table delivery rest same =
+  passes_delivery slot port old new p is small put ports look table delivery rest same =
       let past = line_past old in
       let named : IsDelivery slot p.frame.header.dport (length p.frame.payload) old.words new.words ports new.ports =
       subst (λ (k : ℕ). IsDelivery slot k (length p.frame.payload) old.words new.words ports new.ports)
@@ -237,4 +305,6 @@ module _ {E M : Type 0} (published : M → List (List ℕ)) where
         read = read_after_delivery old.own slot small port (length p.frame.payload) old.words new.words ports new.ports delivery;
         boxes = ap length put.2 ∙ length-set old.boxes slot (after_put put.0 (datagram_from old.channel.conn.peer p.frame));
         ports = table;
+        looks = slot_looks old.ports p.stream p.frame past look (port_is past p.frame.header port is) delivery;
+        stored = delivery_stores delivery;
       }

@@ -1,14 +1,18 @@
 -- What a line keeps, where its journal gets an entry that delivers nothing and is no map, or where all of it stays.
-use Rattle.std.proofs.Common.{◌≡◌, ℕ, ◌+◌, ◌<◌, Bool, List, ◌∷◌, Some, None, slice_index, length, refl, sym, ap, subst, ◌∙◌}
+use Rattle.std.proofs.Common.{◌≡◌, ℕ, ◌+◌, ◌<◌, ◌≤◌, Bool, Option, List, ◌∷◌, Some, None, slice_index, length, refl, sym, ap, subst, ◌∙◌}
 use Rattle.rds_model.specs.declared.entry.Entry.{Entry}
 use Rattle.rds_model.specs.declared.entry.Entry.TheVariants as entry
+use Rattle.rds_model.specs.declared.entry.TheConstants.{MAX_SLOTS}
 use Rattle.rds_model.specs.declared.order.Order.{Order}
 use Rattle.rds_model.specs.Deliveries.{delivered_datagrams, put_bytes}
 use Rattle.rds_model.specs.Owed.{last_map}
 use Rattle.rds_model.specs.Past.{open_stream}
 use Rattle.rds_model.specs.Sums.{maps, orders}
-use Rattle.rds_mail.specs.Numbers.{bare_items}
+use Rattle.rds_mail.specs.Numbers.{Numbered, bare_items}
 use Rattle.rds_mail.specs.Passes.{Getter}
+use Rattle.rds_views.specs.Views.{Table}
+use Rattle.rds_bindtab.specs.declared.view.Step.{Step}
+use Rattle.rds_bindtab.specs.Seats.{PortSeat, after_look, knowing}
 use Rattle.rds_meter.specs.declared.view.Check.{Check}
 use Rattle.rds_conn.specs.Connection.{Connection, freed_bytes_of, stream_of}
 use Rattle.rds_conn.specs.Released.{released_bytes}
@@ -17,6 +21,8 @@ use Rattle.rds_line_parts.specs.CountedLaws.{freed_for_account}
 use Rattle.rds_line_channel.specs.Channel.{ChannelView}
 use Rattle.rds_line.specs.Keeps.{KeepsLine, IsPulled, uncut, cuts_among}
 use Rattle.rds_line.specs.Line.{LineView, line_past}
+use Rattle.rds_line.specs.Seats.{AreLooksFor}
+use Rattle.rds_line.proofs.PortLooks.{looks_again, looks_beside}
 
 -- nothing more was delivered, and no map was read
 pub record HasSameSums (past later : List Entry) : Type 0 where
@@ -24,9 +30,16 @@ pub record HasSameSums (past later : List Entry) : Type 0 where
   pub delivered : (from slot : ℕ) → delivered_datagrams from slot later ≡ delivered_datagrams from slot past
   pub bytes : (slot : ℕ) → put_bytes slot later ≡ put_bytes slot past
   pub checks : (list : List Check) → AreChecksOf past list → AreChecksOf later list
+  pub looks : (steps : List Step) → AreLooksFor past steps → AreLooksFor later steps
 
 pub sums_same : (past : List Entry) → HasSameSums past past
-sums_same past = record { maps = refl; delivered = λ from slot. refl; bytes = λ slot. refl; checks = λ list are. are }
+sums_same past = record {
+  maps = refl;
+  delivered = λ from slot. refl;
+  bytes = λ slot. refl;
+  checks = λ list are. are;
+  looks = λ steps are. are;
+}
 
 pub sums_of : (past later middle : List Entry) → later ≡ middle → HasSameSums past middle → HasSameSums past later
 sums_of past later middle is same = subst (λ (l : List Entry). HasSameSums past l) (sym is) same
@@ -41,14 +54,54 @@ IsNoRead (entry.Read stream frame outcome) = ⊥
 IsNoRead (entry.Shut stream) = Unit {0}
 IsNoRead (entry.Bad stream header cause) = Unit {0}
 
+looks_unread : (e : Entry) (past : List Entry) (steps : List Step) → IsNoRead e → AreLooksFor past steps → AreLooksFor (e ∷ past) steps
+looks_unread e past steps no_read =
+    looks_beside past steps e (λ stream slot frame is. subst IsNoRead is no_read) (λ stream frame is. subst IsNoRead is no_read)
+
 pub sums_more : (e : Entry) (past : List Entry) → IsNoRead e → HasSameSums past (e ∷ past)
-sums_more (entry.Accept slot sport dport payload) past no_read = record { maps = refl; delivered = λ from slot. refl; bytes = λ slot. refl; checks = λ list are. are }
-sums_more (entry.Cancel slot target) past no_read = record { maps = refl; delivered = λ from slot. refl; bytes = λ slot. refl; checks = λ list are. are }
-sums_more (entry.Open stream) past no_read = record { maps = refl; delivered = λ from slot. refl; bytes = λ slot. refl; checks = λ list are. are }
-sums_more (entry.Pull stream frame) past no_read = record { maps = refl; delivered = λ from slot. refl; bytes = λ slot. refl; checks = λ list are. are }
+sums_more (entry.Accept slot sport dport payload) past no_read = record {
+  maps = refl;
+  delivered = λ from slot. refl;
+  bytes = λ slot. refl;
+  checks = λ list are. are;
+  looks = λ steps. looks_unread (entry.Accept slot sport dport payload) past steps no_read;
+}
+sums_more (entry.Cancel slot target) past no_read = record {
+  maps = refl;
+  delivered = λ from slot. refl;
+  bytes = λ slot. refl;
+  checks = λ list are. are;
+  looks = λ steps. looks_unread (entry.Cancel slot target) past steps no_read;
+}
+sums_more (entry.Open stream) past no_read = record {
+  maps = refl;
+  delivered = λ from slot. refl;
+  bytes = λ slot. refl;
+  checks = λ list are. are;
+  looks = λ steps. looks_unread (entry.Open stream) past steps no_read;
+}
+sums_more (entry.Pull stream frame) past no_read = record {
+  maps = refl;
+  delivered = λ from slot. refl;
+  bytes = λ slot. refl;
+  checks = λ list are. are;
+  looks = λ steps. looks_unread (entry.Pull stream frame) past steps no_read;
+}
 sums_more (entry.Read stream frame outcome) past no_read = absurd no_read
-sums_more (entry.Shut stream) past no_read = record { maps = refl; delivered = λ from slot. refl; bytes = λ slot. refl; checks = λ list are. are }
-sums_more (entry.Bad stream header cause) past no_read = record { maps = refl; delivered = λ from slot. refl; bytes = λ slot. refl; checks = λ list are. are }
+sums_more (entry.Shut stream) past no_read = record {
+  maps = refl;
+  delivered = λ from slot. refl;
+  bytes = λ slot. refl;
+  checks = λ list are. are;
+  looks = λ steps. looks_unread (entry.Shut stream) past steps no_read;
+}
+sums_more (entry.Bad stream header cause) past no_read = record {
+  maps = refl;
+  delivered = λ from slot. refl;
+  bytes = λ slot. refl;
+  checks = λ list are. are;
+  looks = λ steps. looks_unread (entry.Bad stream header cause) past steps no_read;
+}
 
 -- for each slot the freed bytes that are held grew as the bytes did that aren't alive any more
 abbrev pub IsHeldFor : Connection → Connection → Type 0
@@ -118,7 +171,62 @@ module _ {E M : Type 0} (published : M → List (List ℕ)) where
     boxes = k.boxes;
     few = k.few;
     slots = slots ∙ k.slots;
+    ported = sums.looks v.ports.view.steps k.ported;
+    stored = k.stored;
   }
+
+  -- the getter was told of orders, and got none
+  pub keeps_told : (v : LineView E M) (getter : Getter Order) → getter.got ≡ v.orders.got → KeepsLine published v →
+      KeepsLine published (record v { orders = getter })
+  keeps_told v getter got k = record {
+    taken = ap (λ (l : List (Numbered Order)). uncut (bare_items l)) got ∙ k.taken;
+    cuts = ap (λ (l : List (Numbered Order)). cuts_among (bare_items l)) got ∙ k.cuts;
+    put = k.put;
+    counted = k.counted;
+    freed = k.freed;
+    maps = k.maps;
+    read = k.read;
+    boxes = k.boxes;
+    few = k.few;
+    slots = k.slots;
+    ported = k.ported;
+    stored = k.stored;
+  }
+
+  -- the seat at the port table did what leaves its looks as the journal tells
+  keeps_ports : (v : LineView E M) (ports : PortSeat) → ports.table ≡ v.ports.table →
+      (AreLooksFor (line_past v) v.ports.view.steps → AreLooksFor (line_past v) ports.view.steps) →
+      KeepsLine published v → KeepsLine published (record v { ports = ports })
+  keeps_ports v ports table looks k = record {
+    taken = k.taken;
+    cuts = k.cuts;
+    put = k.put;
+    counted = k.counted;
+    freed = k.freed;
+    maps = k.maps;
+    read = k.read;
+    boxes = k.boxes ∙ sym (ap (λ (t : Table). t.slots) table);
+    few = subst (λ (t : Table). t.slots ≤ MAX_SLOTS) (sym table) k.few;
+    slots = k.slots;
+    ported = looks k.ported;
+    stored = k.stored;
+  }
+
+  -- it was told of no step
+  pub keeps_heard : (v : LineView E M) (ports : PortSeat) → ports.table ≡ v.ports.table → ports.view.steps ≡ v.ports.view.steps →
+      KeepsLine published v → KeepsLine published (record v { ports = ports })
+  keeps_heard v ports table steps k = keeps_ports v ports table (λ was. subst (AreLooksFor (line_past v)) (sym steps) was) k
+
+  -- it looked at a port
+  pub keeps_looked : (v : LineView E M) (ports : PortSeat) (port : ℕ) (found : Option ℕ) →
+      ports ≡ knowing v.ports (after_look v.ports.view port found) → KeepsLine published v →
+      KeepsLine published (record v { ports = ports })
+  keeps_looked v ports port found is k =
+      keeps_ports v ports (ap (λ (h : PortSeat). h.table) is)
+      (λ was.
+      subst (λ (h : PortSeat). AreLooksFor (line_past v) h.view.steps) (sym is)
+      (looks_again (line_past v) v.ports.view.steps port found v.ports.view.told was))
+      k
 
   -- nothing that it keeps of its channel changed
   pub keeps_still : (v : LineView E M) (channel : ChannelView E) → channel.conn.log.past ≡ line_past v → channel.conn.peer ≡ v.channel.conn.peer

@@ -6,11 +6,14 @@ mod Keeping
 mod Longer
 mod Looking
 mod Passing
+mod PortLooks
 mod Pulled
+mod Quiet
 mod Relieving
 mod Starting
 mod Staying
 mod StaysPassed
 mod Stepping
+mod Storing
 mod Taking
 mod Written

@@ -17,6 +17,7 @@ use Rattle.rds_model.specs.Sums.{maps, orders, with_map}
 use Rattle.rds_mail.specs.Numbers.{bare_items}
 use Rattle.rds_mail.specs.Passes.{Getter, Putter}
 use Rattle.rds_views.specs.Views.{Table}
+use Rattle.rds_bindtab.specs.declared.view.Step.{Step}
 use Rattle.rds_meter.specs.declared.view.View.{View}
 use Rattle.rds_meter.specs.Places.{part, freed_word}
 use Rattle.rds_conn.specs.declared.conn.Found.{Found}
@@ -29,6 +30,8 @@ use Rattle.rds_line_parts.specs.Own.{Own, IsAsRead}
 use Rattle.rds_line_channel.specs.Channel.{ChannelView, with_conn}
 use Rattle.rds_line.specs.Keeps.{KeepsLine, IsPulled, cuts_among, uncut}
 use Rattle.rds_line.specs.Line.{LineView, line_past}
+use Rattle.rds_line.specs.Seats.{AreLooksFor, StoresNothing}
+use Rattle.rds_line.proofs.PortLooks.{looks_beside}
 
 -- the acceptance of a pong, if one is owed to a port
 abbrev pub pongs : Option ℕ → List Entry
@@ -100,6 +103,11 @@ module _ (s : ℕ) (f : Frame) (o : Outcome) (past : List Entry) where
   counted_after None v was = was
   counted_after (Some port) v was = record { put = was.put; checks = was.checks }
 
+  looks_after : (port : Option ℕ) (steps : List Step) → AreLooksFor (Read s f o ∷ past) steps → AreLooksFor (read_past port s f o past) steps
+  looks_after None steps was = was
+  looks_after (Some port) steps was =
+      looks_beside (Read s f o ∷ past) steps (Accept NO_SLOT 0 port []) (λ stream slot frame is. absurd (cc)) (λ stream frame is. absurd (cc)) was
+
 -- the bytes that are freed or released are accounted for
 abbrev pub AccountsFreed : Connection → Connection → Type 0
 AccountsFreed old new = (slot : ℕ) → slot < old.slots →
@@ -123,6 +131,8 @@ module _ {E M : Type 0} (published : M → List (List ℕ)) where
     pub read : IsAsRead old.own old.words.view.steps → IsAsRead old.own new.words.view.steps
     pub boxes : length new.boxes ≡ length old.boxes
     pub ports : new.ports.table ≡ old.ports.table
+    pub looks : AreLooksFor (line_past old) old.ports.view.steps → AreLooksFor (Read s f o ∷ line_past old) new.ports.view.steps
+    pub stored : StoresNothing old.words.view.steps → StoresNothing new.words.view.steps
 
   -- the line keeps all that it keeps
   keeps_passed_line : {port : Option ℕ} {s : ℕ} {f : Frame} {o : Outcome} {old new : LineView E M} →
@@ -154,6 +164,10 @@ module _ {E M : Type 0} (published : M → List (List ℕ)) where
         boxes = p.boxes ∙ was.boxes ∙ sym (ap (λ (t : Table). t.slots) p.ports);
         few = subst (λ (t : Table). t.slots ≤ MAX_SLOTS) (sym p.ports) was.few;
         slots = r.slots ∙ was.slots;
+        ported =
+            subst (λ (l : List Entry). AreLooksFor l new.ports.view.steps) (sym r.past)
+            (looks_after s f o past port new.ports.view.steps (p.looks was.ported));
+        stored = p.stored was.stored;
       }
 
   pub keeps_passed : {port : Option ℕ} {s : ℕ} {f : Frame} {o : Outcome} {old new : LineView E M} (pulled : Bool) →
@@ -185,6 +199,8 @@ module _ {E M : Type 0} (published : M → List (List ℕ)) where
       boxes = was.0.boxes;
       few = was.0.few;
       slots = was.0.slots;
+      ported = was.0.ported;
+      stored = was.0.stored;
     },
     was.1,
   )

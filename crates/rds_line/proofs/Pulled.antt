@@ -1,5 +1,5 @@
 -- What a line keeps when it reads its host's own map and pulls the frame that is owed.
-use Rattle.std.proofs.Common.{◌≡◌, ◌≢◌, inl, inr, ℕ, suc, ◌+◌, Bool, true, false, Option, Some, None, IfSome, IsSome, IfOk, OnOk, Result, Ok, List, [], ◌∷◌, refl, sym, ap, subst, ◌∙◌}
+use Rattle.std.proofs.Common.{◌≡◌, ◌≢◌, inl, inr, ℕ, suc, ◌+◌, Bool, true, false, Option, Some, None, IfSome, IsSome, IfOk, OnOk, Result, Ok, List, [], ◌∷◌, ◌++◌, refl, sym, ap, subst, ◌∙◌}
 use Rattle.std.proofs.lemmas.Option.{same_Some}
 use Rattle.std.proofs.lemmas.Result.{IfOk-at_ok}
 use Rattle.rds_wire.specs.declared.frame.Frame.{Frame}
@@ -13,14 +13,15 @@ use Rattle.rds_model.specs.declared.entry.Entry.TheVariants.{Pull}
 use Rattle.rds_model.specs.Owed.{last_map, owed_frame}
 use Rattle.rds_model.specs.Past.{Moment, now, before}
 use Rattle.rds_model.specs.SumLaws.{same_list}
-use Rattle.rds_meter.specs.Places.{put_word, freed_word}
+use Rattle.rds_meter.specs.declared.view.Step.TheVariants.{Loaded}
+use Rattle.rds_meter.specs.Places.{change_word, put_word, freed_word}
 use Rattle.rds_meter.specs.Seats.{MeterSeat}
 use Rattle.rds_conn.specs.declared.conn.Pulled.{Pulled}
 use Rattle.rds_conn.specs.Connection.{Connection, freed_bytes_of, stream_of, with_entries}
 use Rattle.rds_conn.specs.declared.conn.Pulled.TheVariants as pulled
 use Rattle.rds_conn.specs.Pulling.{Pulls, is_frame, name_of_pull}
 use Rattle.rds_line_parts.specs.CountedLaws.{counted_for_steps}
-use Rattle.rds_line_parts.specs.Own.{Own, IsRefresh}
+use Rattle.rds_line_parts.specs.Own.{Own, IsRefresh, loads_from}
 use Rattle.rds_line_parts.specs.OwnLaws.{refreshed}
 use Rattle.rds_line_parts.specs.Words.{AddsNothing}
 use Rattle.rds_line_channel.specs.Channel.{ChannelView}
@@ -29,7 +30,9 @@ use Rattle.rds_line.specs.Line.{LineView, line_past, pulls_in}
 use Rattle.rds_line.specs.Stays.{LineStays}
 use Rattle.rds_line.specs.Turns.{LeavesNothing, LoadsOwn, FindsNothingOwed}
 use Rattle.rds_line.proofs.Looking.{PullsOrNone}
-use Rattle.rds_line.proofs.Staying.{begins_of, boxes_same, moment_of, streams_same}
+use Rattle.rds_line.proofs.PortLooks.{looks_beside}
+use Rattle.rds_line.proofs.Staying.{begins_of, boxes_same, moment_of, same_view, streams_same}
+use Rattle.rds_line.proofs.Storing.{refresh_stores}
 
 -- what a pull leaves of the connection
 pub record LeavesConn (old new : Connection) : Type 0 where
@@ -82,6 +85,8 @@ module _ {E M : Type 0} where
     boxes = k.boxes;
     few = k.few;
     slots = k.slots;
+    ported = k.ported;
+    stored = k.stored;
   }
 
   keeps_entry : (published : M → List (List ℕ)) (v : LineView E M) (out : List ℕ) (s : ℕ) (f : Frame) → KeepsLine published v →
@@ -97,6 +102,8 @@ module _ {E M : Type 0} where
     boxes = k.boxes;
     few = k.few;
     slots = k.slots;
+    ported = looks_beside (line_past v) v.ports.view.steps (Pull s f) (λ stream slot frame is. absurd (cc)) (λ stream frame is. absurd (cc)) k.ported;
+    stored = k.stored;
   }
 
   -- a pull changes nothing of what a line keeps
@@ -124,6 +131,8 @@ module _ {E M : Type 0} where
     boxes = k.boxes;
     few = k.few;
     slots = k.slots;
+    ported = k.ported;
+    stored = refresh_stores r k.stored;
   }
 
   -- and where no word was loaded, it is the map that it was
@@ -152,8 +161,13 @@ module _ {E M : Type 0} where
     got = same_list v.orders.got;
     boxes = boxes_same v.boxes;
     ports = refl;
+    port_view = refl;
+    looks = same_list v.ports.view.steps;
     words = ap (λ (h : MeterSeat). h.table) r.steps;
     slot = ap (λ (h : MeterSeat). h.slot) r.steps;
+    meter_view =
+        same_view v.words.view words.view v.words.view.checks (v.words.view.steps ++ Loaded change_word r.number ∷ loads_from 0 r.words)
+        (ap (λ (h : MeterSeat). h.view) r.steps);
     steps = (_, ap (λ (h : MeterSeat). h.view.steps) r.steps);
     map = refl;
   }

@@ -1,5 +1,5 @@
 -- What a line keeps stays so where all freed bytes are counted.
-use Rattle.std.proofs.Common.{◌≡◌, ℕ, ◌+◌, ◌<◌, ◌≤◌, inr, List, length, sum, refl, sym, ap, subst, ◌∙◌, arith}
+use Rattle.std.proofs.Common.{◌≡◌, ℕ, ◌+◌, ◌<◌, ◌≤◌, inr, List, ◌++◌, length, sum, refl, sym, ap, subst, ◌∙◌, arith}
 use Rattle.rds_model.specs.Legal.{IsLegal}
 use Rattle.rds_model.specs.Sums.{maps, orders}
 use Rattle.rds_model.specs.SumLaws.{same_list}
@@ -14,8 +14,10 @@ use Rattle.rds_line_channel.specs.Channel.{ChannelView, with_conn}
 use Rattle.rds_link.specs.Ends.{Means}
 use Rattle.rds_line.specs.Keeps.{KeepsLine}
 use Rattle.rds_line.specs.Line.{LineView, line_past}
+use Rattle.rds_line.specs.Seats.{AreLooksFor}
 use Rattle.rds_line.specs.Stays.{LineStays}
-use Rattle.rds_line.proofs.Staying.{boxes_same, relief_stays}
+use Rattle.rds_line.proofs.Staying.{boxes_same, relief_stays, same_view}
+use Rattle.rds_line.proofs.Storing.{relief_stores}
 
 -- the words that count freed bytes have room for those that are held
 pub room_to_relieve : (conn : Connection) (seat : MeterSeat) → IsLegal conn.log.past → length conn.log.past ≤ 4294967294 → IsFreedFor conn seat.view
@@ -41,6 +43,8 @@ module _ {E M : Type 0} (v : LineView E M) (channel : ChannelView E) (words : Me
     boxes = k.boxes;
     few = k.few;
     slots = ap (λ (c : ChannelView E). c.conn.slots) rest ∙ k.slots;
+    ported = subst (λ (c : ChannelView E). AreLooksFor c.conn.log.past v.ports.view.steps) (sym rest) k.ported;
+    stored = relief_stores relief k.stored;
   }
 
   pub stays_relieved : {Name : Type 0} (m : Means E) (pair : M → Name) → LineStays m pair v (record v { channel = channel; words = words })
@@ -52,8 +56,11 @@ module _ {E M : Type 0} (v : LineView E M) (channel : ChannelView E) (words : Me
     got = same_list v.orders.got;
     boxes = boxes_same v.boxes;
     ports = refl;
+    port_view = refl;
+    looks = same_list v.ports.view.steps;
     words = ap (λ (h : MeterSeat). h.table) relief.seat;
     slot = ap (λ (h : MeterSeat). h.slot) relief.seat;
+    meter_view = same_view v.words.view words.view v.words.view.checks (v.words.view.steps ++ relief.steps) (ap (λ (h : MeterSeat). h.view) relief.seat);
     steps = (relief.steps, ap (λ (h : MeterSeat). h.view.steps) relief.seat);
     map = refl;
   }

@@ -19,6 +19,9 @@ use Rattle.rds_line_parts.specs.Own.{Own}
 use Rattle.rds_line_channel.specs.Channel.{ChannelView, new_channel}
 use Rattle.rds_line.specs.Keeps.{KeepsLine, uncut, cuts_among}
 use Rattle.rds_line.specs.Line.{LineView}
+use Rattle.rds_line.specs.Seats.{AreLooksFor, StoresNothing}
+use Rattle.rds_line.proofs.PortLooks.{looks_none}
+use Rattle.rds_line.proofs.Storing.{stores_none}
 
 module _ {E M : Type 0} (published : M → List (List ℕ)) (me peer limit : ℕ) (streams : List (ℕ × E)) (v : LineView E M) (is : v.channel ≡ new_channel me peer MAX_SLOTS limit streams) where
   nothing_put : All (λ (box : Putter Datagram). box.put ≡ []) v.boxes → (slot : ℕ) (box : Putter Datagram) → Some box ≡ Some box → slot < length v.boxes → get_or v.boxes slot box ≡ box → box.put ≡ []
@@ -33,8 +36,8 @@ module _ {E M : Type 0} (published : M → List (List ℕ)) (me peer limit : ℕ
       omega arith
 
   pub keeps_at_first : v.orders.got ≡ [] → All (λ (box : Putter Datagram). box.put ≡ []) v.boxes → length v.boxes ≡ v.ports.table.slots → v.ports.table.slots ≤ MAX_SLOTS
-      → v.words.view.steps ≡ [] → v.words.view.checks ≡ [] → published v.map ≡ [] → v.own.change ≡ None → KeepsLine published v
-  keeps_at_first got put boxes few steps checks maps_none unread = record {
+      → v.ports.view.steps ≡ [] → v.words.view.steps ≡ [] → v.words.view.checks ≡ [] → published v.map ≡ [] → v.own.change ≡ None → KeepsLine published v
+  keeps_at_first got put boxes few looks steps checks maps_none unread = record {
     taken = ap (λ (l : List (Numbered Order)). uncut (bare_items l)) got ∙ sym (ap (λ (c : ChannelView E). orders c.conn.log.past) is);
     cuts = ap (λ (l : List (Numbered Order)). cuts_among (bare_items l)) got ∙ sym (ap (λ (c : ChannelView E). length c.cuts.numbers) is);
     put = λ slot box at.
@@ -50,6 +53,10 @@ module _ {E M : Type 0} (published : M → List (List ℕ)) (me peer limit : ℕ
     boxes = boxes;
     few = few;
     slots = ap (λ (c : ChannelView E). c.conn.slots) is;
+    ported =
+        subst (λ (c : ChannelView E). AreLooksFor c.conn.log.past v.ports.view.steps) (sym is)
+        (subst (AreLooksFor []) (sym looks) looks_none);
+    stored = subst StoresNothing (sym steps) stores_none;
   }
     where
       none_some : {n : ℕ} → None ≡ Some n → ⊥

@@ -4,6 +4,11 @@ use Rattle.std.proofs.lemmas.Option.{same_Some, slice_get_within, slice_get-get_
 use Rattle.rds_link.specs.declared.end.Got.{Got}
 use Rattle.rds_link.specs.declared.end.Put.{Put}
 use Rattle.rds_link.specs.Ends.{Means}
+use Rattle.rds_bindtab.specs.declared.view.Step.{Step as PortStep}
+use Rattle.rds_bindtab.specs.declared.view.View.{View as PortView}
+use Rattle.rds_meter.specs.declared.view.Check.{Check}
+use Rattle.rds_meter.specs.declared.view.Step.{Step as MeterStep}
+use Rattle.rds_meter.specs.declared.view.View.{View as MeterView}
 use Rattle.rds_model.specs.declared.entry.Entry.{Entry}
 use Rattle.rds_model.specs.declared.entry.Entry.TheVariants as entry
 use Rattle.rds_model.specs.declared.order.Datagram.{Datagram}
@@ -40,6 +45,16 @@ moment_more (e ∷ entries) past = before (moment_more entries past)
 
 pub moment_of : (past later : List Entry) → later ≡ past → Moment past later
 moment_of past later is = subst (λ (l : List Entry). Moment past l) (sym is) now
+
+-- what stays of a view of the meter whose checks and steps changed
+pub same_view : (old new : MeterView) (checks : List Check) (steps : List MeterStep) → new ≡ record old { checks = checks; steps = steps } →
+    new ≡ record old { checks = new.checks; steps = new.steps }
+same_view old new checks steps is =
+    is ∙ ap (λ (v : MeterView). record old { checks = v.checks; steps = v.steps }) (sym is)
+
+pub same_port_view : (old new : PortView) (steps : List PortStep) → new ≡ record old { steps = steps } →
+    new ≡ record old { steps = new.steps }
+same_port_view old new steps is = is ∙ ap (λ (v : PortView). record old { steps = v.steps }) (sym is)
 
 pub boxes_same : (old : List (Putter Datagram)) → AreSameBoxes old old
 boxes_same old = record {
@@ -248,8 +263,11 @@ module _ {E : Type 0} (m : Means E) where
       got = same_list old.orders.got;
       boxes = boxes_same old.boxes;
       ports = refl;
+      port_view = refl;
+      looks = same_list old.ports.view.steps;
       words = refl;
       slot = refl;
+      meter_view = refl;
       steps = same_list old.words.view.steps;
       map = refl;
     }
@@ -277,8 +295,13 @@ module _ {E : Type 0} (m : Means E) where
       got = begins_through old.orders.got middle.orders.got new.orders.got first.got second.got;
       boxes = boxes_through old.boxes middle.boxes new.boxes first.boxes second.boxes;
       ports = second.ports ∙ first.ports;
+      port_view = second.port_view ∙ ap (λ (v : PortView). record v { steps = new.ports.view.steps }) first.port_view;
+      looks = begins_through old.ports.view.steps middle.ports.view.steps new.ports.view.steps first.looks second.looks;
       words = second.words ∙ first.words;
       slot = second.slot ∙ first.slot;
+      meter_view =
+          second.meter_view
+          ∙ ap (λ (v : MeterView). record v { checks = new.words.view.checks; steps = new.words.view.steps }) first.meter_view;
       steps = begins_through old.words.view.steps middle.words.view.steps new.words.view.steps first.steps second.steps;
       map = second.map ∙ first.map;
     }

@@ -1,6 +1,7 @@
 -- What a line keeps when it writes to its open stream or reads from it, and when that stream is over.
-use Rattle.std.proofs.Common.{◌≡◌, ◌≢◌, ℕ, zero, suc, ◌<◌, ◌≤◌, Bool, Option, Some, None, IsSome, List, [], ◌∷◌, ◌++◌, append_assoc, take, length, refl, ap, ◌∙◌, arith}
+use Rattle.std.proofs.Common.{◌≡◌, ◌≢◌, ℕ, zero, suc, ◌<◌, ◌≤◌, Bool, Option, Some, None, IsSome, List, [], ◌∷◌, ◌++◌, append_assoc, take, length, true, refl, sym, subst, ap, ◌∙◌, arith}
 use Rattle.rds_link.specs.declared.end.Got.{Got}
+use Rattle.rds_link.specs.declared.end.Got.TheVariants as got
 use Rattle.rds_link.specs.declared.end.Put.{Put}
 use Rattle.rds_link.specs.declared.end.Put.TheVariants as put
 use Rattle.rds_link.specs.Ends.{Means}
@@ -10,15 +11,17 @@ use Rattle.rds_line_streams.specs.Changes.{ChangesAt, Receives, Sends}
 use Rattle.rds_line_streams.specs.ChangeLaws.{changed_here}
 use Rattle.rds_line_streams.specs.Meeting.{AtEach}
 use Rattle.rds_line_streams.specs.NumberLaws.{same_number}
-use Rattle.rds_line_streams.specs.Streams.{newest_place, numbers, with_list}
+use Rattle.rds_line_streams.specs.Streams.{StreamsView, newest_place, numbers, with_list}
 use Rattle.rds_line_channel.specs.Channel.{ChannelView, CutsView, with_conn}
 use Rattle.rds_line_channel.specs.Changes.{ShutsStream}
 use Rattle.rds_line.specs.Keeps.{IsPulled, KeepsLine}
-use Rattle.rds_line.specs.Line.{LineView, line_past}
-use Rattle.rds_line.specs.Stays.{ChannelStays, GoesFurther, LineStays}
-use Rattle.rds_line.specs.Turns.{GetsBytes, SendsBytes}
+use Rattle.rds_line.specs.Line.{LineView, line_past, pulls_in}
+use Rattle.rds_line.specs.Stays.{ChannelStays, GoesFurther}
+use Rattle.rds_line.specs.Steps.{StaysQuiet}
+use Rattle.rds_line.specs.Turns.{FindsNoRoom, GetsBytes, HearsNothing, LeavesNothing, SendsBytes}
 use Rattle.rds_line.proofs.Keeping.{keeps_plain, pulled_off}
-use Rattle.rds_line.proofs.Staying.{begins_of, channel_moved, channel_of, channel_through, line_inside, line_through, read_stays, room_stays, shutting_stays, write_stays}
+use Rattle.rds_line.proofs.Quiet.{quiet_inside, quiet_through}
+use Rattle.rds_line.proofs.Staying.{begins_of, channel_moved, channel_of, channel_through, read_stays, room_stays, shutting_stays, write_stays}
 
 -- what there is
 pub the_one : {A : Type 0} (o : Option A) → IsSome o → (a : A) × (o ≡ Some a)
@@ -34,7 +37,64 @@ nil_front : (front back : List ℕ) → front ++ back ≡ [] → front ≡ []
 nil_front [] back e = refl
 nil_front (x ∷ front) back e = absurd (cc)
 
+-- no frame is pulled by a write
+pub written_pulls : {E : Type 0} (old ready new : ChannelView E) (out : List ℕ) → ready ≡ with_conn old (with_room old.conn) →
+    new ≡ record ready { out = out; streams = with_list ready.streams new.streams.list } →
+    pulls_in new.conn.log.past ≡ pulls_in old.conn.log.past
+written_pulls {E} old ready new out room rest =
+    ap (λ (c : ChannelView E). pulls_in c.conn.log.past) rest ∙ ap (λ (c : ChannelView E). pulls_in c.conn.log.past) room
+
+-- nor is anything that came touched
+pub leaves_written : {E M : Type 0} {inside shown : LineView E M} (ready new : ChannelView E) (out : List ℕ) → inside ≡ shown →
+    ready ≡ with_conn inside.channel (with_room inside.channel.conn) →
+    new ≡ record ready { out = out; streams = with_list ready.streams new.streams.list } → LeavesNothing shown.channel new
+leaves_written {E} {M} {inside} {shown} ready new out is room rest none left = (
+  ap (λ (c : ChannelView E). c.conn.waiting) rest ∙ ap (λ (c : ChannelView E). c.conn.waiting) room
+      ∙ ap (λ (l : LineView E M). l.channel.conn.waiting) is ∙ none,
+  ap (λ (c : ChannelView E). c.piece) rest ∙ ap (λ (c : ChannelView E). c.piece) room
+      ∙ ap (λ (l : LineView E M). l.channel.piece) is ∙ left,
+)
+
+-- a stream that is open is one of a line whose fields are known by its view
+pub streams_shown : {E M : Type 0} {inside shown : LineView E M} (ready : ChannelView E) → inside ≡ shown →
+    ready ≡ with_conn inside.channel (with_room inside.channel.conn) → ready.streams ≡ shown.channel.streams
+streams_shown {E} {M} {inside} {shown} ready is room =
+    ap (λ (c : ChannelView E). c.streams) room ∙ ap (λ (l : LineView E M). l.channel.streams) is
+
 module _ {E : Type 0} (m : Means E) where
+  -- there was no room in the stream
+  pub found_full : {M : Type 0} {inside shown : LineView E M} (ready new : ChannelView E) → inside ≡ shown →
+      ready ≡ with_conn inside.channel (with_room inside.channel.conn) →
+      ChangesAt (Sends m put.Full []) (newest_place ready.streams) ready.streams.list new.streams.list →
+      new ≡ record ready { out = ready.out; streams = with_list ready.streams new.streams.list } →
+      shown.channel.streams.is_open ≡ true → shown.channel.out ≢ [] → FindsNoRoom m shown.channel new
+  found_full {M} {inside} {shown} ready new is room change rest on some =
+      let streams = streams_shown ready is room in
+      record {
+        answer = subst (λ (s : StreamsView E). ChangesAt (Sends m put.Full []) (newest_place s) s.list new.streams.list) streams change;
+        on = ap (λ (c : ChannelView E). c.streams.is_open) rest ∙ ap (λ (s : StreamsView E). s.is_open) streams ∙ on;
+        left = λ none.
+            some (sym (ap (λ (l : LineView E M). l.channel.out) is) ∙ sym (ap (λ (c : ChannelView E). c.out) room)
+            ∙ sym (ap (λ (c : ChannelView E). c.out) rest) ∙ none);
+      }
+
+  -- nothing came
+  pub heard_nothing : {M : Type 0} {inside shown : LineView E M} (start ready new : ChannelView E) → inside ≡ shown →
+      ready ≡ with_conn inside.channel (with_room inside.channel.conn) → shown.channel.streams ≡ start.streams →
+      shown.channel.conn.waiting ≡ None → new.piece ≡ [] →
+      ChangesAt (Receives m got.Nothing new.piece) (newest_place ready.streams) ready.streams.list new.streams.list →
+      new ≡ record ready { piece = new.piece; streams = with_list ready.streams new.streams.list } → HearsNothing m start new
+  heard_nothing {M} {inside} {shown} start ready new is room same none empty change rest = record {
+    answer =
+        subst (λ (s : StreamsView E). ChangesAt (Receives m got.Nothing []) (newest_place s) s.list new.streams.list)
+        (streams_shown ready is room ∙ same)
+        (subst (λ (l : List ℕ). ChangesAt (Receives m got.Nothing l) (newest_place ready.streams) ready.streams.list new.streams.list) empty change);
+    none_waits =
+        ap (λ (c : ChannelView E). c.conn.waiting) rest ∙ ap (λ (c : ChannelView E). c.conn.waiting) room
+        ∙ ap (λ (l : LineView E M). l.channel.conn.waiting) is ∙ none;
+    none_left = empty;
+  }
+
   -- room was made for entries
   pub made_room : (old new : ChannelView E) → new ≡ with_conn old (with_room old.conn) → ChannelStays m old new
   made_room old new is = channel_of m old new (with_conn old (with_room old.conn)) is (room_stays m old)
@@ -48,6 +108,13 @@ module _ {E : Type 0} (m : Means E) where
       (write_stays m answer piece (newest_place old.streams) old.streams new.streams change
       (ap (λ (c : ChannelView E). c.streams.opened) rest))
 
+  -- after room was made
+  pub wrote_on : (old ready new : ChannelView E) (answer : Put) (piece out : List ℕ) → ready ≡ with_conn old (with_room old.conn) →
+      ChangesAt (Sends m answer piece) (newest_place ready.streams) ready.streams.list new.streams.list →
+      new ≡ record ready { out = out; streams = with_list ready.streams new.streams.list } → ChannelStays m old new
+  wrote_on old ready new answer piece out room change rest =
+      channel_through m old ready new (made_room old ready room) (wrote ready new answer piece out change rest)
+
   -- the open end was read
   pub got_on : (old new : ChannelView E) (answer : Got) (piece : List ℕ) →
       ChangesAt (Receives m answer piece) (newest_place old.streams) old.streams.list new.streams.list →
@@ -57,16 +124,17 @@ module _ {E : Type 0} (m : Means E) where
       (read_stays m answer piece (newest_place old.streams) old.streams new.streams change
       (ap (λ (c : ChannelView E). c.streams.opened) rest))
 
-  -- what a line is over a read, where it was the same so far
+  -- a read is quiet, where all was quiet so far
   pub reads_line : {M Name : Type 0} (pair : M → Name) (start shown v : LineView E M) (ready new : ChannelView E) (answer : Got) →
-      v ≡ shown → LineStays m pair start shown → ready ≡ with_conn v.channel (with_room v.channel.conn) →
+      v ≡ shown → StaysQuiet m pair start shown → ready ≡ with_conn v.channel (with_room v.channel.conn) →
       ChangesAt (Receives m answer new.piece) (newest_place ready.streams) ready.streams.list new.streams.list →
       new ≡ record ready { piece = new.piece; streams = with_list ready.streams new.streams.list } →
-      LineStays m pair start (record v { channel = new })
+      StaysQuiet m pair start (record v { channel = new })
   reads_line pair start shown v ready new answer is stays room change rest =
-      line_through m pair start shown (record v { channel = new }) stays
-      (line_inside m pair v shown is new
-      (channel_through m v.channel ready new (made_room v.channel ready room) (got_on ready new answer new.piece change rest)))
+      quiet_through stays
+      (quiet_inside v shown is new
+      (channel_through m v.channel ready new (made_room v.channel ready room) (got_on ready new answer new.piece change rest))
+      (ap (λ (c : ChannelView E). pulls_in c.conn.log.past) rest ∙ ap (λ (c : ChannelView E). pulls_in c.conn.log.past) room))
 
   -- the open stream is over
   pub over_stays : (number : ℕ) (old new : ChannelView E) → ShutsStream m number old new → new.cuts ≡ old.cuts →

@@ -10,6 +10,7 @@ use Rattle.rds_conn.specs.Connection.{stream_of}
 use Rattle.rds_line_parts.specs.Counted.{IsCountedFor, IsFreedFor, IsPutFor}
 use Rattle.rds_line_parts.specs.Own.{IsAsRead}
 use Rattle.rds_line.specs.Line.{LineView, line_past}
+use Rattle.rds_line.specs.Seats.{AreLooksFor, StoresNothing}
 
 -- the orders that aren't cuts
 abbrev pub uncut : List Order → List Order
@@ -43,6 +44,10 @@ module _ {E M : Type 0} where
     pub boxes : length v.boxes ≡ v.ports.table.slots
     pub few : v.ports.table.slots ≤ MAX_SLOTS
     pub slots : v.channel.conn.slots ≡ MAX_SLOTS
+    -- what became of each datagram is what a look of its seat at the port table had found, and that seat has claimed no port
+    pub ported : AreLooksFor (line_past v) v.ports.view.steps
+    -- its seat at the meter has stored no receive limit
+    pub stored : StoresNothing v.words.view.steps
 
   -- where the line notes that, the host's own map as it read that last is the one that was pulled last on the open stream
   abbrev pub IsPulled : Bool → LineView E M → Type 0

@@ -1,4 +1,5 @@
 pub mod Line
+pub mod Seats
 pub mod Keeps
 pub mod Stays
 pub mod Steps

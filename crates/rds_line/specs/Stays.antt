@@ -47,8 +47,12 @@ module _ {E : Type 0} (m : Means E) where
       pub joined : new.orders.joined ≡ old.orders.joined
       pub got : Begins old.orders.got new.orders.got
       pub boxes : AreSameBoxes old.boxes new.boxes
+      -- its seats at the port table and the meter, which have made some more steps and checks
       pub ports : new.ports.table ≡ old.ports.table
+      pub port_view : new.ports.view ≡ record old.ports.view { steps = new.ports.view.steps }
+      pub looks : Begins old.ports.view.steps new.ports.view.steps
       pub words : new.words.table ≡ old.words.table
       pub slot : new.words.slot ≡ old.words.slot
+      pub meter_view : new.words.view ≡ record old.words.view { checks = new.words.view.checks; steps = new.words.view.steps }
       pub steps : Begins old.words.view.steps new.words.view.steps
       pub map : pair new.map ≡ pair old.map

@@ -1,5 +1,5 @@
--- Private: it serves the contracts of the private steps of a turn, and their proofs. What they do with the frames that came.
--- Source: this project's own.
+-- Private: it serves the contracts of the private steps of a turn, and their proofs. What most of them leave as it was,
+-- and what they do with the frames that came. Source: this project's own.
 use Rattle.std.specs.Prelude.{◌≡◌, ℕ, ◌+◌, ◌*◌, if◌then◌else◌, Some, is_some, length}
 use Rattle.rds_wire.specs.declared.frame.Frame.{Frame}
 use Rattle.rds_model.specs.declared.entry.Verdict.{Verdict}
@@ -8,6 +8,9 @@ use Rattle.rds_conn.specs.declared.conn.Found.{Found}
 use Rattle.rds_conn.specs.Connection.{Connection}
 use Rattle.rds_conn.specs.Passing.{Passes}
 use Rattle.rds_line_channel.specs.Channel.{ChannelView, with_conn}
+use Rattle.rds_link.specs.Ends.{Means}
+use Rattle.rds_line.specs.Line.{LineView, line_past, pulls_in}
+use Rattle.rds_line.specs.Stays.{LineStays}
 
 -- a frame waits of which this has to become
 pub record IsWaiting (verdict : Verdict) (c : Connection) : Type 0 where
@@ -25,3 +28,11 @@ module _ {E : Type 0} where
   -- how much is left of what came: it falls with each frame that is passed
   abbrev pub left_to_take : ChannelView E → ℕ
   left_to_take c = 2 * length c.piece + (if is_some c.conn.waiting then 1 else 0)
+
+module _ {E M Name : Type 0} (m : Means E) (pair : M → Name) where
+  -- the step left what every turn leaves, took no order, pulled no frame, and didn't look at the host's own map
+  pub record StaysQuiet (old new : LineView E M) : Type 0 where
+    pub stays : LineStays m pair old new
+    pub orders : new.orders ≡ old.orders
+    pub own : new.own ≡ old.own
+    pub pulls : pulls_in (line_past new) ≡ pulls_in (line_past old)

@@ -66,7 +66,7 @@ impl<E: End, M: MapWriter> Line<E, M> {
 
     /// A line of these parts, with an empty journal of at most `limit` entries and no stream open. Nothing was moved yet: the
     /// stream numbers ascend from above 0 and the ends are unused, there is a mailbox for each slot of the port table, the
-    /// passes have put and got nothing, the seat at the meter has counted nothing, and nothing was published.
+    /// passes have put and got nothing, the seats have made no steps, and nothing was published.
     ///
     /// # Errors
     ///
@@ -80,6 +80,7 @@ impl<E: End, M: MapWriter> Line<E, M> {
         requires boxes { length parts.inboxes ≡ parts.ports.table.slots }
         requires few { parts.ports.table.slots ≤ MAX_SLOTS }
         requires put { All (λ box. box.put ≡ []) parts.inboxes }
+        requires looks { parts.ports.view.steps ≡ [] }
         requires steps { parts.words.view.steps ≡ [] }
         requires checks { parts.words.view.checks ≡ [] }
         requires published { M.published parts.map ≡ [] }
@@ -218,9 +219,10 @@ impl<E: End, M: MapWriter> Line<E, M> {
         self.boxes.note(slot)
     }
 
-    /// The line's seat at the port table is told of a port that a socket holds.
+    /// The line's seat at the port table is told of a port that a socket holds, by a note of that alone.
     pub fn hear_port(&mut self, note: BindNote)
-        requires { note.table ≡ self.old.ports.table }
+        requires table { note.table ≡ self.old.ports.table }
+        requires steps { note.view.steps ≡ [] }
         ensures { self.new ≡ record self.old { ports = ports.knowing self.old.ports (ports.joined self.old.ports.view note.view) } }
     {
         self.ports.hear(note);

@@ -17,7 +17,7 @@ pub enum Turn {
 }
 
 // What a turn found at the open stream when it read.
-#[derive(Clone, Copy, Debug, PartialEq, Eq)]
+#[derive(Clone, Copy, PartialEq, Eq)]
 pub(crate) enum Heard {
     /// Bytes came.
     Bytes,
@@ -30,7 +30,7 @@ pub(crate) enum Heard {
 }
 
 // What a turn did when it had its chance to write.
-#[derive(Clone, Copy, Debug, PartialEq, Eq)]
+#[derive(Clone, Copy, PartialEq, Eq)]
 pub(crate) enum Sent {
     /// Bytes went.
     Bytes,
@@ -45,7 +45,7 @@ pub(crate) enum Sent {
 }
 
 // What the steps of a turn did.
-#[derive(Clone, Copy, Debug, PartialEq, Eq)]
+#[derive(Clone, Copy)]
 pub(crate) struct Done {
     /// Whether an order was taken.
     pub took: bool,

@@ -1,5 +1,5 @@
 -- The open stream ends: it is shut, or a header that came on it was refused.
-use Rattle.std.proofs.Common.{◌≡◌, ◌≢◌, ◌⊎◌, inl, inr, ℕ, suc, if◌then◌else◌, ◌<◌, ◌≤◌, true, false, Some, None, slice_get, List, [], ◌∷◌, ◌++◌, take, drop, length, append_assoc, ◌==◌, refl, sym, ap, subst, ◌∙◌, arith}
+use Rattle.std.proofs.Common.{◌≡◌, ◌≢◌, ◌⊎◌, inl, inr, ℕ, zero, suc, if◌then◌else◌, ◌<◌, ◌≤◌, true, false, Some, None, slice_get, List, [], ◌∷◌, ◌++◌, take, drop, length, append_assoc, ◌==◌, refl, sym, ap, subst, ◌∙◌, arith}
 use Rattle.std.specs.List.{Contains}
 use Rattle.std.proofs.lemmas.Bool.{cond-true, cond-false, eq-eqb, ne_eqb}
 use Rattle.std.proofs.lemmas.List.{take-append-drop}
@@ -24,7 +24,7 @@ use Rattle.rds_line_streams.specs.Changes.{IsShutDown}
 use Rattle.rds_line_streams.specs.NumberLaws.{later_number, number_there}
 use Rattle.rds_line_streams.specs.Streams.{StreamsView, AreKept, AreNumbered, EndAt, HasSaidOver, newest_place, numbers}
 use Rattle.rds_line_channel.specs.Changes.{EndsStream}
-use Rattle.rds_line_channel.specs.Carried.{IsOff, HasCause, IsCarriedBy}
+use Rattle.rds_line_channel.specs.Carried.{IsOff, HasCause, IsCarriedBy, cuts_of_streams, shuts}
 
 -- what becomes of a journal and of the cuts where the open stream ends, which has this number and of which these bytes arrived
 pub record Ends (past past_now : List Entry) (arrived cuts cuts_now : List ℕ) (number : ℕ) : Type 0 where
@@ -35,6 +35,7 @@ pub record Ends (past past_now : List Entry) (arrived cuts cuts_now : List ℕ) 
   pub read_beside : (n : ℕ) → n ≢ number → read_bytes n past_now ≡ read_bytes n past
   pub refused_beside : (n : ℕ) → n ≢ number → refused_bytes n past_now ≡ refused_bytes n past
   pub more : (n : ℕ) → Contains cuts n → Contains cuts_now n
+  pub shut : cuts_of_streams cuts ≤ shuts past → cuts_of_streams cuts_now ≤ shuts past_now
   pub late : Contains cuts_now 0 → Contains cuts 0
 
 -- a stream has a number above 0
@@ -46,11 +47,23 @@ number_some list numbered place stream stands =
     let pair = AllPairs-from_increasing (0 ∷ numbers list) numbered 0 (suc place) 0 (omega arith) (omega arith) in
     subst (λ n. 0 < n) (get_or_from_slice_get (numbers list) place stream.0 0 there) pair
 
+-- one more cut shuts at most one stream, and one that found none open shuts none
+one_cut_more : (cuts : List ℕ) (number : ℕ) → cuts_of_streams (cuts ++ number ∷ []) ≤ suc (cuts_of_streams cuts)
+one_cut_more [] zero = omega arith
+one_cut_more [] (suc number) = omega arith
+one_cut_more (zero ∷ cuts) number = one_cut_more cuts number
+one_cut_more (suc n ∷ cuts) number = let rest = one_cut_more cuts number in omega arith
+
+late_cut_more : (cuts : List ℕ) → cuts_of_streams (cuts ++ 0 ∷ []) ≡ cuts_of_streams cuts
+late_cut_more [] = refl
+late_cut_more (zero ∷ cuts) = late_cut_more cuts
+late_cut_more (suc n ∷ cuts) = ap suc (late_cut_more cuts)
+
 -- the stream is shut
 shut_ends : (number : ℕ) (past : List Entry) (arrived cuts cuts_now : List ℕ) →
-    ((n : ℕ) → Contains cuts n → Contains cuts_now n) → (Contains cuts_now 0 → Contains cuts 0) →
-    Ends past (Shut number ∷ past) arrived cuts cuts_now number
-shut_ends number past arrived cuts cuts_now more late = record {
+    ((n : ℕ) → Contains cuts n → Contains cuts_now n) → cuts_of_streams cuts_now ≤ suc (cuts_of_streams cuts) →
+    (Contains cuts_now 0 → Contains cuts 0) → Ends past (Shut number ∷ past) arrived cuts cuts_now number
+shut_ends number past arrived cuts cuts_now more count late = record {
   none = refl;
   opened = refl;
   written = λ n. refl;
@@ -58,6 +71,7 @@ shut_ends number past arrived cuts cuts_now more late = record {
   read_beside = λ n _. refl;
   refused_beside = λ n _. refl;
   more = more;
+  shut = λ few. omega (arith, few, count);
   late = late;
 }
 
@@ -74,6 +88,7 @@ refused_ends number header fault past taken piece cuts used legal on bytes = rec
   refused_beside = λ n apart.
       cond-false (number == n) (header_bytes header) (refused_bytes n past) (ne_eqb number n (λ same. apart (sym same)));
   more = λ n cut. cut;
+  shut = λ few. few;
   late = λ zero. zero;
 }
   where
@@ -173,7 +188,8 @@ module _ {E : Type 0} (m : Means E) where
         causes = λ place is. record {
           at = λ stream stands. caused_now cause place stream is.0 (changed_cases ends.change place stream stands);
         };
-        late = λ zero. carried.late (gone.late zero) ∙ sym (changed_length ends.change);
+        shut = gone.shut carried.shut;
+        late = λ zero. (refl, (carried.late (gone.late zero)).1 ∙ sym (changed_length ends.change));
       }
 
       carried_by_now : HasCause m past_now cuts_now ends.change.number ends.change.end_after →
@@ -187,7 +203,7 @@ module _ {E : Type 0} (m : Means E) where
     carried_over over =
         let shut = ends.change in
         let said = over.at (shut.number, shut.end_before) shut.stood in
-        carried_by_now (Shut shut.number ∷ past) cuts (shut_ends shut.number past arrived cuts cuts (λ n cut. cut) (λ zero. zero))
+        carried_by_now (Shut shut.number ∷ past) cuts (shut_ends shut.number past arrived cuts cuts (λ n cut. cut) (omega arith) (λ zero. zero))
         (inr (inl (said_over shut.end_before shut.end_after shut.way said)))
 
     -- a cut shut it
@@ -196,7 +212,7 @@ module _ {E : Type 0} (m : Means E) where
         let number = ends.change.number in
         carried_by_now (Shut number ∷ past) (cuts ++ number ∷ [])
         (shut_ends number past arrived cuts (cuts ++ number ∷ []) (λ n cut. Contains-append_left cuts (number ∷ []) n cut)
-        (λ zero. earlier (Contains-push_cases cuts number 0 zero)))
+        (one_cut_more cuts number) (λ zero. earlier (Contains-push_cases cuts number 0 zero)))
         (inl (Contains-push cuts number))
       where
         earlier : Contains cuts 0 ⊎ (ends.change.number ≡ 0) → Contains cuts 0
@@ -215,16 +231,17 @@ module _ {E : Type 0} (m : Means E) where
         (inr (inr (refused_some number header fault past fits)))
 
   -- a cut came where no stream was open and no further one is left
-  pub carried_late : (past : List Entry) (arrived out cuts : List ℕ) (s : StreamsView E) → s.opened ≡ length s.list →
-      IsCarriedBy m past arrived out s cuts → IsCarriedBy m past arrived out s (cuts ++ 0 ∷ [])
-  carried_late past arrived out cuts s last carried = record {
+  pub carried_late : (past : List Entry) (arrived out cuts : List ℕ) (s : StreamsView E) → s.is_open ≡ false →
+      s.opened ≡ length s.list → IsCarriedBy m past arrived out s cuts → IsCarriedBy m past arrived out s (cuts ++ 0 ∷ [])
+  carried_late past arrived out cuts s off last carried = record {
     current = carried.current;
     opened = carried.opened;
     on = carried.on;
     off = carried.off;
     idle = carried.idle;
     causes = λ place is. record { at = λ stream stands. more stream.0 stream.1 ((carried.causes place is).at stream stands) };
-    late = λ zero. last;
+    shut = subst (λ n. n ≤ shuts past) (sym (late_cut_more cuts)) carried.shut;
+    late = λ zero. (off, last);
   }
     where
       more : (number : ℕ) (e : E) → HasCause m past cuts number e → HasCause m past (cuts ++ 0 ∷ []) number e

@@ -34,6 +34,7 @@ goes_nowhere : (past : List Entry) (arrived out : List ℕ) → JournalGoesOn pa
 goes_nowhere past arrived out = record {
   stream = refl;
   opened = refl;
+  shut = refl;
   refused = λ n. refl;
   written_beside = λ n apart. refl;
   read_beside = λ n apart. refl;
@@ -49,6 +50,7 @@ goes_accepted : {past next : List Entry} {arrived arrived_next out out_next : Li
 goes_accepted slot sport dport payload goes = record {
   stream = goes.stream;
   opened = goes.opened;
+  shut = goes.shut;
   refused = goes.refused;
   written_beside = goes.written_beside;
   read_beside = goes.read_beside;
@@ -62,6 +64,7 @@ goes_cancelled : (slot : ℕ) (target : Target) (past : List Entry) (arrived out
 goes_cancelled slot target past arrived out = record {
   stream = refl;
   opened = refl;
+  shut = refl;
   refused = λ n. refl;
   written_beside = λ n apart. refl;
   read_beside = λ n apart. refl;
@@ -95,6 +98,7 @@ goes_pulled : (s : ℕ) (f : Frame) (past : List Entry) (arrived out : List ℕ)
 goes_pulled s f past arrived out current = record {
   stream = refl;
   opened = refl;
+  shut = refl;
   refused = λ n. refl;
   written_beside = λ n apart. written_pull_other n s f past (λ same. apart (current ∙ ap Some same));
   read_beside = λ n apart. refl;
@@ -114,6 +118,7 @@ goes_read : (s : ℕ) (f : Frame) (o : Outcome) (past : List Entry) (after out :
 goes_read s f o past after out legal current = record {
   stream = refl;
   opened = refl;
+  shut = refl;
   refused = λ n. refl;
   written_beside = λ n apart. refl;
   read_beside = λ n apart. read_read_other n s f o past (λ same. apart (current ∙ ap Some same));

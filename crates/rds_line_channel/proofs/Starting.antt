@@ -67,8 +67,9 @@ module _ {E : Type 0} (m : Means E) (past : List Entry) (arrived out : List ℕ)
         };
         idle = λ on. absurd (cc);
         causes = λ place is. carried.causes place (ended_before place is);
+        shut = carried.shut;
         late = λ zero.
             let left = slice_get_within (numbers s.list) s.opened number next in
-            let none = carried.late zero in
+            let none = (carried.late zero).1 in
             absurd (omega (arith, length-map s.list (λ (x : ℕ × E). x.0)));
       }

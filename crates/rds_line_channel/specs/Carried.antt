@@ -1,12 +1,25 @@
 -- How the streams of a line stand to its journal. Source: this project's own.
-use Rattle.std.specs.Prelude.{◌≡◌, ◌≢◌, ◌⊎◌, ℕ, true, false, Some, List, [], ◌++◌, length, slice_get, Contains}
+use Rattle.std.specs.Prelude.{◌≡◌, ◌≢◌, ◌⊎◌, ◌≤◌, ℕ, zero, suc, true, false, Some, List, [], ◌∷◌, ◌++◌, length, slice_get, Contains}
 use Rattle.rds_link.specs.Ends.{Means}
 use Rattle.rds_model.specs.declared.entry.Entry.{Entry}
+use Rattle.rds_model.specs.declared.entry.Entry.TheVariants.{Shut}
 use Rattle.rds_model.specs.Honest.{Begins}
 use Rattle.rds_model.specs.Past.{open_stream}
 use Rattle.rds_model.specs.Streams.{read_bytes, refused_bytes, written_bytes}
 use Rattle.rds_model.specs.Sums.{opens}
 use Rattle.rds_line_streams.specs.Streams.{StreamsView, HasSaidOver, IsEndedAt, newest_place, open_number, opened_numbers}
+
+-- how many streams were shut
+abbrev pub shuts : List Entry → ℕ
+shuts [] = 0
+shuts (Shut stream ∷ past) = suc (shuts past)
+shuts (_ ∷ past) = shuts past
+
+-- how many of the cuts found a stream open: those that are noted with its number, and not with 0
+abbrev pub cuts_of_streams : List ℕ → ℕ
+cuts_of_streams [] = 0
+cuts_of_streams (zero ∷ cuts) = cuts_of_streams cuts
+cuts_of_streams (suc number ∷ cuts) = suc (cuts_of_streams cuts)
 
 module _ {E : Type 0} where
   -- this holds of the number and the end of the stream at this place
@@ -39,5 +52,7 @@ module _ {E : Type 0} where
       pub off : m.tells ≡ true → (place : ℕ) → IsEndedAt s place → StreamAt IsOff place s.list
       pub idle : s.is_open ≡ false → (arrived ≡ []) × (out ≡ [])
       pub causes : (place : ℕ) → IsEndedAt s place → StreamAt (HasCause cuts) place s.list
-      -- a cut that found no stream open was taken where no further one was left
-      pub late : Contains cuts 0 → s.opened ≡ length s.list
+      -- for each cut that found a stream open one was shut
+      pub shut : cuts_of_streams cuts ≤ shuts past
+      -- after a cut that found no stream open none is open, and no further one is left
+      pub late : Contains cuts 0 → (s.is_open ≡ false) × (s.opened ≡ length s.list)

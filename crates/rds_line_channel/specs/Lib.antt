@@ -1,3 +1,4 @@
 pub mod Channel
 pub mod Carried
 pub mod Changes
+pub mod CutLaws

@@ -176,7 +176,8 @@ fn boxes(alloc: Global) -> Result<(Arc<Mail<Datagram>>, GetPass<Datagram>, Boxes
 
 // A port table of one slot, which holds the port.
 fn ports(alloc: Global) -> Result<LinePorts, Memory>
-    ensures { IfOk result (λ p. p.table.slots ≡ 1) }
+    ensures slots { IfOk result (λ p. p.table.slots ≡ 1) }
+    ensures looks { IfOk result (λ p. p.view.steps ≡ []) }
 {
     let (table, mut holder) = BindTable::new(alloc, 1)?;
     let looker = table.split(&mut holder);

@@ -1,7 +1,7 @@
 ghost use Rattle.std.specs.Prelude.{◌≡◌, ℕ, Err, OnErr, OnOk};
 ghost use Rattle.rds_model.specs.declared.journal.JournalError.TheVariants as errors;
-ghost use Rattle.rds_line.specs.Line.{IsFull, IsOpenOrLast, line_past, pulls_in};
-ghost use Rattle.rds_line.specs.Stays.{LineStays};
+ghost use Rattle.rds_line.specs.Line.{IsFull, IsOpenOrLast, line_past};
+ghost use Rattle.rds_line.specs.Steps.{StaysQuiet};
 
 use super::Line;
 use rds_fmap::MapWriter;
@@ -11,9 +11,7 @@ use rds_model::JournalError;
 impl<E: End, M: MapWriter> Line<E, M> {
     // Opens the next stream, where none is open. After it one is open, or none is left.
     pub(super) fn open_next(&mut self) -> Result<(), JournalError>
-        ensures stays { LineStays E.means M.pair self.old self.new }
-        ensures own { self.new.own ≡ self.old.own }
-        ensures pulls { pulls_in (line_past self.new) ≡ pulls_in (line_past self.old) }
+        ensures quiet { StaysQuiet E.means M.pair self.old self.new }
         ensures alone { self.new ≡ record self.old { channel = self.new.channel } }
         ensures streams { line_past self.new ≡ line_past self.old → self.new.channel.streams ≡ self.old.channel.streams }
         ensures open { OnOk result (IsOpenOrLast self.new) }

@@ -4,9 +4,8 @@ ghost use Rattle.rds_model.specs.declared.journal.JournalError.TheVariants as er
 ghost use Rattle.rds_conn.specs.Connection.{IsReady};
 ghost use Rattle.rds_line_streams.specs.Streams.{newest_place};
 ghost use Rattle.rds_line_channel.specs.declared.channel.Taken.TheVariants as taken;
-ghost use Rattle.rds_line.specs.Line.{IsFull, line_past, pulls_in};
-ghost use Rattle.rds_line.specs.Stays.{LineStays};
-ghost use Rattle.rds_line.specs.Steps.{IsWaiting, PassesOne, left_to_take};
+ghost use Rattle.rds_line.specs.Line.{IsFull, line_past};
+ghost use Rattle.rds_line.specs.Steps.{IsWaiting, PassesOne, StaysQuiet, left_to_take};
 ghost use Rattle.rds_line.specs.Turns.{GetsBytes, HearsNothing};
 ghost use Rattle.rds_line.specs.declared.outcome.Heard.TheVariants as heard;
 
@@ -22,13 +21,10 @@ use std::sync::Wait;
 impl<E: End, M: MapWriter> Line<E, M> {
     // Passes what came in earlier turns, reads once, and passes what came.
     pub(super) fn receive<W: Wait>(&mut self, rt: &W) -> Result<Heard, JournalError>
-        ensures stays { LineStays E.means M.pair self.old self.new }
-        ensures own { self.new.own ≡ self.old.own }
-        ensures pulls { pulls_in (line_past self.new) ≡ pulls_in (line_past self.old) }
-        ensures orders { self.new.orders ≡ self.old.orders }
+        ensures quiet { StaysQuiet E.means M.pair self.old self.new }
         ensures closed { result ≡ Ok heard.Closed → (self.old.channel.streams.is_open ≡ false) × (self.new ≡ self.old) }
         ensures nothing { result ≡ Ok heard.Nothing → HearsNothing E.means self.old.channel self.new.channel }
-        ensures open { result ≡ Ok heard.Nothing → self.new.channel.streams.is_open ≡ true }
+        ensures on { result ≡ Ok heard.Nothing → self.new.channel.streams.is_open ≡ true }
         ensures bytes { result ≡ Ok heard.Bytes → GetsBytes E.means (newest_place self.old.channel.streams) self.old.channel.streams.list self.new.channel.streams.list }
         ensures ended { result ≡ Ok heard.Ended → length (line_past self.old) < length (line_past self.new) }
         ensures spent { (entries : ℕ) → result ≡ Err (errors.Spent entries) → IsFull entries self.new }
@@ -58,10 +54,7 @@ impl<E: End, M: MapWriter> Line<E, M> {
     // ends.
     fn pass_all<W: Wait>(&mut self, rt: &W) -> Result<bool, JournalError>
         requires open { self.old.channel.streams.is_open ≡ true }
-        ensures stays { LineStays E.means M.pair self.old self.new }
-        ensures own { self.new.own ≡ self.old.own }
-        ensures pulls { pulls_in (line_past self.new) ≡ pulls_in (line_past self.old) }
-        ensures orders { self.new.orders ≡ self.old.orders }
+        ensures quiet { StaysQuiet E.means M.pair self.old self.new }
         ensures streams { result ≡ Ok true → self.new.channel.streams ≡ self.old.channel.streams }
         ensures none_waits { result ≡ Ok true → self.new.channel.conn.waiting ≡ None }
         ensures none_left { result ≡ Ok true → self.new.channel.piece ≡ [] }
@@ -79,10 +72,7 @@ impl<E: End, M: MapWriter> Line<E, M> {
     // Takes bytes that came, until a frame is whole or none is left.
     fn take(&mut self) -> Result<Taken, JournalError>
         requires open { self.old.channel.streams.is_open ≡ true }
-        ensures stays { LineStays E.means M.pair self.old self.new }
-        ensures own { self.new.own ≡ self.old.own }
-        ensures pulls { pulls_in (line_past self.new) ≡ pulls_in (line_past self.old) }
-        ensures orders { self.new.orders ≡ self.old.orders }
+        ensures quiet { StaysQuiet E.means M.pair self.old self.new }
         ensures ready { result ≡ Ok taken.Frame → IsReady self.new.channel.conn }
         ensures frame { result ≡ Ok taken.Frame → IsSome self.new.channel.conn.waiting }
         ensures part { result ≡ Ok taken.Part → (self.new.channel.conn.waiting ≡ None) × (self.new.channel.piece ≡ []) }
@@ -102,10 +92,7 @@ impl<E: End, M: MapWriter> Line<E, M> {
     fn pass<W: Wait>(&mut self, rt: &W) -> Result<(), JournalError>
         requires ready { IsReady self.old.channel.conn }
         requires waits { IsSome self.old.channel.conn.waiting }
-        ensures stays { LineStays E.means M.pair self.old self.new }
-        ensures own { self.new.own ≡ self.old.own }
-        ensures pulls { pulls_in (line_past self.new) ≡ pulls_in (line_past self.old) }
-        ensures orders { self.new.orders ≡ self.old.orders }
+        ensures quiet { StaysQuiet E.means M.pair self.old self.new }
         ensures passed { OnOk result (PassesOne self.old.channel self.new.channel) }
         ensures err { IfErr result (λ error. error ≡ errors.Memory) }
     {
@@ -126,10 +113,7 @@ impl<E: End, M: MapWriter> Line<E, M> {
     fn deliver<W: Wait>(&mut self, rt: &W, port: u16) -> Result<(), JournalError>
         requires ready { IsReady self.old.channel.conn }
         requires waits { IsWaiting (verdict.Deliver port) self.old.channel.conn }
-        ensures stays { LineStays E.means M.pair self.old self.new }
-        ensures own { self.new.own ≡ self.old.own }
-        ensures pulls { pulls_in (line_past self.new) ≡ pulls_in (line_past self.old) }
-        ensures orders { self.new.orders ≡ self.old.orders }
+        ensures quiet { StaysQuiet E.means M.pair self.old self.new }
         ensures passed { OnOk result (PassesOne self.old.channel self.new.channel) }
         ensures err { IfErr result (λ error. error ≡ errors.Memory) }
     {
@@ -155,10 +139,7 @@ impl<E: End, M: MapWriter> Line<E, M> {
     fn publish<W: Wait>(&mut self, rt: &W) -> Result<(), JournalError>
         requires ready { IsReady self.old.channel.conn }
         requires waits { IsWaiting verdict.Map self.old.channel.conn }
-        ensures stays { LineStays E.means M.pair self.old self.new }
-        ensures own { self.new.own ≡ self.old.own }
-        ensures pulls { pulls_in (line_past self.new) ≡ pulls_in (line_past self.old) }
-        ensures orders { self.new.orders ≡ self.old.orders }
+        ensures quiet { StaysQuiet E.means M.pair self.old self.new }
         ensures passed { OnOk result (PassesOne self.old.channel self.new.channel) }
         ensures err { IfErr result (λ error. error ≡ errors.Memory) }
     {

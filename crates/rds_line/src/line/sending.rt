@@ -5,6 +5,7 @@ ghost use Rattle.rds_line_parts.specs.Own.{IsRefresh};
 ghost use Rattle.rds_line_streams.specs.Streams.{newest_place};
 ghost use Rattle.rds_line.specs.Line.{IsFull, line_past, pulls_in};
 ghost use Rattle.rds_line.specs.Stays.{LineStays};
+ghost use Rattle.rds_line.specs.Steps.{StaysQuiet};
 ghost use Rattle.rds_line.specs.Turns.{FindsNoRoom, LeavesNothing, LoadsOwn, FindsNothingOwed, PullsOwn, SendsBytes};
 ghost use Rattle.rds_line.specs.declared.outcome.Sent.TheVariants as sent;
 
@@ -86,10 +87,7 @@ impl<E: End, M: MapWriter> Line<E, M> {
     fn write(&mut self) -> Result<Sent, JournalError>
         requires open { self.old.channel.streams.is_open ≡ true }
         requires some { self.old.channel.out ≢ [] }
-        ensures stays { LineStays E.means M.pair self.old self.new }
-        ensures own { self.new.own ≡ self.old.own }
-        ensures pulls { pulls_in (line_past self.new) ≡ pulls_in (line_past self.old) }
-        ensures orders { self.new.orders ≡ self.old.orders }
+        ensures quiet { StaysQuiet E.means M.pair self.old self.new }
         ensures came { OnOk result (LeavesNothing self.old.channel self.new.channel) }
         ensures written { (result ≢ Ok sent.Closed) × (result ≢ Ok sent.Nothing) }
         ensures full { result ≡ Ok sent.Full → FindsNoRoom E.means self.old.channel self.new.channel }

@@ -2,6 +2,7 @@ ghost use Rattle.std.specs.Prelude.{◌≡◌, ◌⊎◌, ◌<◌, nat_lt, ℕ, 
 ghost use Rattle.rds_model.specs.declared.journal.JournalError.TheVariants as errors;
 ghost use Rattle.rds_line.specs.Line.{IsFull, line_past, pulls_in};
 ghost use Rattle.rds_line.specs.Stays.{LineStays};
+ghost use Rattle.rds_line.specs.Steps.{StaysQuiet};
 ghost use Rattle.rds_line.specs.Turns.{HasMoved, IsIdleTurn, IsOverTurn, PullsOwn, TakesOrder};
 ghost use Rattle.rds_line.specs.Doing.{Did, IsRelieved, answer_of};
 ghost use Rattle.rds_line.specs.declared.outcome.Turn.TheVariants as turn;
@@ -58,9 +59,7 @@ impl<E: End, M: MapWriter> Line<E, M> {
 
     // Counts all freed bytes.
     fn relieve(&mut self)
-        ensures stays { LineStays E.means M.pair self.old self.new }
-        ensures own { self.new.own ≡ self.old.own }
-        ensures pulls { pulls_in (line_past self.new) ≡ pulls_in (line_past self.old) }
+        ensures quiet { StaysQuiet E.means M.pair self.old self.new }
         ensures freed { sum self.new.channel.conn.freed ≡ 0 }
         ensures alone { IsRelieved self.old self.new }
     {

@@ -27,8 +27,11 @@ hear_orders-requires g c =
     ap (λ (p : Putter Order). p.mail) note.2
     ∙ fit_orders i c.args.socket.now.own c.loop-i.socket.own c.args.lines.now c.loop-i.lines c.requires c.loop-i.invariant i line at note.0 note.1
 
-pub hear_port-requires : goal.hear_port-requires
-hear_port-requires g c =
+pub hear_port-requires-clause-steps : goal.hear_port-requires-clause-steps
+hear_port-requires-clause-steps g c = ap (λ (n : seats.PortSeat). n.view.steps) c.port_note.ensures.note
+
+pub hear_port-requires-clause-table : goal.hear_port-requires-clause-table
+hear_port-requires-clause-table g c =
     let i = c.loop-i.i in
     let line = get_or c.loop-i.lines i c.index-lines-i.result in
     let at : slice_get c.loop-i.lines i ≡ Some line = slice_get-get_or c.loop-i.lines i c.index-lines-i.result (omega arith) in

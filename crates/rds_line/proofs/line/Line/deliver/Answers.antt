@@ -1,5 +1,11 @@
-use Rattle.std.proofs.Common.{ℕ, ◌<◌, length, refl, ap, subst, ◌∙◌, arith}
-use Rattle.rds_bindtab.specs.Seats.{PortSeat}
+use Rattle.std.proofs.Common.{◌≡◌, ℕ, ◌<◌, Option, None, List, length, refl, sym, ap, subst, ◌∙◌, arith}
+use Rattle.rds_bindtab.specs.Seats.{PortSeat, after_look, knowing}
+use Rattle.rds_mail.specs.Passes.{Putter}
+use Rattle.rds_line.specs.Keeps.{IsPulled, KeepsLine}
+use Rattle.rds_line.specs.Line.{LineView}
+use Rattle.rds_line.proofs.Fields.{view_in}
+use Rattle.rds_line.proofs.Keeping.{keeps_looked}
+use Rattle.rds_line.proofs.PortLooks.{found_none}
 use Rattle.rds_model.specs.declared.entry.Outcome.TheVariants as outcome
 use Rattle.rds_model.specs.declared.entry.Verdict.{Verdict}
 use Rattle.rds_model.specs.declared.entry.TheConstants.{MAX_SLOTS}
@@ -8,18 +14,23 @@ use Rattle.rds_conn.specs.declared.conn.Found.TheVariants as found
 use Rattle.rds_conn.specs.Passing.{outcome_of}
 use Rattle.rds_line_parts.specs.Boxes.{IsPutInto}
 use Rattle.rds_line_parts.specs.Delivery.{IsDelivery}
-use Rattle.rds_model.specs.SumLaws.{same_list}
 use Rattle.rds_line.proofs.Staying.{boxes_same, channel_same}
 use Rattle.rds_line.proofs.Passing.{keeps_passed}
-use Rattle.rds_line.proofs.Delivering.{datagram_is, delivery_fits, passes_delivery, passes_quietly, ready_inside, verdict_here, waits_inside}
-use Rattle.rds_line.proofs.StaysPassed.{at_err, at_ok, boxes_as, line_stays, passed_stays, put_same, same_seats}
+use Rattle.rds_line.proofs.Delivering.{datagram_is, delivery_fits, nobody_looks, passes_delivery, passes_quietly, port_is, ready_inside, verdict_here, waits_inside}
+use Rattle.rds_line.proofs.StaysPassed.{at_err, at_ok, boxes_as, line_quiet, passed_one, passed_pulls, passed_stays, put_same, same_seats, seats_looked, seats_through}
 use Rattle.rds_line.proofs.line.Line.deliver.Goals as goal
 
-pub returns-in_default-clause-stays : goal.returns-in_default-clause-stays
-returns-in_default-clause-stays g c =
-    let table = ap (λ (h : PortSeat). h.table) c.look.ensures.seat in
-    let passed = passed_stays c.pass.ensures.passes c.pass.ensures.rest in
-    line_stays c.self.view_is passed refl (boxes_same c.self.inside.boxes) table refl refl (same_list _) refl
+pub returns-in_default : goal.returns-in_default
+returns-in_default g c =
+    let i = c.self.inside in
+    let did = c.pass.ensures in
+    record {
+      quiet =
+          line_quiet c.self.view_is (passed_stays did.passes did.rest) (passed_pulls did.passes) refl (boxes_same i.boxes)
+          (seats_looked i.words i.ports c.look.new.self c.args.port _ c.look.ensures.seat) refl refl;
+      passed = passed_one c.self.view_is c.pass.new.self did.passes did.rest;
+      err = tt;
+    }
 
 pub invariant_of-self : goal.invariant_of-self
 invariant_of-self g c =
@@ -28,23 +39,56 @@ invariant_of-self g c =
     let is = verdict_here (waits_inside c.self.view_is c.requires.waits) p in
     let none = ap (λ (v : Verdict). outcome_of v found.NoSocket) is in
     let table = ap (λ (h : PortSeat). h.table) c.look.ensures.seat in
+    let nobody = found_none c.look.result c.in_default.not-Some in
+    let looked : c.look.new.self ≡ knowing c.self.inside.ports (after_look c.self.inside.ports.view c.args.port None) =
+    c.look.ensures.seat ∙ ap (λ (o : Option ℕ). knowing c.self.inside.ports (after_look c.self.inside.ports.view c.args.port o)) nobody in
     keeps_passed published c.self.inside.own_pulled
     (passes_quietly published found.NoSocket _ _ p outcome.NoSocket none refl (λ payload earlier. refl)
-    c.pass.ensures.rest table refl)
+    c.pass.ensures.rest table
+    (nobody_looks c.self.inside.ports c.look.new.self c.args.port p.stream p.frame _ looked (port_is _ p.frame.header c.args.port is))
+    refl)
     c.self.invariant
 
-pub returns-in_default-datagram-clause-stays : goal.returns-in_default-datagram-clause-stays
-returns-in_default-datagram-clause-stays g c =
-    let table = ap (λ (h : PortSeat). h.table) c.look.ensures.seat in
-    let stays = channel_same g.E.End.means c.self.inside.channel in
-    line_stays c.self.view_is stays refl (boxes_same c.self.inside.boxes) table refl refl (same_list _) refl
+pub invariant_of-self-in_default-datagram : goal.invariant_of-self-in_default-datagram
+invariant_of-self-in_default-datagram g c = (
+  keeps_looked g.M.MapWriter.published (view_in c.self.inside) c.look.new.self c.args.port c.look.result c.look.ensures.seat
+      c.self.invariant.0,
+  c.self.invariant.1,
+)
 
-pub returns-then-is_err-clause-stays : goal.returns-then-is_err-clause-stays
-returns-then-is_err-clause-stays g c =
-    let table = ap (λ (h : PortSeat). h.table) c.look.ensures.seat in
+pub invariant_of-self-then-is_err : goal.invariant_of-self-then-is_err
+invariant_of-self-then-is_err g c =
+    let looked : LineView g.row.E.Denot g.row.M.Denot = record (view_in c.self.inside) { ports = c.look.new.self } in
     let same = at_err c.put.result c.if-is_err.ensures.value c.put.ensures.same in
-    let stays = channel_same g.E.End.means c.self.inside.channel in
-    line_stays c.self.view_is stays refl (boxes_as c.self.inside.boxes c.put.new.self same) table refl refl (same_list _) refl
+    subst (λ (boxes : List (Putter Datagram)). KeepsLine g.M.MapWriter.published (record looked { boxes = boxes })
+    × IsPulled c.self.inside.own_pulled (record looked { boxes = boxes })) (sym same) (
+      keeps_looked g.M.MapWriter.published (view_in c.self.inside) c.look.new.self c.args.port c.look.result c.look.ensures.seat
+          c.self.invariant.0,
+      c.self.invariant.1,
+    )
+
+pub returns-in_default-datagram : goal.returns-in_default-datagram
+returns-in_default-datagram g c =
+    let i = c.self.inside in
+    record {
+      quiet =
+          line_quiet c.self.view_is (channel_same g.E.End.means i.channel) refl refl (boxes_same i.boxes)
+          (seats_looked i.words i.ports c.look.new.self c.args.port _ c.look.ensures.seat) refl refl;
+      passed = tt;
+      err = refl;
+    }
+
+pub returns-then-is_err : goal.returns-then-is_err
+returns-then-is_err g c =
+    let i = c.self.inside in
+    let same = at_err c.put.result c.if-is_err.ensures.value c.put.ensures.same in
+    record {
+      quiet =
+          line_quiet c.self.view_is (channel_same g.E.End.means i.channel) refl refl (boxes_as i.boxes c.put.new.self same)
+          (seats_looked i.words i.ports c.look.new.self c.args.port _ c.look.ensures.seat) refl refl;
+      passed = tt;
+      err = refl;
+    }
 
 pub deliver-requires-clause-part : goal.deliver-requires-clause-part
 deliver-requires-clause-part g c =
@@ -83,13 +127,20 @@ invariant_of-self-2 g c =
     let table = ap (λ (h : PortSeat). h.table) c.look.ensures.seat in
     keeps_passed g.M.MapWriter.published i.own_pulled
     (passes_delivery g.M.MapWriter.published c.in-Some.slot c.args.port _ _ p (verdict_here waits p) small put ports
+    (c.look.ensures.seat ∙ ap (λ (o : Option ℕ). knowing i.ports (after_look i.ports.view c.args.port o)) c.in-Some.is)
     (seats.port_table ∙ table) delivery c.pass-2.ensures.rest refl)
     c.self.invariant
 
-pub returns-clause-stays : goal.returns-clause-stays
-returns-clause-stays g c =
+pub returns : goal.returns
+returns g c =
+    let i = c.self.inside in
     let put = at_ok c.put.result c.if-is_err.ensures.value c.put.ensures.put in
-    let seats = same_seats c.deliver.ensures.delivery in
-    let table = ap (λ (h : PortSeat). h.table) c.look.ensures.seat in
-    let passed = passed_stays c.pass-2.ensures.passes c.pass-2.ensures.rest in
-    line_stays c.self.view_is passed refl (put_same _ _ _ _ put) (seats.port_table ∙ table) seats.meter seats.meter_slot seats.meter_steps refl
+    let did = c.pass-2.ensures in
+    record {
+      quiet =
+          line_quiet c.self.view_is (passed_stays did.passes did.rest) (passed_pulls did.passes) refl (put_same _ _ _ _ put)
+          (seats_through (seats_looked i.words i.ports c.look.new.self c.args.port _ c.look.ensures.seat)
+          (same_seats c.deliver.ensures.delivery)) refl refl;
+      passed = passed_one c.self.view_is c.pass-2.new.self did.passes did.rest;
+      err = tt;
+    }

@@ -22,6 +22,7 @@ invariant_of-result-4 g c =
           (subst (λ (l : List (Putter Datagram)). All (λ (box : Putter Datagram). box.put ≡ []) l) (sym boxes) c.requires.put)
           (ap (λ (l : List (Putter Datagram)). length l) boxes ∙ (c.requires.boxes ∙ sym (ap (λ (h : PortSeat). h.table.slots) ports)))
           (subst (λ (h : PortSeat). h.table.slots ≤ MAX_SLOTS) (sym ports) c.requires.few)
+          (ap (λ (h : PortSeat). h.view.steps) ports ∙ c.requires.looks)
           (ap (λ (h : MeterSeat). h.view.steps) words ∙ c.requires.steps)
           (ap (λ (h : MeterSeat). h.view.checks) words ∙ c.requires.checks)
           c.requires.published

@@ -1,46 +1,70 @@
-use Rattle.std.proofs.Common.{List, length, ap, refl, arith}
+use Rattle.std.proofs.Common.{List, ◌∷◌, length, ap, refl, ◌∙◌, arith}
 use Rattle.rds_model.specs.declared.entry.Entry.{Entry}
-use Rattle.rds_conn.specs.Connection.{with_room}
-use Rattle.rds_line_channel.specs.Channel.{ChannelView, with_conn}
-use Rattle.rds_line.specs.Line.{LineView, line_past}
-use Rattle.rds_line.specs.Stays.{ChannelStays}
-use Rattle.rds_line.proofs.Staying.{channel_of, channel_same, channel_through, room_stays, opening_stays, line_inside, line_of}
+use Rattle.rds_model.specs.declared.entry.Entry.TheVariants as entry
+use Rattle.rds_line_channel.specs.Channel.{ChannelView}
+use Rattle.rds_line.specs.Line.{LineView, line_past, pulls_in}
+use Rattle.rds_line.proofs.Fields.{view_in}
+use Rattle.rds_line.proofs.Keeping.{keeps_plain}
+use Rattle.rds_line.proofs.Quiet.{quiet_inside, quiet_of}
+use Rattle.rds_line.proofs.Staying.{channel_of, channel_same, channel_through, opening_stays}
+use Rattle.rds_line.proofs.Written.{made_room}
 use Rattle.rds_line.proofs.line.Line.open_next.Goals as goal
 use Rattle.rds_line.proofs.line.Line.open_next.Goals.{else-not-is_open-via-then-not-is_open+else-open_next, else-not-is_open-via-else-not-is_open}
 
-pub returns-in_err-reserve-clause-stays : goal.returns-in_err-reserve-clause-stays
-returns-in_err-reserve-clause-stays g c =
-    let m = g.E.End.means in
-    let inside = c.self.inside in
-    let v : LineView g.row.E.Denot g.row.M.Denot = record { channel = inside.channel; orders = inside.orders; boxes = inside.boxes; ports = inside.ports; words = inside.words; own = inside.own; map = inside.map } in
-    line_inside m g.M.MapWriter.pair v c.args.self.now c.self.view_is c.reserve.new.self
-    (channel_of m v.channel c.reserve.new.self v.channel (c.in_err-reserve.ensures {u = tt}).err (channel_same m v.channel))
+pub invariant_of-self-then-open_next : goal.invariant_of-self-then-open_next
+invariant_of-self-then-open_next g c =
+    let v = view_in c.self.inside in
+    let room = (c.in_ok-reserve.ensures {u = tt}).ok in
+    let opens = (c.if-open_next.ensures {u = tt}).opened refl in
+    let new = c.open_next.new.self in (
+      keeps_plain g.M.MapWriter.published (entry.Open opens.number) tt v new
+          (ap (λ (k : ChannelView g.row.E.Denot). k.conn.log.past) opens.is ∙ ap (λ (k : ChannelView g.row.E.Denot). entry.Open opens.number ∷ k.conn.log.past) room)
+          (ap (λ (k : ChannelView g.row.E.Denot). k.conn.peer) opens.is ∙ ap (λ (k : ChannelView g.row.E.Denot). k.conn.peer) room)
+          (ap (λ (k : ChannelView g.row.E.Denot). k.conn.slots) opens.is ∙ ap (λ (k : ChannelView g.row.E.Denot). k.conn.slots) room)
+          (ap (λ (k : ChannelView g.row.E.Denot). k.conn.freed) opens.is ∙ ap (λ (k : ChannelView g.row.E.Denot). k.conn.freed) room)
+          (ap (λ (k : ChannelView g.row.E.Denot). k.cuts.numbers) opens.is ∙ ap (λ (k : ChannelView g.row.E.Denot). k.cuts.numbers) room)
+          c.self.invariant.0,
+      λ noted. absurd (cc),
+    )
 
-pub returns-then-open_next-clause-stays : goal.returns-then-open_next-clause-stays
-returns-then-open_next-clause-stays g c =
+pub returns-in_err-reserve-clause-quiet : goal.returns-in_err-reserve-clause-quiet
+returns-in_err-reserve-clause-quiet g c =
     let m = g.E.End.means in
-    let inside = c.self.inside in
-    let v : LineView g.row.E.Denot g.row.M.Denot = record { channel = inside.channel; orders = inside.orders; boxes = inside.boxes; ports = inside.ports; words = inside.words; own = inside.own; map = inside.map } in
-    line_inside m g.M.MapWriter.pair v c.args.self.now c.self.view_is c.open_next.new.self
-    (channel_through m v.channel c.reserve.new.self c.open_next.new.self
-    (channel_of m v.channel c.reserve.new.self (with_conn v.channel (with_room v.channel.conn)) (c.in_ok-reserve.ensures {u = tt}).ok (room_stays m v.channel))
-    (opening_stays m c.reserve.new.self c.open_next.new.self ((c.if-open_next.ensures {u = tt}).opened refl)))
+    let i = c.self.inside.channel in
+    let same = (c.in_err-reserve.ensures {u = tt}).err in
+    quiet_inside (view_in c.self.inside) c.args.self.now c.self.view_is c.reserve.new.self
+    (channel_of m i c.reserve.new.self i same (channel_same m i))
+    (ap (λ (k : ChannelView g.row.E.Denot). pulls_in k.conn.log.past) same)
 
-pub returns-else-not-is_open-clause-stays : goal.returns-else-not-is_open-clause-stays
-returns-else-not-is_open-clause-stays g c =
+pub returns-then-open_next-clause-quiet : goal.returns-then-open_next-clause-quiet
+returns-then-open_next-clause-quiet g c =
     let m = g.E.End.means in
-    let inside = c.self.inside in
-    let v : LineView g.row.E.Denot g.row.M.Denot = record { channel = inside.channel; orders = inside.orders; boxes = inside.boxes; ports = inside.ports; words = inside.words; own = inside.own; map = inside.map } in
-    let roomy : ChannelStays m v.channel c.reserve.new.self =
-    channel_of m v.channel c.reserve.new.self (with_conn v.channel (with_room v.channel.conn)) (c.in_ok-reserve.ensures {u = tt}).ok (room_stays m v.channel) in
+    let i = c.self.inside.channel in
+    let room = (c.in_ok-reserve.ensures {u = tt}).ok in
+    let opens = (c.if-open_next.ensures {u = tt}).opened refl in
+    quiet_inside (view_in c.self.inside) c.args.self.now c.self.view_is c.open_next.new.self
+    (channel_through m i c.reserve.new.self c.open_next.new.self (made_room m i c.reserve.new.self room)
+    (opening_stays m c.reserve.new.self c.open_next.new.self opens))
+    (ap (λ (k : ChannelView g.row.E.Denot). pulls_in k.conn.log.past) opens.is
+    ∙ ap (λ (k : ChannelView g.row.E.Denot). pulls_in k.conn.log.past) room)
+
+pub returns-else-not-is_open-clause-quiet : goal.returns-else-not-is_open-clause-quiet
+returns-else-not-is_open-clause-quiet g c =
+    let m = g.E.End.means in
+    let v = view_in c.self.inside in
+    let i = c.self.inside.channel in
+    let room = (c.in_ok-reserve.ensures {u = tt}).ok in
+    let roomy = made_room m i c.reserve.new.self room in
+    let pulls = ap (λ (k : ChannelView g.row.E.Denot). pulls_in k.conn.log.past) room in
     elim c.else-not-is_open.branch [
       | else-not-is_open-via-then-not-is_open+else-open_next w ↦
-          line_of m g.M.MapWriter.pair c.args.self.now c.else-not-is_open.self (record v { channel = w.open_next.new.self }) w.self-is
-          (line_inside m g.M.MapWriter.pair v c.args.self.now c.self.view_is w.open_next.new.self
-          (channel_of m v.channel w.open_next.new.self c.reserve.new.self ((w.if-open_next.ensures {u = tt}).none refl).0 roomy))
+          let same = ((w.if-open_next.ensures {u = tt}).none refl).0 in
+          quiet_of w.self-is
+          (quiet_inside v c.args.self.now c.self.view_is w.open_next.new.self
+          (channel_of m i w.open_next.new.self c.reserve.new.self same roomy)
+          (ap (λ (k : ChannelView g.row.E.Denot). pulls_in k.conn.log.past) same ∙ pulls))
       | else-not-is_open-via-else-not-is_open w ↦
-          line_of m g.M.MapWriter.pair c.args.self.now c.else-not-is_open.self (record v { channel = c.reserve.new.self }) w.self-is
-          (line_inside m g.M.MapWriter.pair v c.args.self.now c.self.view_is c.reserve.new.self roomy)
+          quiet_of w.self-is (quiet_inside v c.args.self.now c.self.view_is c.reserve.new.self roomy pulls)
     ]
 
 pub returns-then-open_next-clause-streams : goal.returns-then-open_next-clause-streams

@@ -1,13 +1,13 @@
-use Rattle.std.proofs.Common.{◌≢◌, refl, ◌∙◌}
+use Rattle.std.proofs.Common.{◌≢◌, ℕ, refl, ◌∙◌}
 use Rattle.rds_model.specs.declared.entry.Verdict.TheVariants as verdict
 use Rattle.rds_model.specs.Reading.{verdict_of}
 use Rattle.rds_conn.specs.declared.conn.Found.TheVariants as found
 use Rattle.rds_conn.specs.Passing.{outcome_of}
-use Rattle.rds_model.specs.SumLaws.{same_list}
-use Rattle.rds_line.proofs.Staying.{boxes_same}
 use Rattle.rds_line.proofs.Passing.{keeps_passed}
-use Rattle.rds_line.proofs.Delivering.{passes_quietly, unasked_kept, unmapped, verdict_there}
-use Rattle.rds_line.proofs.StaysPassed.{line_stays, passed_stays}
+use Rattle.rds_line.proofs.Delivering.{passes_quietly, unasked_kept, unasked_looks, unmapped, verdict_there}
+use Rattle.rds_line.proofs.Fields.{view_in}
+use Rattle.rds_line.proofs.Quiet.{quiet_inside}
+use Rattle.rds_line.proofs.StaysPassed.{passed_one, passed_pulls, passed_stays}
 use Rattle.rds_line.proofs.line.Line.pass.Goals as goal
 
 pub invariant_of-self : goal.invariant_of-self
@@ -19,12 +19,17 @@ invariant_of-self g c =
     let v = verdict_of past p.frame.header in
     let there = verdict_there past i.channel.conn.waiting c.in-Some.verdict p.frame c.in-Some.ensures p.waits in
     let unread : v ≢ verdict.Map = λ is. c.in_default-verdict.not-Map (there ∙ is) in
+    let undelivered : (port : ℕ) → v ≢ verdict.Deliver port = λ port is. c.in_default-verdict.not-Deliver port (there ∙ is) in
     keeps_passed published i.own_pulled
     (passes_quietly published found.Unasked _ _ p (outcome_of v found.Unasked) refl (unasked_kept v) (unmapped v unread)
-    c.pass.ensures.rest refl refl)
+    c.pass.ensures.rest refl (unasked_looks v undelivered p.stream p.frame past i.ports.view.steps) refl)
     c.self.invariant
 
-pub returns-in_default-verdict-clause-stays : goal.returns-in_default-verdict-clause-stays
-returns-in_default-verdict-clause-stays g c =
-    let passed = passed_stays c.pass.ensures.passes c.pass.ensures.rest in
-    line_stays c.self.view_is passed refl (boxes_same c.self.inside.boxes) refl refl refl (same_list _) refl
+pub returns-in_default-verdict : goal.returns-in_default-verdict
+returns-in_default-verdict g c = record {
+  quiet =
+      quiet_inside (view_in c.self.inside) c.args.self.now c.self.view_is c.pass.new.self
+      (passed_stays c.pass.ensures.passes c.pass.ensures.rest) (passed_pulls c.pass.ensures.passes);
+  passed = passed_one c.self.view_is c.pass.new.self c.pass.ensures.passes c.pass.ensures.rest;
+  err = tt;
+}

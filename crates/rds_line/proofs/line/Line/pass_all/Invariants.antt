@@ -2,8 +2,8 @@ use Rattle.std.proofs.Common.{◌≡◌, ◌≢◌, ℕ, suc, ◌<◌, IsSome, N
 use Rattle.rds_conn.specs.Connection.{IsReady}
 use Rattle.rds_line_channel.specs.declared.channel.Taken.{Taken}
 use Rattle.rds_line_channel.specs.declared.channel.Taken.TheVariants as taken
-use Rattle.rds_line.specs.Line.{line_past, pulls_in}
-use Rattle.rds_line.specs.Stays.{LineStays}
+use Rattle.rds_line.specs.Line.{line_past}
+use Rattle.rds_line.specs.Steps.{StaysQuiet}
 use Rattle.rds_line.proofs.line.Line.pass_all.Given as goal
 
 -- how much is left of what came, where a frame is to be passed
@@ -14,10 +14,7 @@ left_after taken.Refused piece = 0
 
 abbrev pub invariant-loop-taken : goal.invariant-loop-taken
 invariant-loop-taken g l = record {
-  stays : LineStays g.E.End.means g.M.MapWriter.pair l.fn.self l.self;
-  orders : l.self.orders ≡ l.fn.self.orders;
-  own : l.self.own ≡ l.fn.self.own;
-  pulls : pulls_in (line_past l.self) ≡ pulls_in (line_past l.fn.self);
+  quiet : StaysQuiet g.E.End.means g.M.MapWriter.pair l.fn.self l.self;
   streams : l.taken ≢ taken.Refused → l.self.channel.streams ≡ l.fn.self.channel.streams;
   ready : l.taken ≡ taken.Frame → IsReady l.self.channel.conn;
   frame : l.taken ≡ taken.Frame → IsSome l.self.channel.conn.waiting;

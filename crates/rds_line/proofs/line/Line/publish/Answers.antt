@@ -1,16 +1,12 @@
-use Rattle.std.proofs.Common.{◌≡◌, ℕ, ◌++◌, [], ◌∷◌, List, length, refl, ap, subst, ◌∙◌, arith}
+use Rattle.std.proofs.Common.{◌≡◌, ℕ, ◌++◌, [], ◌∷◌, List, length, refl, ap, ◌∙◌, arith}
 use Rattle.std.proofs.lemmas.Option.{same_Some}
 use Rattle.rds_wire.specs.declared.frame.Frame.{Frame}
 use Rattle.rds_wire.specs.declared.kind.TheConstants.{MAP_LENGTH}
 use Rattle.rds_model.specs.SumLaws.{few_maps}
-use Rattle.rds_line.specs.Line.{LineView}
-use Rattle.rds_conn.specs.declared.conn.Found.TheVariants as found
-use Rattle.rds_line.specs.Steps.{PassesOne}
-use Rattle.rds_model.specs.SumLaws.{same_list}
 use Rattle.rds_line.proofs.Staying.{boxes_same, channel_same}
 use Rattle.rds_line.proofs.Passing.{keeps_passed, keeps_unpublished}
 use Rattle.rds_line.proofs.Delivering.{map_is, map_length, passes_map, ready_inside, verdict_here, waits_inside}
-use Rattle.rds_line.proofs.StaysPassed.{at_err, at_value, line_stays, passed_stays}
+use Rattle.rds_line.proofs.StaysPassed.{at_err, at_value, line_quiet, passed_one, passed_pulls, passed_stays, seats_same}
 use Rattle.rds_line.proofs.line.Line.publish.Goals as goal
 
 pub publish-requires : goal.publish-requires
@@ -29,10 +25,16 @@ invariant_of-self g c =
     keeps_unpublished g.M.MapWriter.published c.self.inside.own_pulled c.publish.new.self
     (at_err c.publish.result c.if-is_err.ensures.value c.publish.ensures.err) c.self.invariant
 
-pub returns-then-is_err-clause-stays : goal.returns-then-is_err-clause-stays
-returns-then-is_err-clause-stays g c =
-    let stays = channel_same g.E.End.means c.self.inside.channel in
-    line_stays c.self.view_is stays refl (boxes_same c.self.inside.boxes) refl refl refl (same_list _) c.publish.ensures.pair
+pub returns-then-is_err : goal.returns-then-is_err
+returns-then-is_err g c =
+    let i = c.self.inside in
+    record {
+      quiet =
+          line_quiet c.self.view_is (channel_same g.E.End.means i.channel) refl refl (boxes_same i.boxes)
+          (seats_same i.words i.ports) c.publish.ensures.pair refl;
+      passed = tt;
+      err = refl;
+    }
 
 pub invariant_of-self-2 : goal.invariant_of-self-2
 invariant_of-self-2 g c =
@@ -51,12 +53,14 @@ invariant_of-self-2 g c =
     let map = did ∙ ap (λ (l : List ℕ). published i.map ++ l ∷ []) (c.of_bytes.ensures ∙ bytes) in
     keeps_passed published i.own_pulled (passes_map published _ _ p is map c.pass.ensures.rest refl) c.self.invariant
 
-pub returns-clause-stays : goal.returns-clause-stays
-returns-clause-stays g c =
-    let passed = passed_stays c.pass.ensures.passes c.pass.ensures.rest in
-    line_stays c.self.view_is passed refl (boxes_same c.self.inside.boxes) refl refl refl (same_list _) c.publish.ensures.pair
-
-pub returns-clause-passed : goal.returns-clause-passed
-returns-clause-passed g c =
-    subst (λ (v : LineView g.row.E.Denot g.row.M.Denot). PassesOne v.channel c.pass.new.self) c.self.view_is
-    (record { found = found.Unasked; passes = c.pass.ensures.passes; rest = c.pass.ensures.rest })
+pub returns : goal.returns
+returns g c =
+    let i = c.self.inside in
+    let did = c.pass.ensures in
+    record {
+      quiet =
+          line_quiet c.self.view_is (passed_stays did.passes did.rest) (passed_pulls did.passes) refl (boxes_same i.boxes)
+          (seats_same i.words i.ports) c.publish.ensures.pair refl;
+      passed = passed_one c.self.view_is c.pass.new.self did.passes did.rest;
+      err = tt;
+    }

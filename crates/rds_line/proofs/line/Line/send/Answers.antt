@@ -6,15 +6,33 @@ use Rattle.rds_line.specs.Stays.{LineStays}
 use Rattle.rds_line.specs.Turns.{SendsBytes}
 use Rattle.rds_line.proofs.Fields.{view_in}
 use Rattle.rds_line.proofs.Longer.{longer}
-use Rattle.rds_line.proofs.Looking.{LeavesOwn, leaves_of, leaves_same, loads_wider, pulls_wider, roomy_leaves}
+use Rattle.rds_line.proofs.Looking.{LeavesOwn, leaves_same, loads_wider, pulls_wider, roomy_leaves}
+use Rattle.rds_line.proofs.Quiet.{leaves_quiet}
 use Rattle.rds_line.proofs.Staying.{channel_of, channel_same, line_inside, line_same, line_through}
 use Rattle.rds_line.proofs.Written.{made_room}
 use Rattle.rds_line.proofs.line.Line.send.Given as given
 use Rattle.rds_line.proofs.line.Line.send.Goals as goal
 use Rattle.rds_line.proofs.line.Line.send.Goals.{else-unwritten-eq0-via-then-unwritten-eq0+in_ok-pull+else-not-branch, else-unwritten-eq0-via-else-unwritten-eq0}
 
-pub returns-then-not-is_open-clause-stays : goal.returns-then-not-is_open-clause-stays
-returns-then-not-is_open-clause-stays g c = line_same g.E.End.means g.M.MapWriter.pair c.args.self.now
+pub returns-then-not-is_open : goal.returns-then-not-is_open
+returns-then-not-is_open g c = record {
+  stays = line_same g.E.End.means g.M.MapWriter.pair c.args.self.now;
+  orders = refl;
+  came = λ none left. (none, left);
+  closed = λ _. (
+    sym (ap (λ (v : LineView g.row.E.Denot g.row.M.Denot). v.channel.streams.is_open) c.self.view_is) ∙ sym c.is_open.ensures
+        ∙ c.if-not-is_open.true,
+    refl,
+  );
+  shut = λ _. refl;
+  nothing = λ e. absurd (cc);
+  full = λ e. absurd (cc);
+  bytes = λ e. absurd (cc);
+  looked = λ e. absurd (cc);
+  pulls = inl refl;
+  ended = λ e. absurd (cc);
+  spent = λ entries e. absurd (cc);
+}
 
 pub returns-in_err-reserve-clause-stays : goal.returns-in_err-reserve-clause-stays
 returns-in_err-reserve-clause-stays g c =
@@ -61,7 +79,7 @@ module _ (g : given.Over) (c : goal.After-write g) where
 pub returns-clause-stays : goal.returns-clause-stays
 returns-clause-stays g c =
     line_through g.E.End.means g.M.MapWriter.pair c.args.self.now c.else-unwritten-eq0.self c.write.new.self
-    (middle_stays g c) c.write.ensures.stays
+    (middle_stays g c) c.write.ensures.quiet.stays
 
 pub returns-clause-bytes : goal.returns-clause-bytes
 returns-clause-bytes g c same =
@@ -75,6 +93,48 @@ returns-clause-ended g c same =
     let more = c.write.ensures.ended same in
     let long = longer (line_past c.args.self.now) (line_past c.else-unwritten-eq0.self) (middle_stays g c).channel.past in
     omega arith
+
+pub returns-in_err-pull-clause-stays : goal.returns-in_err-pull-clause-stays
+returns-in_err-pull-clause-stays g c =
+    let m = g.E.End.means in
+    let pair = g.M.MapWriter.pair in
+    let now = c.args.self.now in
+    let ready : LineView g.row.E.Denot g.row.M.Denot = record (view_in c.self.inside) { channel = c.reserve.new.self } in
+    line_through m pair now ready c.pull.new.self
+    (line_inside m pair (view_in c.self.inside) now c.self.view_is c.reserve.new.self
+    (made_room m c.self.inside.channel c.reserve.new.self c.in_ok-reserve.ensures.ok)) c.pull.ensures.stays
+
+pub returns-then-not-branch-clause-stays : goal.returns-then-not-branch-clause-stays
+returns-then-not-branch-clause-stays g c =
+    let m = g.E.End.means in
+    let pair = g.M.MapWriter.pair in
+    let now = c.args.self.now in
+    let ready : LineView g.row.E.Denot g.row.M.Denot = record (view_in c.self.inside) { channel = c.reserve.new.self } in
+    line_through m pair now ready c.pull.new.self
+    (line_inside m pair (view_in c.self.inside) now c.self.view_is c.reserve.new.self
+    (made_room m c.self.inside.channel c.reserve.new.self c.in_ok-reserve.ensures.ok)) c.pull.ensures.stays
+
+pub returns-then-not-branch-clause-pulls : goal.returns-then-not-branch-clause-pulls
+returns-then-not-branch-clause-pulls g c =
+    let now = c.args.self.now in
+    let ready : LineView g.row.E.Denot g.row.M.Denot = record (view_in c.self.inside) { channel = c.reserve.new.self } in
+    let new = c.pull.new.self in
+    pulls_wider now ready new new
+    (roomy_leaves (view_in c.self.inside) now c.reserve.new.self c.self.view_is c.in_ok-reserve.ensures.ok) (leaves_same new)
+    c.pull.ensures.pulls
+
+pub returns-then-not-branch-clause-orders : goal.returns-then-not-branch-clause-orders
+returns-then-not-branch-clause-orders g c =
+    c.pull.ensures.orders ∙ ap (λ (v : LineView g.row.E.Denot g.row.M.Denot). v.orders) c.self.view_is
+
+pub returns-then-not-branch-clause-came : goal.returns-then-not-branch-clause-came
+returns-then-not-branch-clause-came g c = λ none left.
+    let room = c.in_ok-reserve.ensures.ok in
+    c.pull.ensures.came
+    (ap (λ (v : ChannelView g.row.E.Denot). v.conn.waiting) room
+    ∙ ap (λ (v : LineView g.row.E.Denot g.row.M.Denot). v.channel.conn.waiting) c.self.view_is ∙ none)
+    (ap (λ (v : ChannelView g.row.E.Denot). v.piece) room
+    ∙ ap (λ (v : LineView g.row.E.Denot g.row.M.Denot). v.channel.piece) c.self.view_is ∙ left)
 
 pub returns-in_err-pull-clause-pulls : goal.returns-in_err-pull-clause-pulls
 returns-in_err-pull-clause-pulls g c =
@@ -102,7 +162,7 @@ returns-clause-pulls g c =
     let first : LeavesOwn now (ready g c) =
     roomy_leaves (view_in c.self.inside) now c.reserve.new.self c.self.view_is c.in_ok-reserve.ensures.ok in
     let last : LeavesOwn middle new =
-    leaves_of g.E.End.means g.M.MapWriter.pair middle new c.write.ensures.stays c.write.ensures.own c.write.ensures.pulls in
+    leaves_quiet c.write.ensures.quiet in
     elim c.else-unwritten-eq0.branch [
       | else-unwritten-eq0-via-then-unwritten-eq0+in_ok-pull+else-not-branch w ↦
           let pulled = w.pull.new.self in

@@ -3,37 +3,38 @@ use Rattle.rds_line.specs.declared.outcome.Done.{Done}
 use Rattle.rds_line.specs.declared.outcome.Sent.TheVariants as sent
 use Rattle.rds_line.specs.Line.{LineView}
 use Rattle.rds_line.proofs.Looking.{leaves_of, leaves_none, leaves_same, leaves_through, loads_wider, pulls_wider}
+use Rattle.rds_line.proofs.Quiet.{leaves_quiet}
 use Rattle.rds_line.proofs.Staying.{line_through}
 use Rattle.rds_line.proofs.Stepping.{StepsDid, did_idle, did_none, did_took, gets_wider, sends_wider, moment_back, moment_longer, same_sent}
 use Rattle.rds_line.proofs.line.Line.steps.Goals as goal
 
 pub returns-in_err-took-clause-stays : goal.returns-in_err-took-clause-stays
 returns-in_err-took-clause-stays g c =
-    line_through g.E.End.means g.M.MapWriter.pair c.args.self.now c.open_next.new.self c.take_order.new.self c.open_next.ensures.stays c.take_order.ensures.stays
+    line_through g.E.End.means g.M.MapWriter.pair c.args.self.now c.open_next.new.self c.take_order.new.self c.open_next.ensures.quiet.stays c.take_order.ensures.stays
 
 pub returns-in_err-heard-clause-stays : goal.returns-in_err-heard-clause-stays
 returns-in_err-heard-clause-stays g c =
     let m = g.E.End.means in
     let pair = g.M.MapWriter.pair in
     line_through m pair c.args.self.now c.take_order.new.self c.receive.new.self
-    (line_through m pair c.args.self.now c.open_next.new.self c.take_order.new.self c.open_next.ensures.stays c.take_order.ensures.stays) c.receive.ensures.stays
+    (line_through m pair c.args.self.now c.open_next.new.self c.take_order.new.self c.open_next.ensures.quiet.stays c.take_order.ensures.stays) c.receive.ensures.quiet.stays
 
 pub returns-in_err-sent-clause-stays : goal.returns-in_err-sent-clause-stays
 returns-in_err-sent-clause-stays g c =
     let m = g.E.End.means in
     let pair = g.M.MapWriter.pair in
     line_through m pair c.args.self.now c.take_order.new.self c.send.new.self
-    (line_through m pair c.args.self.now c.open_next.new.self c.take_order.new.self c.open_next.ensures.stays c.take_order.ensures.stays)
-    (line_through m pair c.take_order.new.self c.receive.new.self c.send.new.self c.receive.ensures.stays c.send.ensures.stays)
+    (line_through m pair c.args.self.now c.open_next.new.self c.take_order.new.self c.open_next.ensures.quiet.stays c.take_order.ensures.stays)
+    (line_through m pair c.take_order.new.self c.receive.new.self c.send.new.self c.receive.ensures.quiet.stays c.send.ensures.stays)
 
 pub returns-clause-stays : goal.returns-clause-stays
 returns-clause-stays g c =
     let m = g.E.End.means in
     let pair = g.M.MapWriter.pair in
     line_through m pair c.args.self.now c.take_order.new.self c.relieve.new.self
-    (line_through m pair c.args.self.now c.open_next.new.self c.take_order.new.self c.open_next.ensures.stays c.take_order.ensures.stays)
-    (line_through m pair c.take_order.new.self c.receive.new.self c.relieve.new.self c.receive.ensures.stays
-    (line_through m pair c.receive.new.self c.send.new.self c.relieve.new.self c.send.ensures.stays c.relieve.ensures.stays))
+    (line_through m pair c.args.self.now c.open_next.new.self c.take_order.new.self c.open_next.ensures.quiet.stays c.take_order.ensures.stays)
+    (line_through m pair c.take_order.new.self c.receive.new.self c.relieve.new.self c.receive.ensures.quiet.stays
+    (line_through m pair c.receive.new.self c.send.new.self c.relieve.new.self c.send.ensures.stays c.relieve.ensures.quiet.stays))
 
 pub returns-clause-did : goal.returns-clause-did
 returns-clause-did g c =
@@ -52,22 +53,22 @@ returns-clause-did g c =
     let done : Done = record { took = c.in_ok-took.took; heard = c.in_ok-heard.heard; sent = c.in_ok-sent.sent } in
     let steps : StepsDid m first opened taken came went last done = record {
       lengths = (
-        moment_longer opening.stays.channel.past,
+        moment_longer opening.quiet.stays.channel.past,
         moment_longer taking.stays.channel.past,
-        moment_longer hearing.stays.channel.past,
+        moment_longer hearing.quiet.stays.channel.past,
         moment_longer sending.stays.channel.past,
-        moment_longer c.relieve.ensures.stays.channel.past,
+        moment_longer c.relieve.ensures.quiet.stays.channel.past,
       );
       opened = opening.streams;
       open_orders = ap (λ (v : LineView g.row.E.Denot g.row.M.Denot). v.orders) opening.alone;
       open_last = opening.open;
-      back = moment_back opening.stays.channel.past;
+      back = moment_back opening.quiet.stays.channel.past;
       none = λ e. taking.none (ap Ok e);
       still = λ e. (taking.still (ap Ok e)).1;
-      hear_orders = hearing.orders;
+      hear_orders = hearing.quiet.orders;
       hear_closed = λ e. hearing.closed (ap Ok e);
       hear_nothing = λ e. hearing.nothing (ap Ok e);
-      hear_open = λ e. hearing.open (ap Ok e);
+      hear_open = λ e. hearing.on (ap Ok e);
       hear_ended = λ e. hearing.ended (ap Ok e);
       send_orders = sending.orders;
       send_came = sending.came;
@@ -80,19 +81,19 @@ returns-clause-did g c =
       send_looked = λ e.
           loads_wider first came went last
           (leaves_through first opened came
-          (leaves_of m pair first opened opening.stays opening.own opening.pulls)
+          (leaves_quiet opening.quiet)
           (leaves_through opened taken came (leaves_of m pair opened taken taking.stays taking.own taking.pulls)
-          (leaves_of m pair taken came hearing.stays hearing.own hearing.pulls)))
-          (leaves_of m pair went last c.relieve.ensures.stays c.relieve.ensures.own c.relieve.ensures.pulls)
+          (leaves_quiet hearing.quiet)))
+          (leaves_quiet c.relieve.ensures.quiet)
           (sending.looked (ap Ok e));
     } in
-    let to_taken = line_through m pair first opened taken opening.stays taking.stays in
-    let to_came = line_through m pair first taken came to_taken hearing.stays in
-    let from_came = line_through m pair came went last sending.stays c.relieve.ensures.stays in record {
+    let to_taken = line_through m pair first opened taken opening.quiet.stays taking.stays in
+    let to_came = line_through m pair first taken came to_taken hearing.quiet.stays in
+    let from_came = line_through m pair came went last sending.stays c.relieve.ensures.quiet.stays in record {
       took = λ e. did_took steps (taking.took (ap Ok e));
       none = did_none steps;
       got = λ e. (_, gets_wider m _ first.channel.streams taken.channel.streams came.channel.streams last.channel.streams to_taken.channel.streams (hearing.bytes (ap Ok e)) from_came.channel.streams);
-      sent = λ e. (_, sends_wider m _ first.channel.streams came.channel.streams went.channel.streams last.channel.streams to_came.channel.streams (sending.bytes (ap Ok e)) c.relieve.ensures.stays.channel.streams);
+      sent = λ e. (_, sends_wider m _ first.channel.streams came.channel.streams went.channel.streams last.channel.streams to_came.channel.streams (sending.bytes (ap Ok e)) c.relieve.ensures.quiet.stays.channel.streams);
       idle = λ not_taken no_bytes none_sent past left. did_idle steps not_taken past no_bytes none_sent left;
     }
 
@@ -105,7 +106,7 @@ returns-in_err-took-clause-pulls g c =
     let taken = c.take_order.new.self in
     leaves_none first taken
     (leaves_through first opened taken
-    (leaves_of m pair first opened c.open_next.ensures.stays c.open_next.ensures.own c.open_next.ensures.pulls)
+    (leaves_quiet c.open_next.ensures.quiet)
     (leaves_of m pair opened taken c.take_order.ensures.stays c.take_order.ensures.own c.take_order.ensures.pulls))
 
 pub returns-in_err-heard-clause-pulls : goal.returns-in_err-heard-clause-pulls
@@ -118,10 +119,10 @@ returns-in_err-heard-clause-pulls g c =
     let came = c.receive.new.self in
     leaves_none first came
     (leaves_through first opened came
-    (leaves_of m pair first opened c.open_next.ensures.stays c.open_next.ensures.own c.open_next.ensures.pulls)
+    (leaves_quiet c.open_next.ensures.quiet)
     (leaves_through opened taken came
     (leaves_of m pair opened taken c.take_order.ensures.stays c.take_order.ensures.own c.take_order.ensures.pulls)
-    (leaves_of m pair taken came c.receive.ensures.stays c.receive.ensures.own c.receive.ensures.pulls)))
+    (leaves_quiet c.receive.ensures.quiet)))
 
 pub returns-in_err-sent-clause-pulls : goal.returns-in_err-sent-clause-pulls
 returns-in_err-sent-clause-pulls g c =
@@ -134,10 +135,10 @@ returns-in_err-sent-clause-pulls g c =
     let went = c.send.new.self in
     pulls_wider first came went went
     (leaves_through first opened came
-    (leaves_of m pair first opened c.open_next.ensures.stays c.open_next.ensures.own c.open_next.ensures.pulls)
+    (leaves_quiet c.open_next.ensures.quiet)
     (leaves_through opened taken came
     (leaves_of m pair opened taken c.take_order.ensures.stays c.take_order.ensures.own c.take_order.ensures.pulls)
-    (leaves_of m pair taken came c.receive.ensures.stays c.receive.ensures.own c.receive.ensures.pulls)))
+    (leaves_quiet c.receive.ensures.quiet)))
     (leaves_same went)
     c.send.ensures.pulls
 
@@ -153,9 +154,9 @@ returns-clause-pulls g c =
     let last = c.relieve.new.self in
     pulls_wider first came went last
     (leaves_through first opened came
-    (leaves_of m pair first opened c.open_next.ensures.stays c.open_next.ensures.own c.open_next.ensures.pulls)
+    (leaves_quiet c.open_next.ensures.quiet)
     (leaves_through opened taken came
     (leaves_of m pair opened taken c.take_order.ensures.stays c.take_order.ensures.own c.take_order.ensures.pulls)
-    (leaves_of m pair taken came c.receive.ensures.stays c.receive.ensures.own c.receive.ensures.pulls)))
-    (leaves_of m pair went last c.relieve.ensures.stays c.relieve.ensures.own c.relieve.ensures.pulls)
+    (leaves_quiet c.receive.ensures.quiet)))
+    (leaves_quiet c.relieve.ensures.quiet)
     c.send.ensures.pulls

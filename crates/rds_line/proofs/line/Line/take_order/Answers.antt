@@ -1,123 +1,142 @@
-use Rattle.std.proofs.Common.{ap, ◌∙◌}
+use Rattle.std.proofs.Common.{◌≡◌, sym, ap, subst, ◌∙◌}
 use Rattle.rds_model.specs.declared.order.Order.{Order}
-use Rattle.rds_model.specs.declared.order.Order.TheVariants as order
+use Rattle.rds_mail.specs.Learning.{AllGot}
 use Rattle.rds_mail.specs.Passes.{Getter, after_get}
+use Rattle.rds_line_channel.specs.Channel.{ChannelView}
 use Rattle.rds_line.specs.Line.{LineView, line_past, pulls_in}
 use Rattle.rds_line.proofs.Fields.{view_in}
-use Rattle.rds_line.proofs.Keeping.{pulled_off}
-use Rattle.rds_line.proofs.Taking.{cut_room, roomy_stays, keeps_roomy, pulled_roomy, uncut_of, keeps_ordered, pulled_ordered, takes_cut, keeps_cut, cut_off, cut_stays, stays_taken, ordered_pulls, cut_pulls, roomy_past}
-use Rattle.rds_line.proofs.Staying.{channel_of, channel_same, order_stays, line_inside, line_of, line_shown, line_stays, line_through}
+use Rattle.rds_line.proofs.Taking.{Obeys, asked_allowed, cut_room, keeps_obeyed, keeps_roomy, obeyed_pulls, obeyed_stays, pulled_roomy, roomy_past, roomy_stays, roomy_streams, stays_taken}
+use Rattle.rds_line.proofs.Staying.{channel_of, channel_same, line_inside, line_of, line_shown, line_stays, line_through}
+use Rattle.rds_line.proofs.line.Line.take_order.Given as given
 use Rattle.rds_line.proofs.line.Line.take_order.Goals as goal
 
 pub returns-in_err-reserve-clause-stays : goal.returns-in_err-reserve-clause-stays
 returns-in_err-reserve-clause-stays g c =
     let m = g.E.End.means in
-    let inside = c.self.inside in
-    let v : LineView g.row.E.Denot g.row.M.Denot = record { channel = inside.channel; orders = inside.orders; boxes = inside.boxes; ports = inside.ports; words = inside.words; own = inside.own; map = inside.map } in
-    line_inside m g.M.MapWriter.pair v c.args.self.now c.self.view_is c.reserve.new.self
-    (channel_of m v.channel c.reserve.new.self v.channel (c.in_err-reserve.ensures {u = tt}).err (channel_same m v.channel))
+    let i = c.self.inside.channel in
+    line_inside m g.M.MapWriter.pair (view_in c.self.inside) c.args.self.now c.self.view_is c.reserve.new.self
+    (channel_of m i c.reserve.new.self i (c.in_err-reserve.ensures {u = tt}).err (channel_same m i))
 
-pub returns-then-is_err-clause-stays : goal.returns-then-is_err-clause-stays
-returns-then-is_err-clause-stays g c =
-    let m = g.E.End.means in
-    let inside = c.self.inside in
-    let v : LineView g.row.E.Denot g.row.M.Denot = record { channel = inside.channel; orders = inside.orders; boxes = inside.boxes; ports = inside.ports; words = inside.words; own = inside.own; map = inside.map } in
-    let second = cut_room c.reserve.new.self c.reserve_cut.new.self c.reserve_cut.result c.reserve_cut.ensures.ok c.reserve_cut.ensures.err in
-    line_inside m g.M.MapWriter.pair v c.args.self.now c.self.view_is c.reserve_cut.new.self
-    (roomy_stays v c.reserve.new.self c.reserve_cut.new.self (c.in_ok-reserve.ensures {u = tt}).ok second m)
+pub returns-in_err-reserve-clause-own : goal.returns-in_err-reserve-clause-own
+returns-in_err-reserve-clause-own g c = ap (λ (l : LineView g.row.E.Denot g.row.M.Denot). l.own) c.self.view_is
 
-pub returns-in_default-clause-stays : goal.returns-in_default-clause-stays
-returns-in_default-clause-stays g c =
-    let m = g.E.End.means in
-    let inside = c.self.inside in
-    let v : LineView g.row.E.Denot g.row.M.Denot = record { channel = inside.channel; orders = inside.orders; boxes = inside.boxes; ports = inside.ports; words = inside.words; own = inside.own; map = inside.map } in
-    let second = cut_room c.reserve.new.self c.reserve_cut.new.self c.reserve_cut.result c.reserve_cut.ensures.ok c.reserve_cut.ensures.err in
-    let pair = g.M.MapWriter.pair in
-    let roomy = line_stays m pair v c.reserve_cut.new.self (roomy_stays v c.reserve.new.self c.reserve_cut.new.self (c.in_ok-reserve.ensures {u = tt}).ok second m) in
-    let new : LineView g.row.E.Denot g.row.M.Denot = record v { channel = c.reserve_cut.new.self; orders = c.take_order.new.self } in
-    line_shown m pair v c.args.self.now new c.self.view_is
-    (line_of m pair v new (record v { channel = c.reserve_cut.new.self })
-    (ap (λ (h : Getter Order). record v { channel = c.reserve_cut.new.self; orders = h }) (c.in_default.ensures {u = tt}).same) roomy)
-
-pub invariant_of-self-in-Cut : goal.invariant_of-self-in-Cut
-invariant_of-self-in-Cut g c =
-    let m = g.E.End.means in
-    let inside = c.self.inside in
-    let v : LineView g.row.E.Denot g.row.M.Denot = record { channel = inside.channel; orders = inside.orders; boxes = inside.boxes; ports = inside.ports; words = inside.words; own = inside.own; map = inside.map } in
-    let second = cut_room c.reserve.new.self c.reserve_cut.new.self c.reserve_cut.result c.reserve_cut.ensures.ok c.reserve_cut.ensures.err in
-    let first = (c.in_ok-reserve.ensures {u = tt}).ok in
-    let mid : LineView g.row.E.Denot g.row.M.Denot = record v { channel = c.reserve_cut.new.self } in
-    let new : LineView g.row.E.Denot g.row.M.Denot = record v { channel = c.cut.new.self; orders = c.take_order.new.self } in
-    let got = (c.in-Some.ensures {u = tt}).got in
-    let is = got.1 ∙ ap (after_get inside.orders got.0) c.in-Cut.is in
-    let did = takes_cut mid c.cut.new.self c.take_order.new.self got.0 m c.cut.ensures.on c.cut.ensures.off c.known.ensures.open in (
-      keeps_cut mid c.cut.new.self c.take_order.new.self got.0 m is g.M.MapWriter.published did (keeps_roomy v c.reserve.new.self c.reserve_cut.new.self first second g.M.MapWriter.published c.self.invariant.0),
-      pulled_off inside.own_pulled new (cut_off mid c.cut.new.self c.take_order.new.self got.0 m is did),
-    )
-
-pub invariant_of-self-in_default-order : goal.invariant_of-self-in_default-order
-invariant_of-self-in_default-order g c =
-    let inside = c.self.inside in
-    let v : LineView g.row.E.Denot g.row.M.Denot = record { channel = inside.channel; orders = inside.orders; boxes = inside.boxes; ports = inside.ports; words = inside.words; own = inside.own; map = inside.map } in
-    let second = cut_room c.reserve.new.self c.reserve_cut.new.self c.reserve_cut.result c.reserve_cut.ensures.ok c.reserve_cut.ensures.err in
-    let first = (c.in_ok-reserve.ensures {u = tt}).ok in
-    let mid : LineView g.row.E.Denot g.row.M.Denot = record v { channel = c.reserve_cut.new.self } in
-    let told = c.in-Some.ensures {u = tt} in
-    let o = c.in-Some.order in
-    let did = c.order.ensures in (
-      keeps_ordered mid c.order.new.self c.take_order.new.self told.got.0 o told.got.1 did.entry g.M.MapWriter.published (uncut_of o c.in_default-order.not-Cut) told.asked did.freed
-          (keeps_roomy v c.reserve.new.self c.reserve_cut.new.self first second g.M.MapWriter.published c.self.invariant.0),
-      pulled_ordered mid c.order.new.self c.take_order.new.self told.got.0 o told.got.1 did.entry inside.own_pulled
-          (pulled_roomy v c.reserve.new.self c.reserve_cut.new.self first second inside.own_pulled c.self.invariant.1),
-    )
-
-pub returns-in-Cut-clause-stays : goal.returns-in-Cut-clause-stays
-returns-in-Cut-clause-stays g c =
-    let m = g.E.End.means in
-    let pair = g.M.MapWriter.pair in
-    let inside = c.self.inside in
-    let v : LineView g.row.E.Denot g.row.M.Denot = record { channel = inside.channel; orders = inside.orders; boxes = inside.boxes; ports = inside.ports; words = inside.words; own = inside.own; map = inside.map } in
-    let second = cut_room c.reserve.new.self c.reserve_cut.new.self c.reserve_cut.result c.reserve_cut.ensures.ok c.reserve_cut.ensures.err in
-    let mid : LineView g.row.E.Denot g.row.M.Denot = record v { channel = c.reserve_cut.new.self } in
-    let new : LineView g.row.E.Denot g.row.M.Denot = record v { channel = c.cut.new.self; orders = c.take_order.new.self } in
-    let got = (c.in-Some.ensures {u = tt}).got in
-    let is = got.1 ∙ ap (after_get inside.orders got.0) c.in-Cut.is in
-    let did = takes_cut mid c.cut.new.self c.take_order.new.self got.0 m c.cut.ensures.on c.cut.ensures.off c.known.ensures.open in
-    line_shown m pair v c.args.self.now new c.self.view_is
-    (line_through m pair v mid new (line_stays m pair v mid.channel (roomy_stays v c.reserve.new.self mid.channel (c.in_ok-reserve.ensures {u = tt}).ok second m))
-    (stays_taken m pair mid c.cut.new.self c.take_order.new.self got.0 order.Cut is (cut_stays mid c.cut.new.self c.take_order.new.self got.0 m is did)))
-
-pub returns-in-Cut-clause-pulls : goal.returns-in-Cut-clause-pulls
-returns-in-Cut-clause-pulls g c =
-    let m = g.E.End.means in
-    let v = view_in c.self.inside in
-    let second = cut_room c.reserve.new.self c.reserve_cut.new.self c.reserve_cut.result c.reserve_cut.ensures.ok c.reserve_cut.ensures.err in
-    let mid : LineView g.row.E.Denot g.row.M.Denot = record v { channel = c.reserve_cut.new.self } in
-    let got = (c.in-Some.ensures {u = tt}).got in
-    let did = takes_cut mid c.cut.new.self c.take_order.new.self got.0 m c.cut.ensures.on c.cut.ensures.off c.known.ensures.open in
-    cut_pulls mid c.cut.new.self c.take_order.new.self got.0 m did
-    ∙ ap pulls_in (roomy_past v c.reserve.new.self mid.channel (c.in_ok-reserve.ensures {u = tt}).ok second)
+pub returns-in_err-reserve-clause-pulls : goal.returns-in_err-reserve-clause-pulls
+returns-in_err-reserve-clause-pulls g c =
+    ap (λ (k : ChannelView g.row.E.Denot). pulls_in k.conn.log.past) (c.in_err-reserve.ensures {u = tt}).err
     ∙ ap (λ (l : LineView g.row.E.Denot g.row.M.Denot). pulls_in (line_past l)) c.self.view_is
 
-pub returns-in_default-order : goal.returns-in_default-order
-returns-in_default-order g c =
+pub returns-then-is_err : goal.returns-then-is_err
+returns-then-is_err g c =
+    let m = g.E.End.means in
+    let v = view_in c.self.inside in
+    let new = c.reserve_cut.new.self in
+    let first = (c.in_ok-reserve.ensures {u = tt}).ok in
+    let second = cut_room c.reserve.new.self new c.reserve_cut.result c.reserve_cut.ensures.ok c.reserve_cut.ensures.err in
+    let past = roomy_past v c.reserve.new.self new first second in
+    record {
+      stays =
+          line_inside m g.M.MapWriter.pair v c.args.self.now c.self.view_is new
+          (roomy_stays v c.reserve.new.self new first second m);
+      own = ap (λ (l : LineView g.row.E.Denot g.row.M.Denot). l.own) c.self.view_is;
+      pulls = ap pulls_in past ∙ ap (λ (l : LineView g.row.E.Denot g.row.M.Denot). pulls_in (line_past l)) c.self.view_is;
+      took = λ e. absurd (cc);
+      none = λ e. absurd (cc);
+      still = λ e. absurd (cc);
+      err = (
+        ap (λ (l : LineView g.row.E.Denot g.row.M.Denot). l.orders) c.self.view_is,
+        past ∙ ap (λ (l : LineView g.row.E.Denot g.row.M.Denot). line_past l) c.self.view_is,
+      );
+      spent = λ entries e. absurd (cc);
+    }
+
+pub returns-in_default : goal.returns-in_default
+returns-in_default g c =
     let m = g.E.End.means in
     let pair = g.M.MapWriter.pair in
-    let inside = c.self.inside in
-    let v : LineView g.row.E.Denot g.row.M.Denot = record { channel = inside.channel; orders = inside.orders; boxes = inside.boxes; ports = inside.ports; words = inside.words; own = inside.own; map = inside.map } in
-    let second = cut_room c.reserve.new.self c.reserve_cut.new.self c.reserve_cut.result c.reserve_cut.ensures.ok c.reserve_cut.ensures.err in
-    let mid : LineView g.row.E.Denot g.row.M.Denot = record v { channel = c.reserve_cut.new.self } in
-    let new : LineView g.row.E.Denot g.row.M.Denot = record v { channel = c.order.new.self; orders = c.take_order.new.self } in
-    let got = (c.in-Some.ensures {u = tt}).got in
-    let o = c.in-Some.order in record {
+    let v = view_in c.self.inside in
+    let room = c.reserve_cut.new.self in
+    let first = (c.in_ok-reserve.ensures {u = tt}).ok in
+    let second = cut_room c.reserve.new.self room c.reserve_cut.result c.reserve_cut.ensures.ok c.reserve_cut.ensures.err in
+    let past = roomy_past v c.reserve.new.self room first second in
+    let none = c.in_default.ensures {u = tt} in
+    let new : LineView g.row.E.Denot g.row.M.Denot = record v { channel = room; orders = c.take_order.new.self } in
+    record {
       stays =
           line_shown m pair v c.args.self.now new c.self.view_is
-          (line_through m pair v mid new (line_stays m pair v mid.channel (roomy_stays v c.reserve.new.self mid.channel (c.in_ok-reserve.ensures {u = tt}).ok second m))
-          (stays_taken m pair mid c.order.new.self c.take_order.new.self got.0 o got.1 (order_stays m o mid.channel c.order.new.self c.order.ensures.entry)));
+          (line_of m pair v new (record v { channel = room })
+          (ap (λ (h : Getter Order). record v { channel = room; orders = h }) none.same)
+          (line_stays m pair v room (roomy_stays v c.reserve.new.self room first second m)));
+      own = ap (λ (l : LineView g.row.E.Denot g.row.M.Denot). l.own) c.self.view_is;
+      pulls = ap pulls_in past ∙ ap (λ (l : LineView g.row.E.Denot g.row.M.Denot). pulls_in (line_past l)) c.self.view_is;
+      took = λ e. absurd (cc);
+      none = λ e. (
+        none.same ∙ ap (λ (l : LineView g.row.E.Denot g.row.M.Denot). l.orders) c.self.view_is,
+        subst (λ (h : Getter Order). AllGot h) (sym none.same) none.empty,
+      );
+      still = λ e. (
+        past ∙ ap (λ (l : LineView g.row.E.Denot g.row.M.Denot). line_past l) c.self.view_is,
+        roomy_streams v c.reserve.new.self room first second ∙ ap (λ (l : LineView g.row.E.Denot g.row.M.Denot). l.channel.streams) c.self.view_is,
+      );
+      err = tt;
+      spent = λ entries e. absurd (cc);
+    }
+
+module _ (g : given.Over) (c : goal.After-obey g) where
+  -- the line once room was made, which took the order then
+  abbrev roomy : LineView g.row.E.Denot g.row.M.Denot
+  roomy = record (view_in c.self.inside) { channel = c.reserve_cut.new.self }
+
+  second : c.reserve_cut.new.self ≡ record c.reserve.new.self { cuts = record c.reserve.new.self.cuts { has_room = c.reserve_cut.new.self.cuts.has_room } }
+  second = cut_room c.reserve.new.self c.reserve_cut.new.self c.reserve_cut.result c.reserve_cut.ensures.ok c.reserve_cut.ensures.err
+
+  obeys : Obeys g.E.End.means roomy c.obey.new.channel c.take_order.new.self (c.in-Some.ensures {u = tt}).got.0 c.in-Some.order (c.in-Some.ensures {u = tt}).got.1
+  obeys = record {
+    shut = c.obey.ensures.shut;
+    late = c.obey.ensures.late;
+    entry = c.obey.ensures.entry;
+    freed = c.obey.ensures.freed;
+    tie = c.known.ensures.open;
+  }
+
+pub obey-requires-clause-allowed : goal.obey-requires-clause-allowed
+obey-requires-clause-allowed g c = λ other.
+    let first = (c.in_ok-reserve.ensures {u = tt}).ok in
+    let made = cut_room c.reserve.new.self c.reserve_cut.new.self c.reserve_cut.result c.reserve_cut.ensures.ok c.reserve_cut.ensures.err in
+    let slots = ap (λ (k : ChannelView g.row.E.Denot). k.conn.slots) made ∙ ap (λ (k : ChannelView g.row.E.Denot). k.conn.slots) first ∙ c.self.invariant.0.slots in
+    asked_allowed c.in-Some.order slots (c.in-Some.ensures {u = tt}).asked other
+
+pub invariant_of-self-2 : goal.invariant_of-self-2
+invariant_of-self-2 g c =
+    let v = view_in c.self.inside in
+    let first = (c.in_ok-reserve.ensures {u = tt}).ok in
+    let got = (c.in-Some.ensures {u = tt}).got in
+    keeps_obeyed g.E.End.means (roomy g c) c.obey.new.channel c.take_order.new.self got.0 c.in-Some.order got.1 (obeys g c)
+    g.M.MapWriter.published c.self.inside.own_pulled (c.in-Some.ensures {u = tt}).asked (
+      keeps_roomy v c.reserve.new.self c.reserve_cut.new.self first (second g c) g.M.MapWriter.published c.self.invariant.0,
+      pulled_roomy v c.reserve.new.self c.reserve_cut.new.self first (second g c) c.self.inside.own_pulled c.self.invariant.1,
+    )
+
+pub returns : goal.returns
+returns g c =
+    let m = g.E.End.means in
+    let pair = g.M.MapWriter.pair in
+    let v = view_in c.self.inside in
+    let first = (c.in_ok-reserve.ensures {u = tt}).ok in
+    let mid = roomy g c in
+    let channel = c.obey.new.channel in
+    let getter = c.take_order.new.self in
+    let got = (c.in-Some.ensures {u = tt}).got in
+    let o = c.in-Some.order in
+    let new : LineView g.row.E.Denot g.row.M.Denot = record v { channel = channel; orders = getter } in
+    record {
+      stays =
+          line_shown m pair v c.args.self.now new c.self.view_is
+          (line_through m pair v mid new (line_stays m pair v mid.channel (roomy_stays v c.reserve.new.self mid.channel first (second g c) m))
+          (stays_taken m pair mid channel getter got.0 o got.1 (obeyed_stays m mid channel getter got.0 o got.1 (obeys g c))));
       own = ap (λ (l : LineView g.row.E.Denot g.row.M.Denot). l.own) c.self.view_is;
       pulls =
-          ordered_pulls o mid.channel c.order.new.self c.order.ensures.entry
-          ∙ ap pulls_in (roomy_past v c.reserve.new.self mid.channel (c.in_ok-reserve.ensures {u = tt}).ok second)
+          obeyed_pulls m mid channel getter got.0 o got.1 (obeys g c)
+          ∙ ap pulls_in (roomy_past v c.reserve.new.self mid.channel first (second g c))
           ∙ ap (λ (l : LineView g.row.E.Denot g.row.M.Denot). pulls_in (line_past l)) c.self.view_is;
       took = λ _. (got.0, o, got.1 ∙ ap (λ (w : LineView g.row.E.Denot g.row.M.Denot). after_get w.orders got.0 o) c.self.view_is);
       none = λ e. absurd (cc);

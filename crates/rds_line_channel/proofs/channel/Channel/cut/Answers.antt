@@ -1,5 +1,5 @@
 use Rattle.std.proofs.Common.{◌≡◌, ◌⊎◌, ℕ, [], ◌∷◌, ◌++◌, is_some, length, true, refl, sym, ap, subst, ◌∙◌}
-use Rattle.std.proofs.lemmas.Bool.{false≢true}
+use Rattle.std.proofs.lemmas.Bool.{false_from_ne_true, false≢true}
 use Rattle.std.proofs.lemmas.Option.{same_Some}
 use Rattle.rds_conn.specs.Connection.{Connection, taken_bytes}
 use Rattle.rds_line_channel.specs.Channel.{ChannelView, CutsView}
@@ -42,4 +42,4 @@ invariant_of-self-in-None g c =
     let is_last = λ (v : ChannelView g.row.E.Denot). (v.streams.is_open ≡ true) ⊎ (v.streams.opened ≡ length v.streams.list) in
     let last = none_left s off (subst is_last (sym c.self.view_is) c.requires.last) in
     restated g.E.End.means refl refl refl refl (ap (λ (w : CutsView). w.numbers) c.push-in-None.ensures)
-    (carried_late g.E.End.means inside.conn.log.past arrived inside.out cuts s last c.self.invariant)
+    (carried_late g.E.End.means inside.conn.log.past arrived inside.out cuts s (false_from_ne_true s.is_open off) last c.self.invariant)
