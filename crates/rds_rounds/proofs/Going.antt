@@ -33,7 +33,6 @@ module _ {E : Type 0} where
   pub line_keeps_same : (line : LineView E WriterView) → LineKeeps line line
   line_keeps_same line = record { peer = refl; mail = refl; joined = refl; boxes = boxes_same line.boxes; ports = refl; words = refl; pair = refl }
 
-
 boxes_through : (old middle new : List (Putter Datagram)) → AreSameBoxes old middle → AreSameBoxes middle new → AreSameBoxes old new
 boxes_through old middle new first second = record {
   count = second.count ∙ first.count;
