@@ -1,5 +1,5 @@
 -- Where the lines of a connection met and then each had an idle turn that left nothing to be written, their journals are drained.
-use Rattle.std.proofs.Common.{◌≡◌, inl, inr, ℕ, suc, ◌<◌, true, false, List, [], ◌++◌, Some, slice_get, refl, sym, ap, subst, ◌∙◌, arith}
+use Rattle.std.proofs.Common.{◌≡◌, inl, inr, ℕ, ◌<◌, true, List, ◌++◌, Some, slice_get, sym, ap, subst, ◌∙◌, arith}
 use Rattle.std.proofs.lemmas.Bool.{cases_lt, false≢true}
 use Rattle.std.proofs.lemmas.List.{append-nil}
 use Rattle.std.proofs.lemmas.Option.{same_Some}
@@ -18,7 +18,7 @@ use Rattle.rds_rounds.specs.Rest.{AreMetLines, HasRested, KeepsStreams, KnowEach
 use Rattle.rds_rounds.proofs.Whole.{HaveOneSplit, all_read}
 use Rattle.rds_rounds.proofs.Resting.{Rests, rests}
 
--- where two journals are quiet, all that was accepted is accounted for
+-- quiet journals are settled too
 abbrev pub QuietIsSettled : Type 0
 QuietIsSettled = (a b : List Entry) → IsLegal a → IsLegal b → IsHonest a b → (s : ℕ) → IsQuiet s a b → IsSettledBetween s a b
 

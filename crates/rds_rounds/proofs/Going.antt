@@ -1,12 +1,11 @@
 -- A line that turned goes on, and so does one that goes on twice.
-use Rattle.std.proofs.Common.{◌≡◌, ℕ, zero, suc, ◌<◌, List, [], ◌∷◌, Some, None, length, slice_get, slice_set, refl, sym, ap, subst, ◌∙◌, arith}
+use Rattle.std.proofs.Common.{◌≡◌, ℕ, zero, suc, List, [], ◌∷◌, Some, length, slice_get, slice_set, refl, sym, ap, subst, ◌∙◌, arith}
 use Rattle.std.proofs.lemmas.Option.{same_Some}
 use Rattle.rds_link.specs.Ends.{Means}
 use Rattle.rds_fmap.specs.Readers.{WriterView}
 use Rattle.rds_mail.specs.Learning.{AllGot}
 use Rattle.rds_mail.specs.Passes.{Putter}
 use Rattle.rds_model.specs.declared.order.Datagram.{Datagram}
-use Rattle.rds_line_parts.specs.Boxes.{IsBoxOf}
 use Rattle.rds_line.specs.Line.{LineView}
 use Rattle.rds_line.specs.Stays.{AreSameBoxes, LineStays}
 use Rattle.rds_host.specs.Keeping.{LineKeeps}

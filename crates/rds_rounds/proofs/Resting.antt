@@ -1,12 +1,11 @@
 -- What an idle turn of a line shows that left nothing to be written, over ends that tell their bytes.
-use Rattle.std.proofs.Common.{◌≡◌, ◌⊎◌, inl, inr, ℕ, suc, ◌≤◌, ◌-◌, if◌then◌else◌, Bool, true, false, List, [], ◌∷◌, ◌++◌, length, set, Option, Some, None, slice_get, refl, sym, ap, subst, ◌∙◌, arith}
+use Rattle.std.proofs.Common.{◌≡◌, ◌⊎◌, inl, inr, ℕ, suc, ◌≤◌, ◌-◌, if◌then◌else◌, Bool, true, false, List, [], ◌∷◌, ◌++◌, length, Option, Some, None, slice_get, refl, sym, ap, ◌∙◌, arith}
 use Rattle.std.proofs.lemmas.Bool.{cond-true}
 use Rattle.std.proofs.lemmas.List.{append-nil, length-map, length-take-le}
 use Rattle.std.specs.Cmp.Lexicographic.{same_text}
 use Rattle.std.proofs.lemmas.Option.{slice_get_within}
 use Rattle.rds_frame.specs.Splitting.{IsPartial}
 use Rattle.rds_frame.specs.Holding.{waiting_bytes}
-use Rattle.rds_wire.specs.declared.frame.Frame.{Frame}
 use Rattle.rds_link.specs.Ends.{Means}
 use Rattle.rds_link.specs.declared.end.Got.TheVariants as got
 use Rattle.rds_model.specs.declared.entry.Entry.{Entry}

@@ -10,7 +10,7 @@ use Rattle.rds_frame.specs.Splitting.{IsFrame, IsPartial, Splits}
 use Rattle.rds_model.specs.declared.entry.Entry.{Entry}
 use Rattle.rds_model.specs.declared.entry.Entry.TheVariants.{Pull, Read}
 use Rattle.rds_model.specs.Past.{now, open_stream}
-use Rattle.rds_model.specs.Streams.{pulled_frames, read_bytes, read_frames, refused_bytes, written_bytes}
+use Rattle.rds_model.specs.Streams.{pulled_frames, read_bytes, read_frames, written_bytes}
 use Rattle.rds_model.specs.Legal.{IsLegal}
 use Rattle.rds_model.specs.LegalityLaws.{lawful_pull, lawful_read}
 use Rattle.rds_model.specs.StreamLaws.{unrefused}

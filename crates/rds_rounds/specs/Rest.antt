@@ -1,5 +1,5 @@
 -- Private: it serves the contracts of the private functions that turn the lines of a run for the last time. Source: this project's own.
-use Rattle.std.specs.Prelude.{◌≡◌, ℕ, true, None, []}
+use Rattle.std.specs.Prelude.{◌≡◌, true, None, []}
 use Rattle.rds_frame.specs.Splitting.{IsPartial}
 use Rattle.rds_link.specs.Ends.{Means, HasAll}
 use Rattle.rds_model.specs.Honest.{IsHonest}
