@@ -53,6 +53,7 @@ impl<E: End, M: MapWriter> Model for Line<E, M> {
 impl<E: End, M: MapWriter> Line<E, M> {
     ghost use Rattle.rds_cong.specs.Map.{no_ports};
     ghost use Rattle.rds_model.specs.Alive.{alive_numbers};
+    ghost use Rattle.rds_frame.specs.Splitting.{IsPartial};
     ghost use Rattle.rds_model.specs.Legal.{IsWhole};
     ghost use Rattle.rds_model.specs.declared.entry.TheConstants.{MAX_SLOTS};
     ghost use Rattle.rds_model.specs.declared.journal.TheConstants.{MIN_ENTRIES, MAX_ENTRIES};
@@ -162,6 +163,7 @@ impl<E: End, M: MapWriter> Line<E, M> {
         ensures carried { IsCarriedBy E.means self.now.channel.conn.log.past (arrived_bytes self.now.channel) self.now.channel.out self.now.channel.streams self.now.channel.cuts.numbers }
         ensures streams { AreKept E.means self.now.channel.streams }
         ensures whole { IsWhole self.now.channel.conn.log.past }
+        ensures partial { self.now.channel.conn.waiting ≡ None → IsPartial self.now.channel.conn.rest }
     {
         self.channel.known();
     }

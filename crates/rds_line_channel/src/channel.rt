@@ -64,6 +64,7 @@ impl<E: End> Channel<E> {
     ghost use Rattle.rds_model.specs.Reading.{verdict_of};
     ghost use Rattle.rds_model.specs.declared.entry.Verdict.TheVariants as verdict;
     ghost use Rattle.rds_wire.specs.declared.kind.TheConstants.{MAP_LENGTH, MAX_LENGTH};
+    ghost use Rattle.rds_frame.specs.Splitting.{IsPartial};
     ghost use Rattle.rds_conn.specs.Connection.{stream_of, with_room};
     ghost use Rattle.rds_line_streams.specs.Streams.{AreKept, AreNumbered, IsUnused};
     ghost use Rattle.rds_line_channel.specs.Carried.{IsCarriedBy};
@@ -126,6 +127,7 @@ impl<E: End> Channel<E> {
         ensures slots { self.now.conn.slots ≤ MAX_SLOTS }
         ensures freed { length self.now.conn.freed ≡ self.now.conn.slots }
         ensures waiting { IfSome self.now.conn.waiting (λ f. IsSome (stream_of self.now.conn)) }
+        ensures partial { self.now.conn.waiting ≡ None → IsPartial self.now.conn.rest }
         ensures size { IfSome self.now.conn.waiting (λ f. length f.payload ≤ MAX_LENGTH) }
         ensures map { IfSome self.now.conn.waiting (λ f. verdict_of self.now.conn.log.past f.header ≡ verdict.Map →
             length f.payload ≡ MAP_LENGTH) }

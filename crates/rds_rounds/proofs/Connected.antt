@@ -1,5 +1,5 @@
 -- Two connected lines stay connected while they turn.
-use Rattle.std.proofs.Common.{◌≡◌, ℕ, List, sym, ◌∙◌}
+use Rattle.std.proofs.Common.{ℕ, sym, ◌∙◌}
 use Rattle.rds_link.specs.Ends.{Means}
 use Rattle.rds_line.specs.Line.{LineView}
 use Rattle.rds_line.specs.Stays.{LineStays}

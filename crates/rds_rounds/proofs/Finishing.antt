@@ -2,9 +2,11 @@
 use Rattle.std.proofs.Common.{◌≡◌, inl, inr, ℕ, List, [], ◌∷◌, Some, length, get_or, slice_get, slice_set, sym, ap, subst, arith}
 use Rattle.std.proofs.lemmas.Option.{same_Some}
 use Rattle.rds_link.specs.Ends.{Means}
+use Rattle.rds_model.specs.declared.entry.Entry.{Entry}
 use Rattle.rds_line.specs.Line.{IsFull, LineView, line_past}
 use Rattle.rds_rounds.specs.Connection.{AreOfHosts, IsFullAt, IsFullHost}
 use Rattle.rds_rounds.specs.Done.{AreDone}
+use Rattle.rds_rounds.specs.Drained.{AreDrained, AreDrainedLines}
 use Rattle.rds_rounds.specs.Sound.{AreSoundJournals}
 
 -- the element that is lent out first
@@ -36,6 +38,22 @@ module _ {E M : Type 0} where
         subst (λ (l : LineView E M). AreSoundJournals m.tells (line_past l) (line_past b)) (same_Some low a at_a)
         (subst (λ (h : LineView E M). AreSoundJournals m.tells (line_past low) (line_past h)) (same_Some high b at_b) sound);
   }
+
+  drained_lines : (xs ys : List (LineView E M)) (low high : LineView E M) → length xs ≡ 1 → length ys ≡ 1 → AreDrained (line_past low) (line_past high) →
+      AreDrainedLines (slice_set xs 0 low) (slice_set ys 0 high)
+  drained_lines [] ys low high one two drained = absurd (omega (arith, one))
+  drained_lines (x ∷ xs) [] low high one two drained = absurd (omega (arith, two))
+  drained_lines (x ∷ xs) (y ∷ ys) low high one two drained = λ a b at_a at_b.
+      subst (λ (l : LineView E M). AreDrained (line_past l) (line_past b)) (same_Some low a at_a)
+      (subst (λ (h : LineView E M). AreDrained (line_past low) (line_past h)) (same_Some high b at_b) drained)
+
+  -- drained journals stay so where both lines keep theirs
+  pub drained_first : (xs ys : List (LineView E M)) (low high low_after high_after : LineView E M) → length xs ≡ 1 → length ys ≡ 1 →
+      line_past low_after ≡ line_past low → line_past high_after ≡ line_past high → AreDrained (line_past low) (line_past high) →
+      AreDrainedLines (slice_set xs 0 low_after) (slice_set ys 0 high_after)
+  drained_first xs ys low high low_after high_after one two first second drained =
+      drained_lines xs ys low_after high_after one two
+      (subst (λ (past : List Entry). AreDrained past (line_past high_after)) (sym first) (subst (AreDrained (line_past low)) (sym second) drained))
 
   -- a full journal stays full where both lines keep theirs
   pub full_kept : (host entries : ℕ) (low high low_after high_after : LineView E M) → (IsFull entries low → IsFull entries low_after) →

@@ -1,12 +1,11 @@
 -- A line that turned goes on, and so does one that goes on twice.
-use Rattle.std.proofs.Common.{◌≡◌, ℕ, zero, suc, ◌<◌, List, [], ◌∷◌, Some, None, length, slice_get, slice_set, refl, sym, ap, subst, ◌∙◌, arith}
+use Rattle.std.proofs.Common.{◌≡◌, ℕ, zero, suc, List, [], ◌∷◌, Some, length, slice_get, slice_set, refl, sym, ap, subst, ◌∙◌, arith}
 use Rattle.std.proofs.lemmas.Option.{same_Some}
 use Rattle.rds_link.specs.Ends.{Means}
 use Rattle.rds_fmap.specs.Readers.{WriterView}
 use Rattle.rds_mail.specs.Learning.{AllGot}
 use Rattle.rds_mail.specs.Passes.{Putter}
 use Rattle.rds_model.specs.declared.order.Datagram.{Datagram}
-use Rattle.rds_line_parts.specs.Boxes.{IsBoxOf}
 use Rattle.rds_line.specs.Line.{LineView}
 use Rattle.rds_line.specs.Stays.{AreSameBoxes, LineStays}
 use Rattle.rds_host.specs.Keeping.{LineKeeps}
@@ -32,7 +31,6 @@ boxes_same boxes = record {
 module _ {E : Type 0} where
   pub line_keeps_same : (line : LineView E WriterView) → LineKeeps line line
   line_keeps_same line = record { peer = refl; mail = refl; joined = refl; boxes = boxes_same line.boxes; ports = refl; words = refl; pair = refl }
-
 
 boxes_through : (old middle new : List (Putter Datagram)) → AreSameBoxes old middle → AreSameBoxes middle new → AreSameBoxes old new
 boxes_through old middle new first second = record {

@@ -1,4 +1,6 @@
 pub mod Connection
 pub mod Sound
+pub mod Drained
 pub mod Done
 pub mod Quiet
+pub mod Rest

@@ -4,6 +4,7 @@
 pub mod laws;
 mod meeting;
 mod rounds;
+mod turning;
 mod verdict;
 
 pub use rounds::{Lines, Rounds, last_rounds};

@@ -1,17 +1,18 @@
 //! The last rounds of a run, on one thread.
-ghost use Rattle.std.specs.Prelude.{◌≡◌, ◌≢◌, ℕ, Some};
+ghost use Rattle.std.specs.Prelude.{◌≡◌, ◌≢◌, ℕ, true, Some, []};
 ghost use Rattle.rds_mail.specs.Learning.{AllGot};
-ghost use Rattle.rds_line.specs.Stays.{LineStays};
-ghost use Rattle.rds_host.specs.Lines.{pair_of};
+ghost use Rattle.rds_line.specs.Line.{line_past};
 ghost use Rattle.rds_rounds.specs.Quiet.{AreQuiet, IsQuietEnd, LineGoesOn, LinesGoOn};
 ghost use Rattle.rds_rounds.specs.Connection.{AreConnected, AreTwo, IsFullAt, IsFullHost};
 ghost use Rattle.rds_rounds.specs.Done.{AreDone};
+ghost use Rattle.rds_rounds.specs.Drained.{AreDrained, AreDrainedLines};
 ghost use Rattle.rds_rounds.specs.declared.rounds.Rounds.{Rounds as RoundsView};
 ghost use Rattle.rds_rounds.specs.declared.rounds.Rounds.TheVariants as ended;
 ghost use Rattle.rds_rounds.specs.declared.verdict.Round.TheVariants as round;
 
 use crate::meeting::meet_lines;
-use crate::verdict::{Round, Wanted, turn};
+use crate::turning::round;
+use crate::verdict::{Round, Wanted};
 use rds_fmap::Writer;
 use rds_line::Line;
 use rds_link::{End, Wire};
@@ -35,32 +36,12 @@ pub enum Rounds {
     Memory,
 }
 
-// One round: a turn of each line.
-fn round<E: End, R: Wait>(
-    rt: &R,
-    wanted: Wanted,
-    low: &mut Line<E, Writer>,
-    high: &mut Line<E, Writer>,
-) -> Round
-    ensures low { LineStays E.means pair_of low.old low.new }
-    ensures high { LineStays E.means pair_of high.old high.new }
-    ensures idle { result ≡ round.Idle → AllGot low.new.orders × AllGot high.new.orders }
-    ensures spent { (host entries : ℕ) → result ≡ round.Spent host entries → IsFullAt host entries low.new high.new }
-{
-    let first = turn(rt, 0, wanted, low, high);
-    let second = turn(rt, 1, wanted, high, low);
-    if second == Round::Idle || (first != Round::Moved && first != Round::Idle) {
-        return first;
-    }
-    second
-}
-
 // How many datagrams aren't acknowledged.
 fn unacked<E: End>(low: &Line<E, Writer>, high: &Line<E, Writer>) -> u64 {
     u64::from(low.unacked()) + u64::from(high.unacked())
 }
 
-/// Turns both lines in rounds, and lets them meet after the last. Over ends that tell their bytes they stop after
+/// Turns both lines in rounds, and lets them meet before each and after the last. Over ends that tell their bytes they stop after
 /// an idle round that left nothing to be written. Over others they stop once rounds were quiet and all is acknowledged, or as many
 /// were quiet as the budget allows.
 pub fn last_rounds<W: Wire, R: Wait>(
@@ -75,13 +56,13 @@ pub fn last_rounds<W: Wire, R: Wait>(
     ensures low { LinesGoOn lines.old.0.items lines.new.0.items }
     ensures high { LinesGoOn lines.old.1.items lines.new.1.items }
     ensures quiet { IsQuietEnd result → AreQuiet lines.new.0.items × AreQuiet lines.new.1.items }
+    ensures drained { W.End.means.tells ≡ true → result ≡ ended.Done → AreDrainedLines lines.new.0.items lines.new.1.items }
     ensures spent { (host entries : ℕ) → result ≡ ended.Spent host entries →
         IsFullHost host entries lines.new.0.items lines.new.1.items }
 {
-    let tells = wire.tells();
     let low = &mut lines.0[0];
     let high = &mut lines.1[0];
-    let end = turn_until_quiet::<W, R>(rt, tells, wanted, budget, low, high);
+    let end = turn_until_quiet(rt, wire, wanted, budget, low, high);
     meet_lines::<W>(low, high);
     end
 }
@@ -89,7 +70,7 @@ pub fn last_rounds<W: Wire, R: Wait>(
 // The rounds alone, until they stop.
 fn turn_until_quiet<W: Wire, R: Wait>(
     rt: &R,
-    tells: bool,
+    wire: &W,
     wanted: Wanted,
     budget: u64,
     low: &mut Line<W::End, Writer>,
@@ -100,13 +81,14 @@ fn turn_until_quiet<W: Wire, R: Wait>(
     ensures low { LineGoesOn low.old low.new }
     ensures high { LineGoesOn high.old high.new }
     ensures quiet { IsQuietEnd result → AllGot low.new.orders × AllGot high.new.orders }
+    ensures drained { W.End.means.tells ≡ true → result ≡ ended.Done → AreDrained (line_past low.new) (line_past high.new) }
     ensures spent { (host entries : ℕ) → result ≡ ended.Spent host entries → IsFullAt host entries low.new high.new }
 {
     let mut quiet = 0u64;
     for _ in rt.forever() {
-        let came = round(rt, wanted, low, high);
+        let came = round(rt, wire, wanted, low, high);
         quiet = quiet_after(came, quiet);
-        if let Some(end) = end_after(came, tells, quiet, budget, low, high) {
+        if let Some(end) = end_after(came, wire.tells(), quiet, budget, low, high) {
             return end;
         }
     }
@@ -133,6 +115,7 @@ fn end_after<E: End>(
 ) -> Option<Rounds>
     ensures spent { (host entries : ℕ) → result ≡ Some (ended.Spent host entries) → came ≡ round.Spent host entries }
     ensures quiet { (end : RoundsView) → result ≡ Some end → IsQuietEnd end → came ≡ round.Idle }
+    ensures written { tells ≡ true → result ≡ Some ended.Done → (low.now.channel.out ≡ []) × (high.now.channel.out ≡ []) }
 {
     match came {
         Round::Moved => None,
@@ -151,7 +134,8 @@ fn after_idle<E: End>(
     low: &Line<E, Writer>,
     high: &Line<E, Writer>,
 ) -> Option<Rounds>
-    ensures { (host entries : ℕ) → result ≢ Some (ended.Spent host entries) }
+    ensures never_spent { (host entries : ℕ) → result ≢ Some (ended.Spent host entries) }
+    ensures written { tells ≡ true → result ≡ Some ended.Done → (low.now.channel.out ≡ []) × (high.now.channel.out ≡ []) }
 {
     if tells {
         let is_written = low.unwritten() == 0 && high.unwritten() == 0;

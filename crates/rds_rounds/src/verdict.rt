@@ -1,9 +1,11 @@
 //! What the turns of a round come to.
-ghost use Rattle.std.specs.Prelude.{◌≡◌, ℕ};
+ghost use Rattle.std.specs.Prelude.{◌≡◌, ℕ, true};
 ghost use Rattle.rds_mail.specs.Learning.{AllGot};
 ghost use Rattle.rds_line.specs.Line.{IsFull};
 ghost use Rattle.rds_line.specs.Stays.{LineStays};
+ghost use Rattle.rds_line.specs.Turns.{IsIdleTurn};
 ghost use Rattle.rds_host.specs.Lines.{pair_of};
+ghost use Rattle.rds_rounds.specs.Rest.{KeepsStreams};
 ghost use Rattle.rds_rounds.specs.declared.verdict.Round.TheVariants as round;
 
 use rds_fmap::Writer;
@@ -59,27 +61,42 @@ fn refusals(journal: &Journal) -> u32 {
 }
 
 // Whether a line that is over should have a stream left: one wasn't opened, or more were shut than cuts and refused headers say.
-fn is_fault<E: End>(wanted: Wanted, line: &Line<E, Writer>, other: &Line<E, Writer>) -> bool {
+// There are more streams than cuts. So it always should have one over ends that tell their bytes, where no header is refused.
+fn is_fault<E: End>(
+    tells: bool,
+    wanted: Wanted,
+    line: &Line<E, Writer>,
+    other: &Line<E, Writer>,
+) -> bool
+    ensures told { tells ≡ true → result ≡ true }
+{
     let causes = wanted.cuts.saturating_add(refusals(other.journal()));
-    wanted.lacks || shuts(line.journal()) > causes
+    tells || wanted.lacks || shuts(line.journal()) > causes
 }
 
-/// One turn of a host's line, where `other` is the peer's.
+/// One turn of a host's line, where `other` is the peer's, over ends that tell their bytes or don't.
 pub(crate) fn turn<E: End, R: Wait>(
     rt: &R,
     host: u8,
+    tells: bool,
     wanted: Wanted,
     line: &mut Line<E, Writer>,
     other: &Line<E, Writer>,
 ) -> Round
     ensures stays { LineStays E.means pair_of line.old line.new }
     ensures idle { result ≡ round.Idle → AllGot line.new.orders }
+    ensures kept { KeepsStreams E.means line.old }
+    ensures keeps { KeepsStreams E.means line.new }
+    ensures nothing { tells ≡ true → result ≡ round.Idle → IsIdleTurn E.means line.old line.new }
     ensures spent { (at entries : ℕ) → result ≡ round.Spent at entries → (at ≡ host) × IsFull entries line.new }
 {
-    match line.turn(rt) {
+    line.known();
+    let came = line.turn(rt);
+    line.known();
+    match came {
         Turn::Moved => Round::Moved,
         Turn::Idle => Round::Idle,
-        Turn::Over if is_fault(wanted, line, other) => Round::Fault,
+        Turn::Over if is_fault(tells, wanted, line, other) => Round::Fault,
         Turn::Over => Round::Idle,
         Turn::Spent { entries } => Round::Spent { host, entries },
         Turn::Memory => Round::Memory,

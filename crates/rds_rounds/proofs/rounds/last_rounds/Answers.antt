@@ -1,6 +1,6 @@
 use Rattle.std.proofs.Common.{sym, subst}
 use Rattle.rds_mail.specs.Learning.{AllGot}
-use Rattle.rds_rounds.proofs.Finishing.{at_first, done_first, full_first, full_kept}
+use Rattle.rds_rounds.proofs.Finishing.{at_first, done_first, drained_first, full_first, full_kept}
 use Rattle.rds_rounds.proofs.Going.{goes_first, goes_through, quiet_first}
 use Rattle.rds_rounds.proofs.rounds.last_rounds.Goals as goal
 
@@ -31,7 +31,7 @@ returns-clause-done g c = λ limit two.
     (at_first c.args.lines.now.0.items c.index_mut-low.result.now two.low_count c.index_mut-low.ensures.value)
     (at_first c.args.lines.now.1.items c.index_mut-high.result.now two.high_count c.index_mut-high.ensures.value)) in
     done_first g.W.End.End.means limit c.args.lines.now.0.items c.args.lines.now.1.items c.meet_lines.new.low c.meet_lines.new.high
-    two.low_count two.high_count (c.meet_lines.ensures.hosts limit connected.hosts) c.meet_lines.ensures.sound
+    two.low_count two.high_count (c.meet_lines.ensures.connected limit connected).hosts c.meet_lines.ensures.sound
 
 pub returns-clause-spent : goal.returns-clause-spent
 returns-clause-spent g c = λ host entries is.
@@ -61,3 +61,10 @@ returns-clause-quiet g c = λ ended.
       quiet_first c.args.lines.now.0.items c.meet_lines.new.low two.low_count (subst (λ g. AllGot g) (sym c.meet_lines.ensures.low_orders) quiet.0),
       quiet_first c.args.lines.now.1.items c.meet_lines.new.high two.high_count (subst (λ g. AllGot g) (sym c.meet_lines.ensures.high_orders) quiet.1),
     )
+
+pub returns-clause-drained : goal.returns-clause-drained
+returns-clause-drained g c = λ tells done.
+    let two = c.requires.1 in
+    drained_first c.args.lines.now.0.items c.args.lines.now.1.items c.turn_until_quiet-end.new.low c.turn_until_quiet-end.new.high
+    c.meet_lines.new.low c.meet_lines.new.high two.low_count two.high_count c.meet_lines.ensures.low_past c.meet_lines.ensures.high_past
+    (c.turn_until_quiet-end.ensures.drained tells done)
