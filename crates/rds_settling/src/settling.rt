@@ -14,7 +14,7 @@ use rds_line::Line;
 use rds_link::End;
 
 /// Gives up the slots that no socket had, and tells each line of a host all orders that its slots have put.
-pub(crate) fn settle_lines<E: End>(caller: &mut Caller, lines: &mut [Line<E, Writer>])
+pub fn settle_lines<E: End>(caller: &mut Caller, lines: &mut [Line<E, Writer>])
     requires { AreTied caller.old.places lines.old }
     ensures places { caller.new.places ≡ map spared caller.old.places }
     ensures told { AreLinesTold (holdings caller.new.places) lines.new }
@@ -42,7 +42,7 @@ fn tell_line<E: End>(caller: &mut Caller, place: usize, line: &mut Line<E, Write
 }
 
 /// Tells the mailbox of each slot of a host all datagrams that its lines have put there.
-pub(crate) fn settle_slots<E: End>(caller: &mut Caller, lines: &mut [Line<E, Writer>])
+pub fn settle_slots<E: End>(caller: &mut Caller, lines: &mut [Line<E, Writer>])
     requires tied { AreTied caller.old.places lines.old }
     requires used { (slot : ℕ) (p : Place) → slice_get caller.old.places slot ≡ Some p → IsUsed p }
     ensures places { PlacesHear caller.old.places caller.new.places }

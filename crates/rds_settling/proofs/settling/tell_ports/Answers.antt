@@ -13,9 +13,11 @@ pub tell_port-requires : goal.tell_port-requires
 tell_port-requires g c =
     let count = c.slots-slot-end.ensures.count in
     let test = c.loop-slot-test.true in
-    subst (λ (ps : List Place). (p : Place) × (slice_get ps c.loop-slot.slot ≡ Some p) × ((holding_of p).ports.table ≡ c.loop-slot.line.ports.table))
-    (sym c.loop-slot.invariant.0)
-    (table_at c.args.caller.now.places c.loop-slot.slot c.args.line.now c.loop-slot.line c.requires c.loop-slot.invariant.1 (omega (arith, count, test)))
+    record {
+      table = subst (λ (ps : List Place). (p : Place) × (slice_get ps c.loop-slot.slot ≡ Some p) × ((holding_of p).ports.table ≡ c.loop-slot.line.ports.table))
+          (sym c.loop-slot.invariant.0)
+          (table_at c.args.caller.now.places c.loop-slot.slot c.args.line.now c.loop-slot.line c.requires c.loop-slot.invariant.1 (omega (arith, count, test)));
+    }
 
 pub loop-slot-preserved : goal.loop-slot-preserved
 loop-slot-preserved g c =
