@@ -1,9 +1,8 @@
 -- Loops that tell getters of what was put.
-use Rattle.std.proofs.Common.{◌≡◌, ◌⊎◌, inl, inr, ℕ, zero, suc, ◌+◌, ◌<◌, ◌≤◌, List, [], ◌∷◌, ◌++◌, Some, None, length, map, option_map, slice_get, slice_set, refl, sym, ap, subst, ◌∙◌, arith}
+use Rattle.std.proofs.Common.{◌≡◌, ◌⊎◌, inl, inr, ℕ, zero, suc, ◌+◌, ◌<◌, ◌≤◌, List, [], ◌∷◌, ◌++◌, Some, length, option_map, slice_get, slice_set, refl, sym, ap, subst, ◌∙◌, arith}
 use Rattle.std.proofs.lemmas.Option.{same_Some, slice_get-map}
 use Rattle.std.proofs.lemmas.Bool.{cases_eq}
-use Rattle.rds_mail.specs.declared.view.Account.{Account}
-use Rattle.rds_mail.specs.Passes.{Getter, Putter, account_of, after_note}
+use Rattle.rds_mail.specs.Passes.{Putter, account_of, after_note}
 use Rattle.rds_fmap.specs.Readers.{ReaderView, WriterView}
 use Rattle.rds_model.specs.declared.order.Order.{Order}
 use Rattle.rds_model.specs.declared.order.Datagram.{Datagram}
@@ -11,7 +10,7 @@ use Rattle.rds_parts.specs.Lanes.{IsLaneAt, Lane}
 use Rattle.rds_line_parts.specs.Boxes.{IsBoxOf}
 use Rattle.rds_socket.specs.Holding.{Holding}
 use Rattle.rds_line.specs.Line.{LineView}
-use Rattle.rds_host.specs.Telling.{AreBoxesTold, AreOrdersTold, IsTold}
+use Rattle.rds_host.specs.Telling.{AreBoxesTold, AreOrdersTold}
 use Rattle.rds_callers.specs.Places.{Bound, Ended, IsUsed, Place, Spare, Vacant, holding_of, told_by, with_holding}
 use Rattle.rds_settling.specs.Steps.{AreLinesToldTo, AreSlotsToldTo, CanTellLine}
 use Rattle.rds_settling.specs.Tied.{AreTied, LineHears, LinesHear, PlaceHears, PlacesHear, holdings}

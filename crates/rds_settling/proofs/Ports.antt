@@ -1,19 +1,18 @@
 -- The loops that tell lines of the ports of sockets.
-use Rattle.std.proofs.Common.{◌≡◌, inl, inr, ℕ, ◌+◌, ◌<◌, List, [], ◌∷◌, ◌++◌, Some, None, length, slice_get, slice_set, refl, sym, ap, subst, ◌∙◌, arith}
+use Rattle.std.proofs.Common.{◌≡◌, inl, inr, ℕ, ◌+◌, ◌<◌, List, [], ◌∷◌, Some, None, length, slice_get, slice_set, refl, sym, ap, subst, ◌∙◌, arith}
 use Rattle.std.proofs.lemmas.Option.{same_Some}
 use Rattle.std.proofs.lemmas.Bool.{cases_eq}
-use Rattle.rds_bindtab.specs.declared.view.Telling.{Telling}
 use Rattle.rds_bindtab.specs.Seats.{PortSeat, joined, knowing, note_of, telling_of}
 use Rattle.rds_model.specs.declared.order.Datagram.{Datagram}
 use Rattle.rds_mail.specs.Passes.{Putter}
 use Rattle.rds_fmap.specs.Readers.{ReaderView, WriterView}
-use Rattle.rds_socket.specs.Holding.{Holding, Open}
+use Rattle.rds_socket.specs.Holding.{Open}
 use Rattle.rds_line.specs.Line.{LineView}
 use Rattle.rds_line.specs.Stays.{AreSameBoxes}
 use Rattle.rds_host.specs.Keeping.{LineKeeps, LinesKeep}
 use Rattle.rds_callers.specs.Places.{Bound, Ended, Place, Spare, Vacant, bind_note, holding_of}
 use Rattle.rds_settling.specs.Steps.{AreAtTable, ArePortsToldTo, after_port}
-use Rattle.rds_settling.specs.Tied.{ArePortsTold, AreTied, IsPortTold, LineLearnsPorts, LinesLearnPorts, holdings}
+use Rattle.rds_settling.specs.Tied.{ArePortsTold, AreTied, IsPortTold, LineLearnsPorts, LinesLearnPorts}
 use Rattle.rds_settling.proofs.Listening.{below_at, held_at, set_at, set_length, some_at}
 use Rattle.rds_settling.proofs.Told.{at_append, at_end, stood_at}
 use Rattle.rds_settling.proofs.Tying.{boxes_same}

@@ -1,8 +1,7 @@
 -- What getters were told of.
-use Rattle.std.proofs.Common.{◌≡◌, ◌⊎◌, inl, inr, option_map, ℕ, zero, suc, ◌<◌, ◌≤◌, List, [], ◌∷◌, ◌++◌, Some, length, map, slice_get, slice_set, set, refl, sym, ap, subst, ◌∙◌, arith}
-use Rattle.std.proofs.lemmas.Option.{same_Some, slice_get-map, slice_get_within}
-use Rattle.std.proofs.lemmas.Bool.{cases_eq}
-use Rattle.rds_views.specs.Views.{At, Has}
+use Rattle.std.proofs.Common.{◌≡◌, option_map, ℕ, zero, suc, List, [], ◌∷◌, ◌++◌, Some, length, slice_get, refl, sym, ap, subst, ◌∙◌, arith}
+use Rattle.std.proofs.lemmas.Option.{slice_get-map}
+use Rattle.rds_views.specs.Views.{At}
 use Rattle.rds_mail.specs.declared.view.Account.{Account}
 use Rattle.rds_mail.specs.Passes.{Putter, account_of}
 use Rattle.rds_fmap.specs.Readers.{ReaderView, WriterView}

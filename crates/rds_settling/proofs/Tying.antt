@@ -1,13 +1,11 @@
 -- What belongs together of a host of a run stays so.
-use Rattle.std.proofs.Common.{◌≡◌, ℕ, zero, suc, List, [], ◌∷◌, length, map, Option, Some, None, option_map, slice_get, refl, sym, ap, subst, ◌∙◌, arith}
-use Rattle.std.proofs.lemmas.Option.{same_Some, slice_get-map}
+use Rattle.std.proofs.Common.{◌≡◌, ℕ, zero, suc, List, [], ◌∷◌, length, map, Some, slice_get, refl, sym, ap, subst, ◌∙◌}
+use Rattle.std.proofs.lemmas.Option.{same_Some}
 use Rattle.rds_fmap.specs.Readers.{HasSeen, ReaderView, WriterView}
-use Rattle.rds_fmap.specs.declared.seen.Seen.{Seen}
 use Rattle.rds_model.specs.declared.order.Datagram.{Datagram}
 use Rattle.rds_mail.specs.Passes.{Putter}
 use Rattle.rds_parts.specs.Lanes.{Lane, RoutesStay}
 use Rattle.rds_socket.specs.Holding.{Holding}
-use Rattle.rds_socket.specs.Stays.{HoldingStays}
 use Rattle.rds_line.specs.Line.{LineView}
 use Rattle.rds_line.specs.Stays.{AreSameBoxes}
 use Rattle.rds_host.specs.Keeping.{LineKeeps, LinesKeep, SlotKeeps, SlotsKeep}
@@ -15,7 +13,7 @@ use Rattle.rds_host.specs.Passes.{AreAllPasses}
 use Rattle.rds_host.specs.Ties.{AreOfHost}
 use Rattle.rds_callers.specs.Places.{Bound, Ended, IsUsed, Place, PlacesKeep, Spare, Vacant, holding_of, spared, vacant_places}
 use Rattle.rds_callers.specs.Ends.{AreEndsOf}
-use Rattle.rds_settling.specs.Tied.{AreTied, LineHears, LinesHear, PlaceHears, PlacesHear, SlotHears, holdings}
+use Rattle.rds_settling.specs.Tied.{AreTied, LineHears, LinesHear, PlacesHear, SlotHears, holdings}
 
 -- what stands at a place of a mapped list is made of what stands there
 pub at_map : {A B : Type 0} (f : A → B) (xs : List A) (i : ℕ) (b : B) → slice_get (map f xs) i ≡ Some b → (a : A) × (slice_get xs i ≡ Some a) × (b ≡ f a)

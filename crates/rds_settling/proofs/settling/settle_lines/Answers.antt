@@ -1,10 +1,10 @@
-use Rattle.std.proofs.Common.{◌≡◌, ◌<◌, ℕ, List, Some, get_or, length, map, slice_get, ap, refl, subst, sym, ◌∙◌, arith}
+use Rattle.std.proofs.Common.{◌≡◌, ◌<◌, ℕ, List, Some, get_or, length, map, slice_get, subst, sym, ◌∙◌, arith}
 use Rattle.std.proofs.lemmas.Option.{slice_get-get_or}
 use Rattle.rds_callers.specs.Places.{IsUsed, Place, spared}
 use Rattle.rds_host.specs.Telling.{AreOrdersTold}
 use Rattle.rds_settling.specs.Steps.{CanTellLine}
 use Rattle.rds_settling.specs.Tied.{AreTied, holdings}
-use Rattle.rds_settling.proofs.Listening.{below_at, can_tell, hear_same, hear_set, lines_told_next}
+use Rattle.rds_settling.proofs.Listening.{below_at, can_tell, hear_set, lines_told_next}
 use Rattle.rds_settling.proofs.Tying.{all_used, holdings_spared, tied_spared}
 use Rattle.rds_settling.proofs.settling.settle_lines.Goals as goal
 

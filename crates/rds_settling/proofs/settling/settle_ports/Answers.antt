@@ -1,10 +1,10 @@
-use Rattle.std.proofs.Common.{◌≡◌, ◌<◌, List, Some, get_or, length, slice_get, ap, refl, subst, sym, ◌∙◌, arith}
+use Rattle.std.proofs.Common.{◌<◌, List, get_or, length, subst, sym, ◌∙◌, arith}
 use Rattle.std.proofs.lemmas.Option.{slice_get-get_or}
 use Rattle.rds_callers.specs.Places.{Place}
 use Rattle.rds_settling.specs.Steps.{AreAtTable, ArePortsToldTo}
 use Rattle.rds_settling.specs.Tied.{ArePortsTold, AreTied}
 use Rattle.rds_settling.proofs.Listening.{below_at}
-use Rattle.rds_settling.proofs.Ports.{all_ports_told, at_table, learn_same, learn_set, lines_learned, lines_ports_next}
+use Rattle.rds_settling.proofs.Ports.{all_ports_told, at_table, learn_set, lines_learned, lines_ports_next}
 use Rattle.rds_settling.proofs.Tying.{slots_same, tied_keeps}
 use Rattle.rds_settling.specs.Tied.{holdings}
 use Rattle.rds_settling.proofs.settling.settle_ports.Goals as goal

@@ -1,8 +1,8 @@
-use Rattle.std.proofs.Common.{◌≡◌, ◌<◌, ℕ, List, Some, length, slice_get, slice_set, ap, refl, subst, sym, ◌∙◌, arith}
-use Rattle.rds_callers.specs.Places.{IsUsed, Place, holding_of}
+use Rattle.std.proofs.Common.{◌≡◌, List, Some, slice_get, subst, sym, ◌∙◌, arith}
+use Rattle.rds_callers.specs.Places.{Place, holding_of}
 use Rattle.rds_host.specs.Telling.{AreBoxesTold}
-use Rattle.rds_settling.specs.Tied.{AreTied, PlacesHear, holdings}
-use Rattle.rds_settling.proofs.Listening.{below_at, places_hear_same, places_hear_set, slots_told_next, some_at, used_hearing}
+use Rattle.rds_settling.specs.Tied.{AreTied, PlacesHear}
+use Rattle.rds_settling.proofs.Listening.{below_at, places_hear_set, slots_told_next, some_at, used_hearing}
 use Rattle.rds_settling.proofs.Told.{stood_at}
 use Rattle.rds_settling.proofs.Tying.{at_map, lines_same, slots_of_hearing, tied_keeps}
 use Rattle.rds_settling.proofs.settling.settle_slots.Goals as goal

@@ -1,6 +1,4 @@
-use Rattle.std.proofs.Common.{◌≡◌, None, Some, ap, sym, ◌∙◌}
-use Rattle.std.proofs.lemmas.Option.{same_Some}
-use Rattle.rds_callers.specs.Places.{bind_note, holding_of}
+use Rattle.std.proofs.Common.{sym, ◌∙◌}
 use Rattle.rds_settling.proofs.Ports.{heard_none, heard_note, note_table}
 use Rattle.rds_settling.proofs.settling.tell_port.Goals as goal
 

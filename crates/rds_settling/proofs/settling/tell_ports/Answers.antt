@@ -1,4 +1,4 @@
-use Rattle.std.proofs.Common.{◌≡◌, ◌<◌, ◌+◌, List, Some, length, slice_get, ap, refl, subst, sym, ◌∙◌, arith}
+use Rattle.std.proofs.Common.{◌≡◌, ◌+◌, List, Some, slice_get, refl, subst, sym, ◌∙◌, arith}
 use Rattle.rds_callers.specs.Places.{Place, holding_of}
 use Rattle.rds_settling.specs.Steps.{ArePortsToldTo}
 use Rattle.rds_settling.specs.Tied.{LineLearnsPorts}

@@ -1,9 +1,7 @@
-use Rattle.std.proofs.Common.{◌≡◌, ◌<◌, ◌+◌, List, Some, get_or, length, slice_get, slice_set, ap, refl, subst, sym, ◌∙◌, arith}
-use Rattle.std.proofs.lemmas.Option.{same_Some, slice_get-get_or}
+use Rattle.std.proofs.Common.{◌≡◌, ◌<◌, List, Some, get_or, length, slice_get, slice_set, ap, refl, subst, sym, ◌∙◌, arith}
+use Rattle.std.proofs.lemmas.Option.{slice_get-get_or}
 use Rattle.rds_host.specs.Telling.{AreBoxesTold}
-use Rattle.rds_callers.specs.Places.{IsUsed, Place, holding_of, told_by}
-use Rattle.rds_settling.specs.Steps.{AreLinesToldTo}
-use Rattle.rds_settling.specs.Tied.{PlaceHears}
+use Rattle.rds_callers.specs.Places.{Place, holding_of, told_by}
 use Rattle.rds_settling.proofs.Listening.{box_mail, box_there, box_told_next, boxes_told_all, none_told, place_hears_none, place_hears_note, set_same, set_there, set_twice, used_hearing}
 use Rattle.rds_settling.proofs.settling.tell_slot.Goals as goal
 

@@ -1,4 +1,4 @@
-use Rattle.std.proofs.Common.{◌≡◌, ℕ, Some, slice_get, slice_set}
+use Rattle.std.proofs.Common.{◌≡◌, Some, slice_get, slice_set}
 use Rattle.rds_callers.specs.Places.{Place, holding_of}
 use Rattle.rds_settling.specs.Steps.{AreLinesToldTo}
 use Rattle.rds_settling.specs.Tied.{PlaceHears}
