@@ -4,7 +4,7 @@
 BELOW := rds_wire rds_views rds_frame rds_model rds_cong rds_script rds_link rds_msgs rds_conn rds_text \
 	rds_report rds_history rds_pair rds_joint rds_mesh rds_hosts rds_world rds_play \
 	rds_bindtab rds_meter rds_mail rds_fmap rds_parts rds_socket rds_joins rds_line_parts rds_line_streams \
-	rds_line_channel rds_line rds_host rds_gather rds_callers rds_rounds rds_threads rds_run
+	rds_line_channel rds_line rds_host rds_gather rds_callers rds_rounds rds_settling rds_parties rds_threads rds_run
 
 .PHONY: hello test below $(BELOW)
 
@@ -46,7 +46,9 @@ rds_host: rds_line rds_socket
 rds_gather: rds_host rds_joins rds_report
 rds_callers: rds_script rds_socket rds_report
 rds_rounds: rds_host
-rds_threads: rds_gather rds_callers rds_history rds_rounds
+rds_settling: rds_host rds_callers
+rds_parties: rds_rounds rds_settling
+rds_threads: rds_gather rds_history rds_parties
 rds_run: rds_play rds_threads
 
 # Every proof, test, must-fail edit and program.

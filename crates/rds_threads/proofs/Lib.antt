@@ -1,14 +1,9 @@
-pub mod Connected
+pub mod Written
 pub mod Sound
-pub mod Preparing
-pub mod Commands
 pub mod Spent
 pub mod HandedOut
-pub mod Tying
+pub mod At
 pub mod Receiving
-pub mod Told
-pub mod Obeying
 pub mod Keeping
-pub mod Listening
 pub mod Finished
 pub mod Outcome

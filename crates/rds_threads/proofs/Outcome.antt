@@ -17,14 +17,30 @@ use Rattle.rds_host.specs.Telling.{AreOrdersTold}
 use Rattle.rds_gather.specs.Joined.{AreJoined}
 use Rattle.rds_callers.specs.Ends.{AreEndsOf, AreLeft, IsLeft, UnreadFits, kept_name, used_name}
 use Rattle.rds_callers.specs.Places.{Bound, Ended, Place, Spare, Vacant, holding_of, somes, spared, with_holding}
-use Rattle.rds_threads.specs.Obeyed.{HandedOutAt, IsOutcome, socket_name}
+use Rattle.rds_threads.specs.Outcome.{HandedOutAt, IsOutcome, socket_name}
 use Rattle.rds_rounds.specs.Quiet.{AreQuiet}
 use Rattle.rds_threads.specs.Settled.{AreAllSent, AreKeptOf, HasDoneSpared}
-use Rattle.rds_threads.specs.Tied.{AreLinesTold, PlaceHears, PlacesHear, holdings}
-use Rattle.rds_threads.proofs.Listening.{held_at}
-use Rattle.rds_threads.proofs.Obeying.{names_of, names_spared}
-use Rattle.rds_threads.proofs.Told.{stood_at}
-use Rattle.rds_threads.proofs.Tying.{at_map, spared_holds}
+use Rattle.rds_settling.specs.Tied.{AreLinesTold, PlaceHears, PlacesHear, holdings}
+use Rattle.rds_threads.proofs.At.{at_map, held_at, spared_holds, stood_at}
+
+-- the names of slots stay where they are given up
+name_spared : (p : Place) → used_name (spared p) ≡ used_name p
+name_spared (Vacant h) = refl
+name_spared (Bound o got) = refl
+name_spared (Ended port h got) = refl
+name_spared (Spare h) = refl
+
+pub names_spared : (places : List Place) → somes (map used_name (map spared places)) ≡ somes (map used_name places)
+names_spared places = ap (λ (l : List (Option (ℕ × ℕ))). somes l) (go places)
+  where
+    go : (ps : List Place) → map used_name (map spared ps) ≡ map used_name ps
+    go [] = refl
+    go (p ∷ ps) = (λ i. name_spared p i ∷ map used_name (map spared ps)) ∙ ap (λ (l : List (Option (ℕ × ℕ))). used_name p ∷ l) (go ps)
+
+-- what names say of sockets
+pub names_of : (kept : List Kept) → map socket_name (map socket_view kept) ≡ map kept_name kept
+names_of [] = refl
+names_of (k ∷ kept) = ap (λ (l : List (ℕ × ℕ)). kept_name k ∷ l) (names_of kept)
 
 -- a slot whose mailbox was told, and which has ended then, has the routes that it had
 routes_kept : (places told : List Place) (closed : List (Holding ReaderView)) → PlacesHear places told → AreEndsOf told closed →
@@ -94,10 +110,10 @@ hands_spared (Ended port h got) s is = is
 hands_spared (Spare h) s is = absurd is
 
 module _ {E : Type 0} where
-  pub outcome_of : (host : ℕ) (commands : List Placed) (places : List Place) (lines : List (LineView E WriterView)) (line : LineView E WriterView) (kept : List Kept) →
-      HasDoneSpared host commands places → AreAllSent places lines → slice_get lines 0 ≡ Some line → AreKeptOf places kept →
-      IsOutcome host commands (line_past line) (map socket_view kept)
-  outcome_of host commands places lines line kept did sent at_line of_kept = record {
+  pub outcome_of : (host peer : ℕ) (commands : List Placed) (places : List Place) (lines : List (LineView E WriterView)) (line : LineView E WriterView) (kept : List Kept) →
+      HasDoneSpared host peer commands places → AreAllSent places lines → slice_get lines 0 ≡ Some line → AreKeptOf places kept →
+      IsOutcome host peer commands (line_past line) (map socket_view kept)
+  outcome_of host peer commands places lines line kept did sent at_line of_kept = record {
     last = did.last;
     done = did.done;
     sent = λ slot p lane at at_lane.

@@ -26,7 +26,7 @@ use Rattle.rds_threads.specs.Reliable.{HasReceived}
 use Rattle.rds_threads.proofs.Receiving.{reliable_of}
 use Rattle.rds_rounds.specs.Sound.{AreSoundJournals}
 use Rattle.rds_threads.specs.Ends.{AreEnds, HasJournal}
-use Rattle.rds_threads.proofs.Connected.{first_of}
+use Rattle.rds_threads.proofs.At.{first_of}
 
 -- they are sound seen from the other side, too
 pub sound_back : (tells : Bool) (low high : List Entry) → AreSoundJournals tells low high → AreSoundJournals tells high low
@@ -72,7 +72,7 @@ module _ {E : Type 0} (m : Means E) (limit : ℕ) (lows highs : List (LineView E
   pub ends_of : (commands : List Placed) (low_places high_places : List Place) (first second : HostEnd) → first.addr ≡ address_of 0 → second.addr ≡ address_of 1 →
       map side_view first.journals.items ≡ map line_side lows → map side_view second.journals.items ≡ map line_side highs →
       HasReceived (host_view first) → HasReceived (host_view second) → AreAllSent low_places lows → AreAllSent high_places highs →
-      AreKeptOf low_places first.kept.items → AreKeptOf high_places second.kept.items → HasDoneSpared 0 commands low_places → HasDoneSpared 1 commands high_places →
+      AreKeptOf low_places first.kept.items → AreKeptOf high_places second.kept.items → HasDoneSpared 0 1 commands low_places → HasDoneSpared 1 0 commands high_places →
       AreEnds m.tells commands (host_views (first ∷ second ∷ []))
   ends_of commands low_places high_places first second first_addr second_addr first_sides second_sides first_received second_received low_sent high_sent low_kept high_kept
       low_done high_done =
@@ -89,8 +89,8 @@ module _ {E : Type 0} (m : Means E) (limit : ℕ) (lows highs : List (LineView E
         low_journal = low_journal;
         high_journal = high_journal;
         sound = sound;
-        low_did = outcome_of 0 commands low_places lows low.0 first.kept.items low_done low_sent low.1 low_kept;
-        high_did = outcome_of 1 commands high_places highs high.0 second.kept.items high_done high_sent high.1 high_kept;
+        low_did = outcome_of 0 1 commands low_places lows low.0 first.kept.items low_done low_sent low.1 low_kept;
+        high_did = outcome_of 1 0 commands high_places highs high.0 second.kept.items high_done high_sent high.1 high_kept;
         low_received = first_received;
         high_received = second_received;
         reliable_forth = λ told.

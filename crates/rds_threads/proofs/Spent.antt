@@ -1,5 +1,5 @@
 -- A run that ended since a journal is full.
-use Rattle.std.proofs.Common.{◌≡◌, ◌≢◌, inl, inr, ◌<◌, ℕ, ◌+◌, Bool, List, Some, length, slice_get, Result, Ok, Err, IfOk, sym, ap, subst, ◌∙◌, arith}
+use Rattle.std.proofs.Common.{◌≡◌, ◌≢◌, inl, inr, ◌<◌, ℕ, ◌+◌, List, Some, length, slice_get, Result, IfOk, refl, sym, ap, ◌∙◌, arith}
 use Rattle.rds_wire.specs.declared.memory.Memory.{Memory}
 use Rattle.rds_link.specs.Ends.{Means}
 use Rattle.rds_model.specs.Log.{Log}
@@ -13,21 +13,9 @@ use Rattle.rds_rounds.specs.Sound.{AreSoundJournals}
 use Rattle.rds_threads.specs.Ends.{IsEndOfRun, Writes, Written}
 use Rattle.rds_threads.specs.declared.form.RunEnd.{RunEnd}
 use Rattle.rds_threads.specs.declared.form.RunEnd.TheVariants as ended
-use Rattle.rds_threads.proofs.Connected.{first_of}
+use Rattle.rds_threads.proofs.At.{first_of}
 use Rattle.rds_threads.proofs.Sound.{sound_back}
-
--- the line of the journal was written, or the sink failed
-spent_written : (tells : Bool) (limit : ℕ) (commands : List Placed) (sink : Written) (host peer entries : ℕ) (own other : Log) → length own.past ≡ entries → limit < entries + 2 →
-    AreSoundJournals tells own.past other.past → (result : RunEnd) → Writes sink (spent_line host peer entries) (ended.Spent host peer entries own other) result →
-    IsEndOfRun tells limit commands sink result
-spent_written tells limit commands sink host peer entries own other count most sound result (inl said) =
-    subst (IsEndOfRun tells limit commands sink) (sym said.0) (count, most, sound, said.1)
-spent_written tells limit commands sink host peer entries own other count most sound result (inr failed) =
-    subst (IsEndOfRun tells limit commands sink) (sym failed.0) failed.1
-
-on_ok : (P Q : RunEnd → Type 0) (result : Result RunEnd Memory) → ((e : RunEnd) → P e → Q e) → IfOk result P → IfOk result Q
-on_ok P Q (Ok e) f p = f e p
-on_ok P Q (Err e) f p = tt
+use Rattle.rds_threads.proofs.Written.{end_written, on_ok}
 
 full_of : {E M : Type 0} (limit entries : ℕ) (line : LineView E M) (past : List Entry) → past ≡ line_past line → line.channel.conn.log.limit ≡ limit →
     IsFull entries line → (length past ≡ entries) × (limit < entries + 2)
@@ -53,10 +41,11 @@ module _ {E M : Type 0} (m : Means E) (limit : ℕ) (lows highs : List (LineView
         | inl one ↦
             let f = full_of limit entries a.0 low.past (low_is a.0 a.1) hosts.low_limit one.1 in
             on_ok (Writes sink (spent_line 0 1 entries) (ended.Spent 0 1 entries low high)) (IsEndOfRun m.tells limit commands sink) result
-            (spent_written m.tells limit commands sink 0 1 entries low high f.0 f.1 sound) (first one.0)
+            (end_written m.tells limit commands sink (spent_line 0 1 entries) (ended.Spent 0 1 entries low high) (f.0, f.1, sound, refl)) (first one.0)
         | inr two ↦
             let f = full_of limit entries b.0 high.past (high_is b.0 b.1) hosts.high_limit two.1 in
             let other : host ≢ 0 = λ e. let is = two.0 in absurd (omega (arith, e, is)) in
             on_ok (Writes sink (spent_line 1 0 entries) (ended.Spent 1 0 entries high low)) (IsEndOfRun m.tells limit commands sink) result
-            (spent_written m.tells limit commands sink 1 0 entries high low f.0 f.1 (sound_back m.tells low.past high.past sound)) (second other)
+            (end_written m.tells limit commands sink (spent_line 1 0 entries) (ended.Spent 1 0 entries high low)
+            (f.0, f.1, sound_back m.tells low.past high.past sound, refl)) (second other)
       ]

@@ -1,7 +1,5 @@
 pub mod Texts
 pub mod Reliable
-pub mod Obeyed
+pub mod Outcome
 pub mod Ends
-pub mod Preparing
-pub mod Tied
 pub mod Settled

@@ -10,9 +10,10 @@ use Rattle.rds_gather.specs.Joined.{orders_of}
 use Rattle.rds_callers.specs.Ends.{kept_name, used_name}
 use Rattle.rds_callers.specs.Places.{IsUsed, Place, holding_of, somes, spared}
 use Rattle.rds_script.specs.declared.script.Placed.{Placed}
-use Rattle.rds_threads.specs.Obeyed.{HandedOutAt, HasDone}
+use Rattle.rds_parties.specs.Obeyed.{HasDone}
+use Rattle.rds_threads.specs.Outcome.{HandedOutAt}
 use Rattle.rds_rounds.specs.Quiet.{AreQuiet}
-use Rattle.rds_threads.specs.Tied.{AreLinesTold, AreTied, holdings}
+use Rattle.rds_settling.specs.Tied.{AreLinesTold, AreTied, holdings}
 
 -- the orders that stand in the journals of lines are, for each slot, exactly those that its socket has put
 abbrev pub AreAllSent : {E : Type 0} → List Place → List (LineView E WriterView) → Type 0
@@ -20,9 +21,9 @@ AreAllSent {E} places lines = (slot place : ℕ) (p : Place) (lane : Lane Reader
     IsLaneAt (holding_of p).routes place lane → slice_get lines place ≡ Some line → orders_of slot (line_past line) ≡ uncut lane.pass.put
 
 -- so the caller did its commands, and then gave up the slots that no socket had
-pub record HasDoneSpared (host : ℕ) (commands : List Placed) (places : List Place) : Type 0 where
+pub record HasDoneSpared (host peer : ℕ) (commands : List Placed) (places : List Place) : Type 0 where
   pub last : List Place
-  pub done : HasDone host commands last
+  pub done : HasDone host peer commands last
   pub left : places ≡ map spared last
 
 -- what is kept of a host has one for each slot that was bound, with its port, and what it handed out

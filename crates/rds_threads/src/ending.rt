@@ -7,6 +7,8 @@ ghost use Rattle.rds_report.specs.Views.{AreFinalHosts, host_view, host_views, s
 ghost use Rattle.rds_rounds.specs.Connection.{IsFullHost};
 ghost use Rattle.rds_rounds.specs.Done.{AreDone};
 ghost use Rattle.rds_rounds.specs.Sound.{AreSoundJournals};
+ghost use Rattle.rds_callers.specs.Places.{IsUsed, Place};
+ghost use Rattle.rds_settling.specs.Tied.{AreSlotsTold, AreTied, PlacesHear, holdings};
 ghost use Rattle.rds_threads.specs.Ends.{AreEnds, IsEndOfRun};
 ghost use Rattle.rds_rounds.specs.Quiet.{IsQuietEnd};
 ghost use Rattle.rds_threads.specs.Reliable.{HasReceived};
@@ -16,17 +18,17 @@ ghost use Rattle.rds_rounds.specs.declared.rounds.Rounds.TheVariants as rounds;
 
 use crate::answers::{end_by_fault, end_by_report, end_by_spent, end_unfinished};
 use crate::form::{Form, RunEnd};
-use crate::settling::settle_slots;
 use rds_callers::Caller;
 use rds_fmap::Writer;
 use rds_gather::{end_line, gather};
-use rds_host::laws::host_keeps;
 use rds_line::Line;
-use rds_link::{Sink, Wire};
+use rds_link::{End, Sink, Wire};
 use rds_model::Journal;
 use rds_model::laws::fifo_of_all;
 use rds_report::{HostEnd, address};
 use rds_rounds::{Lines, Rounds};
+use rds_settling::laws::tied_ends;
+use rds_settling::settle_slots;
 use rds_wire::Memory;
 use std::alloc::Global;
 use std::sync::Wait;
@@ -79,7 +81,7 @@ fn host_ends<W: Wire, R: Wait>(
     requires done { (limit : ℕ) × AreDone W.End.means limit lines.0.items lines.1.items }
     requires low { HasSettled callers.0.places lines.0.items }
     requires high { HasSettled callers.1.places lines.1.items }
-    ensures ends { (commands : List Placed) → HasDoneSpared 0 commands callers.0.places → HasDoneSpared 1 commands callers.1.places →
+    ensures ends { (commands : List Placed) → HasDoneSpared 0 1 commands callers.0.places → HasDoneSpared 1 0 commands callers.1.places →
         IfOk result (λ ends. AreEnds W.End.means.tells commands (host_views ends.items)) }
     ensures hosts { IfOk result (λ ends. AreFinalHosts (host_views ends.items)) }
 {
@@ -107,13 +109,25 @@ fn host_end<W: Wire, R: Wait>(
     ensures sent { OnOk result (AreAllSent caller.places lines.items) }
     ensures kept { IfOk result (λ end. AreKeptOf caller.places end.kept.items) }
 {
-    settle_slots(&mut caller, &mut lines);
+    tell_slots(&mut caller, &mut lines);
     let Ok((kept, closed)) = caller.end(rt, alloc) else {
         give_back(rt, wire, lines);
         return Err(Memory);
     };
-    host_keeps::<W::End>();
+    tied_ends::<W::End>();
     gather(rt, alloc, wire, addr, kept, closed, lines)
+}
+
+// Tells the mailbox of each slot of a host all datagrams that its lines have put there.
+fn tell_slots<E: End>(caller: &mut Caller, lines: &mut Vec<Line<E, Writer>>)
+    requires tied { AreTied caller.old.places lines.old.items }
+    requires used { (slot : ℕ) (p : Place) → slice_get caller.old.places slot ≡ Some p → IsUsed p }
+    ensures places { PlacesHear caller.old.places caller.new.places }
+    ensures told { AreSlotsTold (holdings caller.new.places) lines.new.items }
+    ensures lines { lines.new.items ≡ lines.old.items }
+    ensures tied { AreTied caller.new.places lines.new.items }
+{
+    settle_slots(caller, lines);
 }
 
 // The two in a list.
@@ -139,7 +153,7 @@ pub(crate) fn end_run<K: Sink, W: Wire, R: Wait>(
     requires high { IsQuietEnd end → HasSettled callers.1.places lines.1.items }
     requires spent { (host entries : ℕ) → end ≡ rounds.Spent host entries → IsFullHost host entries lines.0.items lines.1.items }
     ensures end { (limit : ℕ) (commands : List Placed) → AreDone W.End.means limit lines.0.items lines.1.items →
-        HasDoneSpared 0 commands callers.0.places → HasDoneSpared 1 commands callers.1.places → IfOk result (IsEndOfRun W.End.means.tells limit commands
+        HasDoneSpared 0 1 commands callers.0.places → HasDoneSpared 1 0 commands callers.1.places → IfOk result (IsEndOfRun W.End.means.tells limit commands
         record { held_before = K.held sink.old; held_after = K.held sink.new; faults_before = K.faults sink.old; faults_after = K.faults sink.new }) }
     ensures memory { OnErr result (K.held sink.new ≡ K.held sink.old) }
 {

@@ -4,11 +4,7 @@
 mod answers;
 mod ending;
 mod form;
-mod pair;
-mod playing;
 mod running;
-mod settling;
-mod streams;
 #[cfg(test)]
 mod tests;
 

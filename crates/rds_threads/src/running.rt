@@ -1,25 +1,25 @@
 //! A run.
-ghost use Rattle.std.specs.Prelude.{◌≡◌, ◌≤◌, ℕ, List, IfOk, OnErr};
+ghost use Rattle.std.specs.Prelude.{◌≡◌, ◌≤◌, ℕ, List, IfOk, OnErr, Some, map, slice_get};
 ghost use Rattle.rds_model.specs.declared.journal.TheConstants.{MAX_ENTRIES, MIN_ENTRIES};
 ghost use Rattle.rds_script.specs.Script.{IsScript};
 ghost use Rattle.rds_rounds.specs.Connection.{AreTwo};
 ghost use Rattle.rds_script.specs.declared.script.Placed.{Placed};
 ghost use Rattle.rds_threads.specs.Ends.{IsEndOfRun};
-ghost use Rattle.rds_threads.specs.Obeyed.{HasDone};
-ghost use Rattle.rds_threads.specs.Tied.{AreTied};
+ghost use Rattle.rds_parties.specs.Obeyed.{HasDone};
+ghost use Rattle.rds_callers.specs.Places.{IsUsed, Place, spared};
+ghost use Rattle.rds_settling.specs.Tied.{AreLinesTold, AreTied, LinesHear, holdings};
 
 use crate::ending::{end_lines, end_run};
 use crate::form::{Form, RunEnd};
-use crate::pair::{bind_leading, commands_from, party};
-use crate::playing::play_both;
-use crate::settling::settle_lines;
-use crate::streams::{Prepared, cuts, prepare};
 use rds_callers::Caller;
-use rds_host::laws::{host_keeps, turned_keeps};
-use rds_link::{Gate, Sink, Wire};
-use rds_rounds::laws::connected_keeps;
+use rds_fmap::Writer;
+use rds_line::Line;
+use rds_link::{End, Gate, Sink, Wire};
+use rds_parties::{Prepared, cuts, parties, play, prepare};
 use rds_rounds::{Lines, Wanted, last_rounds};
 use rds_script::Script;
+use rds_settling::laws::tied_keeps;
+use rds_settling::settle_lines;
 use rds_wire::Memory;
 use std::alloc::Global;
 use std::net::Net;
@@ -84,20 +84,12 @@ where
         lacks,
         cuts: cuts(script),
     };
-    let (low, low_lines) = party(alloc, script, 0, 1, low, limit)?;
-    let (high, high_lines) = party(alloc, script, 1, 0, high, limit)?;
-    let mut callers = (low, high);
-    let commands = script.commands.as_slice();
-    let leading = bind_leading(rt, alloc, commands, &mut callers)?;
-    let rest = commands_from(commands, leading);
-    let (callers, lines) = play_both(rt, alloc, rest, gate, callers, (low_lines, high_lines));
+    let (callers, lines) = parties(alloc, script, (low, high), limit)?;
+    let (callers, lines) = play(rt, alloc, script, gate, callers, lines);
     let Ok(callers) = callers else {
         end_lines(rt, wire, lines);
         return Err(Memory);
     };
-    host_keeps::<W::End>();
-    turned_keeps::<W::End>();
-    connected_keeps::<W::End>();
     finish(rt, alloc, wire, form, wanted, budget, callers, lines, sink)
 }
 
@@ -116,14 +108,26 @@ fn finish<K: Sink, W: Wire, R: Wait>(
     requires two { (limit : ℕ) × AreTwo W.End.means limit lines.0.items lines.1.items }
     requires low { AreTied callers.0.places lines.0.items }
     requires high { AreTied callers.1.places lines.1.items }
-    ensures end { (limit : ℕ) (commands : List Placed) → AreTwo W.End.means limit lines.0.items lines.1.items → HasDone 0 commands callers.0.places →
-        HasDone 1 commands callers.1.places → IfOk result (IsEndOfRun W.End.means.tells limit commands
+    ensures end { (limit : ℕ) (commands : List Placed) → AreTwo W.End.means limit lines.0.items lines.1.items → HasDone 0 1 commands callers.0.places →
+        HasDone 1 0 commands callers.1.places → IfOk result (IsEndOfRun W.End.means.tells limit commands
         record { held_before = K.held sink.old; held_after = K.held sink.new; faults_before = K.faults sink.old; faults_after = K.faults sink.new }) }
     ensures memory { OnErr result (K.held sink.new ≡ K.held sink.old) }
 {
-    settle_lines(&mut callers.0, &mut lines.0);
-    settle_lines(&mut callers.1, &mut lines.1);
-    host_keeps::<W::End>();
+    tell_lines(&mut callers.0, &mut lines.0);
+    tell_lines(&mut callers.1, &mut lines.1);
+    tied_keeps::<W::End>();
     let end = last_rounds(rt, wire, wanted, budget, &mut lines);
     end_run(rt, alloc, wire, form, end, callers, lines, sink)
+}
+
+// Gives up the slots of a host that no socket had, and tells its lines all orders that its slots have put.
+fn tell_lines<E: End>(caller: &mut Caller, lines: &mut Vec<Line<E, Writer>>)
+    requires { AreTied caller.old.places lines.old.items }
+    ensures places { caller.new.places ≡ map spared caller.old.places }
+    ensures used { (slot : ℕ) (p : Place) → slice_get caller.new.places slot ≡ Some p → IsUsed p }
+    ensures told { AreLinesTold (holdings caller.new.places) lines.new.items }
+    ensures lines { LinesHear lines.old.items lines.new.items }
+    ensures tied { AreTied caller.new.places lines.new.items }
+{
+    settle_lines(caller, lines);
 }

@@ -1,4 +1,11 @@
+use Rattle.std.proofs.Common.{refl}
+use Rattle.rds_report.specs.Report.{report}
+use Rattle.rds_report.specs.Views.{host_views}
+use Rattle.rds_threads.specs.Ends.{IsEndOfRun, Writes}
+use Rattle.rds_threads.specs.Texts.{fault_line, unfinished_line}
+use Rattle.rds_threads.specs.declared.form.RunEnd.TheVariants as ended
 use Rattle.rds_threads.proofs.Spent.{spent_end}
+use Rattle.rds_threads.proofs.Written.{end_written, on_ok}
 use Rattle.rds_threads.proofs.ending.end_run.Goals as goal
 
 pub returns-in-Spent-clause-end : goal.returns-in-Spent-clause-end

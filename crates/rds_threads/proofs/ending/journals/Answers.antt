@@ -2,7 +2,7 @@ use Rattle.std.proofs.Common.{List, sym, subst}
 use Rattle.rds_model.specs.declared.entry.Entry.{Entry}
 use Rattle.rds_line.specs.Line.{line_past}
 use Rattle.rds_rounds.specs.Sound.{AreSoundJournals}
-use Rattle.rds_threads.proofs.Connected.{first_of}
+use Rattle.rds_threads.proofs.At.{first_of}
 use Rattle.rds_threads.proofs.ending.journals.Goals as goal
 
 pub returns-clause-sound : goal.returns-clause-sound

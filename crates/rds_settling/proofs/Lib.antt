@@ -1,0 +1,4 @@
+pub mod Tying
+pub mod Told
+pub mod Listening
+pub mod Ports

@@ -1,5 +1,0 @@
-use Rattle.rds_threads.specs.Preparing.{ArePrepared}
-use Rattle.rds_threads.proofs.streams.prepare.Given as goal
-
-abbrev pub invariant-loop-opened : goal.invariant-loop-opened
-invariant-loop-opened g l = ArePrepared g.W.End.End.means l.opened l.prepared.low.items l.prepared.high.items

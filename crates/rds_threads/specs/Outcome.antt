@@ -1,0 +1,35 @@
+-- What came of what the callers of a run did. Source: this project's own.
+use Rattle.std.specs.Prelude.{◌≡◌, ℕ, List, [], All, Some, map, slice_get}
+use Rattle.rds_model.specs.declared.entry.Entry.{Entry}
+use Rattle.rds_fmap.specs.Readers.{ReaderView}
+use Rattle.rds_parts.specs.Lanes.{IsLaneAt, Lane}
+use Rattle.rds_report.specs.FinalState.{FinalSocket}
+use Rattle.rds_script.specs.declared.script.Placed.{Placed}
+use Rattle.rds_line.specs.Keeps.{uncut}
+use Rattle.rds_gather.specs.Joined.{orders_of}
+use Rattle.rds_callers.specs.Ends.{used_name}
+use Rattle.rds_callers.specs.Places.{Bound, Ended, Place, Spare, Vacant, holding_of, somes}
+use Rattle.rds_parties.specs.Obeyed.{HasDone}
+
+-- A socket that was open when its host's commands were done handed out all that it got. One that was closed before had handed out what its
+-- receives gave, and the rest is unread.
+abbrev pub HandedOutAt : Place → FinalSocket → Type 0
+HandedOutAt (Vacant h) s = ⊥
+HandedOutAt (Bound o got) s = s.unread ≡ []
+HandedOutAt (Ended port h got) s = s.got ≡ got
+HandedOutAt (Spare h) s = ⊥
+
+-- the slot and the port of a socket
+abbrev pub socket_name : FinalSocket → ℕ × ℕ
+socket_name s = (s.slot, s.port)
+
+-- What a host with this peer, this journal and these sockets comes to did the script's commands: from slots that were new its caller did
+-- exactly its own commands. In the journal with its peer stand, for each slot, exactly the orders that its socket put, in order and each once.
+-- There is one socket of each slot that was bound, in order, with its port.
+pub record IsOutcome (host peer : ℕ) (commands : List Placed) (past : List Entry) (sockets : List FinalSocket) : Type 0 where
+  pub last : List Place
+  pub done : HasDone host peer commands last
+  pub sent : (slot : ℕ) (p : Place) (lane : Lane ReaderView) → slice_get last slot ≡ Some p → IsLaneAt (holding_of p).routes 0 lane →
+      orders_of slot past ≡ uncut lane.pass.put
+  pub names : map socket_name sockets ≡ somes (map used_name last)
+  pub handed : All (λ (s : FinalSocket). (p : Place) × (slice_get last s.slot ≡ Some p) × HandedOutAt p s) sockets
