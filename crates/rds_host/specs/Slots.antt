@@ -8,10 +8,11 @@ module _ {R : Type 0} where
   abbrev pub AreInPlace : List (Holding R) → Type 0
   AreInPlace vacants = (place : ℕ) (vacant : Holding R) → slice_get vacants place ≡ Some vacant → vacant.words.slot ≡ place
 
-  -- there are so many, numbered from 0 upward, each with a route to each peer, and none has got or put anything
+  -- there are so many, numbered from 0 upward, each with a route to each peer, and none has got, put or sent anything
   pub record AreNewSlots (slots : ℕ) (peers : List ℕ) (vacants : List (Holding R)) : Type 0 where
     pub count : length vacants ≡ slots
     pub number : AreInPlace vacants
     pub routes : (place : ℕ) (vacant : Holding R) → slice_get vacants place ≡ Some vacant → peers_of vacant.routes ≡ peers
     pub got : (place : ℕ) (vacant : Holding R) → slice_get vacants place ≡ Some vacant → vacant.inbox.get.got ≡ []
     pub put : (place : ℕ) (vacant : Holding R) → slice_get vacants place ≡ Some vacant → All (λ lane. lane.pass.put ≡ []) vacant.routes
+    pub total : (place : ℕ) (vacant : Holding R) → slice_get vacants place ≡ Some vacant → vacant.total ≡ 0

@@ -96,6 +96,7 @@ pub record IsSlotOf (slots : ℕ) (along : List Way) (table meter : Table) (h : 
   pub get : h.inbox.get ≡ first_getter (inbox_of h)
   pub ports : h.ports.table ≡ table
   pub words : h.words.seat.table ≡ meter
+  pub total : h.total ≡ 0
 
 module _ {E : Type 0} where
   -- a new line of the host `me`, made of what the host has for one peer, over these streams, at these tables

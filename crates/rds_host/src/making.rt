@@ -120,6 +120,7 @@ fn vacant(alloc: Global, seats: SlotSeats, columns: &mut [Column]) -> Result<Vac
     ensures get { IfOk result (λ v. v.inbox.get ≡ first_getter (inbox_of v)) }
     ensures ports { IfOk result (λ v. v.ports.table ≡ arc_value seats.table) }
     ensures words { IfOk result (λ v. v.words.seat.table ≡ arc_value seats.meter) }
+    ensures total { IfOk result (λ v. v.total ≡ 0) }
 {
     let (mail, put, get) = Mail::new(alloc)?;
     let mail = Arc::new(alloc, mail)?;

@@ -192,6 +192,7 @@ impl SlotSeats {
         ensures get { result.inbox.get ≡ get }
         ensures table { result.ports.table ≡ arc_value self.table }
         ensures meter { result.words.seat.table ≡ arc_value self.meter }
+        ensures total { result.total ≡ 0 }
     {
         let SlotSeats {
             table,

@@ -44,6 +44,7 @@ returns-clause-slots g c =
       routes = λ place vacant stands. lanes_peers vacant.routes ∙ (ap peers_to (tied place vacant stands).ways ∙ (ap peers_to ways ∙ c.in_ok-columns.ensures.peers));
       got = λ place vacant stands. ap (λ (g : Getter Datagram). g.got) (tied place vacant stands).get;
       put = λ place vacant stands k d small. ap (λ (p : Putter Order). p.put) ((tied place vacant stands).passes k d small);
+      total = λ place vacant stands. (tied place vacant stands).total;
     }
 
 pub returns-clause-lines : goal.returns-clause-lines
@@ -70,7 +71,7 @@ returns-clause-host g c =
     let slots : All (IsSlotOf c.args.slots (ways_of new) table meter) vacants =
     λ k d small.
     let tied = made.slot k d small in
-    record { ways = tied.ways ∙ sym made.ways; passes = tied.passes; get = tied.get; ports = tied.ports ∙ sym made.table; words = tied.words ∙ sym made.meter } in
+    record { ways = tied.ways ∙ sym made.ways; passes = tied.passes; get = tied.get; ports = tied.ports ∙ sym made.table; words = tied.words ∙ sym made.meter; total = tied.total } in
     let peers : length new ≡ length c.args.peers.now = same_count old new ways ∙ (count_of old ∙ ap length c.in_ok-columns.ensures.peers) in
     let streams_are = length-map c.args.streams.items (λ (v : Vec (ℕ × g.row.E.Denot) Global). v.items) ∙ (c.requires.streams ∙ sym peers) in
     of_host c.args.addr c.args.limit table meter new streams c.in_ok-lines.lines.items c.args.slots vacants lines streams_are slots made.number made.filled
@@ -91,7 +92,7 @@ returns-clause-passes g c =
     let slots : All (IsSlotOf c.args.slots (ways_of new) table meter) vacants =
     λ k d small.
     let tied = made.slot k d small in
-    record { ways = tied.ways ∙ sym made.ways; passes = tied.passes; get = tied.get; ports = tied.ports ∙ sym made.table; words = tied.words ∙ sym made.meter } in
+    record { ways = tied.ways ∙ sym made.ways; passes = tied.passes; get = tied.get; ports = tied.ports ∙ sym made.table; words = tied.words ∙ sym made.meter; total = tied.total } in
     let peers : length new ≡ length c.args.peers.now = same_count old new ways ∙ (count_of old ∙ ap length c.in_ok-columns.ensures.peers) in
     let streams_are = length-map c.args.streams.items (λ (v : Vec (ℕ × g.row.E.Denot) Global). v.items) ∙ (c.requires.streams ∙ sym peers) in
     all_passes c.args.addr c.args.limit table meter new streams c.in_ok-lines.lines.items c.args.slots vacants lines streams_are slots made.number made.filled

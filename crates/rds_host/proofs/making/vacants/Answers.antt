@@ -54,6 +54,7 @@ loop-preserved c =
       get = made.get;
       ports = made.ports ∙ (own.same_table ∙ inv.0);
       words = made.words ∙ (own.same_meter ∙ inv.1);
+      total = made.total;
     } in (
       own.table ∙ inv.0,
       own.meter ∙ inv.1,
