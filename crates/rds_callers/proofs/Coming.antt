@@ -1,11 +1,11 @@
 -- What a call on the slots comes to.
-use Rattle.std.proofs.Common.{◌≡◌, ℕ, ◌+◌, List, [], length, set, Result, Ok, Some, slice_get, OnOk, OnErr, inl, inr, refl, sym, ap, subst, ◌∙◌, arith}
+use Rattle.std.proofs.Common.{◌≡◌, ℕ, ◌+◌, List, [], length, set, Result, Ok, Some, slice_get, OnOk, OnErr, inr, refl, sym, ap, subst, ◌∙◌, arith}
 use Rattle.std.proofs.lemmas.Result.{on_ok_weaker}
 use Rattle.rds_wire.specs.declared.memory.Memory.{Memory}
 use Rattle.rds_model.specs.declared.order.Datagram.{Datagram}
 use Rattle.rds_fmap.specs.Readers.{ReaderView}
 use Rattle.rds_socket.specs.Holding.{Holding, Open}
-use Rattle.rds_callers.specs.Places.{Place, Vacant, Bound, Ended, HasKept, IsUnbound, PlaceKeeps, PlacesKeep, holding_of, with_holding}
+use Rattle.rds_callers.specs.Places.{Place, Bound, Ended, HasKept, IsUnbound, PlaceKeeps, PlacesKeep, holding_of, with_holding}
 use Rattle.rds_callers.specs.Tenants.{Cuts}
 use Rattle.rds_callers.specs.Doing.{IsFree, IsNext, AtPort, BindsNext, CutsByLast}
 use Rattle.rds_callers.specs.States.{shown, shown_all, AreSlots, AreNot, ComesTo, holds_port}

@@ -1,4 +1,4 @@
-use Rattle.std.proofs.Common.{◌≡◌, ℕ, Ok, inl, inr, ap, refl, sym, subst}
+use Rattle.std.proofs.Common.{ℕ, Ok, inl, inr, ap, refl, sym, subst}
 use Rattle.std.proofs.lemmas.Result.{on_ok_weaker}
 use Rattle.rds_socket.specs.Binds.{BindAnyFits}
 use Rattle.rds_callers.specs.Doing.{BindsFirstFree, IsFirstFree}

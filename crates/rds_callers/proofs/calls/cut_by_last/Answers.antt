@@ -1,7 +1,6 @@
-use Rattle.std.proofs.Common.{◌≡◌, ◌-◌, ◌+◌, [], inr, length, sym, refl, ◌∙◌, arith}
+use Rattle.std.proofs.Common.{◌-◌, sym, ◌∙◌, arith}
 use Rattle.std.proofs.lemmas.Bool.{eqb-false}
 use Rattle.rds_parts.specs.PlaceLaws.{stands}
-use Rattle.rds_callers.specs.Doing.{CutsByLast}
 use Rattle.rds_callers.proofs.Coming.{last_cut}
 use Rattle.rds_callers.proofs.calls.cut_by_last.Goals as goal
 

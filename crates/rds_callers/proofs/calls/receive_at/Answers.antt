@@ -1,6 +1,4 @@
 use Rattle.std.proofs.Common.{ap}
-use Rattle.std.proofs.lemmas.Result.{on_ok_weaker}
-use Rattle.rds_callers.specs.Places.{Bound}
 use Rattle.rds_callers.specs.Tenants.{ReceivesNext}
 use Rattle.rds_callers.proofs.Coming.{none_at, tenant_back}
 use Rattle.rds_callers.proofs.calls.receive_at.Goals as goal

@@ -1,4 +1,4 @@
-use Rattle.std.proofs.Common.{◌≡◌, ◌≤◌, sym, ap, subst, arith}
+use Rattle.std.proofs.Common.{sym, ap, subst}
 use Rattle.rds_callers.specs.Doing.{Binds, IsFree}
 use Rattle.rds_callers.proofs.Coming.{done_shown, keeps_shown}
 use Rattle.rds_callers.proofs.caller.Caller.bind.Goals as goal
