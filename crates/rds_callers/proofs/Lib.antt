@@ -6,3 +6,4 @@ pub mod Searches
 pub mod Doings
 pub mod Sparing
 pub mod Leaving
+pub mod Coming

@@ -1,8 +1,9 @@
 -- The slots as they are held, and as contracts see them. This project's own.
-use Rattle.std.specs.Prelude.{◌≡◌, ◌==◌, ℕ, Bool, true, false, List, map, Option, Some, None, slice_get, length, ◌≤◌}
+use Rattle.std.specs.Prelude.{◌≡◌, ◌==◌, ℕ, Bool, true, false, List, map, Option, Some, None, Result, OnOk, slice_get, length, ◌≤◌}
 use Rattle.rds_fmap.specs.Readers.{ReaderView}
 use Rattle.rds_socket.specs.Holding.{Holding}
-use Rattle.rds_callers.specs.Places.{Place, ArePlaces, Vacant, Bound, Ended, Spare, somes}
+use Rattle.rds_wire.specs.declared.memory.Memory.{Memory}
+use Rattle.rds_callers.specs.Places.{Place, ArePlaces, PlacesKeep, Vacant, Bound, Ended, Spare, somes}
 use Rattle.rds_callers.specs.declared.state.State.{State}
 use Rattle.rds_callers.specs.declared.state.State.TheVariants as state
 
@@ -57,3 +58,9 @@ pub record AreSlots (states : List State) : Type 0 where
   pub whole : NoneAway states
   pub count : length states ≤ 65535
   pub places : ArePlaces (shown_all states)
+
+-- What a call on the slots comes to: they are what a caller's slots are, each is kept, and where no memory was wanting this was done.
+pub record ComesTo (Done : List Place → List Place → Type 0) (old new : List State) (result : Result (Unit {0}) Memory) : Type 0 where
+  pub sound : AreSlots new
+  pub keeps : PlacesKeep (shown_all old) (shown_all new)
+  pub done : OnOk result (Done (shown_all old) (shown_all new))

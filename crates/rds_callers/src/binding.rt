@@ -6,7 +6,7 @@ ghost use Rattle.rds_socket.specs.Holding.{Open};
 ghost use Rattle.rds_socket.specs.Binds.{BindFits, BindAnyFits};
 ghost use Rattle.rds_callers.specs.Places.{Place, PlaceKeeps, PlacesKeep, HasKept, holding_of, bound_place, ended_place, IsUnbound};
 ghost use Rattle.rds_callers.specs.Doing.{Binds, BindsFirstFree, IsFree, IsHeld, IsFirstFree};
-ghost use Rattle.rds_callers.specs.States.{shown};
+ghost use Rattle.rds_callers.specs.States.{AreSlots, ComesTo, shown, shown_all};
 
 use crate::caller::Caller;
 use crate::finding::{find_bound, lift_vacant};
@@ -36,12 +36,7 @@ impl Caller {
         if port < 2 || !self.is_free(port) {
             return Ok(());
         }
-        let Some((slot, vacant)) = lift_vacant(&mut self.states) else {
-            return Ok(());
-        };
-        let (state, bound) = bind_vacant(alloc, vacant, port, sndbuf, rcvbuf);
-        self.states[slot] = state;
-        bound
+        bind_next(&mut self.states, alloc, port, sndbuf, rcvbuf)
     }
 
     // Binds the next slot to the first free port from this one on. It is refused where all slots are bound.
@@ -61,12 +56,7 @@ impl Caller {
         let Some(port) = self.first_free(start) else {
             return Err(Memory);
         };
-        let Some((slot, vacant)) = lift_vacant(&mut self.states) else {
-            return Ok(());
-        };
-        let (state, bound) = bind_any_vacant(alloc, vacant, start, port, sndbuf, rcvbuf);
-        self.states[slot] = state;
-        bound
+        bind_any_next(&mut self.states, alloc, start, port, sndbuf, rcvbuf)
     }
 
     // Whether no socket holds the port.
@@ -90,6 +80,52 @@ impl Caller {
         }
         None
     }
+}
+
+// Binds the next slot to the port, if a slot is left.
+fn bind_next(
+    states: &mut Vec<State>,
+    alloc: Global,
+    port: u16,
+    sndbuf: u32,
+    rcvbuf: u32,
+) -> Result<(), Memory>
+    requires sndbuf { (1 ≤ sndbuf) × (sndbuf ≤ 16777216) }
+    requires rcvbuf { (2 ≤ rcvbuf) × (rcvbuf ≤ 16777216) }
+    requires slots { AreSlots states.old.items }
+    requires low { 2 ≤ port }
+    requires free { IsFree (shown_all states.old.items) port }
+    ensures { ComesTo (Binds port sndbuf rcvbuf) states.old.items states.new.items result }
+{
+    let Some((slot, vacant)) = lift_vacant(states) else {
+        return Ok(());
+    };
+    let (state, bound) = bind_vacant(alloc, vacant, port, sndbuf, rcvbuf);
+    states[slot] = state;
+    bound
+}
+
+// Binds the next slot to the port, which is the first free one from `start` on, if a slot is left.
+fn bind_any_next(
+    states: &mut Vec<State>,
+    alloc: Global,
+    start: u16,
+    port: u16,
+    sndbuf: u32,
+    rcvbuf: u32,
+) -> Result<(), Memory>
+    requires sndbuf { (1 ≤ sndbuf) × (sndbuf ≤ 16777216) }
+    requires rcvbuf { (2 ≤ rcvbuf) × (rcvbuf ≤ 16777216) }
+    requires slots { AreSlots states.old.items }
+    requires first { IsFirstFree (shown_all states.old.items) start port }
+    ensures { ComesTo (BindsFirstFree start sndbuf rcvbuf) states.old.items states.new.items result }
+{
+    let Some((slot, vacant)) = lift_vacant(states) else {
+        return Ok(());
+    };
+    let (state, bound) = bind_any_vacant(alloc, vacant, start, port, sndbuf, rcvbuf);
+    states[slot] = state;
+    bound
 }
 
 // A search from a reserved port begins at port 2.

@@ -3,6 +3,7 @@ ghost use Rattle.std.specs.Prelude.{◌≡◌, OnOk};
 ghost use Rattle.rds_callers.specs.Places.{PlacesKeep};
 ghost use Rattle.rds_callers.specs.Doing.{AtPort, CutsByLast};
 ghost use Rattle.rds_callers.specs.Tenants.{SendsFrom, ReceivesNext, Cancels, Closes};
+ghost use Rattle.rds_callers.specs.States.{AreSlots, ComesTo};
 
 use crate::caller::Caller;
 use crate::finding::lift_bound;
@@ -25,12 +26,7 @@ impl Caller {
         ensures done { OnOk result (AtPort port (SendsFrom peer dport payload.now) self.old.places self.new.places) }
     {
         let payload = payload.share()?;
-        let Some((slot, mut tenant)) = lift_bound(&mut self.states, port) else {
-            return Ok(());
-        };
-        let sent = tenant.send(rt, peer, dport, payload);
-        self.states[slot] = State::Bound(tenant);
-        sent
+        send_from(&mut self.states, rt, port, peer, dport, payload)
     }
 
     // Receives at the socket of a port, if there is one.
@@ -39,13 +35,7 @@ impl Caller {
         ensures keeps { PlacesKeep self.old.places self.new.places }
         ensures done { OnOk result (AtPort port ReceivesNext self.old.places self.new.places) }
     {
-        let Some((slot, mut tenant)) = lift_bound(&mut self.states, port) else {
-            return Ok(());
-        };
-        let received = tenant.receive(rt);
-        self.states[slot] = State::Bound(tenant);
-        received?;
-        Ok(())
+        receive_at(&mut self.states, rt, port)
     }
 
     // Takes back what the socket of a port has sent to a port of the peer, if there is one.
@@ -60,12 +50,7 @@ impl Caller {
         ensures keeps { PlacesKeep self.old.places self.new.places }
         ensures done { OnOk result (AtPort port (Cancels peer dport) self.old.places self.new.places) }
     {
-        let Some((slot, mut tenant)) = lift_bound(&mut self.states, port) else {
-            return Ok(());
-        };
-        let cancelled = tenant.cancel(rt, peer, dport);
-        self.states[slot] = State::Bound(tenant);
-        cancelled
+        cancel_of(&mut self.states, rt, port, peer, dport)
     }
 
     // Closes the socket of a port, if there is one.
@@ -74,12 +59,7 @@ impl Caller {
         ensures keeps { PlacesKeep self.old.places self.new.places }
         ensures done { OnOk result (AtPort port Closes self.old.places self.new.places) }
     {
-        let Some((slot, tenant)) = lift_bound(&mut self.states, port) else {
-            return Ok(());
-        };
-        let (former, closed) = tenant.close(rt);
-        self.states[slot] = State::Ended(former);
-        closed
+        close_at(&mut self.states, rt, port)
     }
 
     // Asks for a cut of the stream to the peer, by the last slot.
@@ -88,10 +68,83 @@ impl Caller {
         ensures keeps { PlacesKeep self.old.places self.new.places }
         ensures done { OnOk result (CutsByLast peer self.old.places self.new.places) }
     {
-        if self.states.is_empty() {
-            return Ok(());
-        }
-        let last = self.states.len() - 1;
-        self.states[last].cut(rt, peer)
+        cut_by_last(&mut self.states, rt, peer)
     }
+}
+
+// Sends from the socket of a port, if there is one.
+fn send_from<R: Wait>(
+    states: &mut Vec<State>,
+    rt: &R,
+    port: u16,
+    peer: u32,
+    dport: u16,
+    payload: Payload,
+) -> Result<(), Memory>
+    requires { AreSlots states.old.items }
+    ensures { ComesTo (AtPort port (SendsFrom peer dport payload)) states.old.items states.new.items result }
+{
+    let Some((slot, mut tenant)) = lift_bound(states, port) else {
+        return Ok(());
+    };
+    let sent = tenant.send(rt, peer, dport, payload);
+    states[slot] = State::Bound(tenant);
+    sent
+}
+
+// Receives at the socket of a port, if there is one.
+fn receive_at<R: Wait>(states: &mut Vec<State>, rt: &R, port: u16) -> Result<(), Memory>
+    requires { AreSlots states.old.items }
+    ensures { ComesTo (AtPort port ReceivesNext) states.old.items states.new.items result }
+{
+    let Some((slot, mut tenant)) = lift_bound(states, port) else {
+        return Ok(());
+    };
+    let received = tenant.receive_next(rt);
+    states[slot] = State::Bound(tenant);
+    received
+}
+
+// Takes back what the socket of a port has sent to a port of the peer, if there is one.
+fn cancel_of<R: Wait>(
+    states: &mut Vec<State>,
+    rt: &R,
+    port: u16,
+    peer: u32,
+    dport: u16,
+) -> Result<(), Memory>
+    requires { AreSlots states.old.items }
+    ensures { ComesTo (AtPort port (Cancels peer dport)) states.old.items states.new.items result }
+{
+    let Some((slot, mut tenant)) = lift_bound(states, port) else {
+        return Ok(());
+    };
+    let cancelled = tenant.cancel(rt, peer, dport);
+    states[slot] = State::Bound(tenant);
+    cancelled
+}
+
+// Closes the socket of a port, if there is one.
+fn close_at<R: Wait>(states: &mut Vec<State>, rt: &R, port: u16) -> Result<(), Memory>
+    requires { AreSlots states.old.items }
+    ensures { ComesTo (AtPort port Closes) states.old.items states.new.items result }
+{
+    let Some((slot, tenant)) = lift_bound(states, port) else {
+        return Ok(());
+    };
+    let (former, closed) = tenant.close(rt);
+    states[slot] = State::Ended(former);
+    closed
+}
+
+// Asks for a cut of the stream to the peer, by the last slot.
+fn cut_by_last<R: Wait>(states: &mut Vec<State>, rt: &R, peer: u32) -> Result<(), Memory>
+    requires { AreSlots states.old.items }
+    ensures { ComesTo (CutsByLast peer) states.old.items states.new.items result }
+{
+    if states.is_empty() {
+        return Ok(());
+    }
+    let last = states.len() - 1;
+    states[last].cut(rt, peer)
 }

@@ -42,8 +42,8 @@ impl Tenant {
     ghost use Rattle.rds_model.specs.declared.order.Order.TheVariants as order;
     ghost use Rattle.rds_parts.specs.Lanes.{IsLaneAt, Lane};
     ghost use Rattle.rds_socket.specs.Calls.{IsClosed, IsReceived, with_own, with_inbox};
-    ghost use Rattle.rds_callers.specs.Places.{PlaceKeeps};
-    ghost use Rattle.rds_callers.specs.Tenants.{Asks, SendsOrNot};
+    ghost use Rattle.rds_callers.specs.Places.{PlaceKeeps, bound_place};
+    ghost use Rattle.rds_callers.specs.Tenants.{Asks, ReceivesNext, SendsOrNot};
     ghost use Rattle.rds_callers.specs.Ends.{IsEndOf};
 
     /// A socket that handed out nothing.
@@ -103,6 +103,16 @@ impl Tenant {
         };
         self.got.push_reserved(datagram);
         Ok(true)
+    }
+
+    /// Receives the next datagram, if there is one, and keeps it.
+    pub(crate) fn receive_next<R: Wait>(&mut self, rt: &R) -> Result<(), Memory>
+        ensures done { OnOk result (ReceivesNext self.old.socket self.old.got.items (bound_place self.new.socket self.new.got.items)) }
+        ensures port { self.new.socket.port ≡ self.old.socket.port }
+        ensures keeps { PlaceKeeps self.old.socket.own self.new.socket.own }
+    {
+        self.receive(rt)?;
+        Ok(())
     }
 
     /// Takes back what it has sent to a port of the peer.

@@ -3,12 +3,12 @@ use Rattle.std.proofs.Common.{◌≡◌, ◌⊎◌, ℕ, zero, suc, ◌+◌, ◌
 use Rattle.std.proofs.Math.Seq.{take-append_seam}
 use Rattle.std.proofs.lemmas.List.{length-map, length_push, map_push, take_more, drop_more, get_or-append_right, get_or-drop, get_or-reverse, length-reverse, same_from_push, same_lists}
 use Rattle.std.proofs.lemmas.Grind.{reverse_onto}
-use Rattle.std.proofs.lemmas.List.Elements.{All-cons, All-nil, All-replicate}
+use Rattle.std.proofs.lemmas.List.Elements.{All-cons, All-nil, All-pop, All-replicate, All-take}
 use Rattle.std.proofs.lemmas.Option.{same_Some, slice_get_within, slice_get-get_or, slice_get-map, get_or_from_slice_get}
 use Rattle.rds_views.specs.Views.{Table}
 use Rattle.rds_model.specs.declared.order.Datagram.{Datagram}
 use Rattle.rds_model.specs.declared.order.Order.{Order}
-use Rattle.rds_mail.specs.Passes.{Getter, Putter, QueueId, new_from}
+use Rattle.rds_mail.specs.Passes.{Getter, Putter, QueueId, new_from, split_from}
 use Rattle.rds_fmap.specs.Readers.{ReaderView, WriterView}
 use Rattle.rds_parts.specs.Lanes.{Ascend, Lane}
 use Rattle.rds_line_parts.specs.Boxes.{IsBoxOf}
@@ -19,7 +19,7 @@ use Rattle.rds_line_channel.specs.Channel.{ChannelView, new_channel}
 use Rattle.rds_host.specs.Lines.{AreNewLines}
 use Rattle.rds_host.specs.Passes.{AreAllPasses, putter_number, splits_at}
 use Rattle.rds_host.specs.Slots.{AreInPlace}
-use Rattle.rds_host.specs.Ties.{Way, ColumnView, IsSlotOf, IsLineOf, AreLinesOf, AreOfHost, IsColumnFilled, AreColumnsFilled, IsNextOf, AreNextOf, new_putter, putters_from, popped, inbox_of, with_box, with_boxes, ways_of, peers_to, lane_way}
+use Rattle.rds_host.specs.Ties.{Way, ColumnView, IsSlotOf, IsLineOf, AreLinesOf, AreOfHost, IsColumnFilled, AreColumnsFilled, IsFront, IsNextOf, AreNextOf, new_putter, putters_from, popped, inbox_of, with_box, with_boxes, ways_of, peers_to, lane_way}
 
 -- what stands in a list after one push stood there, or is what was pushed
 pub pushed_at : {X : Type 0} (xs : List X) (x y : X) (place : ℕ) → slice_get (xs ++ x ∷ []) place ≡ Some y → (slice_get xs place ≡ Some y) ⊎ ((place ≡ length xs) × (x ≡ y))
@@ -50,6 +50,16 @@ next_of xs rest n x small is =
     let first : get_or xs n x ≡ x = cc in
     let others : rest ≡ drop (n + 1) xs = cc in
     (slice_get-get_or xs n x small ∙ ap Some first, others)
+
+pub push_one : {X : Type 0} (xs : List X) (x : X) → length (xs ++ x ∷ []) ≡ length xs + 1
+push_one xs x = let longer = length_push xs x in omega (arith, longer)
+
+-- of what is split off again and again something is left
+pub one_left : (now done all most : ℕ) → now + done ≡ all → most ≤ all → done < most → 1 ≤ now
+one_left now done all most is enough small = omega (arith, is, enough, small)
+
+pub counted_on : (new now more done all most : ℕ) → new ≡ now - 1 → more ≡ done + 1 → now + done ≡ all → most ≤ all → done < most → new + more ≡ all
+counted_on new now more done all most less one is enough small = omega (arith, less, one, is, enough, small)
 
 -- a list behind a slice of all of it, once that was written
 pub written_back : {X : Type 0} (old new : List X) (n : ℕ) → n ≡ length old → length new ≡ length old → take n (new ++ drop (length new) old) ≡ new
@@ -87,6 +97,13 @@ popped_list old new x is =
     let count : length old - 1 ≡ length new = omega (arith, longer, size) in
     sym (take-append_seam new (x ∷ [])) ∙ (ap (take (length new)) (sym is) ∙ ap (λ n. take n old) (sym count))
 
+-- what holds of all holds of those at the beginning, and of the last
+pub all_front : {X : Type 0} (P : X → Type 0) (front all : List X) → IsFront front all → All P all → All P front
+all_front P front all is each = subst (All P) (sym is.1) (All-take P is.0 all each)
+
+pub all_last : {X : Type 0} (P : X → Type 0) (front all : List X) (x : X) → all ≡ front ++ x ∷ [] → All P all → P x
+all_last P front all x is each = (All-pop P (front ++ x ∷ []) front (Some x) refl (subst (All P) is each)).1
+
 -- the first putter of a queue after so many splits
 abbrev pub after_splits : {T : Type 0} → QueueId → ℕ → Putter T
 after_splits mail splits = record { mail = mail; number = []; splits = splits; put = [] }
@@ -94,6 +111,11 @@ after_splits mail splits = record { mail = mail; number = []; splits = splits; p
 -- what it splits off next is the putter of the next place
 pub split_is : {T : Type 0} (mail : QueueId) (count splits : ℕ) (p : Putter T) → p ≡ after_splits mail splits → new_from p ≡ new_putter mail count (suc splits)
 split_is mail count splits p is = ap new_from is
+
+pub split_at : {T : Type 0} (mail : QueueId) (count splits : ℕ) (p : Putter T) → p ≡ after_splits mail splits → new_from p ≡ new_putter mail count (1 + splits)
+split_at {T} mail count splits p is =
+    let next : suc splits ≡ 1 + splits = omega arith in
+    split_is mail count splits p is ∙ ap (λ (k : ℕ). new_putter {T = T} mail count k) next
 
 -- the route that takes a column's last putter
 pub next_is : (c : ColumnView) (left : List (Putter Order)) (pass : Putter Order) → c.passes ≡ left ++ pass ∷ [] → IsNextOf c pass
@@ -115,6 +137,21 @@ all_putters mail slots later first some are is =
     ∙ (ap (λ (p : Putter Order). reverse (putters_from mail slots 1 (slots - 1)) ++ p ∷ []) is
     ∙ (sym (reverse_onto (putters_from mail slots 1 (slots - 1)) (new_putter mail slots 0) [])
     ∙ ap (λ (n : ℕ). reverse (putters_from mail slots 0 n)) count))
+
+-- one slot more has its putter
+pub later_more : (mail : QueueId) (slots counter : ℕ) (put after own : Putter Order) (old new : List (Putter Order)) → 1 ≤ counter → put ≡ after_splits mail (counter - 1) → old ≡ putters_from mail slots 1 (counter - 1)
+    → after ≡ split_from put → own ≡ new_from put → new ≡ old ++ own ∷ [] → (after ≡ after_splits mail (counter + 1 - 1)) × (new ≡ putters_from mail slots 1 (counter + 1 - 1))
+later_more mail slots counter put after own old new low is are left split pushed =
+    let k = counter - 1 in
+    let place : suc k ≡ 1 + k = omega (arith, low) in
+    let next : k + 1 ≡ counter + 1 - 1 = omega (arith, low) in
+    let one : suc k ≡ counter + 1 - 1 = omega (arith, low) in (
+      left ∙ (ap split_from is ∙ ap (after_splits mail) next),
+      pushed
+          ∙ (ap (λ (l : List (Putter Order)). l ++ own ∷ []) are
+          ∙ (ap (λ (p : Putter Order). putters_from mail slots 1 k ++ p ∷ []) (split ∙ (split_is mail slots k put is ∙ ap (new_putter mail slots) place))
+          ∙ (sym (putters_push mail slots 1 k) ∙ ap (putters_from mail slots 1) one))),
+    )
 
 -- of the putters that are left, that of the next slot stands last
 left_are : (mail : QueueId) (slots slot : ℕ) → slot < slots
@@ -305,6 +342,19 @@ module _ {E : Type 0} where
         (subst (λ (l : LineView E WriterView). IsLineOf me limit table meter column list l) newer.1 last)))
         (pushed_at lines line made place at_line))
         (pushed_at columns column col place at_column);
+  }
+
+  -- the same line at tables that are known under other names
+  pub line_at : (me limit : ℕ) (table meter as_table as_meter : Table) (column : ColumnView) (list : List (ℕ × E)) (line : LineView E WriterView) → table ≡ as_table → meter ≡ as_meter
+      → IsLineOf me limit table meter column list line → IsLineOf me limit as_table as_meter column list line
+  line_at me limit table meter as_table as_meter column list line first second l = record {
+    channel = l.channel;
+    mail = l.mail;
+    joined = l.joined;
+    pair = l.pair;
+    boxes = l.boxes;
+    ports = l.ports ∙ first;
+    words = l.words ∙ second;
   }
 
   pub no_lines : (me limit : ℕ) (table meter : Table) (streams : List (List (ℕ × E))) → AreLinesOf me limit table meter [] streams []

@@ -5,3 +5,4 @@ pub mod Passes
 pub mod Keeping
 pub mod Telling
 pub mod Settled
+pub mod Seats

@@ -36,6 +36,10 @@ abbrev pub putters_from : QueueId → (count slot left : ℕ) → List (Putter O
 putters_from mail count slot zero = []
 putters_from mail count slot (suc left) = new_putter mail count slot ∷ putters_from mail count (suc slot) left
 
+-- a list begins so
+abbrev pub IsFront : {X : Type 0} → List X → List X → Type 0
+IsFront front all = (n : ℕ) × (front ≡ take n all)
+
 -- a column whose next putter was taken
 abbrev pub popped : ColumnView → ColumnView
 popped c = record c { passes = take (length c.passes - 1) c.passes }
@@ -115,6 +119,10 @@ module _ {E : Type 0} where
     pub each : (place : ℕ) (column : ColumnView) (list : List (ℕ × E)) (line : LineView E WriterView) →
         slice_get columns place ≡ Some column → slice_get streams place ≡ Some list → slice_get lines place ≡ Some line →
         IsLineOf me limit table meter column list line
+
+  -- one line more, which is such a line
+  abbrev pub AddsLine : (me limit : ℕ) → (table meter : Table) → ColumnView → List (ℕ × E) → (old new : List (LineView E WriterView)) → Type 0
+  AddsLine me limit table meter column list old new = (line : LineView E WriterView) × (new ≡ old ++ line ∷ []) × IsLineOf me limit table meter column list line
 
   -- Slots and lines of one host: all are at the same tables, the route of each slot at each place leads to the line there, and
   -- each line delivers to the mailbox of each slot.

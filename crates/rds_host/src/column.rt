@@ -1,12 +1,12 @@
 //! What a host has for one peer, while it is made.
-ghost use Rattle.std.specs.Prelude.{◌≡◌, ◌≤◌, [], All, IfOk, OnOk, length, reverse};
+ghost use Rattle.std.specs.Prelude.{◌≡◌, ◌≤◌, ◌-◌, ◌++◌, ◌∷◌, [], All, IfOk, IfSome, OnOk, length, reverse};
 ghost use Rattle.std.specs.Arc.{arc_value};
 ghost use Rattle.rds_model.specs.declared.entry.TheConstants.{MAX_SLOTS};
 ghost use Rattle.rds_model.specs.declared.journal.TheConstants.{MAX_ENTRIES, MIN_ENTRIES};
 ghost use Rattle.rds_line_streams.specs.Streams.{AreNumbered, IsUnused};
 ghost use Rattle.rds_line_channel.specs.Channel.{new_channel};
 ghost use Rattle.rds_mail.specs.Passes.{first_putter};
-ghost use Rattle.rds_host.specs.Ties.{IsNextOf, lane_way, popped, putters_from, with_box};
+ghost use Rattle.rds_host.specs.Ties.{IsFront, IsNextOf, lane_way, new_putter, popped, putters_from, with_box};
 
 use crate::seats::Seats;
 use rds_fmap::{Reader, Writer, pair};
@@ -92,15 +92,13 @@ impl Column {
         ensures way { IfOk result (λ lane. lane_way lane ≡ self.old.way) }
         ensures put { IfOk result (λ lane. lane.pass.put ≡ []) }
     {
-        let Some(pass) = self.passes.pop() else {
-            return Err(Memory);
-        };
-        let Some(map) = self.readers.pop() else {
+        let orders = Arc::try_clone(&self.queue)?;
+        let Some((pass, map)) = take_last(&mut self.passes, &mut self.readers) else {
             return Err(Memory);
         };
         Ok(Route {
             peer: self.peer,
-            orders: Arc::try_clone(&self.queue)?,
+            orders,
             pass,
             map,
         })
@@ -162,6 +160,21 @@ impl Column {
     }
 }
 
+// Takes the last putter and the last reader.
+fn take_last(
+    passes: &mut Vec<PutPass<Asked>>,
+    readers: &mut Vec<Reader>,
+) -> Option<(PutPass<Asked>, Reader)>
+    ensures pass { IfSome result (λ last. passes.old.items ≡ passes.new.items ++ last.0 ∷ []) }
+    ensures reader { IfSome result (λ last. readers.old.items ≡ readers.new.items ++ last.1 ∷ []) }
+    ensures passes { IsFront passes.new.items passes.old.items }
+    ensures readers { IsFront readers.new.items readers.old.items }
+{
+    let pass = passes.pop()?;
+    let map = readers.pop()?;
+    Some((pass, map))
+}
+
 // A putter for each of so many slots: that of slot 0 is the queue's first and stands last.
 fn passes(
     alloc: Global,
@@ -174,10 +187,27 @@ fn passes(
     ensures { IfOk result (λ passes. passes.items ≡ reverse (putters_from queue.now.line slots 0 slots)) }
 {
     let mut passes = Vec::with_capacity(alloc, usize::from(slots))?;
-    for _ in 1..slots {
-        passes.push(queue.split(&mut put))?;
-    }
+    add_later(&mut passes, queue, &mut put, slots)?;
     passes.reverse();
     passes.push(put)?;
     Ok(passes)
+}
+
+// Adds a new putter for each slot but the first.
+fn add_later(
+    passes: &mut Vec<PutPass<Asked>>,
+    queue: &Mail<Asked>,
+    put: &mut PutPass<Asked>,
+    slots: u16,
+) -> Result<(), Memory>
+    requires some { 1 ≤ slots }
+    requires none { passes.old.items ≡ [] }
+    requires first { put.old ≡ first_putter queue.now.line }
+    ensures passes { OnOk result (passes.new.items ≡ putters_from queue.now.line slots 1 (slots - 1)) }
+    ensures put { OnOk result (put.new ≡ new_putter queue.now.line slots 0) }
+{
+    for _ in 1..slots {
+        passes.push(queue.split(put))?;
+    }
+    Ok(())
 }

@@ -1,5 +1,5 @@
 //! How a host is made.
-ghost use Rattle.std.specs.Prelude.{◌≡◌, suc, ◌≤◌, ◌+◌, [], All, IfOk, OnOk, length, map};
+ghost use Rattle.std.specs.Prelude.{◌≡◌, suc, ◌≤◌, ◌+◌, ◌-◌, [], All, IfOk, OnOk, length, map};
 ghost use Rattle.std.specs.Arc.{arc_value};
 ghost use Rattle.rds_model.specs.declared.entry.TheConstants.{MAX_SLOTS};
 ghost use Rattle.rds_model.specs.declared.journal.TheConstants.{MAX_ENTRIES, MIN_ENTRIES};
@@ -9,9 +9,9 @@ ghost use Rattle.rds_parts.specs.Lanes.{Ascend};
 ghost use Rattle.rds_line_streams.specs.Streams.{AreNumbered, IsUnused};
 ghost use Rattle.rds_host.specs.Lines.{AreNewLines};
 ghost use Rattle.rds_host.specs.Slots.{AreInPlace, AreNewSlots};
-ghost use Rattle.rds_mail.specs.Passes.{first_getter, first_putter};
+ghost use Rattle.rds_mail.specs.Passes.{first_getter, first_putter, new_from, split_from};
 ghost use Rattle.rds_host.specs.Passes.{AreAllPasses};
-ghost use Rattle.rds_host.specs.Ties.{AreColumnsFilled, AreLinesOf, AreNextOf, AreOfHost, IsSlotOf, inbox_of, lane_way, new_putter, peers_to, popped, ways_of, with_boxes};
+ghost use Rattle.rds_host.specs.Ties.{AddsLine, AreColumnsFilled, AreLinesOf, AreNextOf, AreOfHost, IsSlotOf, inbox_of, lane_way, new_putter, peers_to, popped, ways_of, with_boxes};
 
 use crate::column::Column;
 use crate::seats::{Seats, SlotSeats};
@@ -70,10 +70,26 @@ fn columns(alloc: Global, peers: &[u32], slots: u16) -> Result<Vec<Column>, Memo
     ensures filled { IfOk result (λ columns. AreColumnsFilled slots [] columns.items) }
 {
     let mut columns = Vec::with_capacity(alloc, peers.len())?;
+    add_columns(alloc, &mut columns, peers, slots)?;
+    Ok(columns)
+}
+
+// Adds what a host of so many slots has for each peer.
+fn add_columns(
+    alloc: Global,
+    columns: &mut Vec<Column>,
+    peers: &[u32],
+    slots: u16,
+) -> Result<(), Memory>
+    requires some { 1 ≤ slots }
+    requires none { columns.old.items ≡ [] }
+    ensures peers { OnOk result (peers_to (ways_of columns.new.items) ≡ peers.now) }
+    ensures filled { OnOk result (AreColumnsFilled slots [] columns.new.items) }
+{
     for peer in peers {
         columns.push(Column::new(alloc, *peer, slots)?)?;
     }
-    Ok(columns)
+    Ok(())
 }
 
 // The slots, in the order in which the port table numbers them.
@@ -171,11 +187,20 @@ fn add_later_boxes(
     ensures put { OnOk result (put.new ≡ new_putter (arc_value mail.now).line (suc (length columns.old)) 0) }
 {
     for i in 0..columns.len() {
-        let column = &mut columns[i];
-        let own = mail.split(put);
-        column.add_box(SlotBox::new(Arc::try_clone(mail)?, own))?;
+        let held = new_box(mail, put)?;
+        columns[i].add_box(held)?;
     }
     Ok(())
+}
+
+// A new putter at the mailbox.
+fn new_box(mail: &Arc<Mail<Datagram>>, put: &mut PutPass<Datagram>) -> Result<SlotBox, Memory>
+    requires { put.old.mail ≡ (arc_value mail.now).line }
+    ensures put { OnOk result (put.new ≡ split_from put.old) }
+    ensures new { IfOk result (λ held. held ≡ new_from put.old) }
+{
+    let again = Arc::try_clone(mail)?;
+    Ok(SlotBox::new(again, mail.split(put)))
 }
 
 // The line of each column, over the streams in the same place.
@@ -203,8 +228,35 @@ fn lines<E: End>(
         let Some(list) = streams.next() else {
             return Err(Memory);
         };
-        let own = seats.split()?;
-        lines.push(column.into_line(alloc, addr, own, list, limit)?)?;
+        add_line(alloc, addr, &mut lines, &mut seats, column, list, limit)?;
     }
     Ok(lines)
+}
+
+// Adds the line of a column, over these streams.
+fn add_line<E: End>(
+    alloc: Global,
+    addr: u32,
+    lines: &mut Vec<Line<E, Writer>>,
+    seats: &mut Seats,
+    column: Column,
+    list: Vec<(u32, E)>,
+    limit: u32,
+) -> Result<(), Memory>
+    requires boxes { length column.boxes ≡ (arc_value seats.old.table).slots }
+    requires seats { 1 ≤ seats.old.seat.view.splits }
+    requires words { 1 ≤ seats.old.own.view.splits }
+    requires numbered { AreNumbered list.items }
+    requires unused { All (λ stream. IsUnused E.means stream.1) list.items }
+    requires least { MIN_ENTRIES ≤ limit }
+    requires most { limit ≤ MAX_ENTRIES }
+    ensures table { arc_value seats.new.table ≡ arc_value seats.old.table }
+    ensures meter { arc_value seats.new.meter ≡ arc_value seats.old.meter }
+    ensures seats { OnOk result (seats.new.seat.view.splits ≡ seats.old.seat.view.splits - 1) }
+    ensures words { OnOk result (seats.new.own.view.splits ≡ seats.old.own.view.splits - 1) }
+    ensures line { OnOk result (AddsLine addr limit (arc_value seats.old.table) (arc_value seats.old.meter) column list.items lines.old.items lines.new.items) }
+{
+    let own = seats.split()?;
+    lines.push(column.into_line(alloc, addr, own, list, limit)?)?;
+    Ok(())
 }

@@ -1,12 +1,11 @@
 //! The seats of a host at its port table and its meter.
-ghost use Rattle.std.specs.Prelude.{◌≡◌, ◌<◌, ◌≤◌, ◌-◌, ◌+◌, [], Some, None, All, IfOk, OnOk};
+ghost use Rattle.std.specs.Prelude.{◌≡◌, ◌<◌, ◌≤◌, ◌-◌, ◌+◌, [], Some, All, IfOk, OnOk};
 ghost use Rattle.std.specs.Arc.{arc_value};
 ghost use Rattle.rds_model.specs.declared.entry.TheConstants.{MAX_SLOTS};
 ghost use Rattle.rds_bindtab.specs.Shared.{IsAlone};
 ghost use Rattle.rds_bindtab.specs.Seats.{slot_of};
-ghost use Rattle.rds_meter.specs.declared.view.Stage.TheVariants.{Idle};
 ghost use Rattle.rds_parts.specs.Lanes.{Ascend, peers_of};
-ghost use Rattle.rds_parts.specs.Ports.{HasClaimedOnly};
+ghost use Rattle.rds_host.specs.Seats.{AreFree, AreOfSlot};
 
 use rds_bindtab::{BindSeat, BindTable};
 use rds_fmap::Reader;
@@ -26,18 +25,7 @@ pub(crate) struct Seats {
     seat: BindSeat,
     meter: Arc<Meter>,
     own: MeterSeat,
-    ghost table_of: { seat.table ≡ arc_value table },
-    ghost slot: { seat.view.slot ≡ None },
-    ghost port: { seat.view.port ≡ None },
-    ghost claimed: { HasClaimedOnly None seat.view },
-    ghost meter_of: { own.table ≡ arc_value meter },
-    ghost owner: { own.slot ≡ None },
-    ghost stage: { own.view.stage ≡ Idle },
-    ghost checks: { own.view.checks ≡ [] },
-    ghost pending: { own.view.pending ≡ [] },
-    ghost steps: { own.view.steps ≡ [] },
-    ghost slots: { (arc_value table).slots ≡ (arc_value meter).slots },
-    ghost few: { (arc_value table).slots ≤ MAX_SLOTS },
+    ghost free: { AreFree (arc_value table) seat (arc_value meter) own },
 }
 
 // By hand, so that one call drops it wherever it is let go, and no function that owns one drops each field.
@@ -84,8 +72,7 @@ impl Seats {
         ensures same_meter { IfOk result (λ s. arc_value s.meter ≡ arc_value self.old.meter) }
         ensures looks { IfOk result (λ s. s.seat.view.steps ≡ []) }
     {
-        let table = Arc::try_clone(&self.table)?;
-        let meter = Arc::try_clone(&self.meter)?;
+        let (table, meter) = self.tables()?;
         let seat = self.table.split(&mut self.seat);
         let own = self.meter.split(&mut self.own);
         Ok(Seats {
@@ -112,10 +99,9 @@ impl Seats {
         ensures same_table { IfOk result (λ s. arc_value s.table ≡ arc_value self.old.table) }
         ensures same_meter { IfOk result (λ s. arc_value s.meter ≡ arc_value self.old.meter) }
     {
-        let table = Arc::try_clone(&self.table)?;
-        let meter = Arc::try_clone(&self.meter)?;
+        let (table, meter) = self.tables()?;
         let Ok(slot) = self.table.draw(&mut self.seat) else {
-            return Err(Memory);
+            unreachable!()
         };
         let seat = self.table.split_slot(&mut self.seat);
         let mut own = self.meter.split(&mut self.own);
@@ -126,6 +112,15 @@ impl Seats {
             meter,
             own,
         })
+    }
+
+    // The two tables, once more.
+    fn tables(&self) -> Result<(Arc<BindTable>, Arc<Meter>), Memory>
+        ensures table { IfOk result (λ t. arc_value t.0 ≡ arc_value self.now.table) }
+        ensures meter { IfOk result (λ t. arc_value t.1 ≡ arc_value self.now.meter) }
+    {
+        let table = Arc::try_clone(&self.table)?;
+        Ok((table, Arc::try_clone(&self.meter)?))
     }
 
     /// The seats as those of a line.
@@ -153,17 +148,7 @@ pub(crate) struct SlotSeats {
     seat: BindSeat,
     meter: Arc<Meter>,
     own: MeterSeat,
-    ghost table_of: { seat.table ≡ arc_value table },
-    ghost slot: { seat.view.slot ≡ Some (slot_of seat.view) },
-    ghost small: { slot_of seat.view < MAX_SLOTS },
-    ghost port: { seat.view.port ≡ None },
-    ghost claimed: { HasClaimedOnly None seat.view },
-    ghost meter_of: { own.table ≡ arc_value meter },
-    ghost owner: { own.slot ≡ Some (slot_of seat.view) },
-    ghost stage: { own.view.stage ≡ Idle },
-    ghost checks: { own.view.checks ≡ [] },
-    ghost pending: { own.view.pending ≡ [] },
-    ghost steps: { own.view.steps ≡ [] },
+    ghost of_slot: { AreOfSlot (arc_value table) seat (arc_value meter) own },
 }
 
 // By hand, so that one call drops it wherever it is let go, and no function that owns one drops each field.

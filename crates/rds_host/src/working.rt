@@ -37,7 +37,7 @@ fn turn_all<E: End, R: Wait>(rt: &R, lines: &mut [Line<E, Writer>]) -> bool
     let mut moved = false;
     for i in 0..lines.len() {
         let line = &mut lines[i];
-        moved = line.turn(rt) == Turn::Moved || moved;
+        moved |= line.turn(rt) == Turn::Moved;
     }
     moved
 }

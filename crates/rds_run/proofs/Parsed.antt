@@ -1,6 +1,6 @@
 -- What `clap` makes of words.
 use Rattle.std.proofs.Common.{◌≡◌, ◌⊎◌, ◌↔◌, inl, inr, IsTrue, ℕ, Bool, List, [], Option, true, refl, sym, ap, subst, ◌∙◌, codes}
-use Rattle.clap.specs.Words.{App, Kinds, IsAmong, HasMatchesOf, fault_of, first_of, is_simple, is_simple_and_free, matches_of}
+use Rattle.clap.specs.Words.{App, Kinds, IsAmong, HasMatchesOf, fault_of, first_of, is_simple_and_free}
 use Rattle.clap.specs.Matches.{found_of, first_value}
 use Rattle.clap.specs.declared.parser.matches.ArgMatches.{ArgMatches}
 use Rattle.clap.specs.declared.error.kind.ErrorKind.{ErrorKind}

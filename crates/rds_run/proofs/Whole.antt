@@ -157,19 +157,8 @@ ends_of_fault source sink s risen (inr failed) begun =
 last_line : (all a b e : List ℕ) → all ≡ a ++ (b ++ e) → (front : List ℕ) × (all ≡ front ++ e)
 last_line all a b e is = (a ++ b, is ∙ sym (append_assoc a b e))
 
-ends_in_end_line : (m : Meaning) (before after : Option (List ℕ)) → IsPlayed m before after →
+pub ends_in_end_line : (m : Meaning) (before after : Option (List ℕ)) → IsPlayed m before after →
     (front : List ℕ) × SinkGained before after (front ++ end_line)
 ends_in_end_line m before after played =
     let last = last_line (text m MAX_ENTRIES) (lines played.past) _ end_line (ap (text_of m.hosts) played.leads) in
     (last.0, subst (SinkGained before after) last.1 played.written)
-
--- and so it is where a call ends with that text written
-pub last_of_written : (left before after : Option (List ℕ)) (a b x y : ℕ) (s : Status) →
-    IsEndOfCall record { left = left; faults_before = a; faults_after = b }
-    record { held_before = before; held_after = after; faults_before = x; faults_after = y } s →
-    s ≡ ended.Written → (front : List ℕ) × SinkGained before after (front ++ end_line)
-last_of_written left before after a b x y s ends is =
-    let source : SourceSeen = record { left = left; faults_before = a; faults_after = b } in
-    let sink : SinkSeen = record { held_before = before; held_after = after; faults_before = x; faults_after = y } in
-    let played = subst (IsEndOfCall source sink) is ends in
-    ends_in_end_line played.0 before after played.2

@@ -15,6 +15,18 @@ use Rattle.rds_run.specs.declared.status.Status.{Status}
 use Rattle.rds_run.specs.declared.status.Status.TheVariants as status
 use Rattle.rds_run.specs.Texts.{read_fault_line, bad_line}
 
+-- the number that the program exits with
+abbrev pub code : Status → ℕ
+code status.Written = 0
+code status.Refused = 1
+code status.Usage = 2
+code status.ReadFault = 3
+code status.WriteFault = 4
+code status.WireFault = 5
+code status.Memory = 6
+code status.Spent = 7
+code status.Unfinished = 8
+
 -- what a call sees of its source: the bytes that it had left, where it tells them, and how often it has failed
 pub record SourceSeen : Type 0 where
   pub left : Option (List ℕ)

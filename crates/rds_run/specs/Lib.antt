@@ -3,3 +3,4 @@ pub mod ExitStatus
 pub mod Reading
 pub mod RunWords
 pub mod RunStatus
+pub mod Ending

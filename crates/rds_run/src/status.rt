@@ -1,3 +1,6 @@
+ghost use Rattle.std.specs.Prelude.{◌≡◌};
+ghost use Rattle.rds_run.specs.ExitStatus.{code};
+
 /// How the program ended: the status that it exits with.
 #[derive(Clone, Copy, Debug, PartialEq, Eq)]
 pub enum Status {
@@ -19,4 +22,13 @@ pub enum Status {
     Spent = 7,
     /// A run stopped while some datagrams weren't acknowledged.
     Unfinished = 8,
+}
+
+impl Status {
+    /// The number that the program exits with.
+    pub fn code(self) -> u8
+        ensures { result ≡ code self }
+    {
+        self as u8
+    }
 }

@@ -2,9 +2,14 @@ use super::*;
 use rds_link::{MemSink, MemSource, MemWire, OpenGate};
 use std::alloc::Global;
 use std::net::Net;
+use std::process::Abort;
 use std::sync::Wait;
 use std::test::*;
 use std::thread::Threads;
+
+const BINDS: &str = "hosts 2\nbind A 4000 65536 65536\nbind B 4001 65536 65536\n";
+
+const USAGE: &str = "usage: rds play | rds run [--wire memory|tcp] | rds gen N SEED\n";
 
 // The program's answer for these words, source and sink.
 fn main_of<R: Threads + Wait + Net + Sync>(
@@ -18,46 +23,65 @@ fn main_of<R: Threads + Wait + Net + Sync>(
     rds_main(rt, alloc, words, source, sink, &mut tcp, &OpenGate)
 }
 
-// What the program answers and writes.
+// Adds each of the words.
+fn add_words(alloc: Global, all: &mut Vec<String>, words: &[&str]) -> Result<(), Fail> {
+    for word in words {
+        all.push(String::from_str(alloc, word)?)?;
+    }
+    Ok(())
+}
+
+// The program's answer for these words, each of which is a text of its own.
 fn answer<R: Threads + Wait + Net + Sync>(
     rt: &R,
     alloc: Global,
     words: &[&str],
-    script: &str,
-) -> Result<(u8, MemSink), Fail> {
+    source: &mut MemSource,
+    sink: &mut MemSink,
+) -> Result<u8, Fail> {
     let mut all = Vec::new(alloc);
-    for word in words {
-        all.push(String::from_str(alloc, word)?)?;
-    }
-    let mut source = MemSource::new(script.as_bytes().to_vec(alloc)?, Vec::new(alloc));
-    let mut sink = MemSink::new(alloc, Vec::new(alloc));
-    let status = main_of(rt, alloc, &all, &mut source, &mut sink);
-    Ok((status, sink))
+    add_words(alloc, &mut all, words)?;
+    Ok(main_of(rt, alloc, &all, source, sink))
 }
 
-const BINDS: &str = "hosts 2\nbind A 4000 65536 65536\nbind B 4001 65536 65536\n";
-
-const USAGE: &str = "usage: rds play | rds run [--wire memory|tcp] | rds gen N SEED\n";
-
-#[test]
-fn no_words_are_answered_by_the_usage_line(rt: HostRuntime) -> Result<(), Fail> {
-    let (status, sink) = answer(&rt, rt.alloc(), &[], BINDS)?;
-    assert_eq!(rt; status, 2);
-    assert_eq!(rt; sink.held(), USAGE.as_bytes());
+// The program answers these words and this script by the status and the text.
+fn assert_answer<R: Threads + Wait + Net + Sync + Abort>(
+    rt: &R,
+    alloc: Global,
+    words: &[&str],
+    script: &str,
+    status: u8,
+    text: &str,
+) -> Result<(), Fail> {
+    let mut source = MemSource::new(script.as_bytes().to_vec(alloc)?, Vec::new(alloc));
+    let mut sink = MemSink::new(alloc, Vec::new(alloc));
+    assert_eq!(rt; answer(rt, alloc, words, &mut source, &mut sink)?, status);
+    assert_eq!(rt; sink.held(), text.as_bytes());
     Ok(())
 }
 
 #[test]
-fn a_failing_source_and_a_failing_sink(rt: HostRuntime) -> Result<(), Fail> {
+fn no_words_are_answered_by_the_usage_line(rt: HostRuntime) -> Result<(), Fail> {
+    assert_answer(&rt, rt.alloc(), &[], BINDS, 2, USAGE)
+}
+
+#[test]
+fn a_failing_source(rt: HostRuntime) -> Result<(), Fail> {
     let alloc = rt.alloc();
-    let words = vec![in alloc; String::from_str(alloc, "play")?]?;
-    let mut source = MemSource::new(BINDS.as_bytes().to_vec(alloc)?, vec![in alloc; 1]?);
+    let fail = vec![in alloc; 1]?;
+    let mut source = MemSource::new(BINDS.as_bytes().to_vec(alloc)?, fail);
     let mut sink = MemSink::new(alloc, Vec::new(alloc));
-    assert_eq!(rt; main_of(&rt, alloc, &words, &mut source, &mut sink), 3);
+    assert_eq!(rt; answer(&rt, alloc, &["play"], &mut source, &mut sink)?, 3);
     assert_eq!(rt; sink.held(), b"read fault\n".as_slice());
-    let mut source = MemSource::new(BINDS.as_bytes().to_vec(alloc)?, Vec::new(alloc));
+    Ok(())
+}
+
+#[test]
+fn a_failing_sink(rt: HostRuntime) -> Result<(), Fail> {
+    let alloc = rt.alloc();
     let mut sink = MemSink::new(alloc, vec![in alloc; 1]?);
-    assert_eq!(rt; main_of(&rt, alloc, &words, &mut source, &mut sink), 4);
+    let mut source = MemSource::new(BINDS.as_bytes().to_vec(alloc)?, Vec::new(alloc));
+    assert_eq!(rt; answer(&rt, alloc, &["play"], &mut source, &mut sink)?, 4);
     Ok(())
 }
 
@@ -75,19 +99,14 @@ fn words_of_no_command_that_runs(rt: HostRuntime) -> Result<(), Fail> {
         &["gen", "1", "0"],
     ];
     for words in lines {
-        let (status, sink) = answer(&rt, rt.alloc(), words, BINDS)?;
-        assert_eq!(rt; status, 2);
-        assert_eq!(rt; sink.held(), USAGE.as_bytes());
+        assert_answer(&rt, rt.alloc(), words, BINDS, 2, USAGE)?;
     }
     Ok(())
 }
 
 #[test]
 fn a_lone_pair_of_dashes_after_play(rt: HostRuntime) -> Result<(), Fail> {
-    let (status, sink) = answer(&rt, rt.alloc(), &["play", "--"], "hosts 2\n")?;
-    assert_eq!(rt; status, 0);
-    assert_eq!(rt; sink.held(), b"end ok\n".as_slice());
-    Ok(())
+    assert_answer(&rt, rt.alloc(), &["play", "--"], "hosts 2\n", 0, "end ok\n")
 }
 
 #[test]
@@ -98,31 +117,33 @@ fn a_run_over_memory(rt: HostRuntime) -> Result<(), Fail> {
         &["run", "--wire=memory"],
     ];
     for words in lines {
-        let (status, sink) = answer(&rt, rt.alloc(), words, BINDS)?;
-        assert_eq!(rt; status, 0);
-        assert_eq!(rt; sink.held(), b"end ok\n".as_slice());
+        assert_answer(&rt, rt.alloc(), words, BINDS, 0, "end ok\n")?;
     }
     Ok(())
 }
 
 #[test]
 fn a_run_of_three_hosts_is_refused(rt: HostRuntime) -> Result<(), Fail> {
-    let (status, sink) = answer(&rt, rt.alloc(), &["run"], "# more\nhosts 3\n")?;
-    assert_eq!(rt; status, 1);
-    assert_eq!(rt; sink.held(), b"bad line 2: hosts\n".as_slice());
-    Ok(())
+    assert_answer(
+        &rt,
+        rt.alloc(),
+        &["run"],
+        "# more\nhosts 3\n",
+        1,
+        "bad line 2: hosts\n",
+    )
 }
 
 #[test]
 fn refused_scripts(rt: HostRuntime) -> Result<(), Fail> {
-    let refused = [
-        ("", "bad line 0: empty\n"),
-        ("hosts 2\nbind A 70000 1 2\n", "bad line 2: number\n"),
-    ];
-    for (script, line) in refused {
-        let (status, sink) = answer(&rt, rt.alloc(), &["play"], script)?;
-        assert_eq!(rt; status, 1);
-        assert_eq!(rt; sink.held(), line.as_bytes());
-    }
-    Ok(())
+    assert_answer(&rt, rt.alloc(), &["play"], "", 1, "bad line 0: empty\n")?;
+    let script = "hosts 2\nbind A 70000 1 2\n";
+    assert_answer(
+        &rt,
+        rt.alloc(),
+        &["play"],
+        script,
+        1,
+        "bad line 2: number\n",
+    )
 }

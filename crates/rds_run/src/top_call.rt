@@ -7,6 +7,7 @@ ghost use Rattle.rds_text.specs.Lines.{end_line, spent_line};
 ghost use Rattle.rds_run.specs.ExitStatus.{IsAnswer, IsPlayed, IsRefusal, IsSpelled, IsSpent, IsToldRefused, IsToldSpelled};
 ghost use Rattle.rds_run.specs.RunStatus.{HasFilled, IsManyHosts, IsRan, IsRunUnfinished, IsWireFault};
 ghost use Rattle.rds_run.specs.RunWords.{AreRun};
+ghost use Rattle.rds_run.specs.Ending.{IsEndOfProgram};
 ghost use Rattle.rds_run.specs.Texts.{ArePlay, usage_line, read_fault_line, bad_line};
 
 use crate::answer::say;
@@ -96,10 +97,27 @@ pub fn rds_main<S: Source, K: Sink, W: Wire, G: Gate + Sync, R: Threads + Wait +
     ensures unfinished { result ≡ 8 → AreRun words.now × IsRunUnfinished (K.held sink.old) (K.held sink.new) }
     ensures known { result ≤ 8 }
 {
+    do_work(rt, alloc, words, source, sink, gate).code()
+}
+
+// Does what the words ask for.
+fn do_work<S: Source, K: Sink, G: Gate + Sync, R: Threads + Wait + Net + Sync>(
+    rt: &R,
+    alloc: Global,
+    words: &[String],
+    source: &mut S,
+    sink: &mut K,
+    gate: &G,
+) -> Status
+    ensures { IsEndOfProgram words.now
+        record { left = S.left source.old; faults_before = S.faults source.old; faults_after = S.faults source.new }
+        record { held_before = K.held sink.old; held_after = K.held sink.new; faults_before = K.faults sink.old; faults_after = K.faults sink.new }
+        result }
+{
     match work_of(alloc, words) {
-        Ok(Some(Work::Play)) => play_text(alloc, source, sink) as u8,
-        Ok(Some(Work::Run)) => run_text(rt, alloc, source, sink, gate) as u8,
-        Ok(None) => say(sink, USAGE, Status::Usage) as u8,
-        Err(Memory) => Status::Memory as u8,
+        Ok(Some(Work::Play)) => play_text(alloc, source, sink),
+        Ok(Some(Work::Run)) => run_text(rt, alloc, source, sink, gate),
+        Ok(None) => say(sink, USAGE, Status::Usage),
+        Err(Memory) => Status::Memory,
     }
 }

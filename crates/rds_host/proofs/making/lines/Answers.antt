@@ -10,24 +10,34 @@ use Rattle.std.proofs.lemmas.List.{map-id}
 use Rattle.rds_views.specs.Views.{Table}
 use Rattle.rds_line_streams.specs.Streams.{AreNumbered, IsUnused}
 use Rattle.rds_host.specs.Ties.{ColumnView, AreLinesOf}
-use Rattle.rds_host.proofs.Columns.{lines_push, next_of}
+use Rattle.rds_host.proofs.Columns.{counted_on, line_at, lines_push, next_of, one_left, push_one}
 use Rattle.rds_host.proofs.making.lines.Goals as goal
 
-pub into_line-requires-clause-boxes : goal.into_line-requires-clause-boxes
-into_line-requires-clause-boxes g c =
+pub add_line-requires-clause-boxes : goal.add_line-requires-clause-boxes
+add_line-requires-clause-boxes g c =
     let turn = YieldsList-turn (YieldsList-from_vec c.args.columns.items c.into_iter-column-iterator.ensures.into_iter_gives.0 (c.into_iter-column-iterator.ensures.into_iter_gives.1 ∙ c.args.columns.ok.0)) c.loop-column.yielded c.loop-column.column-iterator c.loop-column.yielded_by c.next.result c.next.new.self c.in-Some.column c.in-Some.is c.next.ensures.steps in
     let n = length c.loop-column.yielded in
     ap (λ (x : ColumnView). length x.boxes) turn.1
     ∙ (c.requires.boxes n c.in-Some.column turn.0
-    ∙ sym (ap (λ (t : Table). t.slots) (c.in_ok-own.ensures.same_table ∙ c.loop-column.invariant.0)))
+    ∙ sym (ap (λ (t : Table). t.slots) c.loop-column.invariant.0))
 
-pub into_line-requires-clause-numbered : goal.into_line-requires-clause-numbered
-into_line-requires-clause-numbered g c =
+pub add_line-requires-clause-seats : goal.add_line-requires-clause-seats
+add_line-requires-clause-seats g c =
+    let turn = YieldsList-turn (YieldsList-from_vec c.args.columns.items c.into_iter-column-iterator.ensures.into_iter_gives.0 (c.into_iter-column-iterator.ensures.into_iter_gives.1 ∙ c.args.columns.ok.0)) c.loop-column.yielded c.loop-column.column-iterator c.loop-column.yielded_by c.next.result c.next.new.self c.in-Some.column c.in-Some.is c.next.ensures.steps in
+    one_left c.loop-column.seats.seat.view.splits (length c.loop-column.yielded) c.args.seats.seat.view.splits (length c.args.columns.items) c.loop-column.invariant.2 c.requires.seats turn.0
+
+pub add_line-requires-clause-words : goal.add_line-requires-clause-words
+add_line-requires-clause-words g c =
+    let turn = YieldsList-turn (YieldsList-from_vec c.args.columns.items c.into_iter-column-iterator.ensures.into_iter_gives.0 (c.into_iter-column-iterator.ensures.into_iter_gives.1 ∙ c.args.columns.ok.0)) c.loop-column.yielded c.loop-column.column-iterator c.loop-column.yielded_by c.next.result c.next.new.self c.in-Some.column c.in-Some.is c.next.ensures.steps in
+    one_left c.loop-column.seats.own.view.splits (length c.loop-column.yielded) c.args.seats.own.view.splits (length c.args.columns.items) c.loop-column.invariant.3 c.requires.words turn.0
+
+pub add_line-requires-clause-numbered : goal.add_line-requires-clause-numbered
+add_line-requires-clause-numbered g c =
     All-head (λ (list : Vec (ℕ × g.row.E.Denot) Global). AreNumbered list.items) c.in-Some-next.list c.next-in-loop-column.new.self.rest.items
     (subst (All (λ (list : Vec (ℕ × g.row.E.Denot) Global). AreNumbered list.items)) c.in-Some-next.ensures.items c.loop-column.invariant.5)
 
-pub into_line-requires-clause-unused : goal.into_line-requires-clause-unused
-into_line-requires-clause-unused g c =
+pub add_line-requires-clause-unused : goal.add_line-requires-clause-unused
+add_line-requires-clause-unused g c =
     All-head (λ (list : Vec (ℕ × g.row.E.Denot) Global). All (λ stream. IsUnused g.E.End.means stream.1) list.items) c.in-Some-next.list c.next-in-loop-column.new.self.rest.items
     (subst (All (λ (list : Vec (ℕ × g.row.E.Denot) Global). All (λ stream. IsUnused g.E.End.means stream.1) list.items)) c.in-Some-next.ensures.items c.loop-column.invariant.6)
 
@@ -40,41 +50,26 @@ loop-column-preserved g c =
     let list = c.in-Some-next.list in
     let all = c.args.streams.items in
     let rest = c.next-in-loop-column.new.self.rest.items in
-    let own = c.in_ok-own.ensures in
-    let seats : c.split.new.self.seat.view.splits ≡ c.loop-column.seats.seat.view.splits - 1 = own.seats in
-    let words : c.split.new.self.own.view.splits ≡ c.loop-column.seats.own.view.splits - 1 = own.words in
-    let small : length seen < length c.args.columns.items = turn.0 in
-    let streams : length all ≡ length c.args.columns.items = c.requires.streams in
-    let inside : length seen < length all = omega arith in
+    let own = c.in_ok-add_line.ensures in
+    let inside : length seen < length all = subst (λ (n : ℕ). length seen < n) (sym c.requires.streams) turn.0 in
     let left : drop (length seen) all ≡ list ∷ rest = sym inv.4 ∙ c.in-Some-next.ensures.items in
     let next = next_of all rest (length seen) list inside left in
-    let longer = length_push seen column in
-    let size : length (seen ++ column ∷ []) ≡ length seen + 1 = omega arith in
-    let line = c.in_ok-into_line.field-0 in
-    let made = c.in_ok-into_line.ensures in
-    let pushed : c.push.new.self.items ≡ c.loop-column.lines.items ++ line ∷ [] = c.in_ok-push.ensures.items in
+    let size = push_one seen column in
+    let line = own.line in
     let items : Vec (ℕ × g.row.E.Denot) Global → List (ℕ × g.row.E.Denot) = λ (v : Vec (ℕ × g.row.E.Denot) Global). v.items in (
-      own.table ∙ inv.0,
-      own.meter ∙ inv.1,
-      omega (arith, seats, size, inv.2, c.requires.seats, small),
-      omega (arith, words, size, inv.3, c.requires.words, small),
+      c.add_line.ensures.table ∙ inv.0,
+      c.add_line.ensures.meter ∙ inv.1,
+      counted_on c.add_line.new.seats.seat.view.splits c.loop-column.seats.seat.view.splits (length (seen ++ column ∷ [])) (length seen) c.args.seats.seat.view.splits (length c.args.columns.items) own.seats size inv.2 c.requires.seats turn.0,
+      counted_on c.add_line.new.seats.own.view.splits c.loop-column.seats.own.view.splits (length (seen ++ column ∷ [])) (length seen) c.args.seats.own.view.splits (length c.args.columns.items) own.words size inv.3 c.requires.words turn.0,
       next.1 ∙ ap (λ (i : ℕ). drop i all) (sym size),
       All-tail (λ (v : Vec (ℕ × g.row.E.Denot) Global). AreNumbered v.items) list rest
           (subst (All (λ (v : Vec (ℕ × g.row.E.Denot) Global). AreNumbered v.items)) c.in-Some-next.ensures.items inv.5),
       All-tail (λ (v : Vec (ℕ × g.row.E.Denot) Global). All (λ stream. IsUnused g.E.End.means stream.1) v.items) list rest
           (subst (All (λ (v : Vec (ℕ × g.row.E.Denot) Global). All (λ stream. IsUnused g.E.End.means stream.1) v.items)) c.in-Some-next.ensures.items inv.6),
-      subst (AreLinesOf c.args.addr c.args.limit (arc_value c.args.seats.table) (arc_value c.args.seats.meter) (seen ++ column ∷ []) (map items all)) (sym pushed)
-          (lines_push c.args.addr c.args.limit (arc_value c.args.seats.table) (arc_value c.args.seats.meter) seen (map items all) c.loop-column.lines.items column list.items line inv.7
+      subst (AreLinesOf c.args.addr c.args.limit (arc_value c.args.seats.table) (arc_value c.args.seats.meter) (seen ++ column ∷ []) (map items all)) (sym line.1)
+          (lines_push c.args.addr c.args.limit (arc_value c.args.seats.table) (arc_value c.args.seats.meter) seen (map items all) c.loop-column.lines.items column list.items line.0 inv.7
           (slice_get-map items all (length seen) ∙ ap (option_map items) next.0)
-          (record {
-            channel = made.channel;
-            mail = made.mail;
-            joined = made.joined;
-            pair = made.pair;
-            boxes = made.boxes;
-            ports = made.ports ∙ (own.same_table ∙ inv.0);
-            words = made.words ∙ (own.same_meter ∙ inv.1);
-          })),
+          (line_at c.args.addr c.args.limit (arc_value c.loop-column.seats.table) (arc_value c.loop-column.seats.meter) (arc_value c.args.seats.table) (arc_value c.args.seats.meter) column list.items line.0 inv.0 inv.1 line.2)),
     )
 
 pub returns : goal.returns

@@ -61,7 +61,7 @@ loop-preserved c =
       own.weight ∙ inv.2,
       own.seats ∙ inv.3,
       omega (arith, draws, inv.4),
-      omega (arith, words, inv.5, c.loop-test.true, c.requires.slots, c.args.seats.now.few),
+      omega (arith, words, inv.5, c.loop-test.true, c.requires.slots, c.args.seats.now.free.few),
       ap ways_of given ∙ (ways_next mail columns ∙ inv.6),
       ap length given ∙ (count_next mail columns ∙ inv.7),
       subst (λ (l : List QueueId). AreColumnsFilled slots l c.vacant.new.columns) (sym mails)

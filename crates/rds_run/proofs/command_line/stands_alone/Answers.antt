@@ -1,5 +1,5 @@
-use Rattle.std.proofs.Common.{◌≡◌, ◌⊎◌, inl, inr, ℕ, List, [], true, refl, subst, rules, codes}
-use Rattle.clap.specs.Words.{App, Kinds, IsAmong, new_app, fault_of, is_simple_and_free}
+use Rattle.std.proofs.Common.{◌≡◌, ◌⊎◌, ℕ, List, [], true, refl, subst, rules, codes}
+use Rattle.clap.specs.Words.{App, IsAmong, new_app, fault_of, is_simple_and_free}
 use Rattle.clap.specs.declared.error.kind.ErrorKind.{ErrorKind}
 use Rattle.clap.specs.declared.error.kind.ErrorKind.TheVariants as kind
 use Rattle.rds_run.specs.Texts.{play_faults}

@@ -1,4 +1,4 @@
-use Rattle.std.proofs.Common.{ℕ, OnOk, sym, subst}
+use Rattle.std.proofs.Common.{ℕ, OnOk, sym, subst, rules}
 use Rattle.rds_script.specs.declared.script.Command.{Command}
 use Rattle.rds_callers.specs.Doing.{IsDone, AtPort, CutsByLast}
 use Rattle.rds_callers.specs.Tenants.{Cancels}
@@ -18,3 +18,9 @@ pub returns-in-Cut-clause-done : goal.returns-in-Cut-clause-done
 returns-in-Cut-clause-done g c =
     subst (λ (k : Command). OnOk c.cut.result (IsDone k c.args.self.now.places c.cut.new.self.places)) (sym c.in-Cut.is)
     (subst (λ (peer : ℕ). OnOk c.cut.result (CutsByLast peer c.args.self.now.places c.cut.new.self.places)) c.address-in-Cut.ensures c.cut.ensures.done)
+
+pub returns-in-Send-clause-done : goal.returns-in-Send-clause-done
+returns-in-Send-clause-done g c = search rules
+
+pub returns-in-Recv-clause-done : goal.returns-in-Recv-clause-done
+returns-in-Recv-clause-done g c = search rules

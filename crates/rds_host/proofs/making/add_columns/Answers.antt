@@ -3,7 +3,7 @@ use Rattle.std.proofs.lemmas.List.{take_more}
 use Rattle.std.proofs.lemmas.List.Elements.{All-push}
 use Rattle.rds_host.specs.Ties.{ColumnView, peers_to, putters_from, ways_of}
 use Rattle.rds_host.proofs.Columns.{filled_first, peers_push}
-use Rattle.rds_host.proofs.making.columns.Goals as goal
+use Rattle.rds_host.proofs.making.add_columns.Goals as goal
 
 pub loop-peer-preserved : goal.loop-peer-preserved
 loop-peer-preserved c =

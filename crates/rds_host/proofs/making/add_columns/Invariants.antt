@@ -1,6 +1,6 @@
 use Rattle.std.proofs.Common.{◌≡◌, [], All, reverse, take}
 use Rattle.rds_host.specs.Ties.{peers_to, putters_from, ways_of}
-use Rattle.rds_host.proofs.making.columns.Given as goal
+use Rattle.rds_host.proofs.making.add_columns.Given as goal
 
 abbrev pub invariant-loop-peer : goal.invariant-loop-peer
 invariant-loop-peer l =

@@ -1,7 +1,7 @@
 use Rattle.std.proofs.Common.{◌≡◌, ◌-◌}
 use Rattle.rds_host.specs.Ties.{putters_from}
 use Rattle.rds_host.proofs.Columns.{after_splits}
-use Rattle.rds_host.proofs.column.passes.Given as goal
+use Rattle.rds_host.proofs.column.add_later.Given as goal
 
 abbrev pub invariant-loop : goal.invariant-loop
 invariant-loop l =

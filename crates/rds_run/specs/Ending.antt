@@ -1,0 +1,42 @@
+-- How the program ends, by what its words ask for. Source: this project's own.
+use Rattle.std.specs.Prelude.{◌≡◌, ◌⊎◌, ℕ, List, String}
+use Rattle.std.specs.Global.{Global}
+use Rattle.rds_link.specs.Streaming.{HasRisen}
+use Rattle.rds_script.specs.declared.cause.Cause.{Cause}
+use Rattle.rds_script.specs.Grammar.{Meaning}
+use Rattle.rds_run.specs.declared.status.Status.{Status}
+use Rattle.rds_run.specs.declared.status.Status.TheVariants as status
+use Rattle.rds_run.specs.ExitStatus.{HasFailedIn, HasTaken, HasTakenNothing, IsEndOfCall, IsEndOfRefusal, IsToldRefused, IsToldSpelled, SinkSeen, SourceSeen}
+use Rattle.rds_run.specs.RunStatus.{IsEndOfRunCall}
+use Rattle.rds_run.specs.RunWords.{AreRun}
+use Rattle.rds_run.specs.Texts.{ArePlay, usage_line}
+
+-- a text that is refused is answered so, unless the source or the sink fails or memory runs out
+abbrev pub Refuses : SourceSeen → SinkSeen → Status → Type 0
+Refuses source sink s = (line : ℕ) (cause : Cause) → IsToldRefused source.left line cause →
+    IsEndOfRefusal line cause sink s ⊎ ((s ≡ status.ReadFault) ⊎ (s ≡ status.WriteFault))
+
+-- how `play` ends; a text that spells a script is played, unless the source or the sink fails or memory runs out
+pub record IsEndOfPlaying (source : SourceSeen) (sink : SinkSeen) (s : Status) : Type 0 where
+  pub ends : IsEndOfCall source sink s
+  pub refuses : Refuses source sink s
+  pub plays : (m : Meaning) → IsToldSpelled source.left m → (HasRisen source.faults_before source.faults_after → ⊥) → (HasRisen sink.faults_before sink.faults_after → ⊥) →
+      (s ≡ status.Written) ⊎ ((s ≡ status.Memory) ⊎ (s ≡ status.Spent))
+
+-- how `run` ends
+pub record IsEndOfRunning (source : SourceSeen) (sink : SinkSeen) (s : Status) : Type 0 where
+  pub ends : IsEndOfRunCall source sink s
+  pub refuses : Refuses source sink s
+
+-- the usage line was written, or the sink failed after it took a beginning of it; another status can't come
+abbrev pub IsEndOfUsage : SinkSeen → Status → Type 0
+IsEndOfUsage sink status.Usage = HasTaken sink usage_line
+IsEndOfUsage sink status.WriteFault = HasFailedIn sink usage_line
+IsEndOfUsage sink _ = ⊥
+
+-- the words are those of one command, which ends so, or those of none, or memory ran out before that was known
+pub data IsEndOfProgram (words : List (String Global)) (source : SourceSeen) (sink : SinkSeen) (s : Status) : Type 0 where
+  OfPlay : ArePlay words → (AreRun words → ⊥) → IsEndOfPlaying source sink s → IsEndOfProgram words source sink s
+  OfRun : (ArePlay words → ⊥) → AreRun words → IsEndOfRunning source sink s → IsEndOfProgram words source sink s
+  OfNone : (ArePlay words → ⊥) → (AreRun words → ⊥) → IsEndOfUsage sink s → IsEndOfProgram words source sink s
+  OfMemory : s ≡ status.Memory → HasTakenNothing sink → IsEndOfProgram words source sink s
