@@ -4,7 +4,7 @@ ghost use Rattle.std.specs.Option.{option_to_list};
 ghost use Rattle.rds_parts.specs.Lanes.{IsOf};
 ghost use Rattle.rds_joins.specs.Joins.{slot_of_order};
 ghost use Rattle.rds_gather.specs.Columns.{AtEachPlace, column, passes_of, rows_left};
-ghost use Rattle.rds_gather.specs.Shown.{ArePuttersOf, AreReadersOf, HaveLookedAt, ShowsAllPuts};
+ghost use Rattle.rds_gather.specs.Shown.{ArePuttersOf, AreReadersOf, HasLookedAt, HaveLookedAt, ShowsAllPuts};
 
 use rds_fmap::{Reader, Writer, close};
 use rds_joins::join_orders;
@@ -67,18 +67,31 @@ fn add_pass(
     ensures looks { HaveLookedAt writer.old.published (option_to_list route) }
     ensures same { writer.new ≡ writer.old }
 {
-    let Some(Route {
+    match route {
+        Some(route) => {
+            let pass = pass_of(route, writer);
+            passes.push(pass)?;
+            Ok(())
+        }
+        None => Ok(()),
+    }
+}
+
+// The putter of a route, whose reader is joined into the writer.
+fn pass_of(route: Route<Reader>, writer: &mut Writer) -> PutPass<Asked>
+    requires { route.reader.pair ≡ writer.old.pair }
+    ensures pass { result ≡ route.pass }
+    ensures looks { HasLookedAt writer.old.published route.reader }
+    ensures same { writer.new ≡ writer.old }
+{
+    let Route {
         peer: _,
         orders: _orders,
         pass,
         map: reader,
-    }) = route
-    else {
-        return Ok(());
-    };
+    } = route;
     close(writer, reader);
-    passes.push(pass)?;
-    Ok(())
+    pass
 }
 
 // Joins all putters of a line's order queue into its getter. A host without slots has none.

@@ -26,8 +26,8 @@ loop-line-init g c =
     (sym (none_left rows), at_none Shows rows, at_none Looks rows)
 
 -- refused where a line gets another one's readers
-pub next_passes-passes-requires : goal.next_passes-passes-requires
-next_passes-passes-requires g c =
+pub next_passes-requires : goal.next_passes-requires
+next_passes-requires g c =
     let lines = c.args.lines.items in
     let line = c.in-Some.line in
     let turn = YieldsList-turn (YieldsList-from_vec lines c.into_iter-line-iterator.ensures.into_iter_gives.0 (c.into_iter-line-iterator.ensures.into_iter_gives.1 ∙ c.args.lines.ok.0)) c.loop-line.yielded c.loop-line.line-iterator c.loop-line.yielded_by c.next.result c.next.new.self line c.in-Some.is c.next.ensures.steps in

@@ -3,7 +3,7 @@ use Rattle.std.specs.declared.vec.IntoIter.{IntoIter}
 use Rattle.std.specs.Global.{Global}
 use Rattle.std.specs.Option.{option_to_list}
 use Rattle.std.specs.Vec.Iter.{into_iter_items}
-use Rattle.std.proofs.lemmas.List.{get_or-map, length-map, map-append, map-set}
+use Rattle.std.proofs.lemmas.List.{get_or-map, length-map, map-append, map-set, take_all}
 use Rattle.std.proofs.lemmas.List.Elements.{All-append}
 use Rattle.rds_model.specs.declared.order.Order.{Order}
 use Rattle.rds_mail.specs.Passes.{Putter}
@@ -60,3 +60,12 @@ loop-i-preserved c =
 -- refused where the putters of the first slot stay
 pub loop-i-init : goal.loop-i-init
 loop-i-init c = search rules
+
+pub returns-clause-looks : goal.returns-clause-looks
+returns-clause-looks c =
+    let rows = rows_left c.args.routes.now in
+    let f : IntoIter (Lane ReaderView) Global → List (Lane ReaderView) = λ (it : IntoIter (Lane ReaderView) Global). into_iter_items it in
+    let count = length-map c.args.routes.now f in
+    let same = c.loop-i.auto.routes in
+    subst (λ (l : List (List (Lane ReaderView))). HaveLookedAt c.args.writer.now.published (column 0 l))
+    (take_all c.loop-i.i rows (omega (arith, c.loop-i-test.false, same, count))) c.loop-i.invariant.3
