@@ -1,14 +1,14 @@
 use Rattle.std.proofs.Common.{◌≡◌, ℕ, ◌+◌, List, [], ◌∷◌, ◌++◌, Some, length, map, drop, sym, ap, subst, ◌∙◌}
 use Rattle.std.proofs.lemmas.Iterator.Adapters.{YieldsList-from_vec}
-use Rattle.std.proofs.lemmas.Iterator.Consumers.{YieldsList-turn}
-use Rattle.std.proofs.lemmas.List.{length_push}
+use Rattle.std.proofs.lemmas.Iterator.Consumers.{YieldsList-end, YieldsList-turn}
+use Rattle.std.proofs.lemmas.List.{length_push, map-id}
 use Rattle.std.proofs.lemmas.Option.{slice_get-get_or}
 use Rattle.rds_model.specs.declared.order.Order.{Order}
 use Rattle.rds_mail.specs.Passes.{Getter, Putter}
 use Rattle.rds_fmap.specs.Readers.{ReaderView, WriterView}
 use Rattle.rds_parts.specs.Lanes.{IsOf, Lane}
 use Rattle.rds_joins.specs.Joins.{slot_of_order}
-use Rattle.rds_gather.specs.Columns.{column, passes_of, rows_left}
+use Rattle.rds_gather.specs.Columns.{AtEachPlace, column, passes_of, rows_left}
 use Rattle.rds_gather.specs.Shown.{ArePuttersOf, AreReadersOf, HaveLookedAt, ShowsAllPuts}
 use Rattle.rds_gather.proofs.Columns.{at_none, at_one_more, column_left, none_left, one_more_left}
 use Rattle.rds_gather.proofs.orders.join_all_orders.Goals as goal
@@ -65,3 +65,10 @@ loop-line-preserved g c =
       at_one_more Looks seen line rows c.loop-line.invariant.2
           (subst (λ (l : List (Lane ReaderView)). HaveLookedAt line.1.published l) lanes c.in_ok-passes.ensures.looks),
     )
+
+-- the lines that were gone through are all lines
+pub returns-clause-looks : goal.returns-clause-looks
+returns-clause-looks g c =
+    let lines = c.args.lines.items in
+    let all = YieldsList-end (YieldsList-from_vec lines c.into_iter-line-iterator.ensures.into_iter_gives.0 (c.into_iter-line-iterator.ensures.into_iter_gives.1 ∙ c.args.lines.ok.0)) c.loop-line.yielded c.loop-line.line-iterator c.loop-line.yielded_by c.next.result c.next.new.self c.in-None.is c.next.ensures.steps in
+    subst (λ (l : List (Getter Order × WriterView)). AtEachPlace Looks l (rows_left c.args.routes.now)) (sym (map-id c.loop-line.yielded) ∙ all.0) c.loop-line.invariant.2
