@@ -1,16 +1,25 @@
 -- What stands at a place of several rows, and rows whose first items were taken.
-use Rattle.std.proofs.Common.{◌≡◌, ℕ, zero, suc, ◌+◌, ◌<◌, List, [], ◌∷◌, ◌++◌, Option, Some, None, length, map, take, drop, set, get_or, slice_get, refl, sym, ap, subst, ⊎_elim, ◌∙◌, arith}
+use Rattle.std.proofs.Common.{◌≡◌, ℕ, zero, suc, ◌+◌, ◌<◌, List, [], ◌∷◌, ◌++◌, All, Option, Some, None, length, map, take, drop, set, get_or, slice_get, refl, sym, ap, subst, ⊎_elim, ◌∙◌, arith}
 use Rattle.std.specs.declared.vec.IntoIter.{IntoIter}
 use Rattle.std.specs.Global.{Global}
 use Rattle.std.specs.List.{cons_option}
 use Rattle.std.specs.Option.{option_map, option_to_list}
 use Rattle.std.specs.Vec.Iter.{into_iter_items, into_iter_steps}
-use Rattle.std.proofs.lemmas.List.{drop-drop, drop_more, get_or_at, length-map, length-take, map_push, nil_from_length, take_more}
+use Rattle.std.proofs.lemmas.List.{drop-drop, drop_more, get_or-append-add, get_or_append_left, get_or_at, length-append, length-map, length-take, map_push, nil_from_length, take-append-drop, take_more}
 use Rattle.std.proofs.lemmas.List.Edits.{map_over_more}
 use Rattle.std.proofs.lemmas.List.Elements.{filter_map-append}
-use Rattle.std.proofs.lemmas.Option.{same_Some, slice_get_within}
-use Rattle.rds_host.proofs.Columns.{pushed_at, there_is}
+use Rattle.std.proofs.lemmas.Option.{same_Some, slice_get-map, slice_get_within}
+use Rattle.rds_host.proofs.Columns.{mapped_at, pushed_at, there_is}
 use Rattle.rds_gather.specs.Columns.{AtEachPlace, column}
+
+-- what holds of a list holds of its front and of its back
+all_front : {X : Type 0} (P : X → Type 0) (xs ys : List X) → All P (xs ++ ys) → All P xs
+all_front P xs ys all k d small =
+    subst P (get_or_append_left xs ys d k small) (all k d (let long = length-append xs ys in omega arith))
+
+all_back : {X : Type 0} (P : X → Type 0) (xs ys : List X) → All P (xs ++ ys) → All P ys
+all_back P xs ys all k d small =
+    subst P (get_or-append-add xs ys k d) (all (length xs + k) d (let long = length-append xs ys in omega arith))
 
 -- each row has something at this place
 abbrev pub AreFull : {X : Type 0} → ℕ → List (List X) → Type 0
@@ -112,6 +121,22 @@ module _ {X : Type 0} where
             ∙ (ap (λ (p : Option X). column 0 (take i rows) ++ option_to_list p) first ∙ sym (column_more rows i row small here)),
       )
 
+  -- what holds of the whole first column holds of the item that one more row gives
+  pub column_has : (P : X → Type 0) (rows ys : List (List X)) (i : ℕ) (row : List X) (o : Option X) → i < length rows → ys ≡ map (drop 1) (take i rows) ++ drop i rows → row ≡ get_or ys i row
+      → o ≡ slice_get row 0 → All P (column 0 rows) → All P (option_to_list o)
+  column_has P rows ys i row o small before at first all =
+      let front = map (drop 1) (take i rows) in
+      let long : length front ≡ i = length-map (take i rows) (drop 1) ∙ omega (arith, length-take i rows) in
+      let parts : ys ≡ front ++ get_or rows i row ∷ drop (i + 1) rows = before ∙ ap (λ (l : List (List X)). front ++ l) (drop_more rows i row small) in
+      let here : row ≡ get_or rows i row = at ∙ (ap (λ (l : List (List X)). get_or l i row) parts ∙ get_or_at front (get_or rows i row) (drop (i + 1) rows) row i long) in
+      let is : option_to_list o ≡ option_to_list (slice_get row 0) = ap option_to_list first in
+      let whole : column 0 rows ≡ (column 0 (take i rows) ++ option_to_list o) ++ column 0 (drop (i + 1) rows) =
+      ap (column 0) (sym (take-append-drop (i + 1) rows))
+      ∙ (filter_map-append (λ (r : List X). slice_get r 0) (take (i + 1) rows) (drop (i + 1) rows)
+      ∙ ap (λ (l : List X). l ++ column 0 (drop (i + 1) rows)) (column_more rows i row small here ∙ ap (λ (l : List X). column 0 (take i rows) ++ l) (sym is))) in
+      all_back P (column 0 (take i rows)) (option_to_list o)
+      (all_front P (column 0 (take i rows) ++ option_to_list o) (column 0 (drop (i + 1) rows)) (subst (λ (l : List X). All P l) whole all))
+
   -- what a row gives next, and what is left of it
   pub row_next : (old new : IntoIter X Global) (o : Option X) → into_iter_steps old o new → (into_iter_items new ≡ drop 1 (into_iter_items old)) × (o ≡ slice_get (into_iter_items old) 0)
   row_next old new None is =
@@ -137,3 +162,29 @@ pushed_map {Y} {Z} g xs new ys x y is same one =
 pub each_same : {Y X : Type 0} (P : Y → List X → Type 0) (ys zs : List Y) (rows others : List (List X)) → ys ≡ zs → rows ≡ others → AtEachPlace P ys rows → AtEachPlace P zs others
 each_same {Y} {X} P ys zs rows others same alike all =
     subst (λ (l : List Y). AtEachPlace P l others) same (subst (λ (r : List (List X)). AtEachPlace P ys r) alike all)
+
+-- the column of rows whose items were mapped
+mapped_column : {X Z : Type 0} (t : X → Z) (n : ℕ) (rows : List (List X)) → column n (map (map t) rows) ≡ map t (column n rows)
+mapped_column t n [] = refl
+mapped_column {X} {Z} t n (row ∷ rows) =
+    ap (λ (o : Option Z). cons_option o (column n (map (map t) rows))) (slice_get-map t row n)
+    ∙ (ap (λ (l : List Z). cons_option (option_map t (slice_get row n)) l) (mapped_column t n rows) ∙ mapped_cons (slice_get row n) (column n rows))
+  where
+    mapped_cons : (o : Option X) (xs : List X) → cons_option (option_map t o) (map t xs) ≡ map t (cons_option o xs)
+    mapped_cons None xs = refl
+    mapped_cons (Some x) xs = refl
+
+-- what suits the first of two values at each place suits the pair of them, and the other way round
+module _ {L A B X Z : Type 0} (f : L → A) (g : L → B) (t : X → Z) (P : A → List Z → Type 0) (ls : List L) (rows : List (List X)) where
+  pub each_paired : AtEachPlace P (map f ls) (map (map t) rows) → AtEachPlace (λ (two : A × B) (row : List X). P two.0 (map t row)) (map (λ (l : L). (f l, g l)) ls) rows
+  each_paired all place two at =
+      let l = mapped_at (λ (x : L). (f x, g x)) ls two place at in
+      subst (λ (y : A × B). P y.0 (map t (column place rows))) l.2
+      (subst (P (f l.0)) (mapped_column t place rows) (all place (f l.0) (slice_get-map f ls place ∙ ap (option_map f) l.1)))
+
+  pub each_first : AtEachPlace (λ (two : A × B) (row : List X). P two.0 (map t row)) (map (λ (l : L). (f l, g l)) ls) rows → AtEachPlace P (map f ls) (map (map t) rows)
+  each_first all place a at =
+      let l = mapped_at f ls a place at in
+      let pair : L → A × B = λ (x : L). (f x, g x) in
+      subst (λ (y : A). P y (column place (map (map t) rows))) l.2
+      (subst (P (f l.0)) (sym (mapped_column t place rows)) (all place (pair l.0) (slice_get-map pair ls place ∙ ap (option_map pair) l.1)))

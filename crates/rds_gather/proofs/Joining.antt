@@ -1,8 +1,5 @@
 -- The putters of a host's queues are all that these have, and what their getters show of them is what a host shows.
 use Rattle.std.proofs.Common.{◌≡◌, ℕ, List, [], ◌∷◌, All, Some, length, map, get_or, slice_get, option_map, refl, sym, ap, subst, ◌∙◌, arith}
-use Rattle.std.specs.declared.vec.IntoIter.{IntoIter}
-use Rattle.std.specs.Global.{Global}
-use Rattle.std.specs.Vec.Iter.{into_iter_items}
 use Rattle.std.proofs.lemmas.List.{length-map}
 use Rattle.std.proofs.lemmas.Option.{slice_get_within, slice_get-get_or, slice_get-map, get_or_from_slice_get}
 use Rattle.rds_model.specs.declared.order.Datagram.{Datagram}
@@ -23,10 +20,10 @@ use Rattle.rds_host.specs.Passes.{AreAllPasses}
 use Rattle.rds_host.specs.Telling.{IsTold}
 use Rattle.rds_host.specs.Ties.{AreOfHost}
 use Rattle.rds_host.proofs.Columns.{all_at, mapped_at, there_is}
-use Rattle.rds_gather.specs.Columns.{AtEachPlace, column, passes_left, passes_of, rows_left}
-use Rattle.rds_gather.specs.Joined.{AreJoined, IsPeer, orders_of, peer_of}
-use Rattle.rds_gather.specs.Shown.{ArePuttersOf, ShowsAllPuts}
-use Rattle.rds_gather.proofs.Columns.{AreFull, column_count, column_row, row_column}
+use Rattle.rds_gather.specs.Columns.{AtEachPlace, column, passes_of}
+use Rattle.rds_gather.specs.Joined.{AreJoined, AreLooksOfJournals, IsPeer, orders_of, peer_of}
+use Rattle.rds_gather.specs.Shown.{ArePuttersOf, AreReadersOf, HasLookedAt, HaveLookedAt, ShowsAllPuts}
+use Rattle.rds_gather.proofs.Columns.{AreFull, column_count, column_row, each_first, each_paired, row_column}
 use Rattle.rds_gather.proofs.Keys.{delivered_from, key_from, key_own, key_uncut, one_place}
 use Rattle.rds_gather.proofs.Marks.{AreApart, AreInOrder, all_got_there, all_there, begins_there, putter_of}
 
@@ -37,21 +34,35 @@ all_from P xs each k d small = each k (get_or xs k d) (slice_get-get_or xs k d s
 abbrev pub lane_rows : List (Holding ReaderView) → List (List (Putter Order))
 lane_rows slots = map (λ h. passes_of h.routes) slots
 
-left_passes : (routes : List (IntoIter (Lane ReaderView) Global)) → passes_left routes ≡ map passes_of (rows_left routes)
-left_passes [] = refl
-left_passes (row ∷ routes) = ap (λ (l : List (List (Putter Order))). passes_of (into_iter_items row) ∷ l) (left_passes routes)
-
-rows_passes : (slots : List (Holding ReaderView)) → map passes_of (map (λ h. h.routes) slots) ≡ lane_rows slots
-rows_passes [] = refl
-rows_passes (h ∷ slots) = ap (λ (l : List (List (Putter Order))). passes_of h.routes ∷ l) (rows_passes slots)
+abbrev pub route_rows : List (Holding ReaderView) → List (List (Lane ReaderView))
+route_rows slots = map (λ h. h.routes) slots
 
 -- the routes of the slots give their putters
-pub passes_are : (routes : List (IntoIter (Lane ReaderView) Global)) (slots : List (Holding ReaderView)) → rows_left routes ≡ map (λ h. h.routes) slots → passes_left routes ≡ lane_rows slots
-passes_are routes slots are = left_passes routes ∙ (ap (map passes_of) are ∙ rows_passes slots)
+rows_passes : (slots : List (Holding ReaderView)) → map passes_of (route_rows slots) ≡ lane_rows slots
+rows_passes [] = refl
+rows_passes (h ∷ slots) = ap (λ (l : List (List (Putter Order))). passes_of h.routes ∷ l) (rows_passes slots)
 
 module _ {E : Type 0} where
   abbrev pub box_rows : List (LineView E WriterView) → List (List (Putter Datagram))
   box_rows lines = map (λ line. line.boxes) lines
+
+  -- the queue of a line's orders, and the writer of the peer's map
+  abbrev pub asked_of : LineView E WriterView → Getter Order × WriterView
+  asked_of line = (line.orders, line.map)
+
+  -- what suits the queues and the putters suits them beside the maps and the readers
+  module _ (P : Getter Order → List (Putter Order) → Type 0) (slots : List (Holding ReaderView)) (lines : List (LineView E WriterView)) where
+    pub beside_maps : AtEachPlace P (map (λ line. line.orders) lines) (lane_rows slots) →
+        AtEachPlace (λ (two : Getter Order × WriterView) (lanes : List (Lane ReaderView)). P two.0 (passes_of lanes)) (map asked_of lines) (route_rows slots)
+    beside_maps all =
+        each_paired (λ (l : LineView E WriterView). l.orders) (λ (l : LineView E WriterView). l.map) (λ (lane : Lane ReaderView). lane.pass) P lines (route_rows slots)
+        (subst (λ (rows : List (List (Putter Order))). AtEachPlace P (map (λ (l : LineView E WriterView). l.orders) lines) rows) (sym (rows_passes slots)) all)
+
+    pub without_maps : AtEachPlace (λ (two : Getter Order × WriterView) (lanes : List (Lane ReaderView)). P two.0 (passes_of lanes)) (map asked_of lines) (route_rows slots) →
+        AtEachPlace P (map (λ line. line.orders) lines) (lane_rows slots)
+    without_maps all =
+        subst (λ (rows : List (List (Putter Order))). AtEachPlace P (map (λ (l : LineView E WriterView). l.orders) lines) rows) (rows_passes slots)
+        (each_first (λ (l : LineView E WriterView). l.orders) (λ (l : LineView E WriterView). l.map) (λ (lane : Lane ReaderView). lane.pass) P lines (route_rows slots) all)
 
   module _ (slots : List (Holding ReaderView)) (lines : List (LineView E WriterView)) (all : AreAllPasses slots lines) where
     lanes_full : (place : ℕ) (line : LineView E WriterView) → slice_get lines place ≡ Some line → AreFull place (lane_rows slots)
@@ -77,6 +88,14 @@ module _ {E : Type 0} where
         row_column place (lane_rows slots) (lanes_full place line at_line) i (passes_of h.routes) lane.pass
         (slice_get-map (λ (x : Holding ReaderView). passes_of x.routes) slots i ∙ ap (option_map (λ (x : Holding ReaderView). passes_of x.routes)) at_slot)
         (slice_get-map (λ (x : Lane ReaderView). x.pass) h.routes place ∙ ap (option_map (λ (x : Lane ReaderView). x.pass)) at_lane)
+
+    routes_full : (place : ℕ) (line : LineView E WriterView) → slice_get lines place ≡ Some line → AreFull place (route_rows slots)
+    routes_full place line at_line i row at =
+        let h = mapped_at (λ (x : Holding ReaderView). x.routes) slots row i at in
+        let small = slice_get_within lines place line at_line in
+        let count = all.lanes i h.0 h.1 in
+        let size : length row ≡ length h.0.routes = ap length (sym h.2) in
+        omega arith
 
     orders_in_order : (place : ℕ) (line : LineView E WriterView) → slice_get lines place ≡ Some line → AreInOrder (length slots) (column place (lane_rows slots))
     orders_in_order place line at_line = record {
@@ -146,6 +165,28 @@ module _ {E : Type 0} where
             none = all.no_box_joined slot h.0 h.1;
             all = λ enough. let size = order.size in all_there (length lines) puts order (omega arith);
           })
+
+      -- each line's map has the readers of its column
+      pub readers_fit : AtEachPlace (λ (two : Getter Order × WriterView) (lanes : List (Lane ReaderView)). AreReadersOf two.1 lanes) (map asked_of lines) (route_rows slots)
+      readers_fit place two at =
+          let line = mapped_at asked_of lines two place at in
+          all_from (λ (lane : Lane ReaderView). lane.reader.pair ≡ two.1.pair) (column place (route_rows slots)) (λ i lane at'.
+          let row = column_row place (route_rows slots) (routes_full place line.0 line.1) i lane at' in
+          let h = mapped_at (λ (x : Holding ReaderView). x.routes) slots row.0 i row.1 in
+          (host.routes i place h.0 lane line.0 h.1 (ap (λ (l : List (Lane ReaderView)). slice_get l place) h.2 ∙ row.2) line.1).2
+          ∙ ap (λ (p : Getter Order × WriterView). p.1.pair) line.2)
+
+    -- each look found what the journals' maps have
+    pub looked : All (KeepsLine (λ w. w.published)) lines →
+        AtEachPlace (λ (two : Getter Order × WriterView) (lanes : List (Lane ReaderView)). HaveLookedAt two.1.published lanes) (map asked_of lines) (route_rows slots) →
+        AreLooksOfJournals slots lines
+    looked kept all_looked slot place h lane line at_slot at_lane at_line =
+        let keeps = all_at (KeepsLine (λ w. w.published)) lines line place kept at_line in
+        let looks = all_looked place (asked_of line) (slice_get-map asked_of lines place ∙ ap (option_map asked_of) at_line) in
+        subst (λ (published : List (List ℕ)). HasLookedAt published lane.reader) keeps.maps
+        (all_at (λ (x : Lane ReaderView). HasLookedAt line.map.published x.reader) (column place (route_rows slots)) lane slot looks
+        (row_column place (route_rows slots) (routes_full place line at_line) slot h.routes lane
+        (slice_get-map (λ (x : Holding ReaderView). x.routes) slots slot ∙ ap (option_map (λ (x : Holding ReaderView). x.routes)) at_slot) at_lane))
 
     module _ (ended : All IsEnded slots) (kept : All (KeepsLine (λ w. w.published)) lines) where
       own_orders : (slot place : ℕ) (h : Holding ReaderView) (lane : Lane ReaderView) → slice_get slots slot ≡ Some h → IsLaneAt h.routes place lane → All (IsOf slot) lane.pass.put

@@ -3,3 +3,4 @@ pub mod Marks
 pub mod Keys
 pub mod Showing
 pub mod Joining
+pub mod Looking

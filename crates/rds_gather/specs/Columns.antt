@@ -24,7 +24,3 @@ passes_of routes = map (λ lane. lane.pass) routes
 -- what is left of rows
 abbrev pub rows_left : {X : Type 0} → List (IntoIter X Global) → List (List X)
 rows_left rows = map into_iter_items rows
-
--- the putters of what is left of each slot's routes
-abbrev pub passes_left : {R : Type 0} → List (IntoIter (Lane R) Global) → List (List (Putter Order))
-passes_left routes = map (λ row. passes_of (into_iter_items row)) routes

@@ -6,7 +6,7 @@ use Rattle.rds_model.specs.declared.order.Datagram.{Datagram}
 use Rattle.rds_model.specs.declared.order.Order.{Order}
 use Rattle.rds_model.specs.Deliveries.{delivered_datagrams}
 use Rattle.rds_model.specs.Honest.{Begins}
-use Rattle.rds_model.specs.Sums.{orders}
+use Rattle.rds_model.specs.Sums.{maps, orders}
 use Rattle.rds_mail.specs.Learning.{AllGot}
 use Rattle.rds_mail.specs.Merging.{by_key}
 use Rattle.rds_mail.specs.Numbers.{bare_items}
@@ -16,6 +16,8 @@ use Rattle.rds_socket.specs.Holding.{Holding}
 use Rattle.rds_line.specs.Keeps.{uncut}
 use Rattle.rds_line.specs.Line.{LineView, line_past}
 use Rattle.rds_host.specs.Telling.{AreBoxesTold, AreOrdersTold}
+use Rattle.rds_fmap.specs.Readers.{ReaderView}
+use Rattle.rds_gather.specs.Shown.{HasLookedAt}
 
 -- the orders of a slot that stand in a journal, oldest first
 abbrev pub orders_of : (slot : ℕ) → List Entry → List Order
@@ -60,3 +62,10 @@ module _ {R E M : Type 0} where
     -- and where there are lines it got nothing from anyone else
     pub known_senders : 1 ≤ length lines → (slot : ℕ) (h : Holding R) → slice_get slots slot ≡ Some h →
         All (λ item. IsPeer lines item.from) (got_by h)
+
+module _ {E M : Type 0} where
+  -- Each look of a slot at a peer's congestion map found what the map of its version has, among those that the journal with that peer
+  -- read.
+  abbrev pub AreLooksOfJournals : List (Holding ReaderView) → List (LineView E M) → Type 0
+  AreLooksOfJournals slots lines = (slot place : ℕ) (h : Holding ReaderView) (lane : Lane ReaderView) (line : LineView E M) →
+      slice_get slots slot ≡ Some h → IsLaneAt h.routes place lane → slice_get lines place ≡ Some line → HasLookedAt (maps (line_past line)) lane.reader

@@ -6,6 +6,22 @@ use Rattle.rds_mail.specs.Shared.{IsPart}
 use Rattle.rds_mail.specs.Passes.{Getter, Putter, account_of}
 use Rattle.rds_mail.specs.Merging.{AreAll, IsMerged, KeysBegin}
 use Rattle.rds_joins.specs.Joins.{AreMarked, PutsAreTold, KeysAre}
+use Rattle.rds_fmap.specs.Readers.{HasSeen, ReaderView, WriterView}
+use Rattle.rds_fmap.specs.Versions.{IsSeenIn}
+use Rattle.rds_fmap.specs.declared.seen.Seen.{Seen}
+use Rattle.rds_parts.specs.Lanes.{Lane}
+
+-- these routes have readers of the writer's maps
+abbrev pub AreReadersOf : WriterView → List (Lane ReaderView) → Type 0
+AreReadersOf w lanes = All (λ lane. lane.reader.pair ≡ w.pair) lanes
+
+-- each look of a reader found what the map of its version has, among these
+abbrev pub HasLookedAt : List (List ℕ) → ReaderView → Type 0
+HasLookedAt published r = (port : ℕ) (seen : Seen) → HasSeen r port seen → IsSeenIn published port seen
+
+-- so it is of the readers of these routes
+abbrev pub HaveLookedAt : List (List ℕ) → List (Lane ReaderView) → Type 0
+HaveLookedAt published lanes = All (λ lane. HasLookedAt published lane.reader) lanes
 
 module _ {T : Type 0} where
   -- these are the putters of the getter's queue: all that there are, where there are any, and none was joined yet

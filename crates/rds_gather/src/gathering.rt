@@ -2,7 +2,7 @@ ghost use Rattle.std.specs.Prelude.{◌≡◌, IfOk, OnOk, map};
 ghost use Rattle.rds_report.specs.Views.{side_view};
 ghost use Rattle.rds_host.specs.Passes.{AreAllPasses};
 ghost use Rattle.rds_host.specs.Ties.{AreOfHost};
-ghost use Rattle.rds_gather.specs.Joined.{AreJoined};
+ghost use Rattle.rds_gather.specs.Joined.{AreJoined, AreLooksOfJournals};
 ghost use Rattle.rds_gather.specs.Sides.{line_side};
 
 use crate::lines::take_lines;
@@ -19,7 +19,7 @@ use std::alloc::Global;
 use std::sync::Wait;
 
 /// Takes the slots and the lines of a host apart, gives every end back to the wire, joins all putters of each order queue and of
-/// each mailbox into its getter, and answers the journals beside what was kept.
+/// each mailbox into its getter and all readers of each map into its writer, and answers the journals beside what was kept.
 ///
 /// # Errors
 ///
@@ -39,6 +39,7 @@ pub fn gather<W: Wire, R: Wait>(
     ensures journals { IfOk result (λ end. map side_view end.journals.items ≡ map line_side lines.items) }
     ensures kept { IfOk result (λ end. end.kept ≡ kept) }
     ensures joined { OnOk result (AreJoined closed.items lines.items) }
+    ensures looks { OnOk result (AreLooksOfJournals closed.items lines.items) }
 {
     let mut left = take_lines(rt, alloc, wire, lines)?;
     let mut slots = take_slots(alloc, closed)?;

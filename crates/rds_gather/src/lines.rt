@@ -16,12 +16,12 @@ use std::alloc::Global;
 use std::sync::Wait;
 use std::vec::IntoIter;
 
-/// What is left of the lines of a host: the journals, each beside the peer's address, the queues of their orders, and of each
-/// line its putters at the mailboxes.
+/// What is left of the lines of a host: the journals, each beside the peer's address, the queues of their orders, each beside who
+/// published the peer's map, and of each line its putters at the mailboxes.
 #[derive(Drop)]
 pub(crate) struct LinesLeft {
     pub(crate) journals: Vec<(u32, Journal)>,
-    pub(crate) orders: Vec<LineOrders>,
+    pub(crate) orders: Vec<(LineOrders, Writer)>,
     pub(crate) boxes: Vec<IntoIter<SlotBox>>,
 }
 
@@ -31,6 +31,7 @@ struct LineLeft {
     peer: u32,
     journal: Journal,
     orders: LineOrders,
+    map: Writer,
     boxes: Boxes,
 }
 
@@ -38,17 +39,18 @@ impl LinesLeft {
     // Adds what is left of one more line.
     fn add(&mut self, line: LineLeft) -> Result<(), Memory>
         ensures journals { OnOk result (self.new.journals.items ≡ self.old.journals.items ++ (line.peer, line.journal) ∷ []) }
-        ensures orders { OnOk result (self.new.orders.items ≡ self.old.orders.items ++ line.orders ∷ []) }
+        ensures orders { OnOk result (self.new.orders.items ≡ self.old.orders.items ++ (line.orders, line.map) ∷ []) }
         ensures boxes { OnOk result (rows_left self.new.boxes.items ≡ rows_left self.old.boxes.items ++ line.boxes ∷ []) }
     {
         let LineLeft {
             peer,
             journal,
             orders,
+            map,
             boxes,
         } = line;
         self.journals.push((peer, journal))?;
-        self.orders.push(orders)?;
+        self.orders.push((orders, map))?;
         self.boxes.push(boxes.into_vec().into_iter())?;
         Ok(())
     }
@@ -75,7 +77,7 @@ pub(crate) fn take_lines<W: Wire, R: Wait>(
     lines: Vec<Line<W::End, Writer>>,
 ) -> Result<LinesLeft, Memory>
     ensures journals { IfOk result (λ left. map side_view left.journals.items ≡ map line_side lines.items) }
-    ensures orders { IfOk result (λ left. left.orders.items ≡ map (λ line. line.orders) lines.items) }
+    ensures orders { IfOk result (λ left. left.orders.items ≡ map (λ line. (line.orders, line.map)) lines.items) }
     ensures boxes { IfOk result (λ left. rows_left left.boxes.items ≡ map (λ line. line.boxes) lines.items) }
     ensures kept { All (KeepsLine (λ w. w.published)) lines.items }
 {
@@ -98,6 +100,7 @@ fn take_line<W: Wire, R: Wait>(rt: &R, wire: &mut W, line: Line<W::End, Writer>)
     ensures peer { result.peer ≡ line.channel.conn.peer }
     ensures past { result.journal.past ≡ line_past line }
     ensures orders { result.orders ≡ line.orders }
+    ensures map { result.map ≡ line.map }
     ensures boxes { result.boxes ≡ line.boxes }
     ensures kept { KeepsLine (λ w. w.published) line }
 {
@@ -111,7 +114,7 @@ fn take_line<W: Wire, R: Wait>(rt: &R, wire: &mut W, line: Line<W::End, Writer>)
         inboxes,
         ports: _ports,
         words: _words,
-        map: _map,
+        map,
     } = parts;
     for (_, end) in streams {
         wire.give_back(rt, end);
@@ -120,6 +123,7 @@ fn take_line<W: Wire, R: Wait>(rt: &R, wire: &mut W, line: Line<W::End, Writer>)
         peer,
         journal,
         orders,
+        map,
         boxes: inboxes,
     }
 }
@@ -132,6 +136,7 @@ pub fn end_line<W: Wire, R: Wait>(rt: &R, wire: &mut W, line: Line<W::End, Write
         peer: _,
         journal,
         orders: _orders,
+        map: _map,
         boxes: _boxes,
     } = take_line(rt, wire, line);
     journal

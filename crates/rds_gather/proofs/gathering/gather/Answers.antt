@@ -1,23 +1,39 @@
-use Rattle.std.proofs.Common.{◌≡◌, map, sym, ap, ◌∙◌, rules}
+use Rattle.std.proofs.Common.{◌≡◌, List, map, sym, ap, ◌∙◌, rules}
+use Rattle.rds_mail.specs.Passes.{Getter}
+use Rattle.rds_model.specs.declared.order.Order.{Order}
 use Rattle.rds_fmap.specs.Readers.{ReaderView, WriterView}
-use Rattle.rds_parts.specs.Lanes.{IsOf}
+use Rattle.rds_parts.specs.Lanes.{IsOf, Lane}
 use Rattle.rds_joins.specs.Joins.{IsFrom, sender_in, slot_of_order}
 use Rattle.rds_socket.specs.Holding.{Holding}
-use Rattle.rds_line.specs.Line.{LineView}
-use Rattle.rds_gather.specs.Columns.{passes_left, rows_left}
-use Rattle.rds_gather.specs.Shown.{ArePuttersOf, ShowsAllPuts}
+use Rattle.rds_gather.specs.Columns.{passes_of, rows_left}
+use Rattle.rds_gather.specs.Shown.{ArePuttersOf, AreReadersOf, HaveLookedAt, ShowsAllPuts}
 use Rattle.rds_gather.proofs.Columns.{each_same}
-use Rattle.rds_gather.proofs.Joining.{box_rows, boxes_fit, joined, lane_rows, orders_fit, passes_are}
+use Rattle.rds_gather.proofs.Joining.{asked_of, beside_maps, box_rows, boxes_fit, joined, looked, orders_fit, readers_fit, route_rows, without_maps}
 use Rattle.rds_gather.proofs.gathering.gather.Goals as goal
+
+-- what a line's queue and map show of the routes to it
+abbrev Fits : Getter Order × WriterView → List (Lane ReaderView) → Type 0
+Fits two lanes = ArePuttersOf two.0 (passes_of lanes)
+
+abbrev FitsMap : Getter Order × WriterView → List (Lane ReaderView) → Type 0
+FitsMap two lanes = AreReadersOf two.1 lanes
+
+abbrev Shows : Getter Order × WriterView → List (Lane ReaderView) → Type 0
+Shows two lanes = ShowsAllPuts slot_of_order IsOf two.0 (passes_of lanes)
+
+abbrev Looks : Getter Order × WriterView → List (Lane ReaderView) → Type 0
+Looks two lanes = HaveLookedAt two.1.published lanes
 
 pub join_all_orders-requires : goal.join_all_orders-requires
 join_all_orders-requires g c =
     let closed = c.args.closed.items in
     let lines = c.args.lines.items in
-    let rows : passes_left c.deref_mut.result.now ≡ lane_rows closed = ap passes_left c.deref_mut.ensures.value ∙ passes_are c.in_ok-slots.slots.routes.items closed c.in_ok-slots.ensures.routes in
+    let rows : rows_left c.deref_mut.result.now ≡ route_rows closed = ap rows_left c.deref_mut.ensures.value ∙ c.in_ok-slots.ensures.routes in
     record {
-      putters = each_same ArePuttersOf (map (λ (l : LineView g.row.W-End.Denot WriterView). l.orders) lines) c.in_ok-left.left.orders.items (lane_rows closed) (passes_left c.deref_mut.result.now)
-          (sym c.in_ok-left.ensures.orders) (sym rows) (orders_fit closed lines c.requires.passes c.requires.host);
+      putters = each_same Fits (map asked_of lines) c.in_ok-left.left.orders.items (route_rows closed) (rows_left c.deref_mut.result.now)
+          (sym c.in_ok-left.ensures.orders) (sym rows) (beside_maps ArePuttersOf closed lines (orders_fit closed lines c.requires.passes c.requires.host));
+      readers = each_same FitsMap (map asked_of lines) c.in_ok-left.left.orders.items (route_rows closed) (rows_left c.deref_mut.result.now)
+          (sym c.in_ok-left.ensures.orders) (sym rows) (readers_fit closed lines c.requires.passes c.requires.host);
     }
 
 pub join_all_receipts-requires : goal.join_all_receipts-requires
@@ -35,13 +51,24 @@ pub returns-clause-joined : goal.returns-clause-joined
 returns-clause-joined g c =
     let closed = c.args.closed.items in
     let lines = c.args.lines.items in
-    let lanes : passes_left c.deref_mut.result.now ≡ lane_rows closed = ap passes_left c.deref_mut.ensures.value ∙ passes_are c.in_ok-slots.slots.routes.items closed c.in_ok-slots.ensures.routes in
+    let lanes : rows_left c.deref_mut.result.now ≡ route_rows closed = ap rows_left c.deref_mut.ensures.value ∙ c.in_ok-slots.ensures.routes in
     let boxes : rows_left c.deref_mut-2.result.now ≡ box_rows lines = ap rows_left c.deref_mut-2.ensures.value ∙ c.in_ok-left.ensures.boxes in
     joined closed lines c.requires.passes c.in_ok-slots.ensures.ended c.in_ok-left.ensures.kept
-    (each_same (ShowsAllPuts slot_of_order IsOf) c.in_ok-left.left.orders.items (map (λ (l : LineView g.row.W-End.Denot WriterView). l.orders) lines) (passes_left c.deref_mut.result.now) (lane_rows closed)
-    c.in_ok-left.ensures.orders lanes c.in_ok-join_all_orders.ensures.shown)
+    (without_maps (ShowsAllPuts slot_of_order IsOf) closed lines
+    (each_same Shows c.in_ok-left.left.orders.items (map asked_of lines) (rows_left c.deref_mut.result.now) (route_rows closed)
+    c.in_ok-left.ensures.orders lanes c.in_ok-join_all_orders.ensures.shown))
     (each_same (ShowsAllPuts sender_in IsFrom) (map (λ b. b.get) c.in_ok-slots.slots.inboxes.items) (map (λ (h : Holding ReaderView). h.inbox.get) closed) (rows_left c.deref_mut-2.result.now) (box_rows lines)
     c.in_ok-slots.ensures.inboxes boxes c.in_ok-join_all_receipts.ensures.shown)
+
+-- refused where the readers of a map aren't joined
+pub returns-clause-looks : goal.returns-clause-looks
+returns-clause-looks g c =
+    let closed = c.args.closed.items in
+    let lines = c.args.lines.items in
+    let lanes : rows_left c.deref_mut.result.now ≡ route_rows closed = ap rows_left c.deref_mut.ensures.value ∙ c.in_ok-slots.ensures.routes in
+    looked closed lines c.requires.passes c.in_ok-left.ensures.kept
+    (each_same Looks c.in_ok-left.left.orders.items (map asked_of lines) (rows_left c.deref_mut.result.now) (route_rows closed)
+    c.in_ok-left.ensures.orders lanes c.in_ok-join_all_orders.ensures.looks)
 
 -- refused where what was kept is dropped
 pub returns-clause-kept : goal.returns-clause-kept

@@ -4,6 +4,8 @@ use Rattle.std.proofs.lemmas.Bool.{false≢true}
 use Rattle.std.proofs.lemmas.List.Elements.{All-push}
 use Rattle.rds_fmap.specs.Readers.{WriterView}
 use Rattle.rds_model.specs.declared.entry.Entry.{Entry}
+use Rattle.rds_model.specs.declared.order.Order.{Order}
+use Rattle.rds_mail.specs.Passes.{Getter}
 use Rattle.rds_report.specs.FinalState.{FinalJournal}
 use Rattle.rds_report.specs.Views.{side_view}
 use Rattle.rds_line.specs.Keeps.{KeepsLine}
@@ -24,6 +26,9 @@ on_ok (Err e) P known is = absurd (false≢true is)
 same_side : (p q : ℕ) (a b : List Entry) → p ≡ q → a ≡ b → ◌≡◌ {A = FinalJournal} (record { peer = p; past = a }) (record { peer = q; past = b })
 same_side p q a b peers pasts = cc
 
+same_asked : (o p : Getter Order) (m n : WriterView) → o ≡ p → m ≡ n → ◌≡◌ {A = Getter Order × WriterView} (o, m) (p, n)
+same_asked o p m n orders maps = cc
+
 pub loop-line-preserved : goal.loop-line-preserved
 loop-line-preserved g c =
     let seen = c.loop-line.yielded in
@@ -37,7 +42,8 @@ loop-line-preserved g c =
           let inv = c.loop-line.invariant.1 both.0 in (
             mapped_push side_view line_side old.journals.items new.journals.items seen (own.result.peer, own.result.journal) line (on_ok c.add.result _ c.add.ensures.journals both.1) inv.0
                 (same_side own.result.peer line.channel.conn.peer own.result.journal.past (line_past line) own.ensures.peer own.ensures.past),
-            pushed_map (λ (l : LineView g.row.W-End.Denot WriterView). l.orders) old.orders.items new.orders.items seen own.result.orders line (on_ok c.add.result _ c.add.ensures.orders both.1) inv.1 own.ensures.orders,
+            pushed_map (λ (l : LineView g.row.W-End.Denot WriterView). (l.orders, l.map)) old.orders.items new.orders.items seen (own.result.orders, own.result.map) line (on_ok c.add.result _ c.add.ensures.orders both.1) inv.1
+                (same_asked own.result.orders line.orders own.result.map line.map own.ensures.orders own.ensures.map),
             pushed_map (λ (l : LineView g.row.W-End.Denot WriterView). l.boxes) (rows_left old.boxes.items) (rows_left new.boxes.items) seen own.result.boxes line (on_ok c.add.result _ c.add.ensures.boxes both.1) inv.2 own.ensures.boxes,
           ),
     )

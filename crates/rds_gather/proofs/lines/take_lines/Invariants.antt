@@ -10,5 +10,5 @@ invariant-loop-line g l =
     All (KeepsLine (λ w. w.published)) l.yielded
     × (is_ok l.all ≡ true →
     (map side_view l.left.journals.items ≡ map line_side l.yielded)
-    × (l.left.orders.items ≡ map (λ line. line.orders) l.yielded)
+    × (l.left.orders.items ≡ map (λ line. (line.orders, line.map)) l.yielded)
     × (rows_left l.left.boxes.items ≡ map (λ line. line.boxes) l.yielded))
