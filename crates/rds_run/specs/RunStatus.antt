@@ -8,18 +8,19 @@ use Rattle.rds_text.specs.Lines.{spent_line}
 use Rattle.rds_report.specs.FinalState.{FinalHost}
 use Rattle.rds_report.specs.Report.{report}
 use Rattle.rds_rounds.specs.Sound.{AreSoundJournals}
-use Rattle.rds_threads.specs.Ends.{AreEnds}
+use Rattle.rds_threads.specs.Ends.{AreDrainedHosts, AreEnds}
 use Rattle.rds_threads.specs.Texts.{fault_line, unfinished_line}
 use Rattle.rds_run.specs.declared.status.Status.{Status}
 use Rattle.rds_run.specs.declared.status.Status.TheVariants as status
 use Rattle.rds_run.specs.ExitStatus.{HasFailedIn, HasTaken, HasTakenNothing, IsRefusal, IsSpelled, SinkSeen, SourceSeen}
 use Rattle.rds_run.specs.Texts.{bad_line, read_fault_line}
 
--- A run of the script came to its end: its two hosts did the script's commands, what they have then is sound, and the sink took exactly
--- the report on it. Streams in memory tell their bytes.
+-- A run of the script came to its end: its two hosts did the script's commands, what they have then is sound, nothing is left on its way
+-- between them, and the sink took exactly the report on it. Streams in memory tell their bytes.
 pub record IsRan (s : Meaning) (held_before held_after : Option (List ℕ)) : Type 0 where
   pub hosts : List FinalHost
   pub ends : AreEnds true s.commands hosts
+  pub drained : AreDrainedHosts hosts
   pub written : SinkGained held_before held_after (report hosts)
 
 -- a run filled the journal of a host with a peer: both journals are sound, and the sink took the line that says so

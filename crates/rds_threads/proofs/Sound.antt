@@ -1,5 +1,5 @@
 -- What two lines that are done give the ends of a run.
-use Rattle.std.proofs.Common.{◌≡◌, ◌≢◌, ◌<◌, ℕ, Bool, List, [], ◌∷◌, Some, length, map, slice_get, Result, Ok, Err, IfOk, Vec, refl, sym, ap, subst, ◌∙◌, arith}
+use Rattle.std.proofs.Common.{◌≡◌, ◌≢◌, ◌<◌, ℕ, Bool, List, [], ◌∷◌, Some, length, get_or, map, slice_get, Result, Ok, Err, IfOk, Vec, refl, sym, ap, subst, ◌∙◌, arith}
 use Rattle.std.specs.Global.{Global}
 use Rattle.std.proofs.lemmas.List.Elements.{All-nil, All-cons}
 use Rattle.std.proofs.lemmas.List.Kept.{AllPairs-cons}
@@ -20,12 +20,13 @@ use Rattle.rds_fmap.specs.Readers.{WriterView}
 use Rattle.rds_callers.specs.Places.{Place}
 use Rattle.rds_script.specs.declared.script.Placed.{Placed}
 use Rattle.rds_rounds.specs.Done.{AreDone}
+use Rattle.rds_rounds.specs.Drained.{AreDrained, AreDrainedLines}
 use Rattle.rds_threads.specs.Settled.{AreAllSent, AreKeptOf, HasDoneSpared}
 use Rattle.rds_threads.proofs.Outcome.{outcome_of}
 use Rattle.rds_threads.specs.Reliable.{HasReceived}
 use Rattle.rds_threads.proofs.Receiving.{reliable_of}
 use Rattle.rds_rounds.specs.Sound.{AreSoundJournals}
-use Rattle.rds_threads.specs.Ends.{AreEnds, HasJournal}
+use Rattle.rds_threads.specs.Ends.{AreDrainedHosts, AreEnds, HasJournal}
 use Rattle.rds_threads.proofs.At.{first_of}
 
 -- they are sound seen from the other side, too
@@ -66,6 +67,23 @@ module _ {E M : Type 0} (m : Means E) (limit : ℕ) (lows highs : List (LineView
         sides ∙ (ap (map line_side) (only_of highs high.0 done.high_count high.1)
             ∙ ap (λ (peer : ℕ). let j : FinalJournal = record { peer = peer; past = line_past high.0 } in j ∷ []) hosts.high_peer),
       )
+
+  -- journals of lines between which nothing is left are drained
+  pub drained_of : (first second : HostEnd) → map side_view first.journals.items ≡ map line_side lows → map side_view second.journals.items ≡ map line_side highs →
+      AreDrainedLines lows highs → AreDrainedHosts (host_views (first ∷ second ∷ []))
+  drained_of first second first_sides second_sides drained low high a b is low_sides high_sides =
+      let one = first_of lows done.low_count in
+      let other = first_of highs done.high_count in
+      let low_is : host_view first ≡ low = ap (λ (l : List FinalHost). get_or l 0 low) is in
+      let high_is : host_view second ≡ high = ap (λ (l : List FinalHost). get_or l 1 high) is in
+      let a_is : line_side one.0 ≡ a =
+      ap (λ (l : List FinalJournal). get_or l 0 a) (sym (ap (map line_side) (only_of lows one.0 done.low_count one.1))
+      ∙ (sym first_sides ∙ (ap (λ (h : FinalHost). h.sides) low_is ∙ low_sides))) in
+      let b_is : line_side other.0 ≡ b =
+      ap (λ (l : List FinalJournal). get_or l 0 b) (sym (ap (map line_side) (only_of highs other.0 done.high_count other.1))
+      ∙ (sym second_sides ∙ (ap (λ (h : FinalHost). h.sides) high_is ∙ high_sides))) in
+      subst (λ (j : FinalJournal). AreDrained j.past b.past) a_is
+      (subst (λ (j : FinalJournal). AreDrained (line_past one.0) j.past) b_is (drained one.0 other.0 one.1 other.1))
 
 module _ {E : Type 0} (m : Means E) (limit : ℕ) (lows highs : List (LineView E WriterView)) (done : AreDone m limit lows highs)
     (fifo : (a b : List Entry) → IsLegal a → IsLegal b → IsHonest a b → (IsFifo a b × IsFifo b a)) where

@@ -2,12 +2,13 @@
 use Rattle.std.specs.Prelude.{◌≡◌, ◌⊎◌, ℕ, ◌+◌, ◌<◌, Bool, true, List, [], ◌∷◌, length, Option}
 use Rattle.rds_link.specs.Streaming.{HasRisen, SinkGained, SinkGainedFront}
 use Rattle.rds_model.specs.declared.entry.Entry.{Entry}
-use Rattle.rds_report.specs.FinalState.{FinalHost}
+use Rattle.rds_report.specs.FinalState.{FinalHost, FinalJournal}
 use Rattle.rds_report.specs.Hosts.{address_of}
 use Rattle.rds_report.specs.Report.{report}
 use Rattle.rds_report.specs.Views.{host_views}
 use Rattle.rds_text.specs.Lines.{spent_line}
 use Rattle.rds_script.specs.declared.script.Placed.{Placed}
+use Rattle.rds_rounds.specs.Drained.{AreDrained}
 use Rattle.rds_rounds.specs.Sound.{AreSoundJournals}
 use Rattle.rds_threads.specs.Outcome.{IsOutcome}
 use Rattle.rds_threads.specs.Reliable.{HasReceived, IsReliableTo}
@@ -37,6 +38,11 @@ pub record AreEnds (tells : Bool) (commands : List Placed) (hosts : List FinalHo
   pub reliable_forth : tells ≡ true → IsReliableTo 0 low_past high_past high.sockets
   pub reliable_back : tells ≡ true → IsReliableTo 1 high_past low_past low.sockets
 
+-- nothing is left to do between two hosts, each of which has one journal
+abbrev pub AreDrainedHosts : List FinalHost → Type 0
+AreDrainedHosts hosts =
+    (low high : FinalHost) (a b : FinalJournal) → hosts ≡ low ∷ high ∷ [] → low.sides ≡ a ∷ [] → high.sides ≡ b ∷ [] → AreDrained a.past b.past
+
 -- what a run does to its sink: the bytes that it holds, where it tells them, and how often it has failed
 pub record Written : Type 0 where
   pub held_before : Option (List ℕ)
@@ -52,7 +58,8 @@ Writes sink text end result =
 
 -- what a run that came to this end has to write: the report on what its hosts have in the end, which is sound, or its line
 abbrev pub HasToWrite : (tells : Bool) (limit : ℕ) (commands : List Placed) → RunEnd → List ℕ → Type 0
-HasToWrite tells limit commands (ended.Ok ends) text = AreEnds tells commands (host_views ends.items) × (text ≡ report (host_views ends.items))
+HasToWrite tells limit commands (ended.Ok ends) text =
+    AreEnds tells commands (host_views ends.items) × (tells ≡ true → AreDrainedHosts (host_views ends.items)) × (text ≡ report (host_views ends.items))
 HasToWrite tells limit commands (ended.WireFault low high stream) text = text ≡ fault_line low high stream
 HasToWrite tells limit commands (ended.Spent host peer entries own other) text =
     (length own.past ≡ entries) × (limit < entries + 2) × AreSoundJournals tells own.past other.past × (text ≡ spent_line host peer entries)
@@ -64,7 +71,8 @@ HasToWrite tells limit commands ended.Memory text = ⊥
 -- beginning of what was to be written; or memory ran out, and nothing was written.
 abbrev pub IsEndOfRun : (tells : Bool) (limit : ℕ) (commands : List Placed) → Written → RunEnd → Type 0
 IsEndOfRun tells limit commands sink (ended.Ok ends) =
-    AreEnds tells commands (host_views ends.items) × SinkGained sink.held_before sink.held_after (report (host_views ends.items))
+    AreEnds tells commands (host_views ends.items) × (tells ≡ true → AreDrainedHosts (host_views ends.items))
+    × SinkGained sink.held_before sink.held_after (report (host_views ends.items))
 IsEndOfRun tells limit commands sink (ended.WireFault low high stream) =
     SinkGained sink.held_before sink.held_after (fault_line low high stream)
 IsEndOfRun tells limit commands sink (ended.Spent host peer entries own other) =

@@ -1,5 +1,5 @@
 //! How a run ends: what is left of its hosts, and what is written.
-ghost use Rattle.std.specs.Prelude.{◌≡◌, ◌∷◌, ℕ, List, [], IfOk, OnErr, OnOk, Some, length, map, slice_get};
+ghost use Rattle.std.specs.Prelude.{◌≡◌, ◌∷◌, ℕ, List, [], IfOk, OnErr, OnOk, Some, length, map, slice_get, true};
 ghost use Rattle.rds_fmap.specs.Readers.{WriterView};
 ghost use Rattle.rds_line.specs.Line.{LineView, line_past};
 ghost use Rattle.rds_gather.specs.Sides.{line_side};
@@ -9,7 +9,8 @@ ghost use Rattle.rds_rounds.specs.Done.{AreDone};
 ghost use Rattle.rds_rounds.specs.Sound.{AreSoundJournals};
 ghost use Rattle.rds_callers.specs.Places.{IsUsed, Place};
 ghost use Rattle.rds_settling.specs.Tied.{AreSlotsTold, AreTied, PlacesHear, holdings};
-ghost use Rattle.rds_threads.specs.Ends.{AreEnds, IsEndOfRun};
+ghost use Rattle.rds_rounds.specs.Drained.{AreDrainedLines};
+ghost use Rattle.rds_threads.specs.Ends.{AreDrainedHosts, AreEnds, IsEndOfRun};
 ghost use Rattle.rds_rounds.specs.Quiet.{IsQuietEnd};
 ghost use Rattle.rds_threads.specs.Reliable.{HasReceived};
 ghost use Rattle.rds_script.specs.declared.script.Placed.{Placed};
@@ -84,6 +85,7 @@ fn host_ends<W: Wire, R: Wait>(
     ensures ends { (commands : List Placed) → HasDoneSpared 0 1 commands callers.0.places → HasDoneSpared 1 0 commands callers.1.places →
         IfOk result (λ ends. AreEnds W.End.means.tells commands (host_views ends.items)) }
     ensures hosts { IfOk result (λ ends. AreFinalHosts (host_views ends.items)) }
+    ensures drained { AreDrainedLines lines.0.items lines.1.items → IfOk result (λ ends. AreDrainedHosts (host_views ends.items)) }
 {
     let (low, high) = callers;
     let (low_lines, high_lines) = lines;
@@ -151,6 +153,7 @@ pub(crate) fn end_run<K: Sink, W: Wire, R: Wait>(
     requires done { (limit : ℕ) × AreDone W.End.means limit lines.0.items lines.1.items }
     requires low { IsQuietEnd end → HasSettled callers.0.places lines.0.items }
     requires high { IsQuietEnd end → HasSettled callers.1.places lines.1.items }
+    requires drained { W.End.means.tells ≡ true → end ≡ rounds.Done → AreDrainedLines lines.0.items lines.1.items }
     requires spent { (host entries : ℕ) → end ≡ rounds.Spent host entries → IsFullHost host entries lines.0.items lines.1.items }
     ensures end { (limit : ℕ) (commands : List Placed) → AreDone W.End.means limit lines.0.items lines.1.items →
         HasDoneSpared 0 1 commands callers.0.places → HasDoneSpared 1 0 commands callers.1.places → IfOk result (IsEndOfRun W.End.means.tells limit commands

@@ -1,7 +1,7 @@
 use Rattle.std.proofs.Common.{[], ◌∷◌, ◌∙◌}
 use Rattle.rds_report.specs.Views.{AreFinalHosts, host_view, host_views}
-use Rattle.rds_threads.specs.Ends.{AreEnds}
-use Rattle.rds_threads.proofs.Sound.{ends_of, final_of, high_journal_of, low_journal_of, on_made}
+use Rattle.rds_threads.specs.Ends.{AreDrainedHosts, AreEnds}
+use Rattle.rds_threads.proofs.Sound.{drained_of, ends_of, final_of, high_journal_of, low_journal_of, on_made}
 use Rattle.rds_threads.proofs.ending.host_ends.Goals as goal
 
 pub returns-clause-ends : goal.returns-clause-ends
@@ -21,3 +21,9 @@ returns-clause-hosts g c =
     (c.in_ok-first.ensures.addr ∙ c.address.ensures) c.in_ok-first.ensures.journals)
     (high_journal_of g.W.End.End.means c.requires.done.0 c.args.lines.0.items c.args.lines.1.items c.requires.done.1 c.in_ok-second.field-0
     (c.in_ok-second.ensures.addr ∙ c.address-2.ensures) c.in_ok-second.ensures.journals))
+
+pub returns-clause-drained : goal.returns-clause-drained
+returns-clause-drained g c = λ drained.
+    on_made AreDrainedHosts (c.in_ok-first.field-0 ∷ c.in_ok-second.field-0 ∷ []) c.both.result c.both.ensures
+    (drained_of g.W.End.End.means c.requires.done.0 c.args.lines.0.items c.args.lines.1.items c.requires.done.1 c.in_ok-first.field-0 c.in_ok-second.field-0
+    c.in_ok-first.ensures.journals c.in_ok-second.ensures.journals drained)

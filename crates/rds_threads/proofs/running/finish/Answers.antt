@@ -28,6 +28,10 @@ end_run-requires-clause-high g c = λ quiet.
     settled_end c.tied_keeps.ensures.lines c.tell_lines-2.ensures.tied (omega (arith, one, count)) c.tell_lines-2.ensures.used c.tell_lines-2.ensures.told
     c.last_rounds-end.ensures.high (c.last_rounds-end.ensures.quiet quiet).1
 
+-- refused where a line isn't drained
+pub end_run-requires-clause-drained : goal.end_run-requires-clause-drained
+end_run-requires-clause-drained g c = c.last_rounds-end.ensures.drained
+
 pub returns-clause-end : goal.returns-clause-end
 returns-clause-end g c = λ limit commands two low_done high_done.
     c.end_run.ensures.end limit commands (c.last_rounds-end.ensures.done limit
