@@ -1,4 +1,5 @@
-use Rattle.std.proofs.Common.{subst}
+use Rattle.std.proofs.Common.{◌≡◌, None, subst}
+use Rattle.rds_frame.specs.Splitting.{IsPartial}
 use Rattle.rds_model.specs.Legal.{IsWhole}
 use Rattle.rds_line_channel.specs.Carried.{IsCarriedBy}
 use Rattle.rds_line_channel.specs.Channel.{arrived_bytes}
@@ -19,4 +20,5 @@ returns g c =
           is known.carried;
       streams = subst (λ (l : LineView g.row.E.Denot g.row.M.Denot). AreKept m l.channel.streams) is known.streams;
       whole = subst (λ (l : LineView g.row.E.Denot g.row.M.Denot). IsWhole (line_past l)) is known.whole;
+      partial = subst (λ (l : LineView g.row.E.Denot g.row.M.Denot). l.channel.conn.waiting ≡ None → IsPartial l.channel.conn.rest) is known.partial;
     }
