@@ -133,6 +133,14 @@ note_table (Bound o got) note is =
 note_table (Ended port h got) note is = absurd (cc)
 note_table (Spare h) note is = absurd (cc)
 
+-- a note has made no steps
+pub note_steps : (p : Place) (note : PortSeat) → bind_note p ≡ Some note → note.view.steps ≡ []
+note_steps (Vacant h) note is = absurd (cc)
+note_steps (Bound o got) note is =
+    ap (λ (n : PortSeat). n.view.steps) (sym (same_Some (knowing o.own.ports (note_of o.own.ports.view)) note is))
+note_steps (Ended port h got) note is = absurd (cc)
+note_steps (Spare h) note is = absurd (cc)
+
 module _ {E : Type 0} where
   -- a line that heard the note of a place is the one after the port there
   pub heard_note : (p : Place) (note : PortSeat) (line : LineView E WriterView) → bind_note p ≡ Some note →

@@ -1,9 +1,14 @@
 use Rattle.std.proofs.Common.{sym, ◌∙◌}
-use Rattle.rds_settling.proofs.Ports.{heard_none, heard_note, note_table}
+use Rattle.rds_settling.proofs.Ports.{heard_none, heard_note, note_steps, note_table}
 use Rattle.rds_settling.proofs.settling.tell_port.Goals as goal
 
-pub hear_port-requires : goal.hear_port-requires
-hear_port-requires g c =
+pub hear_port-requires-clause-steps : goal.hear_port-requires-clause-steps
+hear_port-requires-clause-steps g c =
+    let p = c.requires.table in
+    note_steps p.0 c.in-Some.note (sym (c.port_note.ensures.note p.0 p.1) ∙ c.in-Some.is)
+
+pub hear_port-requires-clause-table : goal.hear_port-requires-clause-table
+hear_port-requires-clause-table g c =
     let p = c.requires.table in
     note_table p.0 c.in-Some.note (sym (c.port_note.ensures.note p.0 p.1) ∙ c.in-Some.is) ∙ p.2
 
