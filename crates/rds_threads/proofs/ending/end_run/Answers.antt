@@ -17,7 +17,7 @@ returns-in-Spent-clause-end g c = λ limit commands done low_done high_done.
 
 pub returns-in_ok-ends-in-Done-clause-end : goal.returns-in_ok-ends-in-Done-clause-end
 returns-in_ok-ends-in-Done-clause-end g c = λ limit commands done low_done high_done.
-    let ends = c.in_ok-ends.ends in
+    let ends = c.in_ok-ends-in-Done.ends in
     let sink : Written = record {
       held_before = g.K.Sink.held c.args.sink.now;
       held_after = g.K.Sink.held c.end_by_report.new.sink;
@@ -26,7 +26,7 @@ returns-in_ok-ends-in-Done-clause-end g c = λ limit commands done low_done high
     } in
     on_ok (Writes sink (report (host_views ends.items)) (ended.Ok ends)) (IsEndOfRun g.W.End.End.means.tells limit commands sink) c.end_by_report.result
     (end_written g.W.End.End.means.tells limit commands sink (report (host_views ends.items)) (ended.Ok ends)
-    (c.in_ok-ends.ensures.ends commands low_done high_done, λ tells. c.in_ok-ends.ensures.drained (c.requires.drained tells c.in-Done.is), refl)) c.end_by_report.ensures.end
+    (c.in_ok-ends-in-Done.ensures.ends commands low_done high_done, λ tells. c.in_ok-ends-in-Done.ensures.drained (c.requires.drained tells c.in-Done.is), refl)) c.end_by_report.ensures.end
 
 pub returns-in_ok-ends-in-Unfinished-clause-end : goal.returns-in_ok-ends-in-Unfinished-clause-end
 returns-in_ok-ends-in-Unfinished-clause-end g c = λ limit commands done low_done high_done.
