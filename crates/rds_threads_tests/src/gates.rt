@@ -24,6 +24,7 @@ const MAP: usize = 8_240;
 const DATUM: usize = 49;
 
 /// A gate at which host A waits until its ends have taken the map, and then all that its commands so far have sent.
+#[derive(Drop)]
 struct Counted<'a> {
     taken: &'a AtomicUsize,
     is_late: AtomicBool,
