@@ -19,27 +19,27 @@ static int is_refused(void) {
     return atomic_fetch_add(&made, 1) + 1 == which;
 }
 
-#define REAL(type, name) \
-    static type real; \
-    if (!real) real = (type)dlsym(RTLD_NEXT, name);
+#define REAL(name) \
+    static __typeof__(&name) real; \
+    if (!real) real = (__typeof__(&name))dlsym(RTLD_NEXT, #name);
 
 void *malloc(size_t size) {
-    REAL(void *(*)(size_t), "malloc")
+    REAL(malloc)
     return is_refused() ? NULL : real(size);
 }
 
 void *realloc(void *old, size_t size) {
-    REAL(void *(*)(void *, size_t), "realloc")
+    REAL(realloc)
     return is_refused() ? NULL : real(old, size);
 }
 
 void *aligned_alloc(size_t align, size_t size) {
-    REAL(void *(*)(size_t, size_t), "aligned_alloc")
+    REAL(aligned_alloc)
     return is_refused() ? NULL : real(align, size);
 }
 
 int posix_memalign(void **out, size_t align, size_t size) {
-    REAL(int (*)(void **, size_t, size_t), "posix_memalign")
+    REAL(posix_memalign)
     return is_refused() ? 12 : real(out, align, size);
 }
 
