@@ -3,3 +3,4 @@ pub mod Named
 pub mod Parsed
 pub mod Running
 pub mod Ended
+pub mod Ran

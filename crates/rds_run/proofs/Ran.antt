@@ -1,0 +1,16 @@
+-- A run that ended well is one of which the status says so.
+use Rattle.std.proofs.Common.{◌≡◌, ℕ, true, Vec, refl, subst}
+use Rattle.std.specs.Global.{Global}
+use Rattle.rds_script.specs.Grammar.{Meaning}
+use Rattle.rds_report.specs.Views.{host_views}
+use Rattle.rds_report.specs.declared.final_state.HostEnd.{HostEnd}
+use Rattle.rds_threads.specs.Ends.{IsEndOfRun, Written}
+use Rattle.rds_threads.specs.declared.form.RunEnd.{RunEnd}
+use Rattle.rds_threads.specs.declared.form.RunEnd.TheVariants as ended
+use Rattle.rds_run.specs.RunStatus.{IsRan}
+
+pub ran_of : (limit : ℕ) (s : Meaning) (sink : Written) (result : RunEnd) (ends : Vec HostEnd Global) → result ≡ ended.Ok ends →
+    IsEndOfRun true limit s.commands sink result → IsRan s sink.held_before sink.held_after
+ran_of limit s sink result ends is end =
+    let ran = subst (IsEndOfRun true limit s.commands sink) is end in
+    record { hosts = host_views ends.items; ends = ran.0; drained = ran.1 refl; written = ran.2 }
