@@ -1,5 +1,5 @@
 -- What the callers of a run did. Source: this project's own.
-use Rattle.std.specs.Prelude.{◌≡◌, ◌≢◌, ◌⊎◌, ℕ, ◌==◌, ◌&&◌, Bool, false, List, [], ◌∷◌, All, Option, Some, None, filter, if◌then◌else◌, length, nat_lt, slice_get}
+use Rattle.std.specs.Prelude.{◌≡◌, ◌≢◌, ◌⊎◌, ℕ, ◌==◌, ◌&&◌, Bool, false, List, [], ◌∷◌, All, Option, Some, None, filter, if◌then◌else◌, length, map, nat_lt, slice_get}
 use Rattle.rds_model.specs.declared.entry.TheConstants.{MAX_SLOTS}
 use Rattle.rds_fmap.specs.Readers.{ReaderView}
 use Rattle.rds_parts.specs.Lanes.{Lane, peers_of}
@@ -9,6 +9,7 @@ use Rattle.rds_socket.specs.Holding.{Holding}
 use Rattle.rds_callers.specs.Commands.{binds, commander}
 use Rattle.rds_callers.specs.Doing.{IsDone}
 use Rattle.rds_callers.specs.Places.{Place, Vacant}
+use Rattle.rds_rounds.specs.Grid.{others}
 
 -- The caller of a host did a command exactly as `IsDone` says, if it is the host's own; another it left out.
 abbrev pub DoesCommand : (host : ℕ) → Placed → List Place → List Place → Type 0
@@ -20,20 +21,20 @@ abbrev pub HasObeyed : (host : ℕ) → List Placed → List Place → List Plac
 HasObeyed host [] first last = last ≡ first
 HasObeyed host (placed ∷ commands) first last = (middle : List Place) × DoesCommand host placed first middle × HasObeyed host commands middle last
 
--- The slot at this place of a host whose only peer is this one, which no socket had: its number is its place, its only route leads to
--- that peer, and it has put no order, got no datagram and sent no bytes.
-pub record IsNewSlot (peer place : ℕ) (p : Place) : Type 0 where
+-- The slot at this place of one of so many hosts, which no socket had: its number is its place, it has a route to each other host and no
+-- more, and it has put no order, got no datagram and sent no bytes.
+pub record IsNewSlot (hosts host place : ℕ) (p : Place) : Type 0 where
   pub holding : Holding ReaderView
   pub vacant : p ≡ Vacant holding
   pub number : holding.words.slot ≡ place
-  pub routes : peers_of holding.routes ≡ address_of peer ∷ []
+  pub routes : peers_of holding.routes ≡ map address_of (others hosts host)
   pub put : All (λ (lane : Lane ReaderView). lane.pass.put ≡ []) holding.routes
   pub got : holding.inbox.get.got ≡ []
   pub total : holding.total ≡ 0
 
--- each slot of a host with this peer is new
-abbrev pub AreNewPlaces : (peer : ℕ) → List Place → Type 0
-AreNewPlaces peer places = (place : ℕ) (p : Place) → slice_get places place ≡ Some p → IsNewSlot peer place p
+-- each slot of one of so many hosts is new
+abbrev pub AreNewPlaces : (hosts host : ℕ) → List Place → Type 0
+AreNewPlaces hosts host places = (place : ℕ) (p : Place) → slice_get places place ≡ Some p → IsNewSlot hosts host place p
 
 -- whether it is this host
 abbrev pub is_host : ℕ → Option ℕ → Bool
@@ -52,9 +53,9 @@ is_bind_of host placed = binds placed.command && is_host host (commander placed.
 abbrev pub slot_count : ℕ → List Placed → ℕ
 slot_count host commands = within_slots (length (filter (is_bind_of host) commands))
 
--- the caller of the host with these slots did its own of these commands, from so many slots that were new, with routes to this peer
-pub record HasDone (host peer : ℕ) (commands : List Placed) (places : List Place) : Type 0 where
+-- the caller of one of so many hosts, with these slots, did its own of these commands, from so many slots that were new
+pub record HasDone (hosts host : ℕ) (commands : List Placed) (places : List Place) : Type 0 where
   pub first : List Place
   pub count : length first ≡ slot_count host commands
-  pub new : AreNewPlaces peer first
+  pub new : AreNewPlaces hosts host first
   pub obeyed : HasObeyed host commands first places

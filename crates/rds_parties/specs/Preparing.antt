@@ -1,16 +1,23 @@
 -- The streams of a run before they are used. Source: this project's own.
-use Rattle.std.specs.Prelude.{ℕ, ◌≤◌, List, All}
+use Rattle.std.specs.Prelude.{ℕ, ◌≤◌, List, Vec, All}
+use Rattle.std.specs.Global.{Global}
 use Rattle.rds_link.specs.Ends.{Means}
 use Rattle.rds_line_streams.specs.Streams.{AreNumbered, IsUnused}
 use Rattle.rds_rounds.specs.Connection.{ArePaired}
+use Rattle.rds_rounds.specs.Grid.{AreRows, OfEachPair}
 
 module _ {E : Type 0} (m : Means E) where
-  -- the streams that were opened so far, with numbers up to this one
-  pub record ArePrepared (newest : ℕ) (low high : List (ℕ × E)) : Type 0 where
-    pub paired : ArePaired m low high
-    pub low_numbered : AreNumbered low
-    pub high_numbered : AreNumbered high
-    pub low_most : All (λ stream. stream.0 ≤ newest) low
-    pub high_most : All (λ stream. stream.0 ≤ newest) high
-    pub low_unused : All (λ stream. IsUnused m stream.1) low
-    pub high_unused : All (λ stream. IsUnused m stream.1) high
+  -- the streams of two hosts that were opened so far, with numbers up to this one
+  pub record ArePrepared (newest : ℕ) (one other : List (ℕ × E)) : Type 0 where
+    pub paired : ArePaired m one other
+    pub one_numbered : AreNumbered one
+    pub other_numbered : AreNumbered other
+    pub one_most : All (λ stream. stream.0 ≤ newest) one
+    pub other_most : All (λ stream. stream.0 ≤ newest) other
+    pub one_unused : All (λ stream. IsUnused m stream.1) one
+    pub other_unused : All (λ stream. IsUnused m stream.1) other
+
+  -- each two of so many hosts have streams that were prepared, and none of which was used
+  pub record AreAllPrepared (hosts : ℕ) (rows : List (List (Vec (ℕ × E) Global))) : Type 0 where
+    pub rows : AreRows hosts rows
+    pub pairs : OfEachPair (λ low high (one : Vec (ℕ × E) Global) (other : Vec (ℕ × E) Global). (newest : ℕ) × ArePrepared newest one.items other.items) rows

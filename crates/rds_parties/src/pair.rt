@@ -58,6 +58,24 @@ fn slots(script: &Script, host: u8) -> u16
     binds as u16
 }
 
+/// The callers of the hosts of a script, and their lines to each other over these streams.
+///
+/// # Errors
+///
+/// Where memory runs out. The streams are given up.
+pub fn parties<E: End>(
+    alloc: Global,
+    script: &Script,
+    streams: Vec<Vec<Ends<E>>>,
+    limit: u32,
+) -> Result<(Vec<Caller>, Lines<E>), Memory>
+    requires script { IsScript script.now }
+    requires streams { AreAllPrepared E.means script.now.hosts (rows_of streams.items) }
+    requires least { MIN_ENTRIES ≤ limit }
+    requires most { limit ≤ MAX_ENTRIES }
+    ensures parties { IfOk result (λ p. AreParties script.now.hosts p.0.items (rows_of p.1.items)) }
+    ensures new { IfOk result (λ p. AreNewCallers script.now.hosts script.now.commands.items p.0.items) }
+    ensures hosts { IfOk result (λ p. AreHosts E.means limit script.now.hosts (rows_of p.1.items)) }
 /// The callers of the two hosts, and their lines to each other over these streams.
 ///
 /// # Errors

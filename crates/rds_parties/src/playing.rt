@@ -113,26 +113,22 @@ fn call_both<R: Threads + Wait + Sync, G: Gate + Sync>(
     Ok((low?, high?))
 }
 
-/// Does the commands of a script of two hosts: the leading binds on the calling thread, and then the others by a caller of each host, while
-/// workers turn the lines. Before each of these its caller asks the gate. The seats of the lines are told of the ports that were bound before
+/// Does the commands of a script: the leading binds on the calling thread, and then the others by a caller of each host, while workers
+/// turn the lines. Before each of these its caller asks the gate. The seats of the lines are told of the ports that were bound before
 /// any of these threads starts. Where memory runs out, the callers are given up.
 pub fn play<E: End + Send, R: Threads + Wait + Sync, G: Gate + Sync>(
     rt: &R,
     alloc: Global,
     script: &Script,
     gate: &G,
-    mut callers: (Caller, Caller),
+    mut callers: Vec<Caller>,
     mut lines: Lines<E>,
-) -> (Result<(Caller, Caller), Memory>, Lines<E>)
+) -> (Result<Vec<Caller>, Memory>, Lines<E>)
     requires script { IsScript script.now }
-    requires two { script.now.hosts ≡ 2 }
-    requires low { AreTied callers.0.places lines.0.items }
-    requires high { AreTied callers.1.places lines.1.items }
-    ensures low_did { IfOk result.0 (λ after. HasObeyed 0 script.now.commands.items callers.0.places after.0.places) }
-    ensures high_did { IfOk result.0 (λ after. HasObeyed 1 script.now.commands.items callers.1.places after.1.places) }
-    ensures low { IfOk result.0 (λ after. AreTied after.0.places result.1.0.items) }
-    ensures high { IfOk result.0 (λ after. AreTied after.1.places result.1.1.items) }
-    ensures two { (limit : ℕ) → AreTwo E.means limit lines.0.items lines.1.items → OnOk result.0 (AreTwo E.means limit result.1.0.items result.1.1.items) }
+    requires parties { AreParties script.now.hosts callers.items (rows_of lines.items) }
+    ensures obeyed { IfOk result.0 (λ after. HaveObeyed script.now.commands.items callers.items after.items) }
+    ensures parties { IfOk result.0 (λ after. AreParties script.now.hosts after.items (rows_of result.1.items)) }
+    ensures hosts { (limit hosts : ℕ) → AreHosts E.means limit hosts (rows_of lines.items) → AreHosts E.means limit hosts (rows_of result.1.items) }
 {
     let commands = script.commands.as_slice();
     let Ok(leading) = lead(rt, alloc, commands, &mut callers, &mut lines) else {

@@ -17,12 +17,12 @@ const MORE: u32 = 3;
 /// A host's ends of the streams to a peer, each with its number.
 pub type Ends<E> = Vec<(u32, E)>;
 
-/// The streams of two hosts, and whether some weren't opened.
+/// The streams of all hosts: for each host its ends to each other one, in ascending order. And what the last rounds have to know of
+/// each two hosts, in the row of the lower one, at the same place as its ends.
 #[derive(Drop)]
 pub struct Prepared<E: End> {
-    pub low: Ends<E>,
-    pub high: Ends<E>,
-    pub lacks: bool,
+    pub streams: Vec<Vec<Ends<E>>>,
+    pub wanted: Vec<Vec<Wanted>>,
 }
 
 impl<E: End> Prepared<E> {
@@ -37,25 +37,16 @@ impl<E: End> Prepared<E> {
     }
 }
 
-/// How many cuts there are between the two hosts of a script.
-pub fn cuts(script: &Script) -> u32 {
-    let mut cuts = 0u32;
-    for placed in &script.commands {
-        if let Command::Cut { .. } = placed.command {
-            cuts = cuts.saturating_add(1);
-        }
-    }
-    cuts
-}
-
-/// Opens as many streams as the script has cuts, and three more, numbered from 1. One that fails is left out.
+/// For each two hosts opens as many streams as the script has cuts between them, and three more, numbered from 1. One that fails is
+/// left out.
 pub fn prepare<W: Wire, R: Threads + Wait + Net>(
     rt: &R,
     alloc: Global,
     wire: &mut W,
     script: &Script,
 ) -> Result<Prepared<W::End>, Memory>
-    ensures { IfOk result (λ p. (newest : ℕ) × ArePrepared W.End.means newest p.low.items p.high.items) }
+    requires { IsScript script.now }
+    ensures { IfOk result (λ p. AreAllPrepared W.End.means script.now.hosts (rows_of p.streams.items)) }
 {
     let count = cuts(script).saturating_add(MORE);
     let mut prepared = Prepared {

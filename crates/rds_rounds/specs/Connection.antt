@@ -1,41 +1,47 @@
--- The two lines of a run, one of each host. Source: this project's own.
-use Rattle.std.specs.Prelude.{◌≡◌, ◌⊎◌, ℕ, Some, List, length, slice_get}
+-- The lines of a run: each host has one to each other host. Source: this project's own.
+use Rattle.std.specs.Prelude.{◌≡◌, ◌⊎◌, ◌≤◌, ℕ, List}
 use Rattle.rds_link.specs.Ends.{Means}
 use Rattle.rds_report.specs.Hosts.{address_of}
 use Rattle.rds_line_streams.specs.Meeting.{AtEach}
 use Rattle.rds_line_streams.specs.Streams.{numbers}
 use Rattle.rds_line.specs.Line.{IsFull, LineView}
+use Rattle.rds_rounds.specs.Grid.{AreRows, IsAt, OfEachPair, peer_at}
 
 module _ {E M : Type 0} where
-  -- the journal of this host's line has so many entries, and two more would pass its limit
-  abbrev pub IsFullAt : (host entries : ℕ) → (low high : LineView E M) → Type 0
-  IsFullAt host entries low high = ((host ≡ 0) × IsFull entries low) ⊎ ((host ≡ 1) × IsFull entries high)
+  -- of two hosts and their lines to each other: the journal of this host's line with that peer has so many entries, and two more would
+  -- pass its limit
+  abbrev pub IsFullAt : (host peer entries : ℕ) → (low high : ℕ) → (one other : LineView E M) → Type 0
+  IsFullAt host peer entries low high one other =
+      ((host ≡ low) × (peer ≡ high) × IsFull entries one) ⊎ ((host ≡ high) × (peer ≡ low) × IsFull entries other)
 
-  -- so it is of the lines at the first places of two lists
-  abbrev pub IsFullHost : (host entries : ℕ) → (lows highs : List (LineView E M)) → Type 0
-  IsFullHost host entries lows highs =
-      (low high : LineView E M) → slice_get lows 0 ≡ Some low → slice_get highs 0 ≡ Some high → IsFullAt host entries low high
+  -- a host has a line with a peer whose journal is so
+  pub record IsFullHost (host peer entries : ℕ) (rows : List (List (LineView E M))) : Type 0 where
+    pub place : ℕ
+    pub line : LineView E M
+    pub at : IsAt rows host place line
+    pub to : peer_at host place ≡ peer
+    pub full : IsFull entries line
 
-  -- the line of host A and the line of host B have each other as peers, and their journals have this limit
-  pub record AreOfHosts (limit : ℕ) (low high : LineView E M) : Type 0 where
-    pub low_limit : low.channel.conn.log.limit ≡ limit
-    pub high_limit : high.channel.conn.log.limit ≡ limit
-    pub low_peer : low.channel.conn.peer ≡ address_of 1
-    pub high_peer : high.channel.conn.peer ≡ address_of 0
+  -- the lines of two hosts have each other as peers, and their journals have this limit
+  pub record AreOfHosts (limit low high : ℕ) (one other : LineView E M) : Type 0 where
+    pub one_limit : one.channel.conn.log.limit ≡ limit
+    pub other_limit : other.channel.conn.log.limit ≡ limit
+    pub one_peer : one.channel.conn.peer ≡ address_of high
+    pub other_peer : other.channel.conn.peer ≡ address_of low
 
 module _ {E : Type 0} (m : Means E) where
   -- two hosts have the same streams, and the two ends of each meet
-  pub record ArePaired (low high : List (ℕ × E)) : Type 0 where
-    pub same : numbers high ≡ numbers low
-    pub pairs : AtEach m.meets low high
+  pub record ArePaired (one other : List (ℕ × E)) : Type 0 where
+    pub same : numbers other ≡ numbers one
+    pub pairs : AtEach m.meets one other
 
-  -- two lines are the two of one connection
-  pub record AreConnected {M : Type 0} (limit : ℕ) (low high : LineView E M) : Type 0 where
-    pub hosts : AreOfHosts limit low high
-    pub streams : ArePaired low.channel.streams.list high.channel.streams.list
+  -- the lines of two hosts are the two of one connection
+  pub record AreConnected {M : Type 0} (limit low high : ℕ) (one other : LineView E M) : Type 0 where
+    pub hosts : AreOfHosts limit low high one other
+    pub streams : ArePaired one.channel.streams.list other.channel.streams.list
 
-  -- each host has one line, and these are connected
-  pub record AreTwo {M : Type 0} (limit : ℕ) (lows highs : List (LineView E M)) : Type 0 where
-    pub low_count : length lows ≡ 1
-    pub high_count : length highs ≡ 1
-    pub connected : (low high : LineView E M) → slice_get lows 0 ≡ Some low → slice_get highs 0 ≡ Some high → AreConnected limit low high
+  -- each of so many hosts, which are at most eight, has a line to each other one, and the two lines of each two hosts are connected
+  pub record AreHosts {M : Type 0} (limit hosts : ℕ) (rows : List (List (LineView E M))) : Type 0 where
+    pub few : hosts ≤ 8
+    pub rows : AreRows hosts rows
+    pub connected : OfEachPair (AreConnected limit) rows

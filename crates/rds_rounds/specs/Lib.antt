@@ -1,3 +1,4 @@
+pub mod Grid
 pub mod Connection
 pub mod Sound
 pub mod Drained

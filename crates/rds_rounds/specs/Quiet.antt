@@ -11,8 +11,8 @@ use Rattle.rds_rounds.specs.declared.rounds.Rounds.TheVariants as ended
 abbrev pub IsQuietEnd : Rounds → Type 0
 IsQuietEnd ended.Done = Unit {0}
 IsQuietEnd (ended.Unfinished count) = Unit {0}
-IsQuietEnd ended.Fault = ⊥
-IsQuietEnd (ended.Spent host entries) = ⊥
+IsQuietEnd (ended.Fault low high) = ⊥
+IsQuietEnd (ended.Spent host peer entries) = ⊥
 IsQuietEnd ended.Memory = ⊥
 
 module _ {E : Type 0} where

@@ -18,8 +18,8 @@ use rds_line::Line;
 use rds_link::{End, Wire};
 use std::sync::Wait;
 
-/// The lines of both hosts.
-pub type Lines<E> = (Vec<Line<E, Writer>>, Vec<Line<E, Writer>>);
+/// The lines of each host, by host: those of one host have its peers in ascending order.
+pub type Lines<E> = Vec<Vec<Line<E, Writer>>>;
 
 /// How the last rounds ended.
 #[derive(Clone, Copy, Debug, PartialEq, Eq)]
@@ -28,10 +28,10 @@ pub enum Rounds {
     Done,
     /// So many datagrams aren't acknowledged, and the budget of quiet rounds is spent.
     Unfinished { count: u64 },
-    /// A line has no stream left that should have one.
-    Fault,
-    /// The journal of this host with the other is full.
-    Spent { host: u8, entries: u32 },
+    /// The two hosts have no stream left and should have one.
+    Fault { low: u8, high: u8 },
+    /// The journal of this host with that peer has so many entries, and two more would pass its limit.
+    Spent { host: u8, peer: u8, entries: u32 },
     /// Memory ran out.
     Memory,
 }
@@ -41,24 +41,24 @@ fn unacked<E: End>(low: &Line<E, Writer>, high: &Line<E, Writer>) -> u64 {
     u64::from(low.unacked()) + u64::from(high.unacked())
 }
 
-/// Turns both lines in rounds, and lets them meet before each and after the last. Over ends that tell their bytes they stop after
-/// an idle round that left nothing to be written. Over others they stop once rounds were quiet and all is acknowledged, or as many
-/// were quiet as the budget allows.
+/// Turns all lines in rounds: in each the two lines of each two hosts meet, have a turn each, and meet again. Over ends that tell
+/// their bytes the rounds stop after an idle one that left nothing to be written. Over others they stop once rounds were quiet and all
+/// is acknowledged, or as many were quiet as the budget allows. `wanted` has for each two hosts what is to be known of them, in the
+/// row of the lower one, at the place of the line between them.
 pub fn last_rounds<W: Wire, R: Wait>(
     rt: &R,
     wire: &W,
-    wanted: Wanted,
+    wanted: &[Vec<Wanted>],
     budget: u64,
     lines: &mut Lines<W::End>,
 ) -> Rounds
-    requires { (limit : ℕ) × AreTwo W.End.means limit lines.old.0.items lines.old.1.items }
-    ensures done { (limit : ℕ) → AreTwo W.End.means limit lines.old.0.items lines.old.1.items → AreDone W.End.means limit lines.new.0.items lines.new.1.items }
-    ensures low { LinesGoOn lines.old.0.items lines.new.0.items }
-    ensures high { LinesGoOn lines.old.1.items lines.new.1.items }
-    ensures quiet { IsQuietEnd result → AreQuiet lines.new.0.items × AreQuiet lines.new.1.items }
-    ensures drained { W.End.means.tells ≡ true → result ≡ ended.Done → AreDrainedLines lines.new.0.items lines.new.1.items }
-    ensures spent { (host entries : ℕ) → result ≡ ended.Spent host entries →
-        IsFullHost host entries lines.new.0.items lines.new.1.items }
+    requires { (limit hosts : ℕ) × AreHosts W.End.means limit hosts (rows_of lines.old.items) }
+    ensures done { (limit hosts : ℕ) → AreHosts W.End.means limit hosts (rows_of lines.old.items) → AreDone W.End.means limit hosts (rows_of lines.new.items) }
+    ensures rows { EachRow LinesGoOn (rows_of lines.old.items) (rows_of lines.new.items) }
+    ensures quiet { IsQuietEnd result → All AreQuiet (rows_of lines.new.items) }
+    ensures drained { W.End.means.tells ≡ true → result ≡ ended.Done → AreDrainedLines (rows_of lines.new.items) }
+    ensures fault { (low high : ℕ) → result ≡ ended.Fault low high → (low < high) × (high < length lines.new.items) }
+    ensures spent { (host peer entries : ℕ) → result ≡ ended.Spent host peer entries → IsFullHost host peer entries (rows_of lines.new.items) }
 {
     let low = &mut lines.0[0];
     let high = &mut lines.1[0];

@@ -1,9 +1,8 @@
 -- What came of what the callers of a run did. Source: this project's own.
 use Rattle.std.specs.Prelude.{◌≡◌, ℕ, List, [], All, Some, map, slice_get}
-use Rattle.rds_model.specs.declared.entry.Entry.{Entry}
 use Rattle.rds_fmap.specs.Readers.{ReaderView}
 use Rattle.rds_parts.specs.Lanes.{IsLaneAt, Lane}
-use Rattle.rds_report.specs.FinalState.{FinalSocket}
+use Rattle.rds_report.specs.FinalState.{FinalJournal, FinalSocket}
 use Rattle.rds_script.specs.declared.script.Placed.{Placed}
 use Rattle.rds_line.specs.Keeps.{uncut}
 use Rattle.rds_gather.specs.Joined.{orders_of}
@@ -23,13 +22,13 @@ HandedOutAt (Spare h) s = ⊥
 abbrev pub socket_name : FinalSocket → ℕ × ℕ
 socket_name s = (s.slot, s.port)
 
--- What a host with this peer, this journal and these sockets comes to did the script's commands: from slots that were new its caller did
--- exactly its own commands. In the journal with its peer stand, for each slot, exactly the orders that its socket put, in order and each once.
--- There is one socket of each slot that was bound, in order, with its port.
-pub record IsOutcome (host peer : ℕ) (commands : List Placed) (past : List Entry) (sockets : List FinalSocket) : Type 0 where
+-- What one of so many hosts, with these journals and these sockets, comes to did the script's commands: from slots that were new its caller
+-- did exactly its own commands. In the journal with each other host stand, for each slot, exactly the orders that its socket put on the route
+-- to that host, in order and each once. There is one socket of each slot that was bound, in order, with its port.
+pub record IsOutcome (hosts host : ℕ) (commands : List Placed) (sides : List FinalJournal) (sockets : List FinalSocket) : Type 0 where
   pub last : List Place
-  pub done : HasDone host peer commands last
-  pub sent : (slot : ℕ) (p : Place) (lane : Lane ReaderView) → slice_get last slot ≡ Some p → IsLaneAt (holding_of p).routes 0 lane →
-      orders_of slot past ≡ uncut lane.pass.put
+  pub done : HasDone hosts host commands last
+  pub sent : (slot place : ℕ) (p : Place) (lane : Lane ReaderView) (side : FinalJournal) → slice_get last slot ≡ Some p →
+      IsLaneAt (holding_of p).routes place lane → slice_get sides place ≡ Some side → orders_of slot side.past ≡ uncut lane.pass.put
   pub names : map socket_name sockets ≡ somes (map used_name last)
   pub handed : All (λ (s : FinalSocket). (p : Place) × (slice_get last s.slot ≡ Some p) × HandedOutAt p s) sockets

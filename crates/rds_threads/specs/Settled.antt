@@ -21,9 +21,9 @@ AreAllSent {E} places lines = (slot place : ℕ) (p : Place) (lane : Lane Reader
     IsLaneAt (holding_of p).routes place lane → slice_get lines place ≡ Some line → orders_of slot (line_past line) ≡ uncut lane.pass.put
 
 -- so the caller did its commands, and then gave up the slots that no socket had
-pub record HasDoneSpared (host peer : ℕ) (commands : List Placed) (places : List Place) : Type 0 where
+pub record HasDoneSpared (hosts host : ℕ) (commands : List Placed) (places : List Place) : Type 0 where
   pub last : List Place
-  pub done : HasDone host peer commands last
+  pub done : HasDone hosts host commands last
   pub left : places ≡ map spared last
 
 -- what is kept of a host has one for each slot that was bound, with its port, and what it handed out

@@ -26,8 +26,7 @@ use std::net::Net;
 use std::sync::Wait;
 use std::thread::Threads;
 
-/// Runs a script of two hosts over the wire: a caller for each host does its commands beside a worker that turns its line. Then the
-/// lines turn until nothing moves any more, all that waits at open sockets is received, every end is given back to the wire, and
+/// Runs a script over the wire: a caller for each host does its commands beside a worker that turns its lines. Then all lines turn until nothing moves any more, all that waits at open sockets is received, every end is given back to the wire, and
 /// the text of this form is written to the sink. Before each command its caller asks the gate. No journal gets more than `limit`
 /// entries. Over ends that don't tell their bytes, the last rounds stop after `budget` quiet ones.
 pub fn run<K: Sink, W: Wire, G: Gate + Sync, R: Threads + Wait + Net + Sync>(
@@ -44,10 +43,9 @@ pub fn run<K: Sink, W: Wire, G: Gate + Sync, R: Threads + Wait + Net + Sync>(
 where
     W::End: Send,
     requires script { IsScript script.now }
-    requires two { script.now.hosts ≡ 2 }
     requires least { MIN_ENTRIES ≤ limit }
     requires most { limit ≤ MAX_ENTRIES }
-    ensures { IsEndOfRun W.End.means.tells limit script.now.commands.items
+    ensures { IsEndOfRun W.End.means.tells limit script.now.hosts script.now.commands.items
         record { held_before = K.held sink.old; held_after = K.held sink.new; faults_before = K.faults sink.old; faults_after = K.faults sink.new }
         result }
 {
@@ -72,10 +70,9 @@ fn ended<K: Sink, W: Wire, G: Gate + Sync, R: Threads + Wait + Net + Sync>(
 where
     W::End: Send,
     requires script { IsScript script.now }
-    requires two { script.now.hosts ≡ 2 }
     requires least { MIN_ENTRIES ≤ limit }
     requires most { limit ≤ MAX_ENTRIES }
-    ensures end { IfOk result (IsEndOfRun W.End.means.tells limit script.now.commands.items
+    ensures end { IfOk result (IsEndOfRun W.End.means.tells limit script.now.hosts script.now.commands.items
         record { held_before = K.held sink.old; held_after = K.held sink.new; faults_before = K.faults sink.old; faults_after = K.faults sink.new }) }
     ensures memory { OnErr result (K.held sink.new ≡ K.held sink.old) }
 {
