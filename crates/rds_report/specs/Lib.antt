@@ -5,3 +5,4 @@ pub mod Views
 pub mod Items
 pub mod ItemReport
 pub mod TakenBackWalk
+pub mod Summary
