@@ -5,12 +5,13 @@ use Rattle.rds_script.specs.Grammar.{Meaning}
 use Rattle.rds_report.specs.Views.{host_views}
 use Rattle.rds_report.specs.declared.final_state.HostEnd.{HostEnd}
 use Rattle.rds_threads.specs.Ends.{IsEndOfRun, Written}
+use Rattle.rds_threads.specs.declared.form.Form.{Form}
 use Rattle.rds_threads.specs.declared.form.RunEnd.{RunEnd}
 use Rattle.rds_threads.specs.declared.form.RunEnd.TheVariants as ended
 use Rattle.rds_run.specs.RunStatus.{IsRan}
 
-pub ran_of : (limit : ℕ) (s : Meaning) (sink : Written) (result : RunEnd) (ends : Vec HostEnd Global) → result ≡ ended.Ok ends →
-    IsEndOfRun true limit s.commands sink result → IsRan s sink.held_before sink.held_after
-ran_of limit s sink result ends is end =
-    let ran = subst (IsEndOfRun true limit s.commands sink) is end in
-    record { hosts = host_views ends.items; ends = ran.0; drained = ran.1 refl; written = ran.2 }
+pub ran_of : (limit : ℕ) (form : Form) (s : Meaning) (sink : Written) (result : RunEnd) (ends : Vec HostEnd Global) → result ≡ ended.Ok ends →
+    IsEndOfRun form true limit s.hosts s.commands sink result → IsRan form s sink.held_before sink.held_after
+ran_of limit form s sink result ends is end =
+    let ran = subst (IsEndOfRun form true limit s.hosts s.commands sink) is end in
+    record { ends = host_views ends.items; did = ran.0; drained = ran.1 refl; written = ran.2 }

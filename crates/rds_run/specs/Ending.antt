@@ -7,9 +7,12 @@ use Rattle.rds_script.specs.Grammar.{Meaning}
 use Rattle.rds_run.specs.declared.status.Status.{Status}
 use Rattle.rds_run.specs.declared.status.Status.TheVariants as status
 use Rattle.rds_run.specs.ExitStatus.{HasFailedIn, HasTaken, HasTakenNothing, IsEndOfCall, IsEndOfRefusal, IsToldRefused, IsToldSpelled, SinkSeen, SourceSeen}
-use Rattle.rds_run.specs.RunStatus.{IsEndOfRunCall}
-use Rattle.rds_run.specs.RunWords.{AreRun}
-use Rattle.rds_run.specs.Texts.{ArePlay, usage_line}
+use Rattle.rds_run.specs.RunStatus.{IsEndOfGenCall, IsEndOfRunCall}
+use Rattle.rds_run.specs.Texts.{usage_line}
+use Rattle.rds_words.specs.Gen.{AreGen}
+use Rattle.rds_words.specs.Play.{ArePlay}
+use Rattle.rds_words.specs.Run.{AreRun}
+use Rattle.rds_words.specs.Works.{AreNoCommand}
 
 -- a text that is refused is answered so, unless the source or the sink fails or memory runs out
 abbrev pub Refuses : SourceSeen → SinkSeen → Status → Type 0
@@ -36,7 +39,8 @@ IsEndOfUsage sink _ = ⊥
 
 -- the words are those of one command, which ends so, or those of none, or memory ran out before that was known
 pub data IsEndOfProgram (words : List (String Global)) (source : SourceSeen) (sink : SinkSeen) (s : Status) : Type 0 where
-  OfPlay : ArePlay words → (AreRun words → ⊥) → IsEndOfPlaying source sink s → IsEndOfProgram words source sink s
-  OfRun : (ArePlay words → ⊥) → AreRun words → IsEndOfRunning source sink s → IsEndOfProgram words source sink s
-  OfNone : (ArePlay words → ⊥) → (AreRun words → ⊥) → IsEndOfUsage sink s → IsEndOfProgram words source sink s
+  OfPlay : ArePlay words → IsEndOfPlaying source sink s → IsEndOfProgram words source sink s
+  OfRun : AreRun words → IsEndOfRunning source sink s → IsEndOfProgram words source sink s
+  OfGen : (sends seed : ℕ) → AreGen words sends seed → IsEndOfGenCall sends seed sink s → IsEndOfProgram words source sink s
+  OfNone : AreNoCommand words → IsEndOfUsage sink s → IsEndOfProgram words source sink s
   OfMemory : s ≡ status.Memory → HasTakenNothing sink → IsEndOfProgram words source sink s

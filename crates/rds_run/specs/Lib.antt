@@ -1,6 +1,5 @@
 pub mod Texts
 pub mod ExitStatus
 pub mod Reading
-pub mod RunWords
 pub mod RunStatus
 pub mod Ending

@@ -2,14 +2,13 @@
 #![tactic(auto)]
 
 mod answer;
-mod command_line;
+mod gen_command;
 mod play_command;
 mod reading;
 mod run_command;
-mod run_words;
+mod running;
 mod status;
 mod top_call;
-mod work;
 
 pub use top_call::rds_main;
 

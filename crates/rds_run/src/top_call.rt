@@ -5,18 +5,24 @@ ghost use Rattle.rds_script.specs.declared.cause.Cause.{Cause as Why};
 ghost use Rattle.rds_script.specs.Grammar.{Meaning};
 ghost use Rattle.rds_text.specs.Lines.{end_line, spent_line};
 ghost use Rattle.rds_run.specs.ExitStatus.{IsAnswer, IsPlayed, IsRefusal, IsSpelled, IsSpent, IsToldRefused, IsToldSpelled};
-ghost use Rattle.rds_run.specs.RunStatus.{HasFilled, IsManyHosts, IsRan, IsRunUnfinished, IsWireFault};
-ghost use Rattle.rds_run.specs.RunWords.{AreRun};
+ghost use Rattle.rds_generator.specs.Generator.{generated};
+ghost use Rattle.rds_threads.specs.declared.form.Form.TheVariants as form;
+ghost use Rattle.rds_words.specs.Gen.{AreGen};
+ghost use Rattle.rds_words.specs.Play.{ArePlay};
+ghost use Rattle.rds_words.specs.Run.{AreRun};
+ghost use Rattle.rds_words.specs.Works.{AreNoCommand};
+ghost use Rattle.rds_run.specs.RunStatus.{HasFilled, IsRan, IsRunUnfinished, IsWireFault};
 ghost use Rattle.rds_run.specs.Ending.{IsEndOfProgram};
-ghost use Rattle.rds_run.specs.Texts.{ArePlay, usage_line, read_fault_line, bad_line};
+ghost use Rattle.rds_run.specs.Texts.{usage_line, read_fault_line, bad_line};
 
 use crate::answer::say;
+use crate::gen_command::gen_text;
 use crate::play_command::play_text;
 use crate::run_command::run_text;
 use crate::status::Status;
-use crate::work::{Work, work_of};
 use rds_link::{Gate, Sink, Source, Wire};
 use rds_wire::Memory;
+use rds_words::{Work, work_of};
 use std::alloc::Global;
 use std::net::Net;
 use std::sync::Wait;
@@ -24,14 +30,15 @@ use std::thread::Threads;
 
 const USAGE: &str = "usage: rds play | rds run [--wire memory|tcp] | rds gen N SEED\n";
 
-/// Runs the program on the words after its name, and gives its exit status (docs/COMMAND.md has the table). It knows two commands,
-/// which read a script from the source: `play` writes its transcript and its report to the sink, and `run` runs it with threads over
-/// streams in memory and writes its report. Before each command of a run its caller asks the gate. Nothing is done with `tcp` yet.
+/// Runs the program on the words after its name, and gives its exit status (docs/COMMAND.md has the table). Two of its
+/// commands read a script from the source: `play` writes its transcript and its report to the sink, and `run` runs it with threads over
+/// streams in memory and writes its report. `gen` generates a script, runs it so, and writes a summary. Before each command of a run its
+/// caller asks the gate. Nothing is done with `tcp` yet.
 ///
 /// | Status | When |
 /// |---|---|
 /// | 0 | the script was played or run, and its text was written |
-/// | 1 | the text is no script, or has more hosts than can be run; the one text line `bad line N: CAUSE` was written |
+/// | 1 | the text is no script; the one text line `bad line N: CAUSE` was written |
 /// | 2 | the words are those of no command; the usage line was written |
 /// | 3 | the source failed; the text line `read fault` was written |
 /// | 4 | the sink failed, after it took a beginning of the answer |
@@ -48,8 +55,8 @@ pub fn rds_main<S: Source, K: Sink, W: Wire, G: Gate + Sync, R: Threads + Wait +
     _tcp: &mut W,
     gate: &G,
 ) -> u8
-    ensures usage { (ArePlay words.now → ⊥) → (AreRun words.now → ⊥) → (result ≡ 2) ⊎ ((result ≡ 4) ⊎ (result ≡ 6)) }
-    ensures usage_only { result ≡ 2 → (ArePlay words.now → ⊥) × (AreRun words.now → ⊥) }
+    ensures usage { AreNoCommand words.now → (result ≡ 2) ⊎ ((result ≡ 4) ⊎ (result ≡ 6)) }
+    ensures usage_only { result ≡ 2 → AreNoCommand words.now }
     ensures usage_text { result ≡ 2 → SinkGained (K.held sink.old) (K.held sink.new) usage_line }
 
     ensures read_fault { result ≡ 3 → HasRisen (S.faults source.old) (S.faults source.new) }
@@ -57,16 +64,14 @@ pub fn rds_main<S: Source, K: Sink, W: Wire, G: Gate + Sync, R: Threads + Wait +
 
     // The sink failed, after it took a beginning of the usage line, or of what `play` has to write.
     ensures write_fault { result ≡ 4 → HasRisen (K.faults sink.old) (K.faults sink.new) }
-    ensures usage_begun { result ≡ 4 → (ArePlay words.now → ⊥) → (AreRun words.now → ⊥) →
-        SinkGainedFront (K.held sink.old) (K.held sink.new) usage_line }
+    ensures usage_begun { result ≡ 4 → AreNoCommand words.now → SinkGainedFront (K.held sink.old) (K.held sink.new) usage_line }
     ensures answer_begun { result ≡ 4 → ArePlay words.now → (answer : List ℕ)
         × IsAnswer record { left = S.left source.old; faults_before = S.faults source.old; faults_after = S.faults source.new } answer
         × SinkGainedFront (K.held sink.old) (K.held sink.new) answer }
     ensures memory { result ≡ 6 → K.held sink.new ≡ K.held sink.old }
 
-    // The text of the source is refused, and the line that was written says where and why. A run of more than two hosts is too.
-    ensures refused { result ≡ 1 → IsRefusal (S.left source.old) (K.held sink.old) (K.held sink.new)
-        ⊎ (AreRun words.now × IsManyHosts (S.left source.old) (K.held sink.old) (K.held sink.new)) }
+    // The text of the source is refused, and the line that was written says where and why.
+    ensures refused { result ≡ 1 → IsRefusal (S.left source.old) (K.held sink.old) (K.held sink.new) }
     // A text that is refused is answered so, unless the source or the sink fails or memory runs out.
     ensures refuses { ArePlay words.now ⊎ AreRun words.now → (line : ℕ) → (cause : Why) → IsToldRefused (S.left source.old) line cause →
         (result ≡ 1 × SinkGained (K.held sink.old) (K.held sink.new) (bad_line line (cause_text cause)))
@@ -75,17 +80,21 @@ pub fn rds_main<S: Source, K: Sink, W: Wire, G: Gate + Sync, R: Threads + Wait +
     // The source's bytes spell a script. It was played to its end, what it came to is sound, and exactly its text was written.
     ensures played { ArePlay words.now → result ≡ 0 →
         (s : Meaning) × IsSpelled (S.left source.old) s × IsPlayed s (K.held sink.old) (K.held sink.new) }
-    // The source's bytes spell a script of two hosts. It was run to its end, its hosts did its commands, what they have then is sound,
-    // and exactly the report on it was written.
+    // The source's bytes spell a script. It was run to its end, its hosts did its commands, what they have then is sound, and exactly the
+    // report on it was written.
     ensures ran { AreRun words.now → result ≡ 0 →
-        (s : Meaning) × IsSpelled (S.left source.old) s × (s.hosts ≡ 2) × IsRan s (K.held sink.old) (K.held sink.new) }
+        (s : Meaning) × IsSpelled (S.left source.old) s × IsRan form.Report s (K.held sink.old) (K.held sink.new) }
+    // The script of so many sends and this seed was run to its end, its hosts did its commands, what they have then is sound, and exactly
+    // the summary of it was written.
+    ensures summed { (sends seed : ℕ) → AreGen words.now sends seed → result ≡ 0 →
+        IsRan (form.Summary seed sends) (generated sends seed) (K.held sink.old) (K.held sink.new) }
     ensures written { ArePlay words.now → result ≡ 0 → (text : List ℕ) × SinkGained (K.held sink.old) (K.held sink.new) (text ++ end_line) }
     // The source's bytes spell a script. It filled a journal, and exactly its text was written, which is the line of that.
     ensures full { ArePlay words.now → result ≡ 7 →
         (s : Meaning) × IsSpelled (S.left source.old) s × IsSpent s (K.held sink.old) (K.held sink.new) }
     // The same of a run, whose journals are sound then.
     ensures filled { AreRun words.now → result ≡ 7 →
-        (s : Meaning) × IsSpelled (S.left source.old) s × (s.hosts ≡ 2) × HasFilled (K.held sink.old) (K.held sink.new) }
+        (s : Meaning) × IsSpelled (S.left source.old) s × HasFilled (K.held sink.old) (K.held sink.new) }
     ensures spent { result ≡ 7 → (host : ℕ) × (peer : ℕ) × (entries : ℕ)
         × SinkGained (K.held sink.old) (K.held sink.new) (spent_line host peer entries) }
     // A text that spells a script is answered so by `play`, unless the source or the sink fails or memory runs out.
@@ -93,8 +102,8 @@ pub fn rds_main<S: Source, K: Sink, W: Wire, G: Gate + Sync, R: Threads + Wait +
         (HasRisen (S.faults source.old) (S.faults source.new) → ⊥) → (HasRisen (K.faults sink.old) (K.faults sink.new) → ⊥) →
         (result ≡ 0) ⊎ ((result ≡ 6) ⊎ (result ≡ 7)) }
 
-    ensures wire_fault { result ≡ 5 → AreRun words.now × IsWireFault (K.held sink.old) (K.held sink.new) }
-    ensures unfinished { result ≡ 8 → AreRun words.now × IsRunUnfinished (K.held sink.old) (K.held sink.new) }
+    ensures wire_fault { result ≡ 5 → (ArePlay words.now → ⊥) × IsWireFault (K.held sink.old) (K.held sink.new) }
+    ensures unfinished { result ≡ 8 → (ArePlay words.now → ⊥) × IsRunUnfinished (K.held sink.old) (K.held sink.new) }
     ensures known { result ≤ 8 }
 {
     do_work(rt, alloc, words, source, sink, gate).code()
@@ -117,6 +126,7 @@ fn do_work<S: Source, K: Sink, G: Gate + Sync, R: Threads + Wait + Net + Sync>(
     match work_of(alloc, words) {
         Ok(Some(Work::Play)) => play_text(alloc, source, sink),
         Ok(Some(Work::Run)) => run_text(rt, alloc, source, sink, gate),
+        Ok(Some(Work::Gen { sends, seed })) => gen_text(rt, alloc, sends, seed, sink, gate),
         Ok(None) => say(sink, USAGE, Status::Usage),
         Err(Memory) => Status::Memory,
     }

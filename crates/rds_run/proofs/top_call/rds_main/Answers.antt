@@ -40,6 +40,9 @@ returns-clause-played g c = ended.played _ _ _ c.do_work.result c.code.result c.
 pub returns-clause-ran : goal.returns-clause-ran
 returns-clause-ran g c = ended.ran _ _ _ c.do_work.result c.code.result c.code.ensures c.do_work.ensures
 
+pub returns-clause-summed : goal.returns-clause-summed
+returns-clause-summed g c = ended.summed _ _ _ c.do_work.result c.code.result c.code.ensures c.do_work.ensures
+
 pub returns-clause-written : goal.returns-clause-written
 returns-clause-written g c = ended.written _ _ _ c.do_work.result c.code.result c.code.ensures c.do_work.ensures
 

@@ -6,7 +6,7 @@ use Rattle.clap.specs.declared.parser.matches.ArgMatches.{ArgMatches}
 use Rattle.clap.specs.declared.error.kind.ErrorKind.{ErrorKind}
 use Rattle.clap.specs.declared.error.kind.ErrorKind.TheVariants as kind
 use Rattle.clap.proofs.WalkLemmas.{first_value-rows}
-use Rattle.rds_run.specs.RunWords.{IsMemoryWire, TakesRun, run_app, run_faults, wire_named}
+use Rattle.rds_words.specs.Run.{IsMemoryWire, TakesRun, run_app, run_faults, wire_named}
 
 -- an error of another kind than memory shows that there was a fault
 pub fault_found : (k : ErrorKind) (faults : Kinds) → (k ≡ kind.OutOfMemory → ⊥) → (k ≡ kind.OutOfMemory) ⊎ IsAmong k faults → faults ≡ [] → ⊥

@@ -1,7 +1,8 @@
 ghost use Rattle.std.specs.Prelude.{IfOk};
-ghost use Rattle.rds_run.specs.RunWords.{IsWorkOf};
+ghost use Rattle.rds_words.specs.Works.{IsWorkOf};
 
-use crate::command_line::is_play;
+use crate::gen_words::gen_numbers;
+use crate::play_words::is_play;
 use crate::run_words::is_run;
 use rds_wire::Memory;
 use std::alloc::Global;
@@ -13,9 +14,15 @@ pub enum Work {
     Play,
     /// Run a script with threads, over streams in memory.
     Run,
+    /// Generate a script of so many sends from a seed, and run it over streams in memory.
+    Gen { sends: u32, seed: u64 },
 }
 
-/// What the words ask for, if they are those of a command.
+/// What the words after the program's name ask for, if they are those of a command.
+///
+/// # Errors
+///
+/// Where there is no memory to look at them.
 pub fn work_of(alloc: Global, words: &[String]) -> Result<Option<Work>, Memory>
     ensures { IfOk result (IsWorkOf words.now) }
 {
@@ -25,5 +32,6 @@ pub fn work_of(alloc: Global, words: &[String]) -> Result<Option<Work>, Memory>
     if is_run(alloc, words)? {
         return Ok(Some(Work::Run));
     }
-    Ok(None)
+    let numbers = gen_numbers(alloc, words)?;
+    Ok(numbers.map(|(sends, seed)| Work::Gen { sends, seed }))
 }

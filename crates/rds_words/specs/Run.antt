@@ -3,9 +3,6 @@ use Rattle.std.specs.Prelude.{◌≡◌, ℕ, List, [], Option, Some, None, map,
 use Rattle.std.specs.Global.{Global}
 use Rattle.clap.specs.Words.{App, Kinds, Rule, new_app, new_rule, with_rule, fault_of, first_of, matches_of}
 use Rattle.clap.specs.declared.builder.action.ArgAction.TheVariants.{Set}
-use Rattle.rds_run.specs.declared.work.Work.{Work}
-use Rattle.rds_run.specs.declared.work.Work.TheVariants as work
-use Rattle.rds_run.specs.Texts.{ArePlay}
 
 -- the definition of `run` for the crate `clap`: it may take one option, `--wire`, with a value
 abbrev pub wire_rule : Rule
@@ -35,9 +32,3 @@ pub record TakesRun (words : List (List ℕ)) : Type 0 where
 -- the words are those of `run`: its name comes first, and `run` takes them
 abbrev pub AreRun : List (String Global) → Type 0
 AreRun words = (slice_get (map string_bytes words) 0 ≡ Some (codes "run")) × TakesRun (map string_bytes words)
-
--- what the words ask for: a script is to be played, or to be run, or neither
-abbrev pub IsWorkOf : List (String Global) → Option Work → Type 0
-IsWorkOf words (Some work.Play) = ArePlay words × (AreRun words → ⊥)
-IsWorkOf words (Some work.Run) = (ArePlay words → ⊥) × AreRun words
-IsWorkOf words None = (ArePlay words → ⊥) × (AreRun words → ⊥)

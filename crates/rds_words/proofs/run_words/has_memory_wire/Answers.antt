@@ -1,8 +1,8 @@
 use Rattle.std.proofs.Common.{◌≡◌, ap₂, ◌∙◌, rules}
 use Rattle.clap.specs.Words.{app_of, rule_of, with_rule}
-use Rattle.rds_run.specs.RunWords.{run_app, wire_rule}
-use Rattle.rds_run.proofs.Parsed.{fault_found, run_a_fault, run_no_fault, takes, wire_found}
-use Rattle.rds_run.proofs.run_words.has_memory_wire.Goals as goal
+use Rattle.rds_words.specs.Run.{run_app, wire_rule}
+use Rattle.rds_words.proofs.Parsed.{fault_found, run_a_fault, run_no_fault, takes, wire_found}
+use Rattle.rds_words.proofs.run_words.has_memory_wire.Goals as goal
 
 pub returns-in-Ok : goal.returns-in-Ok
 returns-in-Ok c =

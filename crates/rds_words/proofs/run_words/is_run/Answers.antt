@@ -1,7 +1,7 @@
 use Rattle.std.proofs.Common.{map, codes, string_bytes}
-use Rattle.rds_run.specs.RunWords.{TakesRun}
-use Rattle.rds_run.proofs.Named.{named, with_name}
-use Rattle.rds_run.proofs.run_words.is_run.Goals as goal
+use Rattle.rds_words.specs.Run.{TakesRun}
+use Rattle.rds_words.proofs.Named.{named, with_name}
+use Rattle.rds_words.proofs.run_words.is_run.Goals as goal
 
 pub returns-in-Some : goal.returns-in-Some
 returns-in-Some c =

@@ -1,5 +1,5 @@
 ghost use Rattle.std.specs.Prelude.{◌≡◌, ◌↔◌, IsTrue, IfOk, [], map, option_map, string_bytes};
-ghost use Rattle.rds_run.specs.RunWords.{AreRun, IsMemoryWire, TakesRun};
+ghost use Rattle.rds_words.specs.Run.{AreRun, IsMemoryWire, TakesRun};
 
 use clap::error::ErrorKind;
 use clap::{Arg, ArgAction, Command};

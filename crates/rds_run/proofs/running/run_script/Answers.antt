@@ -2,7 +2,7 @@ use Rattle.rds_model.specs.declared.journal.TheConstants.{MAX_ENTRIES}
 use Rattle.rds_script.specs.Grammar.{meaning}
 use Rattle.rds_threads.specs.Ends.{Written}
 use Rattle.rds_run.proofs.Ran.{ran_of}
-use Rattle.rds_run.proofs.run_command.run_script.Goals as goal
+use Rattle.rds_run.proofs.running.run_script.Goals as goal
 
 -- refused where a run that didn't end well is told as one that did
 pub returns-in-Ok : goal.returns-in-Ok
@@ -13,4 +13,4 @@ returns-in-Ok g c =
       faults_before = g.K.Sink.faults c.args.sink.now;
       faults_after = g.K.Sink.faults c.run.new.sink;
     } in
-    ran_of MAX_ENTRIES (meaning c.args.script.now) sink c.run.result _ c.in-Ok.is c.run.ensures
+    ran_of MAX_ENTRIES c.args.form (meaning c.args.script.now) sink c.run.result _ c.in-Ok.is c.run.ensures

@@ -1,7 +1,7 @@
 use Rattle.std.proofs.Common.{◌≡◌, [], map, codes, string_bytes}
-use Rattle.rds_run.specs.Texts.{play_faults}
-use Rattle.rds_run.proofs.Named.{named, with_name}
-use Rattle.rds_run.proofs.command_line.is_play.Goals as goal
+use Rattle.rds_words.specs.Play.{play_faults}
+use Rattle.rds_words.proofs.Named.{named, with_name}
+use Rattle.rds_words.proofs.play_words.is_play.Goals as goal
 
 pub returns-in-Some : goal.returns-in-Some
 returns-in-Some c =

@@ -1,5 +1,5 @@
 ghost use Rattle.std.specs.Prelude.{◌≡◌, ◌↔◌, IsTrue, IfOk, [], map, codes, string_bytes};
-ghost use Rattle.rds_run.specs.Texts.{ArePlay, play_faults};
+ghost use Rattle.rds_words.specs.Play.{ArePlay, play_faults};
 
 use clap::Command;
 use clap::error::ErrorKind;

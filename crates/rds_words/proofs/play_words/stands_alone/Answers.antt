@@ -2,9 +2,9 @@ use Rattle.std.proofs.Common.{◌≡◌, ◌⊎◌, ℕ, List, [], true, refl, s
 use Rattle.clap.specs.Words.{App, IsAmong, new_app, fault_of, is_simple_and_free}
 use Rattle.clap.specs.declared.error.kind.ErrorKind.{ErrorKind}
 use Rattle.clap.specs.declared.error.kind.ErrorKind.TheVariants as kind
-use Rattle.rds_run.specs.Texts.{play_faults}
-use Rattle.rds_run.proofs.Parsed.{fault_found}
-use Rattle.rds_run.proofs.command_line.stands_alone.Goals as goal
+use Rattle.rds_words.specs.Play.{play_faults}
+use Rattle.rds_words.proofs.Parsed.{fault_found}
+use Rattle.rds_words.proofs.play_words.stands_alone.Goals as goal
 
 -- where the parse succeeds, there is no fault
 no_fault : (app : App) (words : List (List ℕ)) → app ≡ new_app (codes "play") →

@@ -1,0 +1,51 @@
+ghost use Rattle.rds_script.specs.Script.{IsScript};
+ghost use Rattle.rds_script.specs.Grammar.{meaning};
+ghost use Rattle.rds_run.specs.RunStatus.{IsEndOfScript};
+
+use crate::status::Status;
+use rds_link::{Gate, MemWire, Sink};
+use rds_model::MAX_ENTRIES;
+use rds_script::Script;
+use rds_threads::{Form, RunEnd, run};
+use std::alloc::Global;
+use std::net::Net;
+use std::sync::Wait;
+use std::thread::Threads;
+
+/// How many quiet rounds a run waits for acknowledgements at most, over streams that don't tell their bytes.
+const BUDGET: u64 = 20_000_000;
+
+/// Runs a script over streams in memory, and writes the text of this form to the sink.
+pub(crate) fn run_script<K: Sink, G: Gate + Sync, R: Threads + Wait + Net + Sync>(
+    rt: &R,
+    alloc: Global,
+    script: &Script,
+    form: Form,
+    sink: &mut K,
+    gate: &G,
+) -> Status
+    requires script { IsScript script.now }
+    ensures { IsEndOfScript form (meaning script.now)
+        record { held_before = K.held sink.old; held_after = K.held sink.new; faults_before = K.faults sink.old; faults_after = K.faults sink.new }
+        result }
+{
+    let mut wire = MemWire::new(alloc, Vec::new(alloc), Vec::new(alloc));
+    match run(
+        rt,
+        alloc,
+        script,
+        &mut wire,
+        gate,
+        form,
+        MAX_ENTRIES,
+        BUDGET,
+        sink,
+    ) {
+        RunEnd::Ok { .. } => Status::Written,
+        RunEnd::WireFault { .. } => Status::WireFault,
+        RunEnd::Spent { .. } => Status::Spent,
+        RunEnd::Unfinished { .. } => Status::Unfinished,
+        RunEnd::WriteFault => Status::WriteFault,
+        RunEnd::Memory => Status::Memory,
+    }
+}

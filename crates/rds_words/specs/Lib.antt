@@ -1,0 +1,4 @@
+pub mod Play
+pub mod Run
+pub mod Gen
+pub mod Works

@@ -1,0 +1,9 @@
+//! The command line of `rds`: which words ask for what.
+#![tactic(auto)]
+
+mod gen_words;
+mod play_words;
+mod run_words;
+mod work;
+
+pub use work::{Work, work_of};
