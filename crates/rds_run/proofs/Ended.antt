@@ -1,5 +1,5 @@
 -- What the program's exit status says, by how it ends.
-use Rattle.std.proofs.Common.{◌≡◌, ◌⊎◌, inl, inr, ℕ, ◌==◌, ◌≤◌, ◌++◌, List, Option, Some, String, codes, cond, map, slice_get, slice_index, string_bytes, sym, ap, subst, unwrap_or, ⊎_elim, ◌∙◌, refl, arith}
+use Rattle.std.proofs.Common.{◌≡◌, ◌⊎◌, inl, inr, ℕ, ◌==◌, ◌≤◌, ◌++◌, List, Option, Some, None, String, codes, cond, map, slice_get, slice_index, string_bytes, sym, ap, subst, unwrap_or, ⊎_elim, ◌∙◌, refl, arith}
 use Rattle.std.specs.Global.{Global}
 use Rattle.rds_link.specs.Streaming.{HasRisen, SinkGained, SinkGainedFront}
 use Rattle.rds_script.specs.declared.cause.Cause.{Cause}
@@ -77,6 +77,11 @@ of_play words source sink s is ends refuses plays = OfPlay is (record { ends = e
 pub of_run : (words : List (String Global)) (source : SourceSeen) (sink : SinkSeen) (s : Status) → AreRun words → IsEndOfRunCall source sink s
     → ((line : ℕ) (why : Cause) → IsToldRefused source.left line why → IsEndOfRefusal line why sink s ⊎ ((s ≡ ended.ReadFault) ⊎ (s ≡ ended.WriteFault))) → IsEndOfProgram words source sink s
 of_run words source sink s is ends refuses = OfRun is (record { ends = ends; refuses = refuses })
+
+-- a number of sends is in range
+pub sends_in : (word : Option (List ℕ)) (n : ℕ) → IsNamed 1 100000 word n → (1 ≤ n) × (n ≤ 100000)
+sends_in None n is = absurd is
+sends_in (Some word) n is = (is.least, is.most)
 
 -- the names of two commands differ, so no words are those of both
 same_name : (words : List (List ℕ)) (a b : List ℕ) → slice_get words 0 ≡ Some a → slice_get words 0 ≡ Some b → a ≡ b

@@ -87,7 +87,7 @@ fn a_failing_sink(rt: HostRuntime) -> Result<(), Fail> {
 
 #[test]
 fn words_of_no_command_that_runs(rt: HostRuntime) -> Result<(), Fail> {
-    let lines: [&[&str]; 9] = [
+    let lines: [&[&str]; 12] = [
         &["Play"],
         &["play", "hello.rds"],
         &["play", "--help"],
@@ -96,7 +96,10 @@ fn words_of_no_command_that_runs(rt: HostRuntime) -> Result<(), Fail> {
         &["run", "hello.rds"],
         &["run", "--wire"],
         &["run", "--wire", "pigeon"],
-        &["gen", "1", "0"],
+        &["gen", "1"],
+        &["gen", "0", "1"],
+        &["gen", "100001", "1"],
+        &["gen", "1", "18446744073709551616"],
     ];
     for words in lines {
         assert_answer(&rt, rt.alloc(), words, BINDS, 2, USAGE)?;
@@ -123,15 +126,16 @@ fn a_run_over_memory(rt: HostRuntime) -> Result<(), Fail> {
 }
 
 #[test]
-fn a_run_of_three_hosts_is_refused(rt: HostRuntime) -> Result<(), Fail> {
-    assert_answer(
-        &rt,
-        rt.alloc(),
-        &["run"],
-        "# more\nhosts 3\n",
-        1,
-        "bad line 2: hosts\n",
-    )
+fn a_run_of_three_hosts(rt: HostRuntime) -> Result<(), Fail> {
+    let script = "hosts 3\nbind A 7 9 9\nbind C 8 9 9\nsend A 7 C 8 x:01\n";
+    let text = "A:7>C:8 accepted 1 received 1 unread 0 dropped 0 port0 0 cancelled 0 pending 0\n data=01\nend ok\n";
+    assert_answer(&rt, rt.alloc(), &["run"], script, 0, text)
+}
+
+#[test]
+fn a_generated_script(rt: HostRuntime) -> Result<(), Fail> {
+    let text = "seed 1 sends 5 hosts 8 sockets 32 cuts 0 accepted 5 received 5 unread 0 dropped 0 port0 0 cancelled 0 bytes 10\nend ok\n";
+    assert_answer(&rt, rt.alloc(), &["gen", "5", "1"], "", 0, text)
 }
 
 #[test]

@@ -1,10 +1,10 @@
-use Rattle.std.proofs.Common.{Some, ap, refl, rules, subst, ◌∙◌}
+use Rattle.std.proofs.Common.{Some, ap, codes, map, refl, rules, string_bytes, subst, ◌∙◌}
 use Rattle.rds_run.specs.Ending.{OfGen, OfMemory, OfNone}
-use Rattle.rds_words.specs.Gen.{AreGen}
+use Rattle.rds_words.specs.Gen.{AreGen, gen_word}
 use Rattle.rds_words.specs.Play.{ArePlay}
 use Rattle.rds_words.specs.Run.{AreRun}
 use Rattle.rds_words.specs.Works.{IsWorkOf}
-use Rattle.rds_run.proofs.Ended.{of_play, of_run, usage_of}
+use Rattle.rds_run.proofs.Ended.{of_play, of_run, sends_in, usage_of}
 use Rattle.rds_run.proofs.top_call.do_work.Goals as goal
 
 pub returns-in-Ok-Some-Play : goal.returns-in-Ok-Some-Play
@@ -23,7 +23,8 @@ pub gen_text-requires : goal.gen_text-requires
 gen_text-requires g c =
     let gen : AreGen c.args.words.now c.in-Ok-Some-Gen.sends c.in-Ok-Some-Gen.seed =
     subst (IsWorkOf c.args.words.now) (c.in-Ok-Some-Gen.field-0-is ∙ ap Some c.in-Ok-Some-Gen.field-0-0-is) (c.in-Ok-Some-Gen.ensures {u = tt}) in
-    ?
+    let range = sends_in (gen_word (codes "sends") (map string_bytes c.args.words.now)) c.in-Ok-Some-Gen.sends gen.1.numbers.0 in
+    record { some = range.0; most = range.1 }
 
 pub returns-in-Ok-Some-Gen : goal.returns-in-Ok-Some-Gen
 returns-in-Ok-Some-Gen g c =
