@@ -1,5 +1,5 @@
--- The report of items that stand in the order of their pairs, pair by pair.
-use Rattle.std.proofs.Common.{◌≡◌, ◌<◌, ◌+◌, inl, inr, ℕ, suc, Bool, true, false, not, ◌&&◌, ◌||◌, ◌==◌, if◌then◌else◌, cond, List, [], ◌∷◌, ◌++◌, length, map, filter, take, drop, get_or, arith, refl, sym, ap, ◌∙◌, subst}
+-- Items that stand in the order of their pairs, pair by pair.
+use Rattle.std.proofs.Common.{◌≡◌, ◌<◌, ◌+◌, inl, inr, ℕ, suc, Bool, true, false, not, ◌&&◌, ◌||◌, ◌==◌, if◌then◌else◌, cond, List, [], ◌∷◌, ◌++◌, length, map, filter, take, drop, get_or, arith, refl, sym, ap, ◌∙◌, subst, length-append}
 use Rattle.std.specs.Bool.{⊤}
 use Rattle.std.specs.List.{flat_map, prefix_len}
 use Rattle.std.proofs.lemmas.Bool.{true≢false, cases_eq, ne_eqb, eq-eqb}
@@ -8,9 +8,10 @@ use Rattle.std.proofs.lemmas.List.Elements.{filter-append}
 use Rattle.std.proofs.lemmas.List.Folds.{list_any-append}
 use Rattle.rds_report.specs.declared.item.Item.{Item}
 use Rattle.rds_report.specs.Hosts.{IsAddress}
-use Rattle.rds_report.specs.Report.{Group, Counts, is_before, ascending}
+use Rattle.rds_report.specs.Report.{Group, is_before, ascending}
 use Rattle.rds_report.specs.Items.{seen}
 use Rattle.rds_report.specs.ItemReport.{is_same, is_of, is_accepted, count_of, of_pair, accepted_pairs, pair_lines, lines_of, groups_text, AreKnown, AreNotBefore, IsUp}
+use Rattle.rds_report.specs.ItemTotals.{grouped, with_accepted}
 use Rattle.rds_report.proofs.Orders.{same_is, same_itself, before_itself, same_sym, before_either, before_differs, not_before_trans, before_then_not, Above, has, rising_one, rising_ascending, has_ascending}
 
 pub filter_tests : {X : Type 0} (p q : X → Bool) → ((x : X) → p x ≡ q x) → (xs : List X) → filter p xs ≡ filter q xs
@@ -161,10 +162,14 @@ above_members g l (a ∷ m) h from = (
   above_members g l m h (λ k in'. from k (ap (λ (x : Bool). is_same k a || x) in' ∙ or_true (is_same k a))),
 )
 
-module _ (g : Group) (run rest : List Item) (of' : AreOf g run) (after : AreAfter g rest) where
-  abbrev text_at : List Item → Group → List ℕ
-  text_at items k = pair_lines k (of_pair k items)
+-- a list for each pair that has an item that was accepted, and that of a run
+abbrev pub parts : {T : Type 0} → (Group → List Item → List T) → List Item → List T
+parts f items = flat_map (λ g. f g (of_pair g items)) (ascending (accepted_pairs items))
 
+abbrev pub part : {T : Type 0} → (Group → List Item → List T) → Group → List Item → List T
+part f g items = if count_of is_accepted items == 0 then [] else f g items
+
+module _ (g : Group) (run rest : List Item) (of' : AreOf g run) (after : AreAfter g rest) where
   own : of_pair g (run ++ rest) ≡ run
   own = filter-append (is_of g) run rest ∙ ap (λ (l : List Item). l ++ of_pair g rest) (filter_of g run of') ∙ ap (λ (l : List Item). run ++ l) (filter_after g rest after) ∙ append-nil run
 
@@ -173,11 +178,12 @@ module _ (g : Group) (run rest : List Item) (of' : AreOf g run) (after : AreAfte
       filter-append (is_of k) run rest
       ∙ ap (λ (l : List Item). l ++ of_pair k rest) (filter_other g k run (same_sym k g ∙ before_differs g k less) of')
 
-  others : (l : List Group) → Above g l → flat_map (text_at (run ++ rest)) l ≡ flat_map (text_at rest) l
-  others [] h = refl
-  others (k ∷ l) h =
-      ap (λ (items : List Item). pair_lines k items ++ flat_map (text_at (run ++ rest)) l) (other k h.0)
-      ∙ ap (λ (t : List ℕ). text_at rest k ++ t) (others l h.1)
+  others : {T : Type 0} (f : Group → List Item → List T) (l : List Group) → Above g l →
+      flat_map (λ k. f k (of_pair k (run ++ rest))) l ≡ flat_map (λ k. f k (of_pair k rest)) l
+  others f [] h = refl
+  others {T} f (k ∷ l) h =
+      ap (λ (items : List Item). f k items ++ flat_map (λ k. f k (of_pair k (run ++ rest))) l) (other k h.0)
+      ∙ ap (λ (t : List T). f k (of_pair k rest) ++ t) (others f l h.1)
 
   all_above : Above g (ascending (accepted_pairs rest))
   all_above = above_members g (accepted_pairs rest) (ascending (accepted_pairs rest)) (pairs_after g rest after) (λ k in'. sym (has_ascending k (accepted_pairs rest)) ∙ in')
@@ -189,25 +195,25 @@ module _ (g : Group) (run rest : List Item) (of' : AreOf g run) (after : AreAfte
       ∙ list_any-append (is_same k) (accepted_pairs run) (accepted_pairs rest)
       ∙ ap (λ (b : Bool). b || has k (accepted_pairs rest)) (pairs_of g run of' k)
 
-  pub split_lines : groups_text (run ++ rest) ≡ lines_of g run ++ groups_text rest
-  split_lines = go (count_of is_accepted run == 0) refl
+  pub split_parts : {T : Type 0} (f : Group → List Item → List T) → parts f (run ++ rest) ≡ part f g run ++ parts f rest
+  split_parts {T} f = go (count_of is_accepted run == 0) refl
     where
-      go : (b : Bool) → (count_of is_accepted run == 0) ≡ b → groups_text (run ++ rest) ≡ lines_of g run ++ groups_text rest
+      go : (b : Bool) → (count_of is_accepted run == 0) ≡ b → parts f (run ++ rest) ≡ part f g run ++ parts f rest
       go true none =
           let same : ascending (accepted_pairs (run ++ rest)) ≡ ascending (accepted_pairs rest) =
           rising_one (ascending (accepted_pairs (run ++ rest))) (ascending (accepted_pairs rest)) (rising_ascending (accepted_pairs (run ++ rest))) (rising_ascending (accepted_pairs rest))
           (λ k. members k ∙ ap (λ (b : Bool). (not b && is_same k g) || has k (accepted_pairs rest)) none ∙ sym (has_ascending k (accepted_pairs rest))) in
-          ap (flat_map (text_at (run ++ rest))) same ∙ others (ascending (accepted_pairs rest)) all_above
-          ∙ ap (λ (b : Bool). (if b then [] else pair_lines g run) ++ groups_text rest) (sym none)
+          ap (flat_map (λ k. f k (of_pair k (run ++ rest)))) same ∙ others f (ascending (accepted_pairs rest)) all_above
+          ∙ ap (λ (b : Bool). (if b then [] else f g run) ++ parts f rest) (sym none)
       go false some =
           let same : ascending (accepted_pairs (run ++ rest)) ≡ g ∷ ascending (accepted_pairs rest) =
           rising_one (ascending (accepted_pairs (run ++ rest))) (g ∷ ascending (accepted_pairs rest)) (rising_ascending (accepted_pairs (run ++ rest)))
           (all_above, rising_ascending (accepted_pairs rest))
           (λ k. members k ∙ ap (λ (b : Bool). (not b && is_same k g) || has k (accepted_pairs rest)) some ∙ ap (λ (b : Bool). is_same k g || b) (sym (has_ascending k (accepted_pairs rest)))) in
-          ap (flat_map (text_at (run ++ rest))) same
-          ∙ ap (λ (items : List Item). pair_lines g items ++ flat_map (text_at (run ++ rest)) (ascending (accepted_pairs rest))) own
-          ∙ ap (λ (t : List ℕ). pair_lines g run ++ t) (others (ascending (accepted_pairs rest)) all_above)
-          ∙ ap (λ (b : Bool). (if b then [] else pair_lines g run) ++ groups_text rest) (sym some)
+          ap (flat_map (λ k. f k (of_pair k (run ++ rest)))) same
+          ∙ ap (λ (items : List Item). f g items ++ flat_map (λ k. f k (of_pair k (run ++ rest))) (ascending (accepted_pairs rest))) own
+          ∙ ap (λ (t : List T). f g run ++ t) (others f (ascending (accepted_pairs rest)) all_above)
+          ∙ ap (λ (b : Bool). (if b then [] else f g run) ++ parts f rest) (sym some)
 
   -- the accepted pairs of both are known
   pub known_rest : AreKnown (run ++ rest) → AreKnown rest
@@ -222,20 +228,12 @@ module _ (g : Group) (run rest : List Item) (of' : AreOf g run) (after : AreAfte
       ∙ ap (λ (b : Bool). (not b && is_same g g) || has g (accepted_pairs rest)) some
       ∙ ap (λ (b : Bool). b || has g (accepted_pairs rest)) (same_itself g))
 
--- counts by their fields
-abbrev counts_of : (a b c d e f : ℕ) → Counts
-counts_of a b c d e f = record { accepted = a; received = b; unread = c; dropped = d; port0 = e; cancelled = f }
-
-pub same_counts : {a b c d e f a' b' c' d' e' f' : ℕ} → a ≡ a' → b ≡ b' → c ≡ c' → d ≡ d' → e ≡ e' → f ≡ f' →
-    counts_of a b c d e f ≡ counts_of a' b' c' d' e' f'
-same_counts x y z u v w = cc
-
 -- a turn of the loop
-pub peel : (g : Group) (items : List Item) → AreNotBefore g items → IsUp items →
-    groups_text items ≡ lines_of g (take (prefix_len (is_of g) items) items) ++ groups_text (drop (prefix_len (is_of g) items) items)
-peel g items first up =
-    ap groups_text (sym (take-append-drop (prefix_len (is_of g) items) items))
-    ∙ split_lines g (take (prefix_len (is_of g) items) items) (drop (prefix_len (is_of g) items) items) (run_of g items) (rest_after g items first up).0
+pub peel : {T : Type 0} (f : Group → List Item → List T) (g : Group) (items : List Item) → AreNotBefore g items → IsUp items →
+    parts f items ≡ part f g (take (prefix_len (is_of g) items) items) ++ parts f (drop (prefix_len (is_of g) items) items)
+peel f g items first up =
+    ap (parts f) (sym (take-append-drop (prefix_len (is_of g) items) items))
+    ∙ split_parts g (take (prefix_len (is_of g) items) items) (drop (prefix_len (is_of g) items) items) (run_of g items) (rest_after g items first up).0 f
 
 -- the first item's pair is first, and its run isn't empty
 pub first_first : (items : List Item) (d : Item) → 0 < length items → IsUp items → AreNotBefore (seen (get_or items 0 d).group) items
@@ -253,7 +251,7 @@ positive n h = elim (cases_eq n 0) [
   | inr o ↦ omega (arith, o)
 ]
 
--- what a turn of the loop prints, and what it leaves
+-- what a turn of the loop takes, and what it leaves
 module _ (g : Group) (items run rest : List Item) (n : ℕ) (n_is : n ≡ prefix_len (is_of g) items) (run_is : run ≡ take n items) (rest_is : rest ≡ drop n items)
     (first : AreNotBefore g items) (up : IsUp items) where
   the_run : run ≡ take (prefix_len (is_of g) items) items
@@ -265,11 +263,23 @@ module _ (g : Group) (items run rest : List Item) (n : ℕ) (n_is : n ≡ prefix
   all : take (prefix_len (is_of g) items) items ++ drop (prefix_len (is_of g) items) items ≡ items
   all = take-append-drop (prefix_len (is_of g) items) items
 
+  pub peeled_parts : {T : Type 0} (f : Group → List Item → List T) → parts f items ≡ part f g run ++ parts f rest
+  peeled_parts f =
+      peel f g items first up
+      ∙ ap (λ (l : List Item). part f g l ++ parts f (drop (prefix_len (is_of g) items) items)) (sym the_run)
+      ∙ ap (λ (l : List Item). part f g run ++ parts f l) (sym the_rest)
+
   pub peeled_text : groups_text items ≡ lines_of g run ++ groups_text rest
-  peeled_text =
-      peel g items first up
-      ∙ ap (λ (l : List Item). lines_of g l ++ groups_text (drop (prefix_len (is_of g) items) items)) (sym the_run)
-      ∙ ap (λ (l : List Item). lines_of g run ++ groups_text l) (sym the_rest)
+  peeled_text = peeled_parts pair_lines
+
+  pub peeled_items : grouped items ≡ with_accepted run ++ grouped rest
+  peeled_items = peeled_parts (λ k l. l)
+
+  pub peeled_length : length items ≡ length run + length rest
+  peeled_length =
+      ap length (sym all) ∙ length-append (take (prefix_len (is_of g) items) items) (drop (prefix_len (is_of g) items) items)
+      ∙ ap (λ (l : List Item). length l + length (drop (prefix_len (is_of g) items) items)) (sym the_run)
+      ∙ ap (λ (l : List Item). length run + length l) (sym the_rest)
 
   pub peeled_up : IsUp rest
   peeled_up = subst IsUp (sym the_rest) (rest_after g items first up).1

@@ -6,3 +6,6 @@ pub mod Orders
 pub mod Chunks
 pub mod Selected
 pub mod Tallied
+pub mod Words
+pub mod Counted
+pub mod Totalled

@@ -24,7 +24,8 @@ use Rattle.rds_report.specs.Views.{AreSides, AreFinalHosts}
 use Rattle.rds_report.specs.Items.{seen, item, accepted_items, sent_items, read_items, came_items, socket_items, is_lost, side_items, host_items, items}
 use Rattle.rds_report.specs.ItemReport.{is_same, is_of, of_pair, is_accepted, is_received, is_unread, is_dropped, is_port0, is_cancelled_item, tally, data_lines, pair_lines, accepted_pairs, groups_text, AreKnown}
 use Rattle.rds_report.proofs.Orders.{has, rising_one, rising_ascending, has_ascending, same_is}
-use Rattle.rds_report.proofs.Chunks.{accepting, pairs_append, same_counts}
+use Rattle.rds_report.proofs.Chunks.{accepting, pairs_append}
+use Rattle.rds_report.proofs.Counted.{same_counts}
 use Rattle.rds_report.proofs.Selected.{eq_comm, of_kind, chosen, chosen_append, none_chosen, kindless_sent, kindless_came, kindless_sockets, kindless_map, EndsOnce, AllSidesOnce, sides_once, ends_once, all_sent, all_came, all_kept}
 
 -- an item between the hosts of a pair is of the pair where its ports are
@@ -280,10 +281,10 @@ module _ (ends : List FinalHost) (once : EndsOnce ends) (sides : AllSidesOnce en
   abbrev back : List Entry
   back = past_of g.to g.from ends
 
-  got_all : chosen is_received g (items ends) ≡ map (got_item g) (received ends g)
+  pub got_all : chosen is_received g (items ends) ≡ map (got_item g) (received ends g)
   got_all = all_kept is_received g ends (no_sent is_received refl refl) (no_came is_received refl refl) once ∙ got_chosen g (sockets_of g.to ends)
 
-  tally_is : tally (of_pair g (items ends)) ≡ counts ends g
+  pub tally_is : tally (of_pair g (items ends)) ≡ counts ends g
   tally_is =
       same_counts
       (ap length (all_sent is_accepted g ends (no_came is_accepted refl refl) (no_kept is_accepted (λ p. refl) refl) once sides) ∙ accepted_count g (is_lost there back) there)
@@ -414,7 +415,7 @@ known_groups ends are g =
     let s = get_or e.sides j f in
     known_sent g e.addr s.peer s.past (are.addresses k d below) ((are.sides k d below).peers j f within)))
 
-all_once : (ends : List FinalHost) → ((k : ℕ) (d : FinalHost) → k < length ends → AreSides (get_or ends k d).sides) → AllSidesOnce ends
+pub all_once : (ends : List FinalHost) → ((k : ℕ) (d : FinalHost) → k < length ends → AreSides (get_or ends k d).sides) → AllSidesOnce ends
 all_once [] h = tt
 all_once (e ∷ ends) h = (sides_once e.sides (h 0 e (omega arith)).once, all_once ends (λ k d l. h (suc k) d (omega arith)))
 
@@ -430,10 +431,13 @@ module _ (ends : List FinalHost) (are : AreFinalHosts ends) (sorted : List Item)
   pub sorted_known : AreKnown sorted
   sorted_known g in' = known_groups ends are g (sym (members g) ∙ in')
 
+  pub sorted_groups : ascending (accepted_pairs sorted) ≡ groups ends
+  sorted_groups =
+      rising_one (ascending (accepted_pairs sorted)) (groups ends) (rising_ascending (accepted_pairs sorted)) (rising_ascending (flat_map end_groups ends))
+      (λ g. has_ascending g (accepted_pairs sorted) ∙ members g ∙ sym (has_ascending g (flat_map end_groups ends)))
+
   pub sorted_text : groups_text sorted ≡ flat_map (group_text ends) (groups ends)
   sorted_text =
       flat_map_same (λ g. pair_lines g (of_pair g sorted)) (group_text ends)
       (λ g. ap (pair_lines g) (stable g) ∙ pair_is ends (ends_once ends are.once) (all_once ends are.sides) g) (ascending (accepted_pairs sorted))
-      ∙ ap (flat_map (group_text ends))
-      (rising_one (ascending (accepted_pairs sorted)) (groups ends) (rising_ascending (accepted_pairs sorted)) (rising_ascending (flat_map end_groups ends))
-      (λ g. has_ascending g (accepted_pairs sorted) ∙ members g ∙ sym (has_ascending g (flat_map end_groups ends))))
+      ∙ ap (flat_map (group_text ends)) sorted_groups

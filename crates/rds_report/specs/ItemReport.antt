@@ -1,4 +1,4 @@
--- Private: needed by the proof of `report` only. The report of items. Source: this project's own.
+-- Private: needed by the proofs of `report` and `summary` only. The report of items. Source: this project's own.
 use Rattle.std.specs.Prelude.{◌≡◌, ℕ, ⊤, ◌==◌, if◌then◌else◌, ◌&&◌, Bool, true, false, List, [], ◌∷◌, ◌++◌, length, filter, map, codes}
 use Rattle.std.specs.List.{flat_map, list_any}
 use Rattle.rds_text.specs.Words.{hex}

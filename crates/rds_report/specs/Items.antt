@@ -1,5 +1,5 @@
--- Private: needed by the proof of `report` only. The items of the report: each datagram, once for each thing that is
--- counted of it. Source: this project's own.
+-- Private: needed by the proofs of `report` and `summary` only. The items of the report: each datagram, once for each thing
+-- that is counted of it. Source: this project's own.
 use Rattle.std.specs.Prelude.{ℕ, suc, ◌==◌, ◌&&◌, not, Bool, true, false, Option, Some, None, List, [], ◌∷◌, ◌++◌, map}
 use Rattle.std.specs.List.{flat_map}
 use Rattle.rds_model.specs.declared.order.Datagram.{Datagram}

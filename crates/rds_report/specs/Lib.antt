@@ -6,3 +6,4 @@ pub mod Items
 pub mod ItemReport
 pub mod TakenBackWalk
 pub mod Summary
+pub mod ItemTotals

@@ -1,5 +1,5 @@
--- Private: needed by the proof of `report` only. A walk back over a journal, which finds the numbers that were taken back.
--- Source: this project's own.
+-- Private: needed by the proofs of `report` and `summary` only. A walk back over a journal, which finds the numbers that
+-- were taken back. Source: this project's own.
 use Rattle.std.specs.Prelude.{◌≡◌, ℕ, ◌-◌, ◌&&◌, ◌||◌, nat_lt, Bool, false, Option, Some, None, List, [], ◌∷◌, ◌++◌, length, drop}
 use Rattle.std.specs.BTreeMap as tree
 use Rattle.std.specs.Ordering.{nat_cmp, ordering_then}

@@ -1,5 +1,7 @@
-ghost use Rattle.std.specs.Prelude.{◌≡◌, ◌-◌, ◌+◌};
-ghost use Rattle.rds_report.specs.ItemReport.{count_of, is_accepted, is_received, is_unread, is_dropped, is_port0, is_cancelled_item};
+ghost use Rattle.std.specs.Prelude.{◌≡◌, ◌-◌, ◌+◌, ◌^◌, ◌<◌, [], length};
+ghost use Rattle.rds_report.specs.ItemReport.{count_of, is_accepted, is_received, is_unread, is_dropped, is_port0, is_cancelled_item, tally};
+ghost use Rattle.rds_report.specs.Summary.{plus as together};
+ghost use Rattle.rds_report.specs.ItemTotals.{count_all, seen_counts};
 
 use crate::item::{Item, What};
 
@@ -23,6 +25,7 @@ impl Counts {
         ensures dropped { result.dropped ≡ count_of is_dropped items.now }
         ensures port0 { result.port0 ≡ count_of is_port0 items.now }
         ensures cancelled { result.cancelled ≡ count_of is_cancelled_item items.now }
+        ensures all { count_all (seen_counts result) ≡ length items.now }
     {
         Counts {
             accepted: accepted(items),
@@ -31,6 +34,35 @@ impl Counts {
             dropped: dropped(items),
             port0: port0(items),
             cancelled: cancelled(items),
+        }
+    }
+
+    /// No item was counted yet.
+    pub fn none() -> Counts
+        ensures { seen_counts result ≡ tally [] }
+    {
+        Counts {
+            accepted: 0,
+            received: 0,
+            unread: 0,
+            dropped: 0,
+            port0: 0,
+            cancelled: 0,
+        }
+    }
+
+    /// The counts of the items of both.
+    pub fn plus(self, more: Counts) -> Counts
+        requires { count_all (seen_counts self) + count_all (seen_counts more) < 2 ^ 64 }
+        ensures { seen_counts result ≡ together (seen_counts self) (seen_counts more) }
+    {
+        Counts {
+            accepted: self.accepted + more.accepted,
+            received: self.received + more.received,
+            unread: self.unread + more.unread,
+            dropped: self.dropped + more.dropped,
+            port0: self.port0 + more.port0,
+            cancelled: self.cancelled + more.cancelled,
         }
     }
 

@@ -1,4 +1,4 @@
-//! The report at the end of a transcript: what became of the datagrams of each port pair.
+//! The report at the end of a transcript, and its summary: what became of the datagrams of each port pair, and of all together.
 #![tactic(auto)]
 
 mod acknowledgements;
@@ -8,15 +8,19 @@ mod collect;
 mod counts;
 mod final_state;
 mod flags;
+mod grouping;
 mod item;
 mod lost;
 mod print;
 mod reporting;
+mod summing;
 mod taken;
+mod totals;
 
 pub use addresses::{FIRST_ADDRESS, address, host_of};
 pub use final_state::{HostEnd, Kept};
 pub use reporting::report;
+pub use summing::summary;
 
 #[cfg(test)]
 mod tests;

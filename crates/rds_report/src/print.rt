@@ -1,14 +1,16 @@
 ghost use Rattle.std.specs.Prelude.{◌≡◌, ◌++◌, ◌∷◌, [], ◌==◌, false, OnOk, string_bytes};
-ghost use Rattle.std.specs.List.{flat_map, prefix_len};
+ghost use Rattle.std.specs.List.{flat_map};
 ghost use Rattle.rds_report.specs.declared.item.Item.{Item as Piece};
 ghost use Rattle.std.specs.Fmt.{decimal};
 ghost use Rattle.rds_report.specs.Hosts.{IsAddress};
 ghost use Rattle.rds_report.specs.Report.{pair_text, counts_line};
 ghost use Rattle.rds_text.specs.Lines.{phrase};
 ghost use Rattle.rds_report.specs.Items.{seen};
-ghost use Rattle.rds_report.specs.ItemReport.{AreKnown, IsUp, groups_text, lines_of, data_lines, count_of, is_accepted, is_of};
+ghost use Rattle.rds_report.specs.ItemReport.{AreKnown, IsUp, groups_text, lines_of, data_lines, count_of, is_accepted};
+ghost use Rattle.rds_report.specs.ItemTotals.{fates, seen_counts};
 
 use crate::counts::Counts;
+use crate::grouping::run_length;
 use crate::host_of;
 use crate::item::{Group, Item, What};
 use rds_text::{Hex, HostName};
@@ -27,25 +29,6 @@ pub fn print_groups(text: &mut String, items: &[Item]) -> Result<(), Memory>
         rest = others;
     }
     Ok(())
-}
-
-// How many items of a group stand in front.
-fn run_length(items: &[Item], group: Group) -> usize
-    ensures { result ≡ prefix_len (is_of (seen group)) items.now }
-{
-    for i in 0..items.len() {
-        if !is_in(group, &items[i]) {
-            return i;
-        }
-    }
-    items.len()
-}
-
-// Whether an item is of a group.
-fn is_in(group: Group, item: &Item) -> bool
-    ensures { result ≡ is_of (seen group) item.now }
-{
-    group == item.group
 }
 
 // Prints the items of a group, unless none was accepted.
@@ -95,7 +78,17 @@ fn print_data(text: &mut String, what: &What) -> Result<(), Memory>
 }
 
 fn print_counts(text: &mut String, counts: Counts) -> Result<(), Memory>
-    ensures { OnOk result (string_bytes text.new ≡ string_bytes text.old ++ counts_line record { accepted = counts.accepted; received = counts.received; unread = counts.unread; dropped = counts.dropped; port0 = counts.port0; cancelled = counts.cancelled }) }
+    ensures { OnOk result (string_bytes text.new ≡ string_bytes text.old ++ counts_line (seen_counts counts)) }
+{
+    print_fates(text, counts)?;
+    let pending = counts.pending();
+    writeln!(text, " pending {pending}")?;
+    Ok(())
+}
+
+/// Prints the counts, each behind its word.
+pub fn print_fates(text: &mut String, counts: Counts) -> Result<(), Memory>
+    ensures { OnOk result (string_bytes text.new ≡ string_bytes text.old ++ fates (seen_counts counts)) }
 {
     print_two(
         text,
@@ -111,10 +104,7 @@ fn print_counts(text: &mut String, counts: Counts) -> Result<(), Memory>
         counts.port0,
         " cancelled ",
         counts.cancelled,
-    )?;
-    let pending = counts.pending();
-    writeln!(text, " pending {pending}")?;
-    Ok(())
+    )
 }
 
 // Prints two counts, each behind its words.

@@ -1,10 +1,9 @@
 ghost use Rattle.std.specs.Prelude.{◌≡◌, ◌++◌, ℕ, List, OnOk, string_bytes};
 ghost use Rattle.rds_report.specs.Views.{AreFinalHosts, host_views};
 ghost use Rattle.rds_text.specs.Lines.{end_line};
-ghost use Rattle.rds_report.specs.Report.{Group as Pair, report as text_of};
-ghost use Rattle.rds_report.specs.ItemReport.{IsUp, of_pair};
+ghost use Rattle.rds_report.specs.Report.{report as text_of};
 
-use crate::item::Item;
+use crate::grouping::sort;
 use crate::{HostEnd, collect, print};
 use rds_wire::Memory;
 use std::alloc::Global;
@@ -22,14 +21,5 @@ pub fn report(alloc: Global, text: &mut String, hosts: &[HostEnd]) -> Result<(),
     sort(&mut items)?;
     print::print_groups(text, &items)?;
     writeln!(text, "end ok")?;
-    Ok(())
-}
-
-// Sorts items by their groups. Those of one group stay in their order.
-fn sort(items: &mut Vec<Item>) -> Result<(), Memory>
-    ensures up { OnOk result (IsUp items.new.items) }
-    ensures stable { OnOk result ((g : Pair) → of_pair g items.new.items ≡ of_pair g items.old.items) }
-{
-    items.sort_by_key(|item: &Item| item.group)?;
     Ok(())
 }

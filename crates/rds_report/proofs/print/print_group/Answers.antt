@@ -6,7 +6,7 @@ use Rattle.rds_report.specs.declared.item.Item.{Item}
 use Rattle.rds_report.specs.Report.{Counts, pair_text, counts_line}
 use Rattle.rds_report.specs.Items.{seen}
 use Rattle.rds_report.specs.ItemReport.{count_of, is_accepted, pair_lines, data_lines}
-use Rattle.rds_report.proofs.Chunks.{same_counts}
+use Rattle.rds_report.proofs.Counted.{same_counts}
 use Rattle.rds_report.proofs.print.print_group.Goals as goal
 
 pub returns : goal.returns

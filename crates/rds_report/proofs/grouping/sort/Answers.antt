@@ -5,7 +5,7 @@ use Rattle.rds_report.specs.declared.item.What.TheVariants.{Accepted}
 use Rattle.rds_report.specs.Items.{seen}
 use Rattle.rds_report.proofs.Orders.{cmp_before, ties_by}
 use Rattle.rds_report.proofs.Chunks.{filter_tests, up_of}
-use Rattle.rds_report.proofs.reporting.sort.Goals as goal
+use Rattle.rds_report.proofs.grouping.sort.Goals as goal
 
 pub returns-clause-up : goal.returns-clause-up
 returns-clause-up c =

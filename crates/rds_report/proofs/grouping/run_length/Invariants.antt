@@ -2,7 +2,7 @@ use Rattle.std.proofs.Common.{◌≡◌, ◌+◌, drop}
 use Rattle.std.specs.List.{prefix_len}
 use Rattle.rds_report.specs.Items.{seen}
 use Rattle.rds_report.specs.ItemReport.{is_of}
-use Rattle.rds_report.proofs.print.run_length.Given as goal
+use Rattle.rds_report.proofs.grouping.run_length.Given as goal
 
 abbrev pub invariant-loop-i : goal.invariant-loop-i
 invariant-loop-i l =

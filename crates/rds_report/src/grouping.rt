@@ -1,0 +1,36 @@
+ghost use Rattle.std.specs.Prelude.{◌≡◌, OnOk};
+ghost use Rattle.std.specs.List.{prefix_len};
+ghost use Rattle.rds_report.specs.Report.{Group as Pair};
+ghost use Rattle.rds_report.specs.Items.{seen};
+ghost use Rattle.rds_report.specs.ItemReport.{IsUp, is_of, of_pair};
+
+use crate::item::{Group, Item};
+use rds_wire::Memory;
+
+/// Sorts items by their groups. Those of one group stay in their order.
+pub fn sort(items: &mut Vec<Item>) -> Result<(), Memory>
+    ensures up { OnOk result (IsUp items.new.items) }
+    ensures stable { OnOk result ((g : Pair) → of_pair g items.new.items ≡ of_pair g items.old.items) }
+{
+    items.sort_by_key(|item: &Item| item.group)?;
+    Ok(())
+}
+
+/// How many items of a group stand in front.
+pub fn run_length(items: &[Item], group: Group) -> usize
+    ensures { result ≡ prefix_len (is_of (seen group)) items.now }
+{
+    for i in 0..items.len() {
+        if !is_in(group, &items[i]) {
+            return i;
+        }
+    }
+    items.len()
+}
+
+// Whether an item is of a group.
+fn is_in(group: Group, item: &Item) -> bool
+    ensures { result ≡ is_of (seen group) item.now }
+{
+    group == item.group
+}

@@ -1,0 +1,83 @@
+ghost use Rattle.std.specs.Prelude.{◌≡◌, ◌+◌, ◌*◌, ◌^◌, ◌≤◌, ◌<◌, [], length};
+ghost use Rattle.rds_report.specs.ItemReport.{IsUp, tally};
+ghost use Rattle.rds_report.specs.Summary.{plus as together};
+ghost use Rattle.rds_report.specs.ItemTotals.{bytes_of, count_all, grouped, payload_bytes, seen_counts, with_accepted};
+
+use crate::counts::Counts;
+use crate::grouping::run_length;
+use crate::item::{Item, What};
+
+/// What the items of some groups come to: how many there are of each kind, and how many payload bytes were received.
+#[derive(Clone, Copy)]
+pub struct Totals {
+    pub counts: Counts,
+    pub bytes: u128,
+}
+
+impl Totals {
+    /// The totals of items, which stand in the order of their groups. A group without an accepted item is left out.
+    pub fn of(items: &[Item]) -> Totals
+        requires up { IsUp items.now }
+        ensures counts { seen_counts result.counts ≡ tally (grouped items.now) }
+        ensures bytes { result.bytes ≡ bytes_of (grouped items.now) }
+    {
+        let mut totals = Totals::none();
+        let mut rest = items;
+        while !rest.is_empty() {
+            let group = rest[0].group;
+            let (run, others) = rest.split_at(run_length(rest, group));
+            totals = totals.plus(run);
+            rest = others;
+        }
+        totals
+    }
+
+    fn none() -> Totals
+        ensures counts { seen_counts result.counts ≡ tally [] }
+        ensures bytes { result.bytes ≡ 0 }
+    {
+        Totals {
+            counts: Counts::none(),
+            bytes: 0,
+        }
+    }
+
+    // With the items of one more group, unless none was accepted.
+    fn plus(self, items: &[Item]) -> Totals
+        requires counts { count_all (seen_counts self.counts) + length items.now < 2 ^ 64 }
+        requires bytes { self.bytes + length items.now * 2 ^ 32 < 2 ^ 128 }
+        ensures counts { seen_counts result.counts ≡ together (seen_counts self.counts) (tally (with_accepted items.now)) }
+        ensures bytes { result.bytes ≡ self.bytes + bytes_of (with_accepted items.now) }
+        ensures limit { result.bytes ≤ self.bytes + length items.now * 2 ^ 32 }
+    {
+        let counts = Counts::of(items);
+        if counts.accepted == 0 {
+            return self;
+        }
+        Totals {
+            counts: self.counts.plus(counts),
+            bytes: self.bytes + received_bytes(items),
+        }
+    }
+}
+
+// How many payload bytes were received.
+fn received_bytes(items: &[Item]) -> u128
+    ensures bytes { result ≡ bytes_of items.now }
+    ensures limit { result ≤ length items.now * 2 ^ 32 }
+{
+    let mut bytes = 0u128;
+    for item in items {
+        bytes += u128::from(received_length(&item.what));
+    }
+    bytes
+}
+
+fn received_length(what: &What) -> u32
+    ensures { result ≡ payload_bytes what.now }
+{
+    match what {
+        What::Received(payload) => payload.len(),
+        _ => 0,
+    }
+}
