@@ -34,9 +34,6 @@ count_plus a b = omega arith
 pub plus_assoc : (a b c : Counts) → plus (plus a b) c ≡ plus a (plus b c)
 plus_assoc a b c = same_counts (omega arith) (omega arith) (omega arith) (omega arith) (omega arith) (omega arith)
 
-pub plus_none : (a : Counts) → plus (tally []) a ≡ a
-plus_none a = same_counts (omega arith) (omega arith) (omega arith) (omega arith) (omega arith) (omega arith)
-
 -- each item is counted once
 
 count_single : (i : Item) → count_all (tally (i ∷ [])) ≡ 1

@@ -8,7 +8,7 @@ use Rattle.rds_report.specs.declared.item.What.{What}
 use Rattle.rds_report.specs.declared.item.What.TheVariants.{Accepted, Received, Unread, Dropped, Port0, Cancelled}
 use Rattle.rds_report.specs.declared.item.Item.{Item}
 use Rattle.rds_report.specs.FinalState.{FinalHost}
-use Rattle.rds_report.specs.Report.{Group, Counts, ascending, counts, groups, received}
+use Rattle.rds_report.specs.Report.{Group, Counts, ascending, counts, received}
 use Rattle.rds_report.specs.Views.{AreFinalHosts}
 use Rattle.rds_report.specs.Items.{items}
 use Rattle.rds_report.specs.ItemReport.{of_pair, is_received, tally, accepted_pairs}

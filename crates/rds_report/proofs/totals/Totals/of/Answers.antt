@@ -1,4 +1,4 @@
-use Rattle.std.proofs.Common.{◌∙◌, ◌+◌, ◌<◌, ◌≡◌, ℕ, length, get_or, arith, sym, ap, add_assoc}
+use Rattle.std.proofs.Common.{◌∙◌, ◌+◌, ◌<◌, ℕ, length, get_or, arith, sym, ap, add_assoc}
 use Rattle.std.proofs.lemmas.List.Sums.{prefix_len-le-length, sum_by-append}
 use Rattle.rds_report.specs.declared.item.Item.{Item}
 use Rattle.rds_report.specs.Items.{seen}
