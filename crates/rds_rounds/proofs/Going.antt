@@ -1,19 +1,19 @@
 -- A line that turned goes on, and so does one that goes on twice.
-use Rattle.std.proofs.Common.{◌≡◌, ℕ, zero, suc, List, [], ◌∷◌, Some, length, slice_get, slice_set, refl, sym, ap, subst, ◌∙◌, arith}
+use Rattle.std.proofs.Common.{◌≡◌, ℕ, zero, suc, List, [], ◌∷◌, Some, length, slice_get, refl, sym, ap, subst, ◌∙◌, arith}
 use Rattle.std.proofs.lemmas.Option.{same_Some}
 use Rattle.rds_link.specs.Ends.{Means}
 use Rattle.rds_fmap.specs.Readers.{WriterView}
-use Rattle.rds_mail.specs.Learning.{AllGot}
 use Rattle.rds_mail.specs.Passes.{Putter}
 use Rattle.rds_model.specs.declared.order.Datagram.{Datagram}
 use Rattle.rds_line.specs.Line.{LineView}
 use Rattle.rds_line.specs.Stays.{AreSameBoxes, LineStays}
 use Rattle.rds_host.specs.Keeping.{LineKeeps}
 use Rattle.rds_host.specs.Lines.{pair_of}
-use Rattle.rds_rounds.specs.Quiet.{AreQuiet, LineGoesOn, LinesGoOn}
+use Rattle.rds_rounds.specs.Grid.{EachRow}
+use Rattle.rds_rounds.specs.Quiet.{LineGoesOn, LinesGoOn}
 
 -- what stands at a place of a list stood there in one that is as long
-stood_at : {T : Type 0} (old new : List T) (place : ℕ) (x : T) → length new ≡ length old → slice_get new place ≡ Some x → (y : T) × (slice_get old place ≡ Some y)
+pub stood_at : {T : Type 0} (old new : List T) (place : ℕ) (x : T) → length new ≡ length old → slice_get new place ≡ Some x → (y : T) × (slice_get old place ≡ Some y)
 stood_at [] [] place x same at = absurd (cc)
 stood_at [] (y ∷ new) place x same at = absurd (omega (arith, same))
 stood_at (z ∷ old) [] place x same at = absurd (cc)
@@ -75,27 +75,30 @@ module _ {E : Type 0} where
     told = stays.told;
   }
 
-  -- the only line of a list goes on
-  pub goes_first : (xs : List (LineView E WriterView)) (line after : LineView E WriterView) → length xs ≡ 1 → slice_get xs 0 ≡ Some line → LineGoesOn line after →
-      LinesGoOn xs (slice_set xs 0 after)
-  goes_first [] line after one at goes = absurd (omega (arith, one))
-  goes_first (x ∷ []) line after one at goes = record {
-    count = refl;
-    each = λ place old new stood stands. only place old new stood stands;
+  pub lines_through : (a b c : List (LineView E WriterView)) → LinesGoOn a b → LinesGoOn b c → LinesGoOn a c
+  lines_through a b c one two = record {
+    count = two.count ∙ one.count;
+    each = λ place line after stood stands.
+        let between = stood_at b c place after two.count stands in
+        goes_through line between.0 after (one.each place line between.0 stood between.1) (two.each place between.0 after between.1 stands);
   }
-    where
-      only : (place : ℕ) (old new : LineView E WriterView) → slice_get (x ∷ []) place ≡ Some old → slice_get (after ∷ []) place ≡ Some new → LineGoesOn old new
-      only zero old new stood stands =
-          subst (λ (l : LineView E WriterView). LineGoesOn l new) (same_Some x old stood)
-          (subst (LineGoesOn x) (same_Some after new stands) (subst (λ (l : LineView E WriterView). LineGoesOn l after) (sym (same_Some x line at)) goes))
-      only (suc place) old new stood stands = absurd (cc)
-  goes_first (x ∷ y ∷ xs) line after one at goes = absurd (omega (arith, one))
 
-  pub quiet_first : (xs : List (LineView E WriterView)) (after : LineView E WriterView) → length xs ≡ 1 → AllGot after.orders → AreQuiet (slice_set xs 0 after)
-  quiet_first [] after one got = absurd (omega (arith, one))
-  quiet_first (x ∷ []) after one got = only
-    where
-      only : (place : ℕ) (line : LineView E WriterView) → slice_get (after ∷ []) place ≡ Some line → AllGot line.orders
-      only zero line at = subst (λ (l : LineView E WriterView). AllGot l.orders) (same_Some after line at) got
-      only (suc place) line at = absurd (cc)
-  quiet_first (x ∷ y ∷ xs) after one got = absurd (omega (arith, one))
+  pub lines_same : (lines : List (LineView E WriterView)) → LinesGoOn lines lines
+  lines_same lines = record {
+    count = refl;
+    each = λ place line after stood stands. subst (LineGoesOn line) (same_Some line after (sym stood ∙ stands)) (goes_same line);
+  }
+
+  pub rows_same : (rows : List (List (LineView E WriterView))) → EachRow LinesGoOn rows rows
+  rows_same rows = record {
+    count = refl;
+    each = λ host row after stood stands. subst (LinesGoOn row) (same_Some row after (sym stood ∙ stands)) (lines_same row);
+  }
+
+  pub rows_through : (a b c : List (List (LineView E WriterView))) → EachRow LinesGoOn a b → EachRow LinesGoOn b c → EachRow LinesGoOn a c
+  rows_through a b c one two = record {
+    count = two.count ∙ one.count;
+    each = λ host row after stood stands.
+        let between = stood_at b c host after two.count stands in
+        lines_through row between.0 after (one.each host row between.0 stood between.1) (two.each host between.0 after between.1 stands);
+  }

@@ -1,6 +1,10 @@
 pub mod Connected
 pub mod Going
-pub mod Finishing
+pub mod Halves
+pub mod Places
+pub mod Partners
+pub mod Sweeps
+pub mod Swept
 pub mod Whole
 pub mod Resting
 pub mod Drains

@@ -1,5 +1,5 @@
 -- The lines of a run: each host has one to each other host. Source: this project's own.
-use Rattle.std.specs.Prelude.{◌≡◌, ◌⊎◌, ◌≤◌, ℕ, List}
+use Rattle.std.specs.Prelude.{◌≡◌, ◌⊎◌, ◌≤◌, ℕ, List, Some, length, slice_get}
 use Rattle.rds_link.specs.Ends.{Means}
 use Rattle.rds_report.specs.Hosts.{address_of}
 use Rattle.rds_line_streams.specs.Meeting.{AtEach}
@@ -29,6 +29,17 @@ module _ {E M : Type 0} where
     pub one_peer : one.channel.conn.peer ≡ address_of high
     pub other_peer : other.channel.conn.peer ≡ address_of low
 
+  -- a line has the same peer, the same limit of its journal and the same streams as before
+  pub record IsSameConnection (old new : LineView E M) : Type 0 where
+    pub limit : new.channel.conn.log.limit ≡ old.channel.conn.log.limit
+    pub peer : new.channel.conn.peer ≡ old.channel.conn.peer
+    pub streams : new.channel.streams.list ≡ old.channel.streams.list
+
+  -- so has each line of a host
+  pub record AreSameConnections (old new : List (LineView E M)) : Type 0 where
+    pub count : length new ≡ length old
+    pub each : (place : ℕ) (line after : LineView E M) → slice_get old place ≡ Some line → slice_get new place ≡ Some after → IsSameConnection line after
+
 module _ {E : Type 0} (m : Means E) where
   -- two hosts have the same streams, and the two ends of each meet
   pub record ArePaired (one other : List (ℕ × E)) : Type 0 where
@@ -43,5 +54,5 @@ module _ {E : Type 0} (m : Means E) where
   -- each of so many hosts, which are at most eight, has a line to each other one, and the two lines of each two hosts are connected
   pub record AreHosts {M : Type 0} (limit hosts : ℕ) (rows : List (List (LineView E M))) : Type 0 where
     pub few : hosts ≤ 8
-    pub rows : AreRows hosts rows
+    pub shape : AreRows hosts rows
     pub connected : OfEachPair (AreConnected limit) rows

@@ -5,3 +5,4 @@ pub mod Drained
 pub mod Done
 pub mod Quiet
 pub mod Rest
+pub mod Sweep

@@ -1,5 +1,6 @@
 -- Private: it serves the contracts of the private functions that turn the lines of a run for the last time. Source: this project's own.
-use Rattle.std.specs.Prelude.{◌≡◌, true, None, []}
+use Rattle.std.specs.Prelude.{◌≡◌, ℕ, true, None, []}
+use Rattle.rds_fmap.specs.Readers.{WriterView}
 use Rattle.rds_frame.specs.Splitting.{IsPartial}
 use Rattle.rds_link.specs.Ends.{Means, HasAll}
 use Rattle.rds_model.specs.Honest.{IsHonest}
@@ -8,8 +9,17 @@ use Rattle.rds_line_streams.specs.Meeting.{AtEach}
 use Rattle.rds_line_streams.specs.Streams.{AreKept, numbers}
 use Rattle.rds_line_channel.specs.Carried.{IsCarriedBy}
 use Rattle.rds_line_channel.specs.Channel.{arrived_bytes}
-use Rattle.rds_line.specs.Line.{LineView, line_past}
+use Rattle.rds_line.specs.Line.{IsFull, LineView, line_past}
 use Rattle.rds_line.specs.Turns.{IsIdleTurn}
+use Rattle.rds_rounds.specs.Quiet.{LineGoesOn}
+
+-- a line has met the other one: it goes on, and its journal, its orders and what it has to write are as before
+pub record HasMet {E : Type 0} (old new : LineView E WriterView) : Type 0 where
+  pub goes : LineGoesOn old new
+  pub past : line_past new ≡ line_past old
+  pub orders : new.orders ≡ old.orders
+  pub out : new.channel.out ≡ old.channel.out
+  pub full : (entries : ℕ) → IsFull entries old → IsFull entries new
 
 module _ {E : Type 0} (m : Means E) where
   -- two ends that have met: each knows all that the other sent, and whether it has shut

@@ -1,9 +1,11 @@
-//! The last rounds of a run: the lines of two hosts turn on one thread until nothing moves any more.
+//! The last rounds of a run: the lines of its hosts turn on one thread until nothing moves any more.
 #![tactic(auto)]
 
+mod counting;
 pub mod laws;
 mod meeting;
 mod rounds;
+mod sweeping;
 mod turning;
 mod verdict;
 

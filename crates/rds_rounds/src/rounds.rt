@@ -1,17 +1,17 @@
 //! The last rounds of a run, on one thread.
-ghost use Rattle.std.specs.Prelude.{◌≡◌, ◌≢◌, ℕ, true, Some, []};
-ghost use Rattle.rds_mail.specs.Learning.{AllGot};
-ghost use Rattle.rds_line.specs.Line.{line_past};
-ghost use Rattle.rds_rounds.specs.Quiet.{AreQuiet, IsQuietEnd, LineGoesOn, LinesGoOn};
-ghost use Rattle.rds_rounds.specs.Connection.{AreConnected, AreTwo, IsFullAt, IsFullHost};
+ghost use Rattle.std.specs.Prelude.{◌≡◌, ◌≢◌, ◌<◌, ℕ, All, true, Some, length};
+ghost use Rattle.rds_rounds.specs.Connection.{AreHosts, IsFullHost};
 ghost use Rattle.rds_rounds.specs.Done.{AreDone};
-ghost use Rattle.rds_rounds.specs.Drained.{AreDrained, AreDrainedLines};
+ghost use Rattle.rds_rounds.specs.Drained.{AreDrainedLines};
+ghost use Rattle.rds_rounds.specs.Grid.{EachRow, rows_of};
+ghost use Rattle.rds_rounds.specs.Quiet.{AreQuiet, IsQuietEnd, LinesGoOn};
+ghost use Rattle.rds_rounds.specs.Sweep.{AreWritten};
 ghost use Rattle.rds_rounds.specs.declared.rounds.Rounds.{Rounds as RoundsView};
 ghost use Rattle.rds_rounds.specs.declared.rounds.Rounds.TheVariants as ended;
 ghost use Rattle.rds_rounds.specs.declared.verdict.Round.TheVariants as round;
 
-use crate::meeting::meet_lines;
-use crate::turning::round;
+use crate::counting::{are_written, unacked};
+use crate::sweeping::round_of_all;
 use crate::verdict::{Round, Wanted};
 use rds_fmap::Writer;
 use rds_line::Line;
@@ -36,11 +36,6 @@ pub enum Rounds {
     Memory,
 }
 
-// How many datagrams aren't acknowledged.
-fn unacked<E: End>(low: &Line<E, Writer>, high: &Line<E, Writer>) -> u64 {
-    u64::from(low.unacked()) + u64::from(high.unacked())
-}
-
 /// Turns all lines in rounds: in each the two lines of each two hosts meet, have a turn each, and meet again. Over ends that tell
 /// their bytes the rounds stop after an idle one that left nothing to be written. Over others they stop once rounds were quiet and all
 /// is acknowledged, or as many were quiet as the budget allows. `wanted` has for each two hosts what is to be known of them, in the
@@ -60,35 +55,11 @@ pub fn last_rounds<W: Wire, R: Wait>(
     ensures fault { (low high : ℕ) → result ≡ ended.Fault low high → (low < high) × (high < length lines.new.items) }
     ensures spent { (host peer entries : ℕ) → result ≡ ended.Spent host peer entries → IsFullHost host peer entries (rows_of lines.new.items) }
 {
-    let low = &mut lines.0[0];
-    let high = &mut lines.1[0];
-    let end = turn_until_quiet(rt, wire, wanted, budget, low, high);
-    meet_lines::<W>(low, high);
-    end
-}
-
-// The rounds alone, until they stop.
-fn turn_until_quiet<W: Wire, R: Wait>(
-    rt: &R,
-    wire: &W,
-    wanted: Wanted,
-    budget: u64,
-    low: &mut Line<W::End, Writer>,
-    high: &mut Line<W::End, Writer>,
-) -> Rounds
-    requires { (limit : ℕ) × AreConnected W.End.means limit low.old high.old }
-    ensures connected { (limit : ℕ) → AreConnected W.End.means limit low.old high.old → AreConnected W.End.means limit low.new high.new }
-    ensures low { LineGoesOn low.old low.new }
-    ensures high { LineGoesOn high.old high.new }
-    ensures quiet { IsQuietEnd result → AllGot low.new.orders × AllGot high.new.orders }
-    ensures drained { W.End.means.tells ≡ true → result ≡ ended.Done → AreDrained (line_past low.new) (line_past high.new) }
-    ensures spent { (host entries : ℕ) → result ≡ ended.Spent host entries → IsFullAt host entries low.new high.new }
-{
     let mut quiet = 0u64;
     for _ in rt.forever() {
-        let came = round(rt, wire, wanted, low, high);
+        let came = round_of_all(rt, wire, wanted, lines);
         quiet = quiet_after(came, quiet);
-        if let Some(end) = end_after(came, wire.tells(), quiet, budget, low, high) {
+        if let Some(end) = end_after(came, wire.tells(), quiet, budget, lines) {
             return end;
         }
     }
@@ -110,38 +81,44 @@ fn end_after<E: End>(
     tells: bool,
     quiet: u64,
     budget: u64,
-    low: &Line<E, Writer>,
-    high: &Line<E, Writer>,
+    lines: &Lines<E>,
 ) -> Option<Rounds>
-    ensures spent { (host entries : ℕ) → result ≡ Some (ended.Spent host entries) → came ≡ round.Spent host entries }
+    ensures fault { (low high : ℕ) → result ≡ Some (ended.Fault low high) → came ≡ round.Fault low high }
+    ensures spent { (host peer entries : ℕ) → result ≡ Some (ended.Spent host peer entries) → came ≡ round.Spent host peer entries }
     ensures quiet { (end : RoundsView) → result ≡ Some end → IsQuietEnd end → came ≡ round.Idle }
-    ensures written { tells ≡ true → result ≡ Some ended.Done → (low.now.channel.out ≡ []) × (high.now.channel.out ≡ []) }
+    ensures written { tells ≡ true → result ≡ Some ended.Done → All AreWritten (rows_of lines.now.items) }
 {
     match came {
         Round::Moved => None,
-        Round::Idle => after_idle(tells, quiet, budget, low, high),
-        Round::Fault => Some(Rounds::Fault),
-        Round::Spent { host, entries } => Some(Rounds::Spent { host, entries }),
+        Round::Idle => after_idle(tells, quiet, budget, lines),
+        Round::Fault { low, high } => Some(Rounds::Fault { low, high }),
+        Round::Spent {
+            host,
+            peer,
+            entries,
+        } => Some(Rounds::Spent {
+            host,
+            peer,
+            entries,
+        }),
         Round::Memory => Some(Rounds::Memory),
     }
 }
 
 // Whether the rounds stop after so many quiet ones.
-fn after_idle<E: End>(
-    tells: bool,
-    quiet: u64,
-    budget: u64,
-    low: &Line<E, Writer>,
-    high: &Line<E, Writer>,
-) -> Option<Rounds>
-    ensures never_spent { (host entries : ℕ) → result ≢ Some (ended.Spent host entries) }
-    ensures written { tells ≡ true → result ≡ Some ended.Done → (low.now.channel.out ≡ []) × (high.now.channel.out ≡ []) }
+fn after_idle<E: End>(tells: bool, quiet: u64, budget: u64, lines: &Lines<E>) -> Option<Rounds>
+    ensures never_fault { (low high : ℕ) → result ≢ Some (ended.Fault low high) }
+    ensures never_spent { (host peer entries : ℕ) → result ≢ Some (ended.Spent host peer entries) }
+    ensures written { tells ≡ true → result ≡ Some ended.Done → All AreWritten (rows_of lines.now.items) }
 {
     if tells {
-        let is_written = low.unwritten() == 0 && high.unwritten() == 0;
-        return if is_written { Some(Rounds::Done) } else { None };
+        return if are_written(lines) {
+            Some(Rounds::Done)
+        } else {
+            None
+        };
     }
-    let count = unacked(low, high);
+    let count = unacked(lines);
     if count == 0 {
         return Some(Rounds::Done);
     }

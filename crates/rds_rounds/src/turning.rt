@@ -1,11 +1,11 @@
-//! One round of the two lines of a run.
-ghost use Rattle.std.specs.Prelude.{◌≡◌, ◌⊎◌, ℕ, true, []};
+//! One round of the lines of two hosts.
+ghost use Rattle.std.specs.Prelude.{◌≡◌, ◌⊎◌, ◌<◌, ℕ, true, []};
 ghost use Rattle.rds_mail.specs.Learning.{AllGot};
 ghost use Rattle.rds_line.specs.Line.{line_past};
 ghost use Rattle.rds_rounds.specs.Connection.{AreConnected, IsFullAt};
 ghost use Rattle.rds_rounds.specs.Drained.{AreDrained};
-ghost use Rattle.rds_rounds.specs.Quiet.{LineGoesOn};
 ghost use Rattle.rds_rounds.specs.Rest.{AreMetLines};
+ghost use Rattle.rds_rounds.specs.Sweep.{GoOnTogether, HaveHadRound};
 ghost use Rattle.rds_rounds.specs.declared.verdict.Round.TheVariants as verdict;
 
 use crate::laws::rested_are_drained;
@@ -16,26 +16,27 @@ use rds_line::Line;
 use rds_link::{End, Wire};
 use std::sync::Wait;
 
-/// One round: the lines meet, and then each has a turn.
-#[tactic(auto, using(crate::proofs::Going::goes_through))]
+/// One round of the line of a host with a higher one, and of that one's line with it: they meet, each has a turn, and they meet again.
 pub(crate) fn round<W: Wire, R: Wait>(
     rt: &R,
     wire: &W,
     wanted: Wanted,
-    low: &mut Line<W::End, Writer>,
-    high: &mut Line<W::End, Writer>,
+    low: u8,
+    high: u8,
+    one: &mut Line<W::End, Writer>,
+    other: &mut Line<W::End, Writer>,
 ) -> Round
-    requires { (limit : ℕ) × AreConnected W.End.means limit low.old high.old }
-    ensures connected { (limit : ℕ) → AreConnected W.End.means limit low.old high.old → AreConnected W.End.means limit low.new high.new }
-    ensures low { LineGoesOn low.old low.new }
-    ensures high { LineGoesOn high.old high.new }
-    ensures idle { result ≡ verdict.Idle → AllGot low.new.orders × AllGot high.new.orders }
-    ensures drained { W.End.means.tells ≡ true → result ≡ verdict.Idle → low.new.channel.out ≡ [] → high.new.channel.out ≡ [] →
-        AreDrained (line_past low.new) (line_past high.new) }
-    ensures spent { (host entries : ℕ) → result ≡ verdict.Spent host entries → IsFullAt host entries low.new high.new }
+    requires less { low < high }
+    requires connected { (limit : ℕ) × AreConnected W.End.means limit low high one.old other.old }
+    ensures together { GoOnTogether W.End.means low high one.old other.old one.new other.new }
+    ensures had { HaveHadRound W.End.means (result ≡ verdict.Idle) one.new other.new }
+    ensures fault { (first second : ℕ) → result ≡ verdict.Fault first second → (first ≡ low) × (second ≡ high) }
+    ensures spent { (host peer entries : ℕ) → result ≡ verdict.Spent host peer entries → IsFullAt host peer entries low high one.new other.new }
 {
-    meet_lines::<W>(low, high);
-    turn_both(rt, wire.tells(), wanted, low, high)
+    meet_lines::<W>(one, other);
+    let came = turn_both(rt, wire.tells(), wanted, low, high, one, other);
+    meet_lines::<W>(one, other);
+    came
 }
 
 // A turn of each line.
@@ -43,27 +44,29 @@ fn turn_both<E: End, R: Wait>(
     rt: &R,
     tells: bool,
     wanted: Wanted,
-    low: &mut Line<E, Writer>,
-    high: &mut Line<E, Writer>,
+    low: u8,
+    high: u8,
+    one: &mut Line<E, Writer>,
+    other: &mut Line<E, Writer>,
 ) -> Round
+    requires less { low < high }
     requires told { tells ≡ E.means.tells }
-    ensures connected { (limit : ℕ) → AreConnected E.means limit low.old high.old → AreConnected E.means limit low.new high.new }
-    ensures low { LineGoesOn low.old low.new }
-    ensures high { LineGoesOn high.old high.new }
-    ensures idle { result ≡ verdict.Idle → AllGot low.new.orders × AllGot high.new.orders }
-    ensures drained { E.means.tells ≡ true → AreMetLines E.means low.old high.old → result ≡ verdict.Idle → low.new.channel.out ≡ [] →
-        high.new.channel.out ≡ [] → AreDrained (line_past low.new) (line_past high.new) }
-    ensures spent { (host entries : ℕ) → result ≡ verdict.Spent host entries → IsFullAt host entries low.new high.new }
+    ensures together { GoOnTogether E.means low high one.old other.old one.new other.new }
+    ensures idle { result ≡ verdict.Idle → AllGot one.new.orders × AllGot other.new.orders }
+    ensures drained { E.means.tells ≡ true → AreMetLines E.means one.old other.old → result ≡ verdict.Idle → one.new.channel.out ≡ [] →
+        other.new.channel.out ≡ [] → AreDrained (line_past one.new) (line_past other.new) }
+    ensures fault { (first second : ℕ) → result ≡ verdict.Fault first second → (first ≡ low) × (second ≡ high) }
+    ensures spent { (host peer entries : ℕ) → result ≡ verdict.Spent host peer entries → IsFullAt host peer entries low high one.new other.new }
 {
-    let first = turn(rt, 0, tells, wanted, low, high);
-    let second = turn(rt, 1, tells, wanted, high, low);
+    let first = turn(rt, low, high, tells, wanted, one, other);
+    let second = turn(rt, high, low, tells, wanted, other, one);
     rested_are_drained::<E>();
     either(first, second)
 }
 
-// What a round comes to by its two turns: what the first one says that neither moved nor was idle, or else the second that wasn't
-// idle.
-fn either(first: Round, second: Round) -> Round
+/// What two turns or rounds come to together: what the first one says that neither moved nor was idle, or else the second that wasn't
+/// idle.
+pub(crate) fn either(first: Round, second: Round) -> Round
     ensures idle { result ≡ verdict.Idle → (first ≡ verdict.Idle) × (second ≡ verdict.Idle) }
     ensures one { (result ≡ first) ⊎ (result ≡ second) }
 {

@@ -1,5 +1,5 @@
 //! What the turns of a round come to.
-ghost use Rattle.std.specs.Prelude.{◌≡◌, ℕ, true};
+ghost use Rattle.std.specs.Prelude.{◌≡◌, ℕ, max, min, true};
 ghost use Rattle.rds_mail.specs.Learning.{AllGot};
 ghost use Rattle.rds_line.specs.Line.{IsFull};
 ghost use Rattle.rds_line.specs.Stays.{LineStays};
@@ -21,10 +21,10 @@ pub(crate) enum Round {
     Moved,
     /// None did.
     Idle,
-    /// A line has no stream left that should have one.
-    Fault,
-    /// The journal of this host with the other has so many entries, and two more would pass its limit.
-    Spent { host: u8, entries: u32 },
+    /// The two hosts have no stream left and should have one.
+    Fault { low: u8, high: u8 },
+    /// The journal of this host with that peer has so many entries, and two more would pass its limit.
+    Spent { host: u8, peer: u8, entries: u32 },
     /// Memory ran out.
     Memory,
 }
@@ -74,10 +74,11 @@ fn is_fault<E: End>(
     tells || wanted.lacks || shuts(line.journal()) > causes
 }
 
-/// One turn of a host's line, where `other` is the peer's, over ends that tell their bytes or don't.
+/// One turn of a host's line with a peer, where `other` is the peer's with the host, over ends that tell their bytes or don't.
 pub(crate) fn turn<E: End, R: Wait>(
     rt: &R,
     host: u8,
+    peer: u8,
     tells: bool,
     wanted: Wanted,
     line: &mut Line<E, Writer>,
@@ -88,7 +89,8 @@ pub(crate) fn turn<E: End, R: Wait>(
     ensures kept { KeepsStreams E.means line.old }
     ensures keeps { KeepsStreams E.means line.new }
     ensures nothing { tells ≡ true → result ≡ round.Idle → IsIdleTurn E.means line.old line.new }
-    ensures spent { (at entries : ℕ) → result ≡ round.Spent at entries → (at ≡ host) × IsFull entries line.new }
+    ensures fault { (low high : ℕ) → result ≡ round.Fault low high → (low ≡ min host peer) × (high ≡ max host peer) }
+    ensures spent { (at to entries : ℕ) → result ≡ round.Spent at to entries → (at ≡ host) × (to ≡ peer) × IsFull entries line.new }
 {
     line.known();
     let came = line.turn(rt);
@@ -96,9 +98,16 @@ pub(crate) fn turn<E: End, R: Wait>(
     match came {
         Turn::Moved => Round::Moved,
         Turn::Idle => Round::Idle,
-        Turn::Over if is_fault(tells, wanted, line, other) => Round::Fault,
+        Turn::Over if is_fault(tells, wanted, line, other) => Round::Fault {
+            low: host.min(peer),
+            high: host.max(peer),
+        },
         Turn::Over => Round::Idle,
-        Turn::Spent { entries } => Round::Spent { host, entries },
+        Turn::Spent { entries } => Round::Spent {
+            host,
+            peer,
+            entries,
+        },
         Turn::Memory => Round::Memory,
     }
 }

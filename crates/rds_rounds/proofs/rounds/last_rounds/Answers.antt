@@ -1,70 +1,80 @@
-use Rattle.std.proofs.Common.{sym, subst}
-use Rattle.rds_mail.specs.Learning.{AllGot}
-use Rattle.rds_rounds.proofs.Finishing.{at_first, done_first, drained_first, full_first, full_kept}
-use Rattle.rds_rounds.proofs.Going.{goes_first, goes_through, quiet_first}
+use Rattle.std.proofs.Common.{◌≡◌, ◌<◌, ℕ, suc, Some, ap, length, sym, ◌∙◌, arith}
+use Rattle.rds_rounds.specs.Grid.{rows_of}
+use Rattle.rds_rounds.specs.Sweep.{IsPairBelow}
+use Rattle.rds_rounds.specs.declared.rounds.Rounds.TheVariants as ended
+use Rattle.rds_rounds.proofs.Going.{rows_same, rows_through}
+use Rattle.rds_rounds.proofs.Halves.{rows_count}
+use Rattle.rds_rounds.proofs.Swept.{all_pairs, done_swept, drained_swept, full_host, goes_swept, hosts_swept, quiet_swept}
 use Rattle.rds_rounds.proofs.rounds.last_rounds.Goals as goal
 
-pub turn_until_quiet-end-requires : goal.turn_until_quiet-end-requires
-turn_until_quiet-end-requires g c =
-    let two = c.requires.1 in (
-      c.requires.0,
-      two.connected c.index_mut-low.result.now c.index_mut-high.result.now
-          (at_first c.args.lines.now.0.items c.index_mut-low.result.now two.low_count c.index_mut-low.ensures.value)
-          (at_first c.args.lines.now.1.items c.index_mut-high.result.now two.high_count c.index_mut-high.ensures.value),
+pub loop-init : goal.loop-init
+loop-init g c = (λ limit hosts are. are, rows_same (rows_of c.args.lines.now.items))
+
+pub round_of_all-came-requires : goal.round_of_all-came-requires
+round_of_all-came-requires g c = (c.requires.0, c.requires.1, c.loop.invariant.0 c.requires.0 c.requires.1 c.requires.2)
+
+pub loop-preserved : goal.loop-preserved
+loop-preserved g c =
+    let m = g.W.End.End.means in
+    let n = length c.loop.lines.items in
+    let old = rows_of c.loop.lines.items in
+    let new = rows_of c.round_of_all-came.new.lines.items in
+    let came = c.round_of_all-came.result in
+    let swept = c.round_of_all-came.ensures in (
+      λ limit hosts are. hosts_swept m (IsPairBelow n n) came old new swept limit hosts (c.loop.invariant.0 limit hosts are),
+      rows_through (rows_of c.args.lines.now.items) old new c.loop.invariant.1
+          (goes_swept m (IsPairBelow n n) came old new swept c.requires.0 c.requires.1 (c.loop.invariant.0 c.requires.0 c.requires.1 c.requires.2)),
     )
 
-pub meet_lines-requires : goal.meet_lines-requires
-meet_lines-requires g c =
-    let two = c.requires.1 in (
-      c.requires.0,
-      c.turn_until_quiet-end.ensures.connected c.requires.0
-          (two.connected c.index_mut-low.result.now c.index_mut-high.result.now
-          (at_first c.args.lines.now.0.items c.index_mut-low.result.now two.low_count c.index_mut-low.ensures.value)
-          (at_first c.args.lines.now.1.items c.index_mut-high.result.now two.high_count c.index_mut-high.ensures.value)),
-    )
+pub returns-in-Some-end_after-clause-done : goal.returns-in-Some-end_after-clause-done
+returns-in-Some-end_after-clause-done g c = λ limit hosts are.
+    let m = g.W.End.End.means in
+    let n = length c.loop.lines.items in
+    let old = rows_of c.loop.lines.items in
+    let new = rows_of c.round_of_all-came.new.lines.items in
+    let came = c.round_of_all-came.result in
+    let swept = c.round_of_all-came.ensures in
+    done_swept m (IsPairBelow n n) came old new swept limit hosts (c.loop.invariant.0 limit hosts are)
+    (all_pairs m n came old new swept (rows_count c.loop.lines.items))
 
-pub returns-clause-done : goal.returns-clause-done
-returns-clause-done g c = λ limit two.
-    let connected =
-    c.turn_until_quiet-end.ensures.connected limit
-    (two.connected c.index_mut-low.result.now c.index_mut-high.result.now
-    (at_first c.args.lines.now.0.items c.index_mut-low.result.now two.low_count c.index_mut-low.ensures.value)
-    (at_first c.args.lines.now.1.items c.index_mut-high.result.now two.high_count c.index_mut-high.ensures.value)) in
-    done_first g.W.End.End.means limit c.args.lines.now.0.items c.args.lines.now.1.items c.meet_lines.new.low c.meet_lines.new.high
-    two.low_count two.high_count (c.meet_lines.ensures.connected limit connected).hosts c.meet_lines.ensures.sound
+pub returns-in-Some-end_after-clause-rows : goal.returns-in-Some-end_after-clause-rows
+returns-in-Some-end_after-clause-rows g c =
+    let m = g.W.End.End.means in
+    let n = length c.loop.lines.items in
+    let old = rows_of c.loop.lines.items in
+    let new = rows_of c.round_of_all-came.new.lines.items in
+    let came = c.round_of_all-came.result in
+    let swept = c.round_of_all-came.ensures in
+    rows_through (rows_of c.args.lines.now.items) old new c.loop.invariant.1
+    (goes_swept m (IsPairBelow n n) came old new swept c.requires.0 c.requires.1 (c.loop.invariant.0 c.requires.0 c.requires.1 c.requires.2))
 
-pub returns-clause-spent : goal.returns-clause-spent
-returns-clause-spent g c = λ host entries is.
-    let two = c.requires.1 in
-    full_first c.args.lines.now.0.items c.args.lines.now.1.items c.meet_lines.new.low c.meet_lines.new.high host entries two.low_count two.high_count
-    (full_kept host entries c.turn_until_quiet-end.new.low c.turn_until_quiet-end.new.high c.meet_lines.new.low c.meet_lines.new.high
-    (c.meet_lines.ensures.low_full entries) (c.meet_lines.ensures.high_full entries) (c.turn_until_quiet-end.ensures.spent host entries is))
+pub returns-in-Some-end_after-clause-quiet : goal.returns-in-Some-end_after-clause-quiet
+returns-in-Some-end_after-clause-quiet g c = λ ends.
+    let m = g.W.End.End.means in
+    let n = length c.loop.lines.items in
+    let old = rows_of c.loop.lines.items in
+    let new = rows_of c.round_of_all-came.new.lines.items in
+    let came = c.round_of_all-came.result in
+    let swept = c.round_of_all-came.ensures in
+    quiet_swept m (IsPairBelow n n) came old new swept c.requires.0 c.requires.1 (c.loop.invariant.0 c.requires.0 c.requires.1 c.requires.2)
+    (all_pairs m n came old new swept (rows_count c.loop.lines.items)) (c.end_after.ensures.quiet c.in-Some-end_after.end c.in-Some-end_after.is ends)
 
-pub returns-clause-low : goal.returns-clause-low
-returns-clause-low g c =
-    let two = c.requires.1 in
-    goes_first c.args.lines.now.0.items c.index_mut-low.result.now c.meet_lines.new.low two.low_count
-    (at_first c.args.lines.now.0.items c.index_mut-low.result.now two.low_count c.index_mut-low.ensures.value)
-    (goes_through c.index_mut-low.result.now c.turn_until_quiet-end.new.low c.meet_lines.new.low c.turn_until_quiet-end.ensures.low c.meet_lines.ensures.low)
+pub returns-in-Some-end_after-clause-drained : goal.returns-in-Some-end_after-clause-drained
+returns-in-Some-end_after-clause-drained g c = λ tells done.
+    let m = g.W.End.End.means in
+    let n = length c.loop.lines.items in
+    let old = rows_of c.loop.lines.items in
+    let new = rows_of c.round_of_all-came.new.lines.items in
+    let came = c.round_of_all-came.result in
+    let swept = c.round_of_all-came.ensures in
+    let is = c.in-Some-end_after.is ∙ ap Some done in
+    drained_swept m (IsPairBelow n n) came old new swept c.requires.0 c.requires.1 (c.loop.invariant.0 c.requires.0 c.requires.1 c.requires.2)
+    (all_pairs m n came old new swept (rows_count c.loop.lines.items)) tells (c.end_after.ensures.quiet ended.Done is tt)
+    (c.end_after.ensures.written (c.tells.ensures ∙ tells) is)
 
-pub returns-clause-high : goal.returns-clause-high
-returns-clause-high g c =
-    let two = c.requires.1 in
-    goes_first c.args.lines.now.1.items c.index_mut-high.result.now c.meet_lines.new.high two.high_count
-    (at_first c.args.lines.now.1.items c.index_mut-high.result.now two.high_count c.index_mut-high.ensures.value)
-    (goes_through c.index_mut-high.result.now c.turn_until_quiet-end.new.high c.meet_lines.new.high c.turn_until_quiet-end.ensures.high c.meet_lines.ensures.high)
-
-pub returns-clause-quiet : goal.returns-clause-quiet
-returns-clause-quiet g c = λ ended.
-    let two = c.requires.1 in
-    let quiet = c.turn_until_quiet-end.ensures.quiet ended in (
-      quiet_first c.args.lines.now.0.items c.meet_lines.new.low two.low_count (subst (λ g. AllGot g) (sym c.meet_lines.ensures.low_orders) quiet.0),
-      quiet_first c.args.lines.now.1.items c.meet_lines.new.high two.high_count (subst (λ g. AllGot g) (sym c.meet_lines.ensures.high_orders) quiet.1),
-    )
-
-pub returns-clause-drained : goal.returns-clause-drained
-returns-clause-drained g c = λ tells done.
-    let two = c.requires.1 in
-    drained_first c.args.lines.now.0.items c.args.lines.now.1.items c.turn_until_quiet-end.new.low c.turn_until_quiet-end.new.high
-    c.meet_lines.new.low c.meet_lines.new.high two.low_count two.high_count c.meet_lines.ensures.low_past c.meet_lines.ensures.high_past
-    (c.turn_until_quiet-end.ensures.drained tells done)
+pub returns-in-Some-end_after-clause-spent : goal.returns-in-Some-end_after-clause-spent
+returns-in-Some-end_after-clause-spent g c = λ host peer entries spent.
+    let n = length c.loop.lines.items in
+    let is = c.in-Some-end_after.is ∙ ap Some spent in
+    full_host (IsPairBelow n n) host peer entries (rows_of c.round_of_all-came.new.lines.items)
+    (c.round_of_all-came.ensures.spent host peer entries (c.end_after.ensures.spent host peer entries is))

@@ -1,5 +1,26 @@
-use Rattle.std.proofs.Common.{rules}
+use Rattle.rds_rounds.proofs.Going.{goes_through}
 use Rattle.rds_rounds.proofs.turning.round.Goals as goal
 
-pub returns-clause-drained : goal.returns-clause-drained
-returns-clause-drained g c = search rules
+pub meet_lines-requires-2 : goal.meet_lines-requires-2
+meet_lines-requires-2 g c =
+    let connected = c.requires.connected in (
+      connected.0,
+      c.args.low,
+      c.args.high,
+      c.turn_both-came.ensures.together.connected connected.0 (c.meet_lines.ensures.connected connected.0 c.args.low c.args.high connected.1),
+    )
+
+pub returns-clause-together : goal.returns-clause-together
+returns-clause-together g c = record {
+  one_goes =
+      goes_through c.args.one.now c.meet_lines.new.one c.meet_lines-2.new.one c.meet_lines.ensures.one.goes
+      (goes_through c.meet_lines.new.one c.turn_both-came.new.one c.meet_lines-2.new.one c.turn_both-came.ensures.together.one_goes
+      c.meet_lines-2.ensures.one.goes);
+  other_goes =
+      goes_through c.args.other.now c.meet_lines.new.other c.meet_lines-2.new.other c.meet_lines.ensures.other.goes
+      (goes_through c.meet_lines.new.other c.turn_both-came.new.other c.meet_lines-2.new.other c.turn_both-came.ensures.together.other_goes
+      c.meet_lines-2.ensures.other.goes);
+  connected = λ limit connected.
+      c.meet_lines-2.ensures.connected limit c.args.low c.args.high
+      (c.turn_both-came.ensures.together.connected limit (c.meet_lines.ensures.connected limit c.args.low c.args.high connected));
+}

@@ -1,0 +1,178 @@
+-- What the lines of a run are after a round of each two hosts.
+use Rattle.std.proofs.Common.{◌≡◌, ◌⊎◌, inl, inr, ℕ, suc, ◌<◌, ◌≤◌, ◌-◌, true, List, [], length, Some, slice_get, refl, sym, ap, subst, ◌∙◌, arith}
+use Rattle.std.proofs.lemmas.Option.{same_Some, slice_get_within}
+use Rattle.std.specs.List.{All}
+use Rattle.rds_fmap.specs.Readers.{WriterView}
+use Rattle.rds_mail.specs.Learning.{AllGot}
+use Rattle.rds_link.specs.Ends.{Means}
+use Rattle.rds_line.specs.Line.{IsFull, LineView, line_past}
+use Rattle.rds_rounds.specs.Connection.{AreConnected, AreHosts, IsFullAt, IsFullHost}
+use Rattle.rds_rounds.specs.Done.{AreDone, AreSoundLines}
+use Rattle.rds_rounds.specs.Drained.{AreDrained, AreDrainedLines}
+use Rattle.rds_rounds.specs.Grid.{AreRows, EachRow, IsAt, OfEachPair, peer_at}
+use Rattle.rds_rounds.specs.Quiet.{AreQuiet, LineGoesOn, LinesGoOn}
+use Rattle.rds_rounds.specs.Sweep.{AreConnectedRows, AreSwept, AreWritten, GoOnTogether, HaveHadRound, IsFullAmong, IsPairBelow}
+use Rattle.rds_rounds.specs.declared.verdict.Round.{Round}
+use Rattle.rds_rounds.specs.declared.verdict.Round.TheVariants as verdict
+use Rattle.rds_rounds.proofs.Partners.{all_at, all_of, has_partner, is_there, rows_keep}
+use Rattle.rds_rounds.proofs.Places.{same_at, was_at}
+
+module _ {E : Type 0} (m : Means E) where
+  -- the two lines of two hosts in their rows
+  pub connected_rows : (limit hosts : ℕ) (rows : List (List (LineView E WriterView))) → AreHosts m limit hosts rows → (low high : ℕ)
+      (lower higher : List (LineView E WriterView)) → low < high → high < length rows → slice_get rows low ≡ Some lower → slice_get rows high ≡ Some higher →
+      AreConnectedRows m limit low high lower higher
+  connected_rows limit hosts rows are low high lower higher less within lower_at higher_at =
+      let top : suc (high - 1) ≡ high = omega (arith, less) in
+      let one = is_there hosts rows are.shape low (high - 1) (omega (arith, less, within, are.shape.count)) (omega (arith, less, within, are.shape.count)) in
+      let other = is_there hosts rows are.shape high low (omega (arith, within, are.shape.count)) (omega (arith, less, within, are.shape.count)) in
+      record {
+        one = one.0;
+        other = other.0;
+        one_at = ap (λ (row : List (LineView E WriterView)). slice_get row (high - 1)) (same_Some lower one.1.0 (sym lower_at ∙ one.1.1)) ∙ one.1.2;
+        other_at = ap (λ (row : List (LineView E WriterView)). slice_get row low) (same_Some higher other.1.0 (sym higher_at ∙ other.1.1)) ∙ other.1.2;
+        connected =
+            subst (λ (n : ℕ). AreConnected m limit low n one.0 other.0) top
+            (are.connected low (high - 1) one.0 other.0 (omega (arith, less)) one.1 (subst (λ (n : ℕ). IsAt rows n low other.0) (sym top) other.1));
+      }
+
+  -- the two lines of a pair as they were, and what became of them
+  record CameFrom (In Idle : Type 0) (low place : ℕ) (old : List (List (LineView E WriterView))) (x y : LineView E WriterView) : Type 0 where
+    pub one : LineView E WriterView
+    pub other : LineView E WriterView
+    pub one_at : IsAt old low place one
+    pub other_at : IsAt old (suc place) low other
+    pub together : GoOnTogether m low (suc place) one other x y
+    pub round : In → HaveHadRound m Idle x y
+
+  module _ (In : ℕ → ℕ → Type 0) (came : Round) (old new : List (List (LineView E WriterView))) (swept : AreSwept m In came old new) where
+    came_from : (low place : ℕ) (x y : LineView E WriterView) → low ≤ place → IsAt new low place x → IsAt new (suc place) low y →
+        CameFrom (In low place) (came ≡ verdict.Idle) low place old x y
+    came_from low place x y ordered x_at y_at =
+        let one = was_at old new swept.lengths low place x x_at in
+        let other = was_at old new swept.lengths (suc place) low y y_at in
+        let after = swept.pair low place one.0 other.0 ordered one.1 other.1 in
+        let x_is = same_at new low place after.one_after x after.one_at x_at in
+        let y_is = same_at new (suc place) low after.other_after y after.other_at y_at in
+        record {
+          one = one.0;
+          other = other.0;
+          one_at = one.1;
+          other_at = other.1;
+          together =
+              subst (λ (l : LineView E WriterView). GoOnTogether m low (suc place) one.0 other.0 l y) x_is
+              (subst (λ (l : LineView E WriterView). GoOnTogether m low (suc place) one.0 other.0 after.one_after l) y_is after.together);
+          round = λ among.
+              subst (λ (l : LineView E WriterView). HaveHadRound m (came ≡ verdict.Idle) l y) x_is
+              (subst (λ (l : LineView E WriterView). HaveHadRound m (came ≡ verdict.Idle) after.one_after l) y_is (after.round among));
+        }
+
+    pub hosts_swept : (limit hosts : ℕ) → AreHosts m limit hosts old → AreHosts m limit hosts new
+    hosts_swept limit hosts are = record {
+      few = are.few;
+      shape = rows_keep hosts old new are.shape swept.lengths;
+      connected = λ low place x y ordered x_at y_at.
+          let was = came_from low place x y ordered x_at y_at in
+          was.together.connected limit (are.connected low place was.one was.other ordered was.one_at was.other_at);
+    }
+
+    -- each line goes on
+    line_goes : (hosts : ℕ) → AreRows hosts new → (host place : ℕ) (line after : LineView E WriterView) → IsAt old host place line → IsAt new host place after →
+        LineGoesOn line after
+    line_goes hosts are host place line after was is = by_partner (has_partner hosts new are host place after is)
+      where
+        by_partner :
+            ((y : LineView E WriterView) × (host ≤ place) × IsAt new (suc place) host y)
+            ⊎ ((p : ℕ) × (y : LineView E WriterView) × (host ≡ suc p) × (place ≤ p) × IsAt new place p y) → LineGoesOn line after
+        by_partner (inl found) =
+            let from = came_from host place after found.0 found.1 is found.2 in
+            subst (λ (l : LineView E WriterView). LineGoesOn l after) (same_at old host place from.one line from.one_at was) from.together.one_goes
+        by_partner (inr found) =
+            let here = subst (λ (n : ℕ). IsAt new n place after) found.2 is in
+            let from = came_from place found.0 found.1 after found.3 found.4 here in
+            subst (λ (l : LineView E WriterView). LineGoesOn l after)
+            (same_at old (suc found.0) place from.other line from.other_at (subst (λ (n : ℕ). IsAt old n place line) found.2 was)) from.together.other_goes
+
+    pub goes_swept : (limit hosts : ℕ) → AreHosts m limit hosts old → EachRow LinesGoOn old new
+    goes_swept limit hosts are = record {
+      count = swept.lengths.count;
+      each = λ host row after stood stands. record {
+        count = swept.lengths.each host row after stood stands;
+        each = λ place line is at_line at_is.
+            line_goes hosts (rows_keep hosts old new are.shape swept.lengths) host place line is (row, stood, at_line) (after, stands, at_is);
+      };
+    }
+
+    module _ (limit hosts : ℕ) (are : AreHosts m limit hosts old) (all : (low place : ℕ) → low ≤ place → suc place < length new → In low place) where
+      still_rows : AreRows hosts new
+      still_rows = rows_keep hosts old new are.shape swept.lengths
+
+      had_round : (low place : ℕ) (x y : LineView E WriterView) → low ≤ place → IsAt new low place x → IsAt new (suc place) low y →
+          HaveHadRound m (came ≡ verdict.Idle) x y
+      had_round low place x y ordered x_at y_at =
+          (came_from low place x y ordered x_at y_at).round (all low place ordered (slice_get_within new (suc place) y_at.0 y_at.1))
+
+      pub done_swept : AreDone m limit hosts new
+      done_swept = record {
+        few = are.few;
+        shape = still_rows;
+        sound = λ low place x y ordered x_at y_at. record {
+          hosts = ((hosts_swept limit hosts are).connected low place x y ordered x_at y_at).hosts;
+          sound = (had_round low place x y ordered x_at y_at).sound;
+        };
+      }
+
+      line_quiet : came ≡ verdict.Idle → (host place : ℕ) (x : LineView E WriterView) → IsAt new host place x → AllGot x.orders
+      line_quiet idle host place x at = by_partner (has_partner hosts new still_rows host place x at)
+        where
+          by_partner :
+              ((y : LineView E WriterView) × (host ≤ place) × IsAt new (suc place) host y)
+              ⊎ ((p : ℕ) × (y : LineView E WriterView) × (host ≡ suc p) × (place ≤ p) × IsAt new place p y) → AllGot x.orders
+          by_partner (inl found) = ((had_round host place x found.0 found.1 at found.2).quiet idle).0
+          by_partner (inr found) =
+              ((had_round place found.0 found.1 x found.3 found.4 (subst (λ (n : ℕ). IsAt new n place x) found.2 at)).quiet idle).1
+
+      pub quiet_swept : came ≡ verdict.Idle → All AreQuiet new
+      quiet_swept idle = all_of AreQuiet new (λ host row stands. λ place line at. line_quiet idle host place line (row, stands, at))
+
+      pub drained_swept : m.tells ≡ true → came ≡ verdict.Idle →
+          All AreWritten new → AreDrainedLines new
+      drained_swept tells idle written low place x y ordered x_at y_at =
+          (had_round low place x y ordered x_at y_at).drained tells idle (out low place x x_at) (out (suc place) low y y_at)
+        where
+          out : (host at : ℕ) (line : LineView E WriterView) → IsAt new host at line → line.channel.out ≡ []
+          out host at line is =
+              all_at (λ (l : LineView E WriterView). l.channel.out ≡ []) is.0 at line (all_at AreWritten new host is.0 written is.1) is.2
+
+-- each pair is among those of a round of all hosts
+pub all_pairs : {E : Type 0} (m : Means E) (hosts : ℕ) (came : Round) (old new : List (List (LineView E WriterView))) → AreSwept m (IsPairBelow hosts hosts) came old new →
+    length old ≡ hosts → (low place : ℕ) → low ≤ place → suc place < length new → IsPairBelow hosts hosts low place
+all_pairs m hosts came old new swept full low place ordered within =
+    (omega (arith, ordered, within, swept.lengths.count, full), omega (arith, within, swept.lengths.count, full))
+
+-- the host with a full journal
+pub full_host : {E : Type 0} (In : ℕ → ℕ → Type 0) (host peer entries : ℕ) (rows : List (List (LineView E WriterView))) → IsFullAmong In host peer entries rows →
+    IsFullHost host peer entries rows
+full_host {E} In host peer entries rows found = by_line found.full
+  where
+    by_line : IsFullAt host peer entries found.low (suc found.place) found.one found.other → IsFullHost host peer entries rows
+    by_line (inl low) = record {
+      place = found.place;
+      line = found.one;
+      at = subst (λ (n : ℕ). IsAt rows n found.place found.one) (sym low.0) found.one_at;
+      to = ap (λ (n : ℕ). peer_at n found.place) low.0 ∙ higher ∙ sym low.1;
+      full = low.2;
+    }
+      where
+        higher : peer_at found.low found.place ≡ suc found.place
+        higher = grind (arith, found.ordered)
+    by_line (inr high) = record {
+      place = found.low;
+      line = found.other;
+      at = subst (λ (n : ℕ). IsAt rows n found.low found.other) (sym high.0) found.other_at;
+      to = ap (λ (n : ℕ). peer_at n found.low) high.0 ∙ lower ∙ sym high.1;
+      full = high.2;
+    }
+      where
+        lower : peer_at (suc found.place) found.low ≡ found.low
+        lower = grind (arith, found.ordered)

@@ -1,0 +1,102 @@
+-- Private: it serves the contracts of the private functions that turn the lines of a run for the last time. Source: this project's own.
+use Rattle.std.specs.Prelude.{◌≡◌, ◌≤◌, ◌<◌, ◌-◌, ℕ, suc, true, All, List, [], Some, length, slice_get, slice_set}
+use Rattle.rds_fmap.specs.Readers.{WriterView}
+use Rattle.rds_mail.specs.Learning.{AllGot}
+use Rattle.rds_link.specs.Ends.{Means}
+use Rattle.rds_line.specs.Line.{LineView, line_past}
+use Rattle.rds_rounds.specs.Connection.{AreConnected, IsFullAt}
+use Rattle.rds_rounds.specs.Drained.{AreDrained}
+use Rattle.rds_rounds.specs.Grid.{EachRow, IsAt}
+use Rattle.rds_rounds.specs.Quiet.{LineGoesOn}
+use Rattle.rds_rounds.specs.Sound.{AreSoundJournals}
+use Rattle.rds_rounds.specs.declared.verdict.Round.{Round}
+use Rattle.rds_rounds.specs.declared.verdict.Round.TheVariants as verdict
+
+-- a row has as many things as before
+abbrev pub HasAsMany : {T : Type 0} → List T → List T → Type 0
+HasAsMany {T} old new = length new ≡ length old
+
+-- this is the one pair of two hosts, named by the lower host and the place of its line to the higher one
+abbrev pub IsPair : (low high : ℕ) → (host place : ℕ) → Type 0
+IsPair low high host place = (host ≡ low) × (suc place ≡ high)
+
+-- a pair of this host with one that is higher, and below this limit
+abbrev pub IsPairOf : (low limit : ℕ) → (host place : ℕ) → Type 0
+IsPairOf low limit host place = (host ≡ low) × (suc place < limit)
+
+-- a pair of a host below this one, where there are so many hosts
+abbrev pub IsPairBelow : (low hosts : ℕ) → (host place : ℕ) → Type 0
+IsPairBelow low hosts host place = (host < low) × (suc place < hosts)
+
+-- no line of a host has bytes that are to be written
+abbrev pub AreWritten : {E M : Type 0} → List (LineView E M) → Type 0
+AreWritten {E} {M} row = All (λ (line : LineView E M). line.channel.out ≡ []) row
+
+module _ {E : Type 0} (m : Means E) where
+  -- The lines of two hosts after a round of theirs: what their journals have is sound. Where the round was idle, each got all orders that
+  -- it was told of, and where moreover nothing is left to be written over ends that tell their bytes, the journals are drained.
+  pub record HaveHadRound (Idle : Type 0) (one other : LineView E WriterView) : Type 0 where
+    pub sound : AreSoundJournals m.tells (line_past one) (line_past other)
+    pub quiet : Idle → AllGot one.orders × AllGot other.orders
+    pub drained : m.tells ≡ true → Idle → one.channel.out ≡ [] → other.channel.out ≡ [] → AreDrained (line_past one) (line_past other)
+
+  -- the lines of two hosts go on, and stay connected
+  pub record GoOnTogether (low high : ℕ) (one other one_after other_after : LineView E WriterView) : Type 0 where
+    pub one_goes : LineGoesOn one one_after
+    pub other_goes : LineGoesOn other other_after
+    pub connected : (limit : ℕ) → AreConnected m limit low high one other → AreConnected m limit low high one_after other_after
+
+  -- in the rows of two hosts, the lower host's first, stand their two lines, which are connected
+  pub record AreConnectedRows (limit low high : ℕ) (lower higher : List (LineView E WriterView)) : Type 0 where
+    pub one : LineView E WriterView
+    pub other : LineView E WriterView
+    pub one_at : slice_get lower (high - 1) ≡ Some one
+    pub other_at : slice_get higher low ≡ Some other
+    pub connected : AreConnected m limit low high one other
+
+  -- The two lines of two hosts had a round, which came to this, in the rows of these hosts, the lower host's first.
+  pub record RowsHadRound (low high : ℕ) (came : Round) (lower higher lower_after higher_after : List (LineView E WriterView)) : Type 0 where
+    pub one : LineView E WriterView
+    pub other : LineView E WriterView
+    pub one_after : LineView E WriterView
+    pub other_after : LineView E WriterView
+    pub one_at : slice_get lower (high - 1) ≡ Some one
+    pub other_at : slice_get higher low ≡ Some other
+    pub lower_is : lower_after ≡ slice_set lower (high - 1) one_after
+    pub higher_is : higher_after ≡ slice_set higher low other_after
+    pub together : GoOnTogether low high one other one_after other_after
+    pub round : HaveHadRound (came ≡ verdict.Idle) one_after other_after
+    pub fault : (first second : ℕ) → came ≡ verdict.Fault first second → (first ≡ low) × (second ≡ high)
+    pub spent : (host peer entries : ℕ) → came ≡ verdict.Spent host peer entries → IsFullAt host peer entries low high one_after other_after
+
+  -- What became of the two lines of two hosts: they go on. They had a round where they are among those that had one, and are the same
+  -- where they aren't.
+  pub record PairAfter (In Idle : Type 0) (low place : ℕ) (one other : LineView E WriterView) (new : List (List (LineView E WriterView))) : Type 0 where
+    pub one_after : LineView E WriterView
+    pub other_after : LineView E WriterView
+    pub one_at : IsAt new low place one_after
+    pub other_at : IsAt new (suc place) low other_after
+    pub together : GoOnTogether low (suc place) one other one_after other_after
+    pub round : In → HaveHadRound Idle one_after other_after
+    pub one_same : (In → ⊥) → one_after ≡ one
+    pub other_same : (In → ⊥) → other_after ≡ other
+
+-- one of these pairs has a line whose journal has so many entries, and two more would pass its limit
+pub record IsFullAmong {E : Type 0} (In : ℕ → ℕ → Type 0) (host peer entries : ℕ) (rows : List (List (LineView E WriterView))) : Type 0 where
+  pub low : ℕ
+  pub place : ℕ
+  pub one : LineView E WriterView
+  pub other : LineView E WriterView
+  pub ordered : low ≤ place
+  pub among : In low place
+  pub one_at : IsAt rows low place one
+  pub other_at : IsAt rows (suc place) low other
+  pub full : IsFullAt host peer entries low (suc place) one other
+
+-- The two lines of each of these pairs had a round, and all other lines are the same. The rounds together came to this.
+pub record AreSwept {E : Type 0} (m : Means E) (In : ℕ → ℕ → Type 0) (came : Round) (old new : List (List (LineView E WriterView))) : Type 0 where
+  pub lengths : EachRow HasAsMany old new
+  pub pair : (low place : ℕ) (one other : LineView E WriterView) → low ≤ place → IsAt old low place one → IsAt old (suc place) low other →
+      PairAfter m (In low place) (came ≡ verdict.Idle) low place one other new
+  pub fault : (low high : ℕ) → came ≡ verdict.Fault low high → (low < high) × (high < length new)
+  pub spent : (host peer entries : ℕ) → came ≡ verdict.Spent host peer entries → IsFullAmong In host peer entries new
