@@ -1,15 +1,15 @@
 -- What the lines of a run are after a round of each two hosts.
-use Rattle.std.proofs.Common.{◌≡◌, ◌⊎◌, inl, inr, ℕ, suc, ◌<◌, ◌≤◌, ◌-◌, true, List, [], length, Some, slice_get, refl, sym, ap, subst, ◌∙◌, arith}
+use Rattle.std.proofs.Common.{◌≡◌, ◌⊎◌, inl, inr, ℕ, suc, ◌<◌, ◌≤◌, ◌-◌, true, List, [], length, Some, slice_get, sym, ap, subst, ◌∙◌, arith}
 use Rattle.std.proofs.lemmas.Option.{same_Some, slice_get_within}
 use Rattle.std.specs.List.{All}
 use Rattle.rds_fmap.specs.Readers.{WriterView}
 use Rattle.rds_mail.specs.Learning.{AllGot}
 use Rattle.rds_link.specs.Ends.{Means}
-use Rattle.rds_line.specs.Line.{IsFull, LineView, line_past}
+use Rattle.rds_line.specs.Line.{LineView}
 use Rattle.rds_rounds.specs.Connection.{AreConnected, AreHosts, IsFullAt, IsFullHost}
-use Rattle.rds_rounds.specs.Done.{AreDone, AreSoundLines}
-use Rattle.rds_rounds.specs.Drained.{AreDrained, AreDrainedLines}
-use Rattle.rds_rounds.specs.Grid.{AreRows, EachRow, IsAt, OfEachPair, peer_at}
+use Rattle.rds_rounds.specs.Done.{AreDone}
+use Rattle.rds_rounds.specs.Drained.{AreDrainedLines}
+use Rattle.rds_rounds.specs.Grid.{AreRows, EachRow, IsAt, peer_at}
 use Rattle.rds_rounds.specs.Quiet.{AreQuiet, LineGoesOn, LinesGoOn}
 use Rattle.rds_rounds.specs.Sweep.{AreConnectedRows, AreSwept, AreWritten, GoOnTogether, HaveHadRound, IsFullAmong, IsPairBelow}
 use Rattle.rds_rounds.specs.declared.verdict.Round.{Round}

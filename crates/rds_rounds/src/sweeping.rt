@@ -22,8 +22,9 @@ pub(crate) fn round_of_all<W: Wire, R: Wait>(
     requires { (limit hosts : ℕ) × AreHosts W.End.means limit hosts (rows_of lines.old.items) }
     ensures { AreSwept W.End.means (IsPairBelow (length lines.old.items) (length lines.old.items)) result (rows_of lines.old.items) (rows_of lines.new.items) }
 {
+    let hosts = hosts_of(lines);
     let mut came = Round::Idle;
-    for low in 0..hosts_of(lines) {
+    for low in 0..hosts {
         let of_host = round_of_host(rt, wire, wanted, low, lines);
         came = either(came, of_host);
     }
@@ -50,8 +51,9 @@ fn round_of_host<W: Wire, R: Wait>(
     requires within { low < length lines.old.items }
     ensures { AreSwept W.End.means (IsPairOf low (length lines.old.items)) result (rows_of lines.old.items) (rows_of lines.new.items) }
 {
+    let hosts = hosts_of(lines);
     let mut came = Round::Idle;
-    for high in low + 1..hosts_of(lines) {
+    for high in low + 1..hosts {
         let of_pair = round_of(rt, wire, wanted, low, high, lines);
         came = either(came, of_pair);
     }

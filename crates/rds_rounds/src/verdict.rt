@@ -74,7 +74,7 @@ fn is_fault<E: End>(
     tells || wanted.lacks || shuts(line.journal()) > causes
 }
 
-/// One turn of a host's line with a peer, where `other` is the peer's with the host, over ends that tell their bytes or don't.
+/// One turn of a host's line, where `other` is the peer's line back, over ends that tell their bytes or don't.
 pub(crate) fn turn<E: End, R: Wait>(
     rt: &R,
     host: u8,

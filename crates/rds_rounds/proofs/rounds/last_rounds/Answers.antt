@@ -1,4 +1,4 @@
-use Rattle.std.proofs.Common.{◌≡◌, ◌<◌, ℕ, suc, Some, ap, length, sym, ◌∙◌, arith}
+use Rattle.std.proofs.Common.{Some, ap, length, ◌∙◌}
 use Rattle.rds_rounds.specs.Grid.{rows_of}
 use Rattle.rds_rounds.specs.Sweep.{IsPairBelow}
 use Rattle.rds_rounds.specs.declared.rounds.Rounds.TheVariants as ended

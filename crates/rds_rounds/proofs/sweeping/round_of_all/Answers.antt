@@ -32,7 +32,7 @@ loop-low-preserved g c =
 
 pub returns : goal.returns
 returns g c =
-    let count = c.hosts_of-low-end.ensures in
+    let count = c.hosts_of-hosts.ensures in
     let test = c.loop-low-test.false in
     whole_run g.W.End.End.means c.loop-low.low (length c.args.lines.now.items) c.loop-low.came (rows_of c.args.lines.now.items) (rows_of c.loop-low.lines.items)
     (omega (arith, count, test)) c.loop-low.invariant

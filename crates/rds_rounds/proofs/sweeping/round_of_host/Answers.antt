@@ -26,7 +26,7 @@ loop-high-preserved g c =
 
 pub returns : goal.returns
 returns g c =
-    let count = c.hosts_of-high-end.ensures in
+    let count = c.hosts_of-hosts.ensures in
     let test = c.loop-high-test.false in
     whole_host g.W.End.End.means c.args.low c.loop-high.high (length c.args.lines.now.items) c.loop-high.came (rows_of c.args.lines.now.items)
     (rows_of c.loop-high.lines.items) (omega (arith, count, test)) (sym (rows_count c.args.lines.now.items)) c.loop-high.invariant
