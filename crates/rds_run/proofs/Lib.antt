@@ -1,4 +1,4 @@
 pub mod Whole
-pub mod Running
+pub mod Calling
 pub mod Ended
 pub mod Ran

@@ -1,6 +1,6 @@
 use Rattle.rds_script.specs.Grammar.{meaning}
 use Rattle.rds_run.specs.ExitStatus.{SourceSeen, SinkSeen}
-use Rattle.rds_run.proofs.Running.{run_ends_of_script}
+use Rattle.rds_run.proofs.Calling.{run_ends_of_script}
 use Rattle.rds_run.proofs.run_command.run_text.Goals as goal
 
 pub returns-in-Ok-clause-ends : goal.returns-in-Ok-clause-ends
