@@ -43,5 +43,5 @@ module _ {E : Type 0} (m : Means E) where
   -- each of so many hosts, which are at most eight, has a line to each other one, and the two lines of each two hosts are connected
   pub record AreHosts {M : Type 0} (limit hosts : ℕ) (rows : List (List (LineView E M))) : Type 0 where
     pub few : hosts ≤ 8
-    pub rows : AreRows hosts rows
+    pub shape : AreRows hosts rows
     pub connected : OfEachPair (AreConnected limit) rows

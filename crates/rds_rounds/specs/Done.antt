@@ -14,5 +14,5 @@ pub record AreSoundLines {E M : Type 0} (m : Means E) (limit low high : ℕ) (on
 -- each of so many hosts has a line to each other one, and those of each two hosts are so
 pub record AreDone {E M : Type 0} (m : Means E) (limit hosts : ℕ) (rows : List (List (LineView E M))) : Type 0 where
   pub few : hosts ≤ 8
-  pub rows : AreRows hosts rows
+  pub shape : AreRows hosts rows
   pub sound : OfEachPair (AreSoundLines m limit) rows
