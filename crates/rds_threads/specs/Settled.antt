@@ -54,13 +54,13 @@ pub record IsToldOf {E : Type 0} (old new : List Place) (lines after : List (Lin
   pub places : new ≡ map spared old
   pub used : (slot : ℕ) (p : Place) → slice_get new slot ≡ Some p → IsUsed p
   pub told : AreLinesTold (holdings new) after
-  pub lines : LinesHear lines after
+  pub hear : LinesHear lines after
   pub tied : AreTied new after
 
 -- the hosts before this one were told so, and nothing changed of the others
 pub record AreToldBelow {E : Type 0} (count : ℕ) (old new : List CallerView) (rows after : List (List (LineView E WriterView))) : Type 0 where
-  pub callers : length new ≡ length old
-  pub rows : length after ≡ length rows
+  pub caller_count : length new ≡ length old
+  pub row_count : length after ≡ length rows
   pub told : (host : ℕ) (caller later : CallerView) (row heard : List (LineView E WriterView)) → host < count → slice_get old host ≡ Some caller →
       slice_get new host ≡ Some later → slice_get rows host ≡ Some row → slice_get after host ≡ Some heard → IsToldOf caller.places later.places row heard
   pub others : (host : ℕ) → count ≤ host → (slice_get new host ≡ slice_get old host) × (slice_get after host ≡ slice_get rows host)

@@ -1,7 +1,8 @@
 //! What is left of the hosts of a run.
-ghost use Rattle.std.specs.Prelude.{◌≡◌, ◌≤◌, ◌∷◌, ◌++◌, [], ℕ, List, IfOk, OnOk, Some, length, map, slice_get};
+ghost use Rattle.std.specs.Prelude.{◌≡◌, ◌≤◌, ◌∷◌, ◌++◌, [], ℕ, List, IfOk, Ok, OnOk, Some, length, map, slice_get};
 ghost use Rattle.rds_text.specs.declared.host.TheConstants.{MAX_HOSTS};
 ghost use Rattle.rds_gather.specs.Sides.{line_side};
+ghost use Rattle.rds_report.specs.declared.final_state.HostEnd.{HostEnd as EndView};
 ghost use Rattle.rds_report.specs.Views.{AreFinalHosts, host_view, host_views, side_view};
 ghost use Rattle.rds_rounds.specs.Done.{AreDone};
 ghost use Rattle.rds_rounds.specs.Drained.{AreDrainedLines};
@@ -73,7 +74,7 @@ fn all_ends<W: Wire, R: Wait>(
 
 // Adds what is left of one more host, if there was memory for it.
 fn add(ends: &mut Vec<HostEnd>, end: Result<HostEnd, Memory>) -> Result<(), Memory>
-    ensures { OnOk result (IfOk end (λ one. ends.new.items ≡ ends.old.items ++ one ∷ [])) }
+    ensures { OnOk result ((one : EndView) × (end ≡ Ok one) × (ends.new.items ≡ ends.old.items ++ one ∷ [])) }
 {
     ends.push(end?)?;
     Ok(())
@@ -115,4 +116,3 @@ fn tell_slots<E: End>(caller: &mut Caller, lines: &mut Vec<Line<E, Writer>>)
 {
     settle_slots(caller, lines);
 }
-
