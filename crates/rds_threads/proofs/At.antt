@@ -1,6 +1,7 @@
 -- What stands at a place of a list.
-use Rattle.std.proofs.Common.{◌≡◌, ℕ, zero, suc, List, [], ◌∷◌, Some, length, map, option_map, slice_get, refl, sym, ap, ◌∙◌, arith}
-use Rattle.std.proofs.lemmas.Option.{same_Some, slice_get-map}
+use Rattle.std.proofs.Common.{◌≡◌, ◌≢◌, ◌<◌, ℕ, zero, suc, All, List, [], ◌∷◌, Some, get_or, length, map, option_map, set, slice_get, refl, sym, ap, subst, ◌∙◌, arith}
+use Rattle.std.specs.List.{AllPairs}
+use Rattle.std.proofs.lemmas.Option.{get_or_from_slice_get, same_Some, slice_get-get_or, slice_get-map, slice_get_within}
 use Rattle.rds_callers.specs.Places.{Bound, Ended, Place, Spare, Vacant, holding_of, spared}
 use Rattle.rds_settling.specs.Tied.{holdings}
 
@@ -29,7 +30,37 @@ spared_holds (Bound o got) = refl
 spared_holds (Ended port h got) = refl
 spared_holds (Spare h) = refl
 
--- the one element of a list
-pub first_of : {T : Type 0} (xs : List T) → length xs ≡ 1 → (x : T) × (slice_get xs 0 ≡ Some x)
-first_of [] one = absurd (omega (arith, one))
-first_of (x ∷ xs) one = (x, refl)
+-- there is something at each place within a list
+pub some_at : {T : Type 0} (xs : List T) (i : ℕ) → i < length xs → (x : T) × (slice_get xs i ≡ Some x)
+some_at [] i within = absurd (omega (arith, within))
+some_at (x ∷ xs) zero within = (x, refl)
+some_at (x ∷ xs) (suc i) within = some_at xs i (omega (arith, within))
+
+-- one thing stands at a place
+pub one_at : {T : Type 0} (xs : List T) (i : ℕ) (x y : T) → slice_get xs i ≡ Some x → slice_get xs i ≡ Some y → x ≡ y
+one_at xs i x y first second = same_Some x y (sym first ∙ second)
+
+-- what holds at each place of a list holds of all of it
+pub all_from : {T : Type 0} (P : T → Type 0) (xs : List T) → ((i : ℕ) (x : T) → slice_get xs i ≡ Some x → P x) → All P xs
+all_from P xs each = λ i d within. each i (get_or xs i d) (slice_get-get_or xs i d within)
+
+pub all_at : {T : Type 0} (P : T → Type 0) (xs : List T) (i : ℕ) (x : T) → All P xs → slice_get xs i ≡ Some x → P x
+all_at P xs i x all at = subst P (get_or_from_slice_get xs i x x at) (all i x (slice_get_within xs i x at))
+
+pub pairs_from : {T : Type 0} (R : T → T → Type 0) (xs : List T) →
+    ((i j : ℕ) (x y : T) → i < j → slice_get xs i ≡ Some x → slice_get xs j ≡ Some y → R x y) → AllPairs R xs
+pairs_from R xs each = λ i j d before within.
+    each i j (get_or xs i d) (get_or xs j d) before (slice_get-get_or xs i d (omega (arith, before, within))) (slice_get-get_or xs j d within)
+
+-- what was set stands at its place, and at another place what stood there
+pub at_set : {T : Type 0} (xs : List T) (i : ℕ) (x : T) → i < length xs → slice_get (set xs i x) i ≡ Some x
+at_set [] i x within = absurd (omega (arith, within))
+at_set (y ∷ xs) zero x within = refl
+at_set (y ∷ xs) (suc i) x within = at_set xs i x (omega (arith, within))
+
+pub beside_set : {T : Type 0} (xs : List T) (i j : ℕ) (x : T) → j ≢ i → slice_get (set xs i x) j ≡ slice_get xs j
+beside_set [] i j x other = refl
+beside_set (y ∷ xs) zero zero x other = absurd (other refl)
+beside_set (y ∷ xs) zero (suc j) x other = refl
+beside_set (y ∷ xs) (suc i) zero x other = refl
+beside_set (y ∷ xs) (suc i) (suc j) x other = beside_set xs i j x (λ same. other (ap suc same))

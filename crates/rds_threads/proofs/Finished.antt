@@ -1,5 +1,5 @@
--- Two hosts of a run whose lines were told of all orders, and turned until they were quiet.
-use Rattle.std.proofs.Common.{◌≡◌, ◌≤◌, ℕ, List, Some, length, slice_get, subst, sym, arith}
+-- Hosts of a run whose lines were told of all orders, and turned until they were quiet.
+use Rattle.std.proofs.Common.{◌≡◌, ◌≤◌, ℕ, All, List, Some, length, map, slice_get, subst, sym, arith}
 use Rattle.rds_mail.specs.declared.view.Account.{Account}
 use Rattle.rds_model.specs.declared.order.Order.{Order}
 use Rattle.rds_fmap.specs.Readers.{ReaderView, WriterView}
@@ -7,11 +7,16 @@ use Rattle.rds_socket.specs.Holding.{Holding}
 use Rattle.rds_line.specs.Line.{LineView}
 use Rattle.rds_host.specs.Keeping.{LinesKeep}
 use Rattle.rds_host.specs.Telling.{IsTold}
-use Rattle.rds_callers.specs.Places.{IsUsed, Place}
+use Rattle.rds_callers.specs.Places.{CallerView, IsUsed, Place, spared}
+use Rattle.rds_script.specs.declared.script.Placed.{Placed}
+use Rattle.rds_parties.specs.Parties.{AreNewCallers, HaveDone, HaveObeyed}
+use Rattle.rds_rounds.specs.Grid.{AreRows, EachRow}
 use Rattle.rds_rounds.specs.Quiet.{AreQuiet, LinesGoOn}
 use Rattle.rds_settling.specs.Tied.{AreLinesTold, AreTied, holdings}
-use Rattle.rds_threads.specs.Settled.{HasSettled}
-use Rattle.rds_threads.proofs.At.{stood_at}
+use Rattle.rds_threads.specs.Settled.{AreToldBelow, HasSettled, HaveDoneSpared, HaveSettled}
+use Rattle.rds_threads.proofs.At.{all_at, one_at, stood_at}
+use Rattle.rds_threads.proofs.Keeping.{told_at}
+use Rattle.rds_threads.proofs.Rows.{row_length}
 
 module _ {E : Type 0} where
   -- a line that goes on was told of no more
@@ -27,8 +32,8 @@ module _ {E : Type 0} where
     each = λ place line after stood stands. (goes.each place line after stood stands).keeps;
   }
 
-  -- the host has settled
-  pub settled_end : {places : List Place} {told after : List (LineView E WriterView)} →
+  -- one host has settled
+  settled_end : {places : List Place} {told after : List (LineView E WriterView)} →
       ((places : List Place) (lines after : List (LineView E WriterView)) → AreTied places lines → LinesKeep lines after → AreTied places after) →
       AreTied places told → 1 ≤ length told → ((slot : ℕ) (p : Place) → slice_get places slot ≡ Some p → IsUsed p) →
       AreLinesTold (holdings places) told → LinesGoOn told after → AreQuiet after → HasSettled places after
@@ -40,3 +45,48 @@ module _ {E : Type 0} where
         told = lines_told (holdings places) told after all goes;
         quiet = quiet;
       }
+
+  -- all hosts have
+  pub all_settled : ((places : List Place) (lines after : List (LineView E WriterView)) → AreTied places lines → LinesKeep lines after → AreTied places after) →
+      (hosts : ℕ) (old new : List CallerView) (rows told after : List (List (LineView E WriterView))) → AreRows hosts rows → 2 ≤ hosts → length old ≡ length rows →
+      AreToldBelow (length old) old new rows told → EachRow LinesGoOn told after → All AreQuiet after → HaveSettled new after
+  all_settled law hosts old new rows told after shape some same all goes quiet =
+      let rows_count = goes.count in
+      let told_count = all.row_count in
+      let callers_count = all.caller_count in record {
+        count = omega (arith, rows_count, told_count, callers_count, same);
+        each = λ host later row at at_row.
+            let heard = stood_at told after host row goes.count at_row in
+            let was = stood_at rows told host heard.0 all.row_count heard.1 in
+            let is = told_at old new rows told same all host was.0 heard.0 was.1 heard.1 in
+            let one = is.4 in
+            let long = row_length hosts rows shape host was.0 was.1 in
+            let long_told = one.hear.count in
+            let later_is : is.1 ≡ later = one_at new host is.1 later is.3 at in
+            subst (λ (c : CallerView). HasSettled c.places row) later_is
+            (settled_end law one.tied (omega (arith, long, long_told, some)) one.used one.told (goes.each host heard.0 row heard.1 at_row)
+            (all_at AreQuiet after host row quiet at_row));
+      }
+
+-- the callers did their commands, and then gave up the slots that no socket had
+pub done_spared : {E : Type 0} (hosts : ℕ) (commands : List Placed) (old new : List CallerView) (rows told : List (List (LineView E WriterView))) →
+    length old ≡ length rows → AreToldBelow (length old) old new rows told → HaveDone hosts commands old → HaveDoneSpared hosts commands new
+done_spared hosts commands old new rows told same all did host later at =
+    let caller = stood_at old new host later all.caller_count at in
+    let row = stood_at rows old host caller.0 same caller.1 in
+    let heard = stood_at told rows host row.0 (sym all.row_count) row.1 in
+    let is = told_at old new rows told same all host row.0 heard.0 row.1 heard.1 in
+    let later_is : is.1 ≡ later = one_at new host is.1 later is.3 at in
+    record {
+      last = is.0.places;
+      done = did host is.0 is.2;
+      left = subst (λ (c : CallerView). c.places ≡ map spared is.0.places) later_is is.4.places;
+    }
+
+-- from new slots they did them
+pub all_done : (hosts : ℕ) (commands : List Placed) (new after : List CallerView) → AreNewCallers hosts commands new → HaveObeyed commands new after →
+    HaveDone hosts commands after
+all_done hosts commands new after are obeyed host caller at =
+    let was = stood_at new after host caller obeyed.count at in
+    let is = are host was.0 was.1 in
+    record { first = was.0.places; count = is.0; new = is.1; obeyed = obeyed.each host was.0 caller was.1 at }

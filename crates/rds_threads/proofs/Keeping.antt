@@ -1,36 +1,94 @@
--- What is kept over several steps.
-use Rattle.std.proofs.Common.{◌≡◌, ℕ, zero, suc, List, [], ◌∷◌, Some, length, take, drop, ◌++◌, ◌≤◌, slice_get, refl, sym, ap, subst, ◌∙◌, arith}
-use Rattle.std.proofs.lemmas.List.{append-nil, take_all}
-use Rattle.rds_link.specs.Ends.{Means}
+-- What is kept where the lines of all hosts are told of orders.
+use Rattle.std.proofs.Common.{◌≡◌, ◌≢◌, ◌+◌, ℕ, zero, suc, List, [], ◌∷◌, Some, inl, inr, length, set, subst, take, drop, ◌++◌, ◌≤◌, slice_get, refl, sym, ap, ◌∙◌, arith}
+use Rattle.std.proofs.lemmas.Bool.{cases_lt}
+use Rattle.std.proofs.lemmas.List.{append-nil, length-set, take_all}
+use Rattle.std.proofs.lemmas.Option.{slice_get_within}
 use Rattle.rds_fmap.specs.Readers.{WriterView}
 use Rattle.rds_line.specs.Line.{LineView}
-use Rattle.rds_rounds.specs.Connection.{ArePaired, AreTwo}
+use Rattle.rds_callers.specs.Places.{CallerView}
+use Rattle.rds_rounds.specs.Connection.{AreSameConnections}
+use Rattle.rds_rounds.specs.Grid.{EachRow}
 use Rattle.rds_settling.specs.Tied.{LinesHear}
-use Rattle.rds_threads.proofs.At.{stood_at}
+use Rattle.rds_threads.specs.Settled.{AreToldBelow, IsToldOf}
+use Rattle.rds_threads.proofs.At.{at_set, beside_set, one_at, stood_at}
 
 module _ {E : Type 0} where
-  -- two connected lines that were told of orders are connected
-  pub two_heard : (m : Means E) (limit : ℕ) (lows highs low_after high_after : List (LineView E WriterView)) → AreTwo m limit lows highs → LinesHear lows low_after →
-      LinesHear highs high_after → AreTwo m limit low_after high_after
-  two_heard m limit lows highs low_after high_after two first second = record {
-    low_count = first.count ∙ two.low_count;
-    high_count = second.count ∙ two.high_count;
-    connected = λ low high at_low at_high.
-        let old_low = stood_at lows low_after 0 low first.count at_low in
-        let old_high = stood_at highs high_after 0 high second.count at_high in
-        let c = two.connected old_low.0 old_high.0 old_low.1 old_high.1 in
-        let one = first.each 0 old_low.0 low old_low.1 at_low in
-        let other = second.each 0 old_high.0 high old_high.1 at_high in record {
-          hosts = record {
-            low_limit = ap (λ (l : LineView E WriterView). l.channel.conn.log.limit) one ∙ c.hosts.low_limit;
-            high_limit = ap (λ (l : LineView E WriterView). l.channel.conn.log.limit) other ∙ c.hosts.high_limit;
-            low_peer = ap (λ (l : LineView E WriterView). l.channel.conn.peer) one ∙ c.hosts.low_peer;
-            high_peer = ap (λ (l : LineView E WriterView). l.channel.conn.peer) other ∙ c.hosts.high_peer;
-          };
-          streams =
-              subst (λ (l : List (ℕ × E)). ArePaired m l high.channel.streams.list) (sym (ap (λ (l : LineView E WriterView). l.channel.streams.list) one))
-              (subst (λ (l : List (ℕ × E)). ArePaired m old_low.0.channel.streams.list l) (sym (ap (λ (l : LineView E WriterView). l.channel.streams.list) other)) c.streams);
+  -- lines that were told of orders are of the same connections
+  heard_same : (lines after : List (LineView E WriterView)) → LinesHear lines after → AreSameConnections lines after
+  heard_same lines after hear = record {
+    count = hear.count;
+    each = λ place line heard at at_heard.
+        let is = hear.each place line heard at at_heard in record {
+          limit = ap (λ (l : LineView E WriterView). l.channel.conn.log.limit) is;
+          peer = ap (λ (l : LineView E WriterView). l.channel.conn.peer) is;
+          streams = ap (λ (l : LineView E WriterView). l.channel.streams.list) is;
         };
+  }
+
+  -- what was told to one host, of all that were told
+  pub told_at : (old new : List CallerView) (rows after : List (List (LineView E WriterView))) → length old ≡ length rows →
+      AreToldBelow (length old) old new rows after → (host : ℕ) (row heard : List (LineView E WriterView)) → slice_get rows host ≡ Some row →
+      slice_get after host ≡ Some heard → (caller : CallerView) × (later : CallerView) × (slice_get old host ≡ Some caller) × (slice_get new host ≡ Some later)
+      × IsToldOf caller.places later.places row heard
+  told_at old new rows after same all host row heard at at_heard =
+      let caller = stood_at old rows host row (sym same) at in
+      let later = stood_at new old host caller.0 (sym all.caller_count) caller.1 in
+      let within = slice_get_within old host caller.0 caller.1 in
+      (caller.0, later.0, caller.1, later.1, all.told host caller.0 later.0 row heard within caller.1 later.1 at at_heard)
+
+  -- all rows are of the same connections
+  pub rows_same : (old new : List CallerView) (rows after : List (List (LineView E WriterView))) → length old ≡ length rows →
+      AreToldBelow (length old) old new rows after → EachRow AreSameConnections rows after
+  rows_same old new rows after same all = record {
+    count = all.row_count;
+    each = λ host row heard at at_heard.
+        let is = told_at old new rows after same all host row heard at at_heard in
+        heard_same row heard is.4.hear;
+  }
+
+  -- none was told yet
+  pub none_told : (old : List CallerView) (rows : List (List (LineView E WriterView))) → AreToldBelow 0 old old rows rows
+  none_told old rows = record {
+    caller_count = refl;
+    row_count = refl;
+    told = λ host caller later row heard below. absurd (omega (arith, below));
+    others = λ host from. (refl, refl);
+  }
+
+  -- one more was told
+  pub one_told : (count : ℕ) (old new : List CallerView) (rows after : List (List (LineView E WriterView))) (now later : CallerView)
+      (row heard : List (LineView E WriterView)) → AreToldBelow count old new rows after → slice_get new count ≡ Some now → slice_get after count ≡ Some row →
+      IsToldOf now.places later.places row heard → AreToldBelow (count + 1) old (set new count later) rows (set after count heard)
+  one_told count old new rows after now later row heard all at_now at_row one = record {
+    caller_count = length-set new count later ∙ all.caller_count;
+    row_count = length-set after count heard ∙ all.row_count;
+    told = λ host caller next was came below at at_next at_was at_came.
+        elim (cases_lt host count) [
+          | inl earlier ↦
+              let apart : host ≢ count = λ same. absurd (omega (arith, same, earlier)) in
+              all.told host caller next was came earlier at (sym (beside_set new count host later apart) ∙ at_next) at_was
+              (sym (beside_set after count host heard apart) ∙ at_came)
+          | inr from ↦
+              let is : host ≡ count = omega (arith, from, below) in
+              let rest = all.others count (omega arith) in
+              let next_is : later ≡ next =
+              one_at (set new count later) count later next (at_set new count later (slice_get_within new count now at_now))
+              (subst (λ (h : ℕ). slice_get (set new count later) h ≡ Some next) is at_next) in
+              let came_is : heard ≡ came =
+              one_at (set after count heard) count heard came (at_set after count heard (slice_get_within after count row at_row))
+              (subst (λ (h : ℕ). slice_get (set after count heard) h ≡ Some came) is at_came) in
+              let caller_is : now ≡ caller =
+              one_at old count now caller (sym rest.0 ∙ at_now) (subst (λ (h : ℕ). slice_get old h ≡ Some caller) is at) in
+              let row_is : row ≡ was = one_at rows count row was (sym rest.1 ∙ at_row) (subst (λ (h : ℕ). slice_get rows h ≡ Some was) is at_was) in
+              subst (λ (c : CallerView). IsToldOf caller.places c.places was came) next_is
+              (subst (λ (l : List (LineView E WriterView)). IsToldOf caller.places later.places was l) came_is
+              (subst (λ (c : CallerView). IsToldOf c.places later.places was heard) caller_is
+              (subst (λ (l : List (LineView E WriterView)). IsToldOf now.places later.places l heard) row_is one)))
+        ];
+    others = λ host from.
+        let apart : host ≢ count = λ same. absurd (omega (arith, same, from)) in
+        let rest = all.others host (omega (arith, from)) in
+        (beside_set new count host later apart ∙ rest.0, beside_set after count host heard apart ∙ rest.1);
   }
 
 -- a vector whose items were lent out and came back, as many as before

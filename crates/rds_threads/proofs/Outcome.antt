@@ -1,26 +1,26 @@
 -- What a host that has ended did of a script's commands.
-use Rattle.std.proofs.Common.{◌≡◌, ℕ, suc, arith, All, List, [], ◌∷◌, Some, Option, length, map, option_map, slice_get, Result, Ok, Err, IfOk, OnOk, Vec, refl, sym, ap, subst, ◌∙◌}
+use Rattle.std.proofs.Common.{◌≡◌, ℕ, suc, arith, List, [], ◌∷◌, Some, Option, map, option_map, slice_get, Result, Ok, Err, IfOk, OnOk, Vec, refl, sym, ap, subst, ◌∙◌}
 use Rattle.std.specs.Global.{Global}
 use Rattle.std.proofs.lemmas.List.Elements.{All-map, All-weaker}
 use Rattle.std.proofs.lemmas.Option.{slice_get-map}
 use Rattle.rds_fmap.specs.Readers.{ReaderView, WriterView}
 use Rattle.rds_parts.specs.Lanes.{IsLaneAt, Lane}
-use Rattle.rds_report.specs.FinalState.{FinalSocket}
+use Rattle.rds_report.specs.FinalState.{FinalJournal, FinalSocket}
 use Rattle.rds_report.specs.Views.{socket_view}
 use Rattle.rds_report.specs.declared.final_state.HostEnd.{HostEnd}
 use Rattle.rds_report.specs.declared.final_state.Kept.{Kept}
 use Rattle.rds_wire.specs.declared.memory.Memory.{Memory}
 use Rattle.rds_script.specs.declared.script.Placed.{Placed}
 use Rattle.rds_socket.specs.Holding.{Holding}
-use Rattle.rds_line.specs.Line.{LineView, line_past}
-use Rattle.rds_host.specs.Telling.{AreOrdersTold}
-use Rattle.rds_gather.specs.Joined.{AreJoined}
+use Rattle.rds_line.specs.Line.{LineView}
+use Rattle.rds_gather.specs.Joined.{AreJoined, orders_of}
+use Rattle.rds_gather.specs.Sides.{line_side}
 use Rattle.rds_callers.specs.Ends.{AreEndsOf, AreLeft, IsLeft, UnreadFits, kept_name, used_name}
 use Rattle.rds_callers.specs.Places.{Bound, Ended, Place, Spare, Vacant, holding_of, somes, spared, with_holding}
 use Rattle.rds_threads.specs.Outcome.{HandedOutAt, IsOutcome, socket_name}
 use Rattle.rds_rounds.specs.Quiet.{AreQuiet}
 use Rattle.rds_threads.specs.Settled.{AreAllSent, AreKeptOf, HasDoneSpared}
-use Rattle.rds_settling.specs.Tied.{AreLinesTold, PlaceHears, PlacesHear, holdings}
+use Rattle.rds_settling.specs.Tied.{AreLinesTold, PlacesHear, holdings}
 use Rattle.rds_threads.proofs.At.{at_map, held_at, spared_holds, stood_at}
 
 -- the names of slots stay where they are given up
@@ -110,14 +110,17 @@ hands_spared (Ended port h got) s is = is
 hands_spared (Spare h) s is = absurd is
 
 module _ {E : Type 0} where
-  pub outcome_of : (host peer : ℕ) (commands : List Placed) (places : List Place) (lines : List (LineView E WriterView)) (line : LineView E WriterView) (kept : List Kept) →
-      HasDoneSpared host peer commands places → AreAllSent places lines → slice_get lines 0 ≡ Some line → AreKeptOf places kept →
-      IsOutcome host peer commands (line_past line) (map socket_view kept)
-  outcome_of host peer commands places lines line kept did sent at_line of_kept = record {
+  pub outcome_of : (hosts host : ℕ) (commands : List Placed) (places : List Place) (lines : List (LineView E WriterView)) (kept : List Kept) →
+      HasDoneSpared hosts host commands places → AreAllSent places lines → AreKeptOf places kept →
+      IsOutcome hosts host commands (map line_side lines) (map socket_view kept)
+  outcome_of hosts host commands places lines kept did sent of_kept = record {
     last = did.last;
     done = did.done;
-    sent = λ slot p lane at at_lane.
-        sent slot 0 (spared p) lane line (here slot p at) (subst (λ (h : Holding ReaderView). IsLaneAt h.routes 0 lane) (sym (spared_holds p)) at_lane) at_line;
+    sent = λ slot place p lane side at at_lane at_side.
+        let line = at_map line_side lines place side at_side in
+        ap (λ (s : FinalJournal). orders_of slot s.past) line.2
+        ∙ sent slot place (spared p) lane line.0 (here slot p at)
+        (subst (λ (h : Holding ReaderView). IsLaneAt h.routes place lane) (sym (spared_holds p)) at_lane) line.1;
     names = names_of kept ∙ (of_kept.names ∙ (ap (λ (l : List Place). somes (map used_name l)) did.left ∙ names_spared did.last));
     handed = All-map (λ (s : FinalSocket). (p : Place) × (slice_get did.last s.slot ≡ Some p) × HandedOutAt p s) socket_view kept
         (All-weaker (λ (k : Kept). (p : Place) × (slice_get places k.slot ≡ Some p) × HandedOutAt p (socket_view k))

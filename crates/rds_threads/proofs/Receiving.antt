@@ -1,15 +1,13 @@
 -- What the sockets of a host handed out is what its journals delivered, and what another host sent.
-use Rattle.std.proofs.Common.{◌≡◌, ℕ, suc, ◌≤◌, ◌<◌, ◌==◌, ◌&&◌, Bool, true, false, cond, Option, Some, List, [], ◌∷◌, ◌++◌, All, filter, length, map, option_map, slice_get, Result, Ok, Err, IfOk, OnOk, Vec, refl, sym, ap, ap₂, subst, ◌∙◌, arith}
+use Rattle.std.proofs.Common.{◌≡◌, ℕ, suc, ◌≤◌, ◌==◌, ◌&&◌, Bool, true, false, cond, Some, List, [], ◌∷◌, All, length, map, option_map, slice_get, Result, Ok, Err, IfOk, OnOk, Vec, refl, sym, ap, subst, ◌∙◌}
 use Rattle.std.specs.Global.{Global}
-use Rattle.std.proofs.lemmas.List.{append-nil}
 use Rattle.std.proofs.lemmas.List.Elements.{All-nil, All-cons, All-map, All-weaker}
 use Rattle.std.proofs.lemmas.Option.{slice_get-map}
 use Rattle.rds_wire.specs.declared.memory.Memory.{Memory}
 use Rattle.rds_model.specs.declared.entry.Entry.{Entry}
 use Rattle.rds_model.specs.declared.order.Datagram.{Datagram}
 use Rattle.rds_model.specs.Deliveries.{delivered_datagrams}
-use Rattle.rds_model.specs.Pairs.{IsDeliveredOnce, delivered_to}
-use Rattle.rds_mail.specs.Learning.{AllGot}
+use Rattle.rds_model.specs.Pairs.{IsDeliveredOnce}
 use Rattle.rds_report.specs.FinalState.{FinalHost, FinalJournal, FinalSocket}
 use Rattle.rds_report.specs.Hosts.{address_of}
 use Rattle.rds_report.specs.Views.{host_view, side_view, socket_view}
@@ -25,6 +23,7 @@ use Rattle.rds_gather.specs.Sides.{line_side}
 use Rattle.rds_callers.specs.Places.{Place}
 use Rattle.rds_callers.specs.Ends.{IsLeft}
 use Rattle.rds_threads.specs.Reliable.{HandsOutDelivered, HandsOutSent, HasReceived, IsReliableTo, IsWithPeer, from_host, all_handed}
+use Rattle.rds_threads.proofs.At.{all_at}
 use Rattle.rds_threads.proofs.HandedOut.{AreAccepted, agrees_journal}
 
 -- those from a peer, by both definitions
@@ -95,20 +94,22 @@ sent_of h sport dport sender receiver s accepted delivered =
     ap (map (λ (d : Datagram). Some d)) (sym (ports_among h sport dport (all_handed s)) ∙ ap (of_ports h sport dport) delivered)
     ∙ agrees_journal h sport dport s.slot sender receiver accepted
 
--- a host whose only journal is with host h hands out reliably what h sent
-pub reliable_of : (h : ℕ) (sender receiver : List Entry) (host : FinalHost) → host.sides ≡ record { peer = address_of h; past = receiver } ∷ [] →
-    HasReceived host → AreAccepted sender receiver → ((sport dport : ℕ) → IsDeliveredOnce sport dport sender receiver) →
-    IsReliableTo h sender receiver host.sockets
-reliable_of h sender receiver host only received accepted once = record {
+-- a host with such a journal of its connection with host h hands out reliably what h sent
+pub reliable_of : (h place : ℕ) (sender : List Entry) (host : FinalHost) (side : FinalJournal) → slice_get host.sides place ≡ Some side →
+    side.peer ≡ address_of h → HasReceived host → AreAccepted sender side.past → ((sport dport : ℕ) → IsDeliveredOnce sport dport sender side.past) →
+    IsReliableTo h sender side.past host.sockets
+reliable_of h place sender host side at peer received accepted once = record {
   once = once;
   handed_out = λ sport dport.
-      All-weaker (λ (s : FinalSocket). All (HandsOutDelivered s) host.sides) (HandsOutSent h sport dport sender receiver)
-      (λ s all. sent_of h sport dport sender receiver s accepted (first s (subst (All (HandsOutDelivered s)) only all))) host.sockets received.delivered;
+      All-weaker (λ (s : FinalSocket). All (HandsOutDelivered s) host.sides) (HandsOutSent h sport dport sender side.past)
+      (λ s all. sent_of h sport dport sender side.past s accepted (delivered s all)) host.sockets received.delivered;
 }
   where
-    first : (s : FinalSocket) → All (HandsOutDelivered s) (record { peer = address_of h; past = receiver } ∷ []) →
-        from_host (address_of h) (all_handed s) ≡ delivered_datagrams (address_of h) s.slot receiver
-    first s all = all 0 (record { peer = address_of h; past = receiver }) (omega arith)
+    delivered : (s : FinalSocket) → All (HandsOutDelivered s) host.sides →
+        from_host (address_of h) (all_handed s) ≡ delivered_datagrams (address_of h) s.slot side.past
+    delivered s all =
+        subst (λ (addr : ℕ). from_host addr (all_handed s) ≡ delivered_datagrams addr s.slot side.past) peer
+        (all_at (HandsOutDelivered s) host.sides place side all at)
 
 -- what follows of a host end that was gathered
 pub on_gathered : (r : Result HostEnd Memory) (P Q R : HostEnd → Type 0) (J : Type 0) → IfOk r P → IfOk r Q → OnOk r J → ((end : HostEnd) → P end → Q end → J → R end) →

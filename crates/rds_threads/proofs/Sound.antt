@@ -1,158 +1,181 @@
--- What two lines that are done give the ends of a run.
-use Rattle.std.proofs.Common.{◌≡◌, ◌≢◌, ◌<◌, ℕ, Bool, List, [], ◌∷◌, Some, length, get_or, map, slice_get, Result, Ok, Err, IfOk, Vec, refl, sym, ap, subst, ◌∙◌, arith}
-use Rattle.std.specs.Global.{Global}
-use Rattle.std.proofs.lemmas.List.Elements.{All-nil, All-cons}
-use Rattle.std.proofs.lemmas.List.Kept.{AllPairs-cons}
-use Rattle.std.proofs.lemmas.Option.{same_Some}
-use Rattle.rds_wire.specs.declared.memory.Memory.{Memory}
+-- What is left of hosts whose lines are done, and who did their commands, is what a run has in the end.
+use Rattle.std.proofs.Common.{◌≡◌, ◌≢◌, ◌<◌, ℕ, suc, true, List, Some, length, map, slice_get, sym, ap, subst, ◌∙◌, arith}
+use Rattle.std.proofs.lemmas.List.{length-map}
+use Rattle.std.proofs.lemmas.Simd.{map-map}
 use Rattle.rds_link.specs.Ends.{Means}
 use Rattle.rds_model.specs.declared.entry.Entry.{Entry}
-use Rattle.rds_line.specs.Line.{LineView, line_past}
-use Rattle.rds_report.specs.FinalState.{FinalHost, FinalJournal}
-use Rattle.rds_report.specs.Hosts.{IsAddress, address_of}
-use Rattle.rds_report.specs.Views.{AreFinalHosts, AreSides, host_view, host_views, side_view}
-use Rattle.rds_report.specs.declared.final_state.HostEnd.{HostEnd}
-use Rattle.rds_gather.specs.Sides.{line_side}
 use Rattle.rds_model.specs.Fifo.{IsFifo}
 use Rattle.rds_model.specs.Honest.{IsHonest}
 use Rattle.rds_model.specs.Legal.{IsLegal}
+use Rattle.rds_model.specs.Pairs.{IsDeliveredOnce}
 use Rattle.rds_fmap.specs.Readers.{WriterView}
-use Rattle.rds_callers.specs.Places.{Place}
+use Rattle.rds_line.specs.Line.{LineView, line_past}
+use Rattle.rds_gather.specs.Sides.{line_side}
+use Rattle.rds_report.specs.FinalState.{FinalHost, FinalJournal}
+use Rattle.rds_report.specs.Hosts.{IsAddress, address_of}
+use Rattle.rds_report.specs.Views.{AreFinalHosts, AreSides, host_view, host_views, socket_view}
+use Rattle.rds_report.specs.declared.final_state.HostEnd.{HostEnd}
+use Rattle.rds_callers.specs.Places.{CallerView}
 use Rattle.rds_script.specs.declared.script.Placed.{Placed}
 use Rattle.rds_rounds.specs.Done.{AreDone}
 use Rattle.rds_rounds.specs.Drained.{AreDrained, AreDrainedLines}
-use Rattle.rds_threads.specs.Settled.{AreAllSent, AreKeptOf, HasDoneSpared}
-use Rattle.rds_threads.proofs.Outcome.{outcome_of}
-use Rattle.rds_threads.specs.Reliable.{HasReceived}
-use Rattle.rds_threads.proofs.Receiving.{reliable_of}
+use Rattle.rds_rounds.specs.Grid.{IsAt, OfEachPair, peer_at}
 use Rattle.rds_rounds.specs.Sound.{AreSoundJournals}
-use Rattle.rds_threads.specs.Ends.{AreDrainedHosts, AreEnds, HasJournal}
-use Rattle.rds_threads.proofs.At.{first_of}
+use Rattle.rds_threads.specs.Ends.{AreDrainedHosts, AreEnds, AreReliable}
+use Rattle.rds_threads.specs.Outcome.{IsOutcome}
+use Rattle.rds_threads.specs.Reliable.{HasReceived}
+use Rattle.rds_threads.specs.Settled.{AreLeftOf, HaveDoneSpared, IsLeftOf}
+use Rattle.rds_threads.proofs.At.{all_from, at_map, pairs_from, stood_at}
+use Rattle.rds_threads.proofs.HandedOut.{AreAccepted}
+use Rattle.rds_threads.proofs.Hosts.{line_of, peers_of_row}
+use Rattle.rds_threads.proofs.Outcome.{outcome_of}
+use Rattle.rds_threads.proofs.Receiving.{reliable_of}
+use Rattle.rds_threads.proofs.Rows.{host_within, peer_within, peers_ascend, place_within}
 
--- they are sound seen from the other side, too
-pub sound_back : (tells : Bool) (low high : List Entry) → AreSoundJournals tells low high → AreSoundJournals tells high low
-sound_back tells low high s = record {
-  low_legal = s.high_legal;
-  high_legal = s.low_legal;
-  honest = λ told. record { forth = (s.honest told).back; back = (s.honest told).forth };
-  forth = s.back;
-  back = s.forth;
-}
+module _ {E : Type 0} (m : Means E) (limit hosts : ℕ) (callers : List CallerView) (rows : List (List (LineView E WriterView))) (ends : List HostEnd)
+    (done : AreDone m limit hosts rows) (same : length callers ≡ length rows) (left : AreLeftOf callers rows ends) where
+  -- what stands at a host's place of what is left
+  record IsHost (host : ℕ) (final : FinalHost) : Type 0 where
+    pub end : HostEnd
+    pub caller : CallerView
+    pub row : List (LineView E WriterView)
+    pub is : final ≡ host_view end
+    pub caller_at : slice_get callers host ≡ Some caller
+    pub row_at : slice_get rows host ≡ Some row
+    pub rest : IsLeftOf host caller.places row end
 
-only_of : {T : Type 0} (xs : List T) (x : T) → length xs ≡ 1 → slice_get xs 0 ≡ Some x → xs ≡ x ∷ []
-only_of [] x one at = absurd (omega (arith, one))
-only_of (y ∷ []) x one at = ap (λ z. z ∷ []) (same_Some y x at)
-only_of (y ∷ z ∷ xs) x one at = absurd (omega (arith, one))
-
-module _ {E M : Type 0} (m : Means E) (limit : ℕ) (lows highs : List (LineView E M)) (done : AreDone m limit lows highs) where
-  -- each host has its journal, of its line with the other
-  pub low_journal_of : (first : HostEnd) → first.addr ≡ address_of 0 → map side_view first.journals.items ≡ map line_side lows →
-      HasJournal (address_of 0) (address_of 1) (line_past (first_of lows done.low_count).0) (host_view first)
-  low_journal_of first addr sides =
-      let low = first_of lows done.low_count in
-      let high = first_of highs done.high_count in
-      let hosts = done.hosts low.0 high.0 low.1 high.1 in (
-        addr,
-        sides ∙ (ap (map line_side) (only_of lows low.0 done.low_count low.1)
-            ∙ ap (λ (peer : ℕ). let j : FinalJournal = record { peer = peer; past = line_past low.0 } in j ∷ []) hosts.low_peer),
-      )
-
-  pub high_journal_of : (second : HostEnd) → second.addr ≡ address_of 1 → map side_view second.journals.items ≡ map line_side highs →
-      HasJournal (address_of 1) (address_of 0) (line_past (first_of highs done.high_count).0) (host_view second)
-  high_journal_of second addr sides =
-      let low = first_of lows done.low_count in
-      let high = first_of highs done.high_count in
-      let hosts = done.hosts low.0 high.0 low.1 high.1 in (
-        addr,
-        sides ∙ (ap (map line_side) (only_of highs high.0 done.high_count high.1)
-            ∙ ap (λ (peer : ℕ). let j : FinalJournal = record { peer = peer; past = line_past high.0 } in j ∷ []) hosts.high_peer),
-      )
-
-  -- journals of lines between which nothing is left are drained
-  pub drained_of : (first second : HostEnd) → map side_view first.journals.items ≡ map line_side lows → map side_view second.journals.items ≡ map line_side highs →
-      AreDrainedLines lows highs → AreDrainedHosts (host_views (first ∷ second ∷ []))
-  drained_of first second first_sides second_sides drained low high a b is low_sides high_sides =
-      let one = first_of lows done.low_count in
-      let other = first_of highs done.high_count in
-      let low_is : host_view first ≡ low = ap (λ (l : List FinalHost). get_or l 0 low) is in
-      let high_is : host_view second ≡ high = ap (λ (l : List FinalHost). get_or l 1 high) is in
-      let a_is : line_side one.0 ≡ a =
-      ap (λ (l : List FinalJournal). get_or l 0 a) (sym (ap (map line_side) (only_of lows one.0 done.low_count one.1))
-      ∙ (sym first_sides ∙ (ap (λ (h : FinalHost). h.sides) low_is ∙ low_sides))) in
-      let b_is : line_side other.0 ≡ b =
-      ap (λ (l : List FinalJournal). get_or l 0 b) (sym (ap (map line_side) (only_of highs other.0 done.high_count other.1))
-      ∙ (sym second_sides ∙ (ap (λ (h : FinalHost). h.sides) high_is ∙ high_sides))) in
-      subst (λ (j : FinalJournal). AreDrained j.past b.past) a_is
-      (subst (λ (j : FinalJournal). AreDrained (line_past one.0) j.past) b_is (drained one.0 other.0 one.1 other.1))
-
-module _ {E : Type 0} (m : Means E) (limit : ℕ) (lows highs : List (LineView E WriterView)) (done : AreDone m limit lows highs)
-    (fifo : (a b : List Entry) → IsLegal a → IsLegal b → IsHonest a b → (IsFifo a b × IsFifo b a)) where
-  pub ends_of : (commands : List Placed) (low_places high_places : List Place) (first second : HostEnd) → first.addr ≡ address_of 0 → second.addr ≡ address_of 1 →
-      map side_view first.journals.items ≡ map line_side lows → map side_view second.journals.items ≡ map line_side highs →
-      HasReceived (host_view first) → HasReceived (host_view second) → AreAllSent low_places lows → AreAllSent high_places highs →
-      AreKeptOf low_places first.kept.items → AreKeptOf high_places second.kept.items → HasDoneSpared 0 1 commands low_places → HasDoneSpared 1 0 commands high_places →
-      AreEnds m.tells commands (host_views (first ∷ second ∷ []))
-  ends_of commands low_places high_places first second first_addr second_addr first_sides second_sides first_received second_received low_sent high_sent low_kept high_kept
-      low_done high_done =
-      let low = first_of lows done.low_count in
-      let high = first_of highs done.high_count in
-      let sound = done.sound low.0 high.0 low.1 high.1 in
-      let low_journal = low_journal_of m limit lows highs done first first_addr first_sides in
-      let high_journal = high_journal_of m limit lows highs done second second_addr second_sides in record {
-        low = host_view first;
-        high = host_view second;
-        low_past = line_past low.0;
-        high_past = line_past high.0;
-        all = refl;
-        low_journal = low_journal;
-        high_journal = high_journal;
-        sound = sound;
-        low_did = outcome_of 0 1 commands low_places lows low.0 first.kept.items low_done low_sent low.1 low_kept;
-        high_did = outcome_of 1 0 commands high_places highs high.0 second.kept.items high_done high_sent high.1 high_kept;
-        low_received = first_received;
-        high_received = second_received;
-        reliable_forth = λ told.
-            reliable_of 0 (line_past low.0) (line_past high.0) (host_view second) high_journal.1 second_received
-            (fifo (line_past low.0) (line_past high.0) sound.low_legal.legal sound.high_legal.legal (sound.honest told)).0.accepted (sound.forth told);
-        reliable_back = λ told.
-            reliable_of 1 (line_past high.0) (line_past low.0) (host_view first) low_journal.1 first_received
-            (fifo (line_past low.0) (line_past high.0) sound.low_legal.legal sound.high_legal.legal (sound.honest told)).1.accepted (sound.back told);
+  host_at : (host : ℕ) (final : FinalHost) → slice_get (host_views ends) host ≡ Some final → IsHost host final
+  host_at host final at =
+      let end = at_map host_view ends host final at in
+      let row = stood_at rows ends host end.0 left.count end.1 in
+      let caller = stood_at callers rows host row.0 (sym same) row.1 in
+      record {
+        end = end.0;
+        caller = caller.0;
+        row = row.0;
+        is = end.2;
+        caller_at = caller.1;
+        row_at = row.1;
+        rest = left.each host caller.0 row.0 end.0 caller.1 row.1 end.1;
       }
 
-is_address : (host addr : ℕ) → host < 8 → addr ≡ address_of host → IsAddress addr
-is_address host addr small is = record { least = omega (arith, is); most = omega (arith, is, small) }
+  sides_are : (host : ℕ) (final : FinalHost) (is : IsHost host final) → final.sides ≡ map line_side is.row
+  sides_are host final is = ap (λ (h : FinalHost). h.sides) is.is ∙ is.rest.journals
 
-sides_of : (addr peer : ℕ) (past : List Entry) (host : FinalHost) → HasJournal addr peer past host → IsAddress peer → AreSides host.sides
-sides_of addr peer past host has known =
-    subst AreSides (sym has.1) (record {
-      once = λ i j d lt within. absurd (omega (arith, lt, within));
-      peers = All-cons (λ (s : FinalJournal). IsAddress s.peer) _ [] known (All-nil (λ (s : FinalJournal). IsAddress s.peer));
-    })
+  -- a host's journal is that of its line at the same place
+  line_at : (host place : ℕ) (final : FinalHost) (side : FinalJournal) → slice_get (host_views ends) host ≡ Some final → slice_get final.sides place ≡ Some side →
+      (line : LineView E WriterView) × (side ≡ line_side line) × IsAt rows host place line
+  line_at host place final side at at_side =
+      let is = host_at host final at in
+      let line = at_map line_side is.row place side (subst (λ (l : List FinalJournal). slice_get l place ≡ Some side) (sides_are host final is) at_side) in
+      (line.0, line.2, (is.row, is.row_at, line.1))
 
--- two hosts with such journals can be reported on
-pub final_of : (low high : FinalHost) (low_past high_past : List Entry) → HasJournal (address_of 0) (address_of 1) low_past low →
-    HasJournal (address_of 1) (address_of 0) high_past high → AreFinalHosts (low ∷ high ∷ [])
-final_of low high low_past high_past low_journal high_journal =
-    let low_is = is_address 0 low.addr (omega arith) low_journal.0 in
-    let high_is = is_address 1 high.addr (omega arith) high_journal.0 in
-    let low_peer = is_address 1 (address_of 1) (omega arith) refl in
-    let high_peer = is_address 0 (address_of 0) (omega arith) refl in
-    let apart : low.addr ≢ high.addr = λ same. let a = low_journal.0 in let b = high_journal.0 in absurd (omega (arith, a, b, same)) in
-    record {
-      once =
-          AllPairs-cons (λ (a b : FinalHost). a.addr ≢ b.addr) low (high ∷ [])
-          (All-cons (λ (b : FinalHost). low.addr ≢ b.addr) high [] apart (All-nil (λ (b : FinalHost). low.addr ≢ b.addr)))
-          (λ i j d lt within. absurd (omega (arith, lt, within)));
-      addresses =
-          All-cons (λ (h : FinalHost). IsAddress h.addr) low (high ∷ []) low_is
-          (All-cons (λ (h : FinalHost). IsAddress h.addr) high [] high_is (All-nil (λ (h : FinalHost). IsAddress h.addr)));
-      sides =
-          All-cons (λ (h : FinalHost). AreSides h.sides) low (high ∷ []) (sides_of _ _ _ low low_journal low_peer)
-          (All-cons (λ (h : FinalHost). AreSides h.sides) high [] (sides_of _ _ _ high high_journal high_peer) (All-nil (λ (h : FinalHost). AreSides h.sides)));
-    }
+  journal_at : (host place : ℕ) (side : FinalJournal) → IsAt (map (λ (h : FinalHost). h.sides) (host_views ends)) host place side →
+      (line : LineView E WriterView) × (side ≡ line_side line) × IsAt rows host place line
+  journal_at host place side (sides, at, at_side) =
+      let final = at_map (λ (h : FinalHost). h.sides) (host_views ends) host sides at in
+      line_at host place final.0 side final.1 (subst (λ (l : List FinalJournal). slice_get l place ≡ Some side) final.2 at_side)
 
--- what is known of a list is known where it was made
-pub on_made : (P : List FinalHost → Type 0) (hosts : List HostEnd) (result : Result (Vec HostEnd Global) Memory) →
-    IfOk result (λ ends. ends.items ≡ hosts) → P (host_views hosts) → IfOk result (λ ends. P (host_views ends.items))
-on_made P hosts (Ok ends) made known = subst (λ (l : List HostEnd). P (host_views l)) (sym made) known
-on_made P hosts (Err e) made known = tt
+  -- what holds of the journals of the lines of each two hosts holds of the journals that are left
+  pairs_of : (Holds : (low high : ℕ) → List Entry → List Entry → Type 0) →
+      OfEachPair (λ low high (one : LineView E WriterView) (other : LineView E WriterView). Holds low high (line_past one) (line_past other)) rows →
+      OfEachPair (λ low high (one : FinalJournal) (other : FinalJournal). Holds low high one.past other.past) (map (λ (h : FinalHost). h.sides) (host_views ends))
+  pairs_of Holds each low place one other least at at_other =
+      let a = journal_at low place one at in
+      let b = journal_at (suc place) low other at_other in
+      subst (λ (j : FinalJournal). Holds low (suc place) j.past other.past) (sym a.1)
+      (subst (λ (j : FinalJournal). Holds low (suc place) (line_past a.0) j.past) (sym b.1) (each low place a.0 b.0 least a.2 b.2))
+
+  -- between the hosts nothing is left where nothing is left between their lines
+  pub drained_of : AreDrainedLines rows → AreDrainedHosts (host_views ends)
+  drained_of drained = pairs_of (λ low high. AreDrained) drained
+
+  addr_of : (host : ℕ) (final : FinalHost) → slice_get (host_views ends) host ≡ Some final → final.addr ≡ address_of host
+  addr_of host final at =
+      let is = host_at host final at in
+      ap (λ (h : FinalHost). h.addr) is.is ∙ is.rest.addr
+
+  peer_of_side : (host place : ℕ) (final : FinalHost) (side : FinalJournal) → slice_get (host_views ends) host ≡ Some final →
+      slice_get final.sides place ≡ Some side → (side.peer ≡ address_of (peer_at host place)) × (suc place < hosts)
+  peer_of_side host place final side at at_side =
+      let line = line_at host place final side at at_side in (
+        ap (λ (j : FinalJournal). j.peer) line.1 ∙ (line_of m limit hosts rows done host place line.0 line.2).peer_is,
+        place_within hosts rows done.shape host place line.0 line.2,
+      )
+
+  is_address : (host addr : ℕ) → host < hosts → addr ≡ address_of host → IsAddress addr
+  is_address host addr within is =
+      let few = done.few in
+      record { least = omega (arith, is); most = omega (arith, is, within, few) }
+
+  -- they can be reported on
+  pub final_of : AreFinalHosts (host_views ends)
+  final_of = record {
+    once = pairs_from (λ (a b : FinalHost). a.addr ≢ b.addr) (host_views ends)
+        (λ i j x y less at_x at_y alike.
+        let a = addr_of i x at_x in
+        let b = addr_of j y at_y in
+        absurd (omega (arith, a, b, alike, less)));
+    addresses = all_from (λ (h : FinalHost). IsAddress h.addr) (host_views ends)
+        (λ i x at. let is = host_at i x at in is_address i x.addr (host_within hosts rows done.shape i is.row is.row_at) (addr_of i x at));
+    sides = all_from (λ (h : FinalHost). AreSides h.sides) (host_views ends)
+        (λ i x at. record {
+          once = pairs_from (λ (a b : FinalJournal). a.peer ≢ b.peer) x.sides
+              (λ p q a b less at_a at_b alike.
+              let one = (peer_of_side i p x a at at_a).0 in
+              let other = (peer_of_side i q x b at at_b).0 in
+              let up = peers_ascend i p q less in
+              absurd (omega (arith, one, other, up, alike)));
+          peers = all_from (λ (s : FinalJournal). IsAddress s.peer) x.sides
+              (λ p a at_a.
+              let is = peer_of_side i p x a at at_a in
+              is_address (peer_at i p) a.peer (peer_within hosts i p is.1) is.0);
+        });
+  }
+
+  reliable_all : ((a b : List Entry) → IsLegal a → IsLegal b → IsHonest a b → (IsFifo a b × IsFifo b a)) → m.tells ≡ true → AreReliable (host_views ends)
+  reliable_all fifo told low place one other a b least at at_other at_a at_b =
+      let first = host_at low one at in
+      let second = host_at (suc place) other at_other in
+      let la = line_at low place one a at at_a in
+      let lb = line_at (suc place) low other b at_other at_b in
+      let pair = done.sound low place la.0 lb.0 least la.2 lb.2 in
+      let s = pair.sound in
+      let both = fifo (line_past la.0) (line_past lb.0) s.low_legal.legal s.high_legal.legal (s.honest told) in
+      let one_peer : a.peer ≡ address_of (suc place) = ap (λ (j : FinalJournal). j.peer) la.1 ∙ pair.hosts.one_peer in
+      let other_peer : b.peer ≡ address_of low = ap (λ (j : FinalJournal). j.peer) lb.1 ∙ pair.hosts.other_peer in
+      let a_past : line_past la.0 ≡ a.past = sym (ap (λ (j : FinalJournal). j.past) la.1) in
+      let b_past : line_past lb.0 ≡ b.past = sym (ap (λ (j : FinalJournal). j.past) lb.1) in
+      let one_has : HasReceived one = subst HasReceived (sym first.is) first.rest.received in
+      let other_has : HasReceived other = subst HasReceived (sym second.is) second.rest.received in (
+        reliable_of low low a.past other b at_b other_peer other_has
+            (subst (λ (p : List Entry). AreAccepted p b.past) a_past (subst (λ (p : List Entry). AreAccepted (line_past la.0) p) b_past both.0.accepted))
+            (subst (λ (p : List Entry). (sport dport : ℕ) → IsDeliveredOnce sport dport p b.past) a_past
+            (subst (λ (p : List Entry). (sport dport : ℕ) → IsDeliveredOnce sport dport (line_past la.0) p) b_past (s.forth told))),
+        reliable_of (suc place) place b.past one a at_a one_peer one_has
+            (subst (λ (p : List Entry). AreAccepted p a.past) b_past (subst (λ (p : List Entry). AreAccepted (line_past lb.0) p) a_past both.1.accepted))
+            (subst (λ (p : List Entry). (sport dport : ℕ) → IsDeliveredOnce sport dport p a.past) b_past
+            (subst (λ (p : List Entry). (sport dport : ℕ) → IsDeliveredOnce sport dport (line_past lb.0) p) a_past (s.back told))),
+      )
+
+  -- what they have in the end
+  pub ends_of : ((a b : List Entry) → IsLegal a → IsLegal b → IsHonest a b → (IsFifo a b × IsFifo b a)) → (commands : List Placed) →
+      HaveDoneSpared hosts commands callers → AreEnds m.tells hosts commands (host_views ends)
+  ends_of fifo commands did =
+      let ends_count = left.count in
+      let rows_count = done.shape.count in record {
+        count = length-map ends host_view ∙ (ends_count ∙ rows_count);
+        addresses = addr_of;
+        peers = λ host final at.
+            let is = host_at host final at in
+            ap (map (λ (side : FinalJournal). side.peer)) (sides_are host final is)
+            ∙ (map-map (λ (side : FinalJournal). side.peer) line_side is.row ∙ peers_of_row m limit hosts rows done host is.row is.row_at);
+        sound = pairs_of (λ low high. AreSoundJournals m.tells) (λ low place one other least at at_other. (done.sound low place one other least at at_other).sound);
+        did = λ host final at.
+            let is = host_at host final at in
+            subst (λ (h : FinalHost). IsOutcome hosts host commands h.sides h.sockets) (sym is.is)
+            (subst (λ (l : List FinalJournal). IsOutcome hosts host commands l (map socket_view is.end.kept.items)) (sym is.rest.journals)
+            (outcome_of hosts host commands is.caller.places is.row is.end.kept.items (did host is.caller is.caller_at) is.rest.sent is.rest.kept));
+        received = all_from HasReceived (host_views ends) (λ host final at. let is = host_at host final at in subst HasReceived (sym is.is) is.rest.received);
+        reliable = reliable_all fifo;
+      }

@@ -1,5 +1,5 @@
 -- A run that ended since a journal is full.
-use Rattle.std.proofs.Common.{◌≡◌, ◌≢◌, inl, inr, ◌<◌, ℕ, ◌+◌, List, Some, length, slice_get, Result, IfOk, refl, sym, ap, ◌∙◌, arith}
+use Rattle.std.proofs.Common.{◌≡◌, ◌≢◌, ◌<◌, ℕ, ◌+◌, List, length, Result, IfOk, refl, sym, ap, ◌∙◌, arith}
 use Rattle.rds_wire.specs.declared.memory.Memory.{Memory}
 use Rattle.rds_link.specs.Ends.{Means}
 use Rattle.rds_model.specs.Log.{Log}
@@ -9,12 +9,14 @@ use Rattle.rds_script.specs.declared.script.Placed.{Placed}
 use Rattle.rds_text.specs.Lines.{spent_line}
 use Rattle.rds_rounds.specs.Connection.{IsFullHost}
 use Rattle.rds_rounds.specs.Done.{AreDone}
+use Rattle.rds_rounds.specs.Grid.{IsAt, peer_at}
 use Rattle.rds_rounds.specs.Sound.{AreSoundJournals}
 use Rattle.rds_threads.specs.Ends.{IsEndOfRun, Writes, Written}
+use Rattle.rds_threads.specs.declared.form.Form.{Form}
 use Rattle.rds_threads.specs.declared.form.RunEnd.{RunEnd}
 use Rattle.rds_threads.specs.declared.form.RunEnd.TheVariants as ended
-use Rattle.rds_threads.proofs.At.{first_of}
-use Rattle.rds_threads.proofs.Sound.{sound_back}
+use Rattle.rds_threads.proofs.Hosts.{line_of}
+use Rattle.rds_threads.proofs.Rows.{host_within, peer_apart, peer_within, place_within}
 use Rattle.rds_threads.proofs.Written.{end_written, on_ok}
 
 full_of : {E M : Type 0} (limit entries : ℕ) (line : LineView E M) (past : List Entry) → past ≡ line_past line → line.channel.conn.log.limit ≡ limit →
@@ -25,27 +27,36 @@ full_of limit entries line past is same full =
     let most = full.most in
     (count ∙ sym entries_are, omega (arith, entries_are, most, same))
 
-module _ {E M : Type 0} (m : Means E) (limit : ℕ) (lows highs : List (LineView E M)) (done : AreDone m limit lows highs) where
-  pub spent_end : (host entries : ℕ) → IsFullHost host entries lows highs → (low high : Log) →
-      ((line : LineView E M) → slice_get lows 0 ≡ Some line → low.past ≡ line_past line) →
-      ((line : LineView E M) → slice_get highs 0 ≡ Some line → high.past ≡ line_past line) →
-      AreSoundJournals m.tells low.past high.past → (commands : List Placed) (sink : Written) (result : Result RunEnd Memory) →
-      (host ≡ 0 → IfOk result (Writes sink (spent_line 0 1 entries) (ended.Spent 0 1 entries low high))) →
-      (host ≢ 0 → IfOk result (Writes sink (spent_line 1 0 entries) (ended.Spent 1 0 entries high low))) →
-      IfOk result (IsEndOfRun m.tells limit commands sink)
-  spent_end host entries full low high low_is high_is sound commands sink result first second =
-      let a = first_of lows done.low_count in
-      let b = first_of highs done.high_count in
-      let hosts = done.hosts a.0 b.0 a.1 b.1 in
-      elim (full a.0 b.0 a.1 b.1) [
-        | inl one ↦
-            let f = full_of limit entries a.0 low.past (low_is a.0 a.1) hosts.low_limit one.1 in
-            on_ok (Writes sink (spent_line 0 1 entries) (ended.Spent 0 1 entries low high)) (IsEndOfRun m.tells limit commands sink) result
-            (end_written m.tells limit commands sink (spent_line 0 1 entries) (ended.Spent 0 1 entries low high) (f.0, f.1, sound, refl)) (first one.0)
-        | inr two ↦
-            let f = full_of limit entries b.0 high.past (high_is b.0 b.1) hosts.high_limit two.1 in
-            let other : host ≢ 0 = λ e. let is = two.0 in absurd (omega (arith, e, is)) in
-            on_ok (Writes sink (spent_line 1 0 entries) (ended.Spent 1 0 entries high low)) (IsEndOfRun m.tells limit commands sink) result
-            (end_written m.tells limit commands sink (spent_line 1 0 entries) (ended.Spent 1 0 entries high low)
-            (f.0, f.1, sound_back m.tells low.past high.past sound, refl)) (second other)
-      ]
+-- two hosts that differ, and how many there are
+pub record AreTwoOf (hosts host peer : ℕ) : Type 0 where
+  pub first : host < hosts
+  pub second : peer < hosts
+  pub apart : peer ≢ host
+  pub few : host < 26
+  pub few_peers : peer < 26
+
+module _ {E M : Type 0} (m : Means E) (limit hosts : ℕ) (rows : List (List (LineView E M))) (done : AreDone m limit hosts rows) where
+  -- a host whose journal with a peer is full
+  pub full_two : (host peer entries : ℕ) → IsFullHost host peer entries rows → AreTwoOf hosts host peer
+  full_two host peer entries full =
+      let first = host_within hosts rows done.shape host full.at.0 full.at.1 in
+      let within = peer_within hosts host full.place (place_within hosts rows done.shape host full.place full.line full.at) in
+      let few = done.few in
+      let to = full.to in record {
+        first = first;
+        second = omega (arith, within, to);
+        apart = λ same. peer_apart host full.place (to ∙ same);
+        few = omega (arith, first, few);
+        few_peers = omega (arith, within, to, few);
+      }
+
+  pub spent_end : (form : Form) (host peer entries : ℕ) → IsFullHost host peer entries rows → (own other : Log) →
+      ((place : ℕ) (line : LineView E M) → peer_at host place ≡ peer → IsAt rows host place line → own.past ≡ line_past line) →
+      AreSoundJournals m.tells own.past other.past → (commands : List Placed) (sink : Written) (result : Result RunEnd Memory) →
+      IfOk result (Writes sink (spent_line host peer entries) (ended.Spent host peer entries own other)) →
+      IfOk result (IsEndOfRun form m.tells limit hosts commands sink)
+  spent_end form host peer entries full own other is sound commands sink result written =
+      let line = line_of m limit hosts rows done host full.place full.line full.at in
+      let f = full_of limit entries full.line own.past (is full.place full.line full.to full.at) line.limit_is full.full in
+      on_ok (Writes sink (spent_line host peer entries) (ended.Spent host peer entries own other)) (IsEndOfRun form m.tells limit hosts commands sink) result
+      (end_written form m.tells limit hosts commands sink (spent_line host peer entries) (ended.Spent host peer entries own other) (f.0, f.1, sound, refl)) written

@@ -4,7 +4,6 @@ use Rattle.rds_link.specs.Streaming.{HasRisen, SinkGained, SinkGainedFront}
 use Rattle.rds_model.specs.declared.entry.Entry.{Entry}
 use Rattle.rds_report.specs.FinalState.{FinalHost, FinalJournal}
 use Rattle.rds_report.specs.Hosts.{address_of}
-use Rattle.rds_report.specs.Report.{report}
 use Rattle.rds_report.specs.Views.{host_views}
 use Rattle.rds_text.specs.Lines.{spent_line}
 use Rattle.rds_script.specs.declared.script.Placed.{Placed}
@@ -13,7 +12,8 @@ use Rattle.rds_rounds.specs.Grid.{OfEachPair, others}
 use Rattle.rds_rounds.specs.Sound.{AreSoundJournals}
 use Rattle.rds_threads.specs.Outcome.{IsOutcome}
 use Rattle.rds_threads.specs.Reliable.{HasReceived, IsReliableTo}
-use Rattle.rds_threads.specs.Texts.{fault_line, unfinished_line}
+use Rattle.rds_threads.specs.Texts.{fault_line, text_of, unfinished_line}
+use Rattle.rds_threads.specs.declared.form.Form.{Form}
 use Rattle.rds_threads.specs.declared.form.RunEnd.{RunEnd}
 use Rattle.rds_threads.specs.declared.form.RunEnd.TheVariants as ended
 
@@ -59,31 +59,32 @@ Writes sink text end result =
     ((result ≡ end) × SinkGained sink.held_before sink.held_after text)
     ⊎ ((result ≡ ended.WriteFault) × HasRisen sink.faults_before sink.faults_after × SinkGainedFront sink.held_before sink.held_after text)
 
--- what a run that came to this end has to write: the report on what its hosts have in the end, which is sound, or its line
-abbrev pub HasToWrite : (tells : Bool) (limit hosts : ℕ) (commands : List Placed) → RunEnd → List ℕ → Type 0
-HasToWrite tells limit hosts commands (ended.Ok ends) text =
-    AreEnds tells hosts commands (host_views ends.items) × (tells ≡ true → AreDrainedHosts (host_views ends.items)) × (text ≡ report (host_views ends.items))
-HasToWrite tells limit hosts commands (ended.WireFault low high stream) text = text ≡ fault_line low high stream
-HasToWrite tells limit hosts commands (ended.Spent host peer entries own other) text =
+-- what a run that came to this end has to write: the text of its form on what its hosts have in the end, which is sound, or its line
+abbrev pub HasToWrite : (form : Form) (tells : Bool) (limit hosts : ℕ) (commands : List Placed) → RunEnd → List ℕ → Type 0
+HasToWrite form tells limit hosts commands (ended.Ok ends) text =
+    AreEnds tells hosts commands (host_views ends.items) × (tells ≡ true → AreDrainedHosts (host_views ends.items)) × (text ≡ text_of form (host_views ends.items))
+HasToWrite form tells limit hosts commands (ended.WireFault low high stream) text = text ≡ fault_line low high stream
+HasToWrite form tells limit hosts commands (ended.Spent host peer entries own other) text =
     (length own.past ≡ entries) × (limit < entries + 2) × AreSoundJournals tells own.past other.past × (text ≡ spent_line host peer entries)
-HasToWrite tells limit hosts commands (ended.Unfinished count ends) text = AreEnds tells hosts commands (host_views ends.items) × (text ≡ unfinished_line count)
-HasToWrite tells limit hosts commands ended.WriteFault text = ⊥
-HasToWrite tells limit hosts commands ended.Memory text = ⊥
+HasToWrite form tells limit hosts commands (ended.Unfinished count ends) text =
+    AreEnds tells hosts commands (host_views ends.items) × (text ≡ unfinished_line count)
+HasToWrite form tells limit hosts commands ended.WriteFault text = ⊥
+HasToWrite form tells limit hosts commands ended.Memory text = ⊥
 
--- How a run ended. It wrote the report on what its hosts have in the end, which is sound; or its line; or the sink failed, and took a
--- beginning of what was to be written; or memory ran out, and nothing was written.
-abbrev pub IsEndOfRun : (tells : Bool) (limit hosts : ℕ) (commands : List Placed) → Written → RunEnd → Type 0
-IsEndOfRun tells limit hosts commands sink (ended.Ok ends) =
+-- How a run ended. It wrote the text of its form on what its hosts have in the end, which is sound; or its line; or the sink failed, and
+-- took a beginning of what was to be written; or memory ran out, and nothing was written.
+abbrev pub IsEndOfRun : (form : Form) (tells : Bool) (limit hosts : ℕ) (commands : List Placed) → Written → RunEnd → Type 0
+IsEndOfRun form tells limit hosts commands sink (ended.Ok ends) =
     AreEnds tells hosts commands (host_views ends.items) × (tells ≡ true → AreDrainedHosts (host_views ends.items))
-    × SinkGained sink.held_before sink.held_after (report (host_views ends.items))
-IsEndOfRun tells limit hosts commands sink (ended.WireFault low high stream) =
+    × SinkGained sink.held_before sink.held_after (text_of form (host_views ends.items))
+IsEndOfRun form tells limit hosts commands sink (ended.WireFault low high stream) =
     SinkGained sink.held_before sink.held_after (fault_line low high stream)
-IsEndOfRun tells limit hosts commands sink (ended.Spent host peer entries own other) =
+IsEndOfRun form tells limit hosts commands sink (ended.Spent host peer entries own other) =
     (length own.past ≡ entries) × (limit < entries + 2) × AreSoundJournals tells own.past other.past
     × SinkGained sink.held_before sink.held_after (spent_line host peer entries)
-IsEndOfRun tells limit hosts commands sink (ended.Unfinished count ends) =
+IsEndOfRun form tells limit hosts commands sink (ended.Unfinished count ends) =
     AreEnds tells hosts commands (host_views ends.items) × SinkGained sink.held_before sink.held_after (unfinished_line count)
-IsEndOfRun tells limit hosts commands sink ended.WriteFault =
+IsEndOfRun form tells limit hosts commands sink ended.WriteFault =
     HasRisen sink.faults_before sink.faults_after
-    × ((end : RunEnd) × (text : List ℕ) × HasToWrite tells limit hosts commands end text × SinkGainedFront sink.held_before sink.held_after text)
-IsEndOfRun tells limit hosts commands sink ended.Memory = sink.held_after ≡ sink.held_before
+    × ((end : RunEnd) × (text : List ℕ) × HasToWrite form tells limit hosts commands end text × SinkGainedFront sink.held_before sink.held_after text)
+IsEndOfRun form tells limit hosts commands sink ended.Memory = sink.held_after ≡ sink.held_before

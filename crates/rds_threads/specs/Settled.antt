@@ -1,19 +1,23 @@
 -- Private: it serves the contracts of the private functions that end a host of a run. Source: this project's own.
-use Rattle.std.specs.Prelude.{◌≡◌, ℕ, ◌≤◌, All, List, Some, length, map, slice_get}
+use Rattle.std.specs.Prelude.{◌≡◌, ℕ, ◌<◌, ◌≤◌, All, List, Some, length, map, slice_get}
 use Rattle.rds_fmap.specs.Readers.{ReaderView, WriterView}
 use Rattle.rds_parts.specs.Lanes.{IsLaneAt, Lane}
-use Rattle.rds_report.specs.Views.{socket_view}
+use Rattle.rds_report.specs.Hosts.{address_of}
+use Rattle.rds_report.specs.Views.{host_view, side_view, socket_view}
+use Rattle.rds_report.specs.declared.final_state.HostEnd.{HostEnd}
 use Rattle.rds_report.specs.declared.final_state.Kept.{Kept}
 use Rattle.rds_line.specs.Keeps.{uncut}
 use Rattle.rds_line.specs.Line.{LineView, line_past}
 use Rattle.rds_gather.specs.Joined.{orders_of}
+use Rattle.rds_gather.specs.Sides.{line_side}
 use Rattle.rds_callers.specs.Ends.{kept_name, used_name}
-use Rattle.rds_callers.specs.Places.{IsUsed, Place, holding_of, somes, spared}
+use Rattle.rds_callers.specs.Places.{CallerView, IsUsed, Place, holding_of, somes, spared}
 use Rattle.rds_script.specs.declared.script.Placed.{Placed}
 use Rattle.rds_parties.specs.Obeyed.{HasDone}
 use Rattle.rds_threads.specs.Outcome.{HandedOutAt}
+use Rattle.rds_threads.specs.Reliable.{HasReceived}
 use Rattle.rds_rounds.specs.Quiet.{AreQuiet}
-use Rattle.rds_settling.specs.Tied.{AreLinesTold, AreTied, holdings}
+use Rattle.rds_settling.specs.Tied.{AreLinesTold, AreTied, LinesHear, holdings}
 
 -- the orders that stand in the journals of lines are, for each slot, exactly those that its socket has put
 abbrev pub AreAllSent : {E : Type 0} → List Place → List (LineView E WriterView) → Type 0
@@ -25,6 +29,10 @@ pub record HasDoneSpared (hosts host : ℕ) (commands : List Placed) (places : L
   pub last : List Place
   pub done : HasDone hosts host commands last
   pub left : places ≡ map spared last
+
+-- so it is of the caller of each of so many hosts
+abbrev pub HaveDoneSpared : (hosts : ℕ) → List Placed → List CallerView → Type 0
+HaveDoneSpared hosts commands callers = (host : ℕ) (caller : CallerView) → slice_get callers host ≡ Some caller → HasDoneSpared hosts host commands caller.places
 
 -- what is kept of a host has one for each slot that was bound, with its port, and what it handed out
 pub record AreKeptOf (places : List Place) (kept : List Kept) : Type 0 where
@@ -39,3 +47,40 @@ pub record HasSettled {E : Type 0} (places : List Place) (lines : List (LineView
   pub used : (slot : ℕ) (p : Place) → slice_get places slot ≡ Some p → IsUsed p
   pub told : AreLinesTold (holdings places) lines
   pub quiet : AreQuiet lines
+
+-- A caller gave up the slots that no socket had, and the lines of its host were told of all orders that its slots have put for them. They
+-- belong together still.
+pub record IsToldOf {E : Type 0} (old new : List Place) (lines after : List (LineView E WriterView)) : Type 0 where
+  pub places : new ≡ map spared old
+  pub used : (slot : ℕ) (p : Place) → slice_get new slot ≡ Some p → IsUsed p
+  pub told : AreLinesTold (holdings new) after
+  pub hear : LinesHear lines after
+  pub tied : AreTied new after
+
+-- the hosts before this one were told so, and nothing changed of the others
+pub record AreToldBelow {E : Type 0} (count : ℕ) (old new : List CallerView) (rows after : List (List (LineView E WriterView))) : Type 0 where
+  pub caller_count : length new ≡ length old
+  pub row_count : length after ≡ length rows
+  pub told : (host : ℕ) (caller later : CallerView) (row heard : List (LineView E WriterView)) → host < count → slice_get old host ≡ Some caller →
+      slice_get new host ≡ Some later → slice_get rows host ≡ Some row → slice_get after host ≡ Some heard → IsToldOf caller.places later.places row heard
+  pub others : (host : ℕ) → count ≤ host → (slice_get new host ≡ slice_get old host) × (slice_get after host ≡ slice_get rows host)
+
+-- each host of a run that has ended has settled
+pub record HaveSettled {E : Type 0} (callers : List CallerView) (rows : List (List (LineView E WriterView))) : Type 0 where
+  pub count : length callers ≡ length rows
+  pub each : (host : ℕ) (caller : CallerView) (row : List (LineView E WriterView)) → slice_get callers host ≡ Some caller → slice_get rows host ≡ Some row →
+      HasSettled caller.places row
+
+-- what is left of a host with these slots and lines, once all that waits at its open sockets is received
+pub record IsLeftOf {E : Type 0} (host : ℕ) (places : List Place) (lines : List (LineView E WriterView)) (end : HostEnd) : Type 0 where
+  pub addr : end.addr ≡ address_of host
+  pub journals : map side_view end.journals.items ≡ map line_side lines
+  pub received : HasReceived (host_view end)
+  pub sent : AreAllSent places lines
+  pub kept : AreKeptOf places end.kept.items
+
+-- so it is of each host
+pub record AreLeftOf {E : Type 0} (callers : List CallerView) (rows : List (List (LineView E WriterView))) (ends : List HostEnd) : Type 0 where
+  pub count : length ends ≡ length rows
+  pub each : (host : ℕ) (caller : CallerView) (row : List (LineView E WriterView)) (end : HostEnd) → slice_get callers host ≡ Some caller →
+      slice_get rows host ≡ Some row → slice_get ends host ≡ Some end → IsLeftOf host caller.places row end

@@ -1,10 +1,9 @@
 //! What a run writes at its end.
-ghost use Rattle.std.specs.Prelude.{◌≡◌, ◌≢◌, ◌<◌, ℕ, IfOk, OnErr, string_bytes};
-ghost use Rattle.rds_report.specs.Report.{report as text_of_report};
+ghost use Rattle.std.specs.Prelude.{◌≡◌, ◌<◌, ℕ, IfOk, OnErr, string_bytes};
 ghost use Rattle.rds_report.specs.Views.{AreFinalHosts, host_views};
 ghost use Rattle.rds_text.specs.Lines.{spent_line as line_of_spent};
 ghost use Rattle.rds_threads.specs.Ends.{Writes};
-ghost use Rattle.rds_threads.specs.Texts.{fault_line, unfinished_line};
+ghost use Rattle.rds_threads.specs.Texts.{fault_line, text_of as text_of_form, unfinished_line};
 ghost use Rattle.rds_threads.specs.declared.form.RunEnd.TheVariants as ended;
 
 use crate::form::{Form, RunEnd};
@@ -26,7 +25,7 @@ pub(crate) fn end_by_report<K: Sink>(
     requires { AreFinalHosts (host_views ends.items) }
     ensures end { IfOk result (Writes
         record { held_before = K.held sink.old; held_after = K.held sink.new; faults_before = K.faults sink.old; faults_after = K.faults sink.new }
-        (text_of_report (host_views ends.items)) (ended.Ok ends)) }
+        (text_of_form form (host_views ends.items)) (ended.Ok ends)) }
     ensures memory { OnErr result (K.held sink.new ≡ K.held sink.old) }
 {
     let text = text_of(alloc, form, &ends)?;
@@ -36,7 +35,7 @@ pub(crate) fn end_by_report<K: Sink>(
 // The text of a run that came to its end.
 fn text_of(alloc: Global, form: Form, ends: &[HostEnd]) -> Result<String, Memory>
     requires { AreFinalHosts (host_views ends.now) }
-    ensures { IfOk result (λ text. string_bytes text ≡ text_of_report (host_views ends.now)) }
+    ensures { IfOk result (λ text. string_bytes text ≡ text_of_form form (host_views ends.now)) }
 {
     let mut text = String::new(alloc);
     match form {
@@ -64,21 +63,21 @@ pub(crate) fn end_unfinished<K: Sink>(
 /// Writes the line of two hosts that lack a stream. The journal is that of the first.
 pub(crate) fn end_by_fault<K: Sink>(
     alloc: Global,
-    low: &Journal,
+    low: u8,
+    high: u8,
+    journal: &Journal,
     sink: &mut K,
 ) -> Result<RunEnd, Memory>
+    requires low { low < 26 }
+    requires high { high < 26 }
     ensures end { (stream : ℕ) × IfOk result (Writes
         record { held_before = K.held sink.old; held_after = K.held sink.new; faults_before = K.faults sink.old; faults_after = K.faults sink.new }
-        (fault_line 0 1 stream) (ended.WireFault 0 1 stream)) }
+        (fault_line low high stream) (ended.WireFault low high stream)) }
     ensures memory { OnErr result (K.held sink.new ≡ K.held sink.old) }
 {
-    let stream = last_stream(low);
-    let text = fault_text(alloc, 0, 1, stream)?;
-    let end = RunEnd::WireFault {
-        low: 0,
-        high: 1,
-        stream,
-    };
+    let stream = last_stream(journal);
+    let text = fault_text(alloc, low, high, stream)?;
+    let end = RunEnd::WireFault { low, high, stream };
     Ok(write(sink, text.as_str(), end))
 }
 
@@ -97,40 +96,29 @@ fn fault_text(alloc: Global, low: u8, high: u8, stream: u32) -> Result<String, M
 pub(crate) fn end_by_spent<K: Sink>(
     alloc: Global,
     host: u8,
+    peer: u8,
     entries: u32,
-    low: Journal,
-    high: Journal,
+    own: Journal,
+    other: Journal,
     sink: &mut K,
 ) -> Result<RunEnd, Memory>
-    ensures low { host ≡ 0 → IfOk result (Writes
+    requires host { host < 26 }
+    requires peer { peer < 26 }
+    ensures end { IfOk result (Writes
         record { held_before = K.held sink.old; held_after = K.held sink.new; faults_before = K.faults sink.old; faults_after = K.faults sink.new }
-        (line_of_spent 0 1 entries) (ended.Spent 0 1 entries low high)) }
-    ensures high { host ≢ 0 → IfOk result (Writes
-        record { held_before = K.held sink.old; held_after = K.held sink.new; faults_before = K.faults sink.old; faults_after = K.faults sink.new }
-        (line_of_spent 1 0 entries) (ended.Spent 1 0 entries high low)) }
+        (line_of_spent host peer entries) (ended.Spent host peer entries own other)) }
     ensures memory { OnErr result (K.held sink.new ≡ K.held sink.old) }
 {
     let mut text = String::new(alloc);
-    if host == 0 {
-        spent_line(&mut text, 0, 1, entries)?;
-        let end = spent(0, 1, entries, low, high);
-        return Ok(write(sink, text.as_str(), end));
-    }
-    spent_line(&mut text, 1, 0, entries)?;
-    let end = spent(1, 0, entries, high, low);
-    Ok(write(sink, text.as_str(), end))
-}
-
-fn spent(host: u8, peer: u8, entries: u32, own: Journal, other: Journal) -> RunEnd
-    ensures { result ≡ ended.Spent host peer entries own other }
-{
-    RunEnd::Spent {
+    spent_line(&mut text, host, peer, entries)?;
+    let end = RunEnd::Spent {
         host,
         peer,
         entries,
         own,
         other,
-    }
+    };
+    Ok(write(sink, text.as_str(), end))
 }
 
 // Writes the whole text, and answers how that ended.

@@ -1,10 +1,13 @@
-//! Scripts of two hosts, run by threads: a caller for each host beside a worker that turns its line.
+//! Scripts of up to eight hosts, run by threads: a caller for each host beside a worker that turns its lines.
 #![tactic(auto)]
 
 mod answers;
 mod ending;
 mod form;
+mod giving;
+mod leaving;
 mod running;
+mod taking;
 #[cfg(test)]
 mod tests;
 

@@ -17,6 +17,23 @@ const HELLO: &[u8] =
 const HELLO_TEXT: &[u8] =
     b"A:4000>B:4001 accepted 1 received 1 unread 0 dropped 0 port0 0 cancelled 0 pending 0\n data=68656c6c6f\nend ok\n";
 
+// Three hosts, each of which sends to each other one. One of their streams is cut.
+const THREE: &[u8] = b"hosts 3\n\
+bind A 4000 65536 65536\nbind B 4001 65536 65536\nbind C 4002 65536 65536\n\
+send A 4000 B 4001 t:ab\nsend A 4000 C 4002 t:ac\ncut A B\n\
+send B 4001 A 4000 t:ba\nsend B 4001 C 4002 t:bc\n\
+send C 4002 A 4000 t:ca\nsend C 4002 B 4001 t:cb\n\
+drain\nrecv C 4002\n";
+
+const THREE_TEXT: &[u8] =
+    b"B:4001>A:4000 accepted 1 received 1 unread 0 dropped 0 port0 0 cancelled 0 pending 0\n data=6261\n\
+C:4002>A:4000 accepted 1 received 1 unread 0 dropped 0 port0 0 cancelled 0 pending 0\n data=6361\n\
+A:4000>B:4001 accepted 1 received 1 unread 0 dropped 0 port0 0 cancelled 0 pending 0\n data=6162\n\
+C:4002>B:4001 accepted 1 received 1 unread 0 dropped 0 port0 0 cancelled 0 pending 0\n data=6362\n\
+A:4000>C:4002 accepted 1 received 1 unread 0 dropped 0 port0 0 cancelled 0 pending 0\n data=6163\n\
+B:4001>C:4002 accepted 1 received 1 unread 0 dropped 0 port0 0 cancelled 0 pending 0\n data=6263\n\
+end ok\n";
+
 // What a run of the script writes over streams in memory, of which these openings and these calls of each end fail.
 fn written<G: Gate + Sync, R: Threads + Wait + Net + Sync>(
     rt: &R,
@@ -27,9 +44,6 @@ fn written<G: Gate + Sync, R: Threads + Wait + Net + Sync>(
     gate: &G,
 ) -> Option<MemSink> {
     let script = read(alloc, script).ok()?;
-    if script.hosts != 2 {
-        return None;
-    }
     let mut wire = MemWire::new(alloc, fail_open, fail_end);
     let mut sink = MemSink::new(alloc, Vec::new(alloc));
     run(
@@ -52,6 +66,15 @@ fn a_datagram_is_received(rt: HostRuntime) -> Result<(), Fail> {
     let none = Vec::new(alloc);
     let sink = written(&rt, alloc, HELLO, none, Vec::new(alloc), &OpenGate);
     assert_eq!(rt; sink.expect(&rt, "memory").held(), HELLO_TEXT);
+    Ok(())
+}
+
+#[test]
+fn three_hosts_send_to_each_other(rt: HostRuntime) -> Result<(), Fail> {
+    let alloc = rt.alloc();
+    let none = Vec::new(alloc);
+    let sink = written(&rt, alloc, THREE, none, Vec::new(alloc), &OpenGate);
+    assert_eq!(rt; sink.expect(&rt, "memory").held(), THREE_TEXT);
     Ok(())
 }
 

@@ -16,9 +16,6 @@ const SCRIPT: &[u8] =
 // What a run of so many quiet rounds writes over a wire that is deaf.
 fn written<R: Threads + Wait + Net + Sync>(rt: &R, alloc: Global, budget: u64) -> Option<MemSink> {
     let script = read(alloc, SCRIPT).ok()?;
-    if script.hosts != 2 {
-        return None;
-    }
     let mut wire = DeafWire::new(alloc);
     let mut sink = MemSink::new(alloc, Vec::new(alloc));
     let form = Form::Report;

@@ -11,5 +11,8 @@ returns-clause-end g c =
       held_after = g.K.Sink.held c.write.new.sink;
       faults_before = g.K.Sink.faults c.args.sink.now;
       faults_after = g.K.Sink.faults c.write.new.sink;
-    } in
-    (stream, subst (λ (text : List ℕ). Writes sink text (ended.WireFault 0 1 stream) c.write.result) (c.as_str.ensures.value ∙ c.in_ok-text.ensures) c.write.ensures)
+    } in (
+      stream,
+      subst (λ (text : List ℕ). Writes sink text (ended.WireFault c.args.low c.args.high stream) c.write.result) (c.as_str.ensures.value ∙ c.in_ok-text.ensures)
+          c.write.ensures,
+    )

@@ -1,35 +1,87 @@
-use Rattle.std.proofs.Common.{refl}
-use Rattle.rds_report.specs.Report.{report}
+use Rattle.std.proofs.Common.{refl, arith}
 use Rattle.rds_report.specs.Views.{host_views}
+use Rattle.rds_rounds.specs.Grid.{rows_of}
 use Rattle.rds_threads.specs.Ends.{IsEndOfRun, Writes, Written}
-use Rattle.rds_threads.specs.Texts.{fault_line, unfinished_line}
+use Rattle.rds_threads.specs.Texts.{fault_line, text_of, unfinished_line}
 use Rattle.rds_threads.specs.declared.form.RunEnd.TheVariants as ended
-use Rattle.rds_threads.proofs.Spent.{spent_end}
+use Rattle.rds_threads.proofs.Rows.{rows_count}
+use Rattle.rds_threads.proofs.Spent.{full_two, spent_end}
 use Rattle.rds_threads.proofs.Written.{end_written, on_ok}
 use Rattle.rds_threads.proofs.ending.end_run.Goals as goal
 
+pub journals-own-requires-clause-host : goal.journals-own-requires-clause-host
+journals-own-requires-clause-host g c =
+    let entries = c.in-Spent.entries in
+    let two = full_two g.W.End.End.means c.requires.done.0 c.requires.done.1 (rows_of c.args.lines.items) c.requires.done.2 c.in-Spent.host c.in-Spent.peer entries
+    (c.requires.spent c.in-Spent.host c.in-Spent.peer entries c.in-Spent.is) in
+    let first = two.first in
+    let count = c.requires.done.2.shape.count in
+    omega (arith, first, count, rows_count c.args.lines.items)
+
+pub journals-own-requires-clause-peer : goal.journals-own-requires-clause-peer
+journals-own-requires-clause-peer g c =
+    let entries = c.in-Spent.entries in
+    let two = full_two g.W.End.End.means c.requires.done.0 c.requires.done.1 (rows_of c.args.lines.items) c.requires.done.2 c.in-Spent.host c.in-Spent.peer entries
+    (c.requires.spent c.in-Spent.host c.in-Spent.peer entries c.in-Spent.is) in
+    let second = two.second in
+    let count = c.requires.done.2.shape.count in
+    omega (arith, second, count, rows_count c.args.lines.items)
+
+pub journals-own-requires-clause-apart : goal.journals-own-requires-clause-apart
+journals-own-requires-clause-apart g c =
+    let entries = c.in-Spent.entries in
+    let two = full_two g.W.End.End.means c.requires.done.0 c.requires.done.1 (rows_of c.args.lines.items) c.requires.done.2 c.in-Spent.host c.in-Spent.peer entries
+    (c.requires.spent c.in-Spent.host c.in-Spent.peer entries c.in-Spent.is) in
+    two.apart
+
+pub end_by_spent-requires-clause-host : goal.end_by_spent-requires-clause-host
+end_by_spent-requires-clause-host g c =
+    let entries = c.in-Spent.entries in
+    let two = full_two g.W.End.End.means c.requires.done.0 c.requires.done.1 (rows_of c.args.lines.items) c.requires.done.2 c.in-Spent.host c.in-Spent.peer entries
+    (c.requires.spent c.in-Spent.host c.in-Spent.peer entries c.in-Spent.is) in
+    two.few
+
+pub end_by_spent-requires-clause-peer : goal.end_by_spent-requires-clause-peer
+end_by_spent-requires-clause-peer g c =
+    let entries = c.in-Spent.entries in
+    let two = full_two g.W.End.End.means c.requires.done.0 c.requires.done.1 (rows_of c.args.lines.items) c.requires.done.2 c.in-Spent.host c.in-Spent.peer entries
+    (c.requires.spent c.in-Spent.host c.in-Spent.peer entries c.in-Spent.is) in
+    two.few_peers
+
 pub returns-in-Spent-clause-end : goal.returns-in-Spent-clause-end
-returns-in-Spent-clause-end g c = λ limit commands done low_done high_done.
-    spent_end g.W.End.End.means limit c.args.lines.0.items c.args.lines.1.items done c.in-Spent.host c.in-Spent.entries
-    (c.requires.spent c.in-Spent.host c.in-Spent.entries c.in-Spent.is) c.journals-low-in-Spent.result.0 c.journals-low-in-Spent.result.1
-    c.journals-low-in-Spent.ensures.low c.journals-low-in-Spent.ensures.high c.journals-low-in-Spent.ensures.sound commands _ c.end_by_spent.result
-    c.end_by_spent.ensures.low c.end_by_spent.ensures.high
+returns-in-Spent-clause-end g c = λ limit hosts commands done did.
+    let host = c.in-Spent.host in
+    let peer = c.in-Spent.peer in
+    let entries = c.in-Spent.entries in
+    let sink : Written = record {
+      held_before = g.K.Sink.held c.args.sink.now;
+      held_after = g.K.Sink.held c.end_by_spent.new.sink;
+      faults_before = g.K.Sink.faults c.args.sink.now;
+      faults_after = g.K.Sink.faults c.end_by_spent.new.sink;
+    } in
+    spent_end g.W.End.End.means limit hosts (rows_of c.args.lines.items) done c.args.form host peer entries (c.requires.spent host peer entries c.in-Spent.is)
+    c.journals-own.result.0 c.journals-own.result.1 c.journals-own.ensures.own c.journals-own.ensures.sound commands sink c.end_by_spent.result
+    c.end_by_spent.ensures.end
 
 pub returns-in_ok-ends-in-Done-clause-end : goal.returns-in_ok-ends-in-Done-clause-end
-returns-in_ok-ends-in-Done-clause-end g c = λ limit commands done low_done high_done.
+returns-in_ok-ends-in-Done-clause-end g c = λ limit hosts commands done did.
     let ends = c.in_ok-ends-in-Done.ends in
+    let text = text_of c.args.form (host_views ends.items) in
     let sink : Written = record {
       held_before = g.K.Sink.held c.args.sink.now;
       held_after = g.K.Sink.held c.end_by_report.new.sink;
       faults_before = g.K.Sink.faults c.args.sink.now;
       faults_after = g.K.Sink.faults c.end_by_report.new.sink;
     } in
-    on_ok (Writes sink (report (host_views ends.items)) (ended.Ok ends)) (IsEndOfRun g.W.End.End.means.tells limit commands sink) c.end_by_report.result
-    (end_written g.W.End.End.means.tells limit commands sink (report (host_views ends.items)) (ended.Ok ends)
-    (c.in_ok-ends-in-Done.ensures.ends commands low_done high_done, λ tells. c.in_ok-ends-in-Done.ensures.drained (c.requires.drained tells c.in-Done.is), refl)) c.end_by_report.ensures.end
+    on_ok (Writes sink text (ended.Ok ends)) (IsEndOfRun c.args.form g.W.End.End.means.tells limit hosts commands sink) c.end_by_report.result
+    (end_written c.args.form g.W.End.End.means.tells limit hosts commands sink text (ended.Ok ends) (
+      c.in_ok-ends-in-Done.ensures.ends limit hosts commands done did,
+      λ tells. c.in_ok-ends-in-Done.ensures.drained (c.requires.drained tells c.in-Done.is),
+      refl,
+    )) c.end_by_report.ensures.end
 
 pub returns-in_ok-ends-in-Unfinished-clause-end : goal.returns-in_ok-ends-in-Unfinished-clause-end
-returns-in_ok-ends-in-Unfinished-clause-end g c = λ limit commands done low_done high_done.
+returns-in_ok-ends-in-Unfinished-clause-end g c = λ limit hosts commands done did.
     let ends = c.in_ok-ends-in-Unfinished.ends in
     let count = c.in-Unfinished.count in
     let sink : Written = record {
@@ -38,12 +90,15 @@ returns-in_ok-ends-in-Unfinished-clause-end g c = λ limit commands done low_don
       faults_before = g.K.Sink.faults c.args.sink.now;
       faults_after = g.K.Sink.faults c.end_unfinished.new.sink;
     } in
-    on_ok (Writes sink (unfinished_line count) (ended.Unfinished count ends)) (IsEndOfRun g.W.End.End.means.tells limit commands sink) c.end_unfinished.result
-    (end_written g.W.End.End.means.tells limit commands sink (unfinished_line count) (ended.Unfinished count ends)
-    (c.in_ok-ends-in-Unfinished.ensures.ends commands low_done high_done, refl)) c.end_unfinished.ensures.end
+    on_ok (Writes sink (unfinished_line count) (ended.Unfinished count ends)) (IsEndOfRun c.args.form g.W.End.End.means.tells limit hosts commands sink)
+    c.end_unfinished.result
+    (end_written c.args.form g.W.End.End.means.tells limit hosts commands sink (unfinished_line count) (ended.Unfinished count ends)
+    (c.in_ok-ends-in-Unfinished.ensures.ends limit hosts commands done did, refl)) c.end_unfinished.ensures.end
 
 pub returns-in-Fault-clause-end : goal.returns-in-Fault-clause-end
-returns-in-Fault-clause-end g c = λ limit commands done low_done high_done.
+returns-in-Fault-clause-end g c = λ limit hosts commands done did.
+    let low = c.in-Fault.low in
+    let high = c.in-Fault.high in
     let fault = c.end_by_fault.ensures.end in
     let sink : Written = record {
       held_before = g.K.Sink.held c.args.sink.now;
@@ -51,5 +106,6 @@ returns-in-Fault-clause-end g c = λ limit commands done low_done high_done.
       faults_before = g.K.Sink.faults c.args.sink.now;
       faults_after = g.K.Sink.faults c.end_by_fault.new.sink;
     } in
-    on_ok (Writes sink (fault_line 0 1 fault.0) (ended.WireFault 0 1 fault.0)) (IsEndOfRun g.W.End.End.means.tells limit commands sink) c.end_by_fault.result
-    (end_written g.W.End.End.means.tells limit commands sink (fault_line 0 1 fault.0) (ended.WireFault 0 1 fault.0) refl) fault.1
+    on_ok (Writes sink (fault_line low high fault.0) (ended.WireFault low high fault.0))
+    (IsEndOfRun c.args.form g.W.End.End.means.tells limit hosts commands sink) c.end_by_fault.result
+    (end_written c.args.form g.W.End.End.means.tells limit hosts commands sink (fault_line low high fault.0) (ended.WireFault low high fault.0) refl) fault.1

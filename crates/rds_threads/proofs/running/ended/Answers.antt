@@ -1,20 +1,18 @@
-use Rattle.rds_parties.specs.Obeyed.{HasDone}
+use Rattle.rds_threads.proofs.Finished.{all_done}
 use Rattle.rds_threads.proofs.running.ended.Goals as goal
 
-pub finish-requires-clause-two : goal.finish-requires-clause-two
-finish-requires-clause-two g c = (c.args.limit, rw c.in-Ok.is at c.play-callers.ensures.two c.args.limit c.in_ok-callers.ensures.two)
+pub finish-requires-clause-hosts : goal.finish-requires-clause-hosts
+finish-requires-clause-hosts g c =
+    (c.args.limit, c.args.script.now.hosts, c.play-callers.ensures.hosts c.args.limit c.args.script.now.hosts c.in_ok-callers.ensures.hosts)
 
-pub finish-requires-clause-low : goal.finish-requires-clause-low
-finish-requires-clause-low g c = rw c.in-Ok.is at c.play-callers.ensures.low
-
-pub finish-requires-clause-high : goal.finish-requires-clause-high
-finish-requires-clause-high g c = rw c.in-Ok.is at c.play-callers.ensures.high
+pub finish-requires-clause-parties : goal.finish-requires-clause-parties
+finish-requires-clause-parties g c =
+    (c.args.script.now.hosts, c.requires.script.hosts_low, rw c.in-Ok.is at c.play-callers.ensures.parties)
 
 pub returns-clause-end : goal.returns-clause-end
 returns-clause-end g c =
-    let two = rw c.in-Ok.is at c.play-callers.ensures.two c.args.limit c.in_ok-callers.ensures.two in
-    let low = rw c.in-Ok.is at c.play-callers.ensures.low_did in
-    let high = rw c.in-Ok.is at c.play-callers.ensures.high_did in
-    c.finish.ensures.end c.args.limit c.args.script.now.commands.items two
-    (record { first = c.in_ok-callers.callers.0.places; count = c.in_ok-callers.ensures.low_count; new = c.in_ok-callers.ensures.low_new; obeyed = low })
-    (record { first = c.in_ok-callers.callers.1.places; count = c.in_ok-callers.ensures.high_count; new = c.in_ok-callers.ensures.high_new; obeyed = high })
+    let hosts = c.args.script.now.hosts in
+    let obeyed = rw c.in-Ok.is at c.play-callers.ensures.obeyed in
+    c.finish.ensures.end c.args.limit hosts c.args.script.now.commands.items
+    (c.play-callers.ensures.hosts c.args.limit hosts c.in_ok-callers.ensures.hosts)
+    (all_done hosts c.args.script.now.commands.items _ _ c.in_ok-callers.ensures.new obeyed)

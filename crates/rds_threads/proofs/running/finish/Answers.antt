@@ -1,40 +1,66 @@
-use Rattle.std.proofs.Common.{arith}
-use Rattle.rds_threads.proofs.Finished.{settled_end}
-use Rattle.rds_threads.proofs.Keeping.{two_heard}
+use Rattle.std.proofs.Common.{◌≡◌, length, arith}
+use Rattle.rds_rounds.specs.Grid.{rows_of}
+use Rattle.rds_threads.proofs.Finished.{all_settled, done_spared}
+use Rattle.rds_threads.proofs.Keeping.{rows_same}
 use Rattle.rds_threads.proofs.running.finish.Goals as goal
 
 pub last_rounds-end-requires : goal.last_rounds-end-requires
 last_rounds-end-requires g c =
-    (c.requires.two.0, two_heard g.W.End.End.means c.requires.two.0 _ _ _ _ c.requires.two.1 c.tell_lines.ensures.lines c.tell_lines-2.ensures.lines)
+    let limit = c.requires.hosts.0 in
+    let hosts = c.requires.hosts.1 in
+    let old = rows_of c.args.lines.items in
+    let told = rows_of c.tell_all.new.lines.items in
+    let callers = c.requires.parties.2.callers_count in
+    let rows = c.requires.parties.2.rows_count in
+    let same : length c.args.callers.items ≡ length old = omega (arith, callers, rows) in (
+      limit,
+      hosts,
+      c.connected_keeps.ensures.same limit hosts old told c.requires.hosts.2
+          (rows_same c.args.callers.items c.tell_all.new.callers.items old told same c.tell_all.ensures),
+    )
 
 pub end_run-requires-clause-done : goal.end_run-requires-clause-done
-end_run-requires-clause-done g c = (
-  c.requires.two.0,
-  c.last_rounds-end.ensures.done c.requires.two.0
-      (two_heard g.W.End.End.means c.requires.two.0 _ _ _ _ c.requires.two.1 c.tell_lines.ensures.lines c.tell_lines-2.ensures.lines),
-)
+end_run-requires-clause-done g c =
+    let limit = c.requires.hosts.0 in
+    let hosts = c.requires.hosts.1 in
+    let old = rows_of c.args.lines.items in
+    let told = rows_of c.tell_all.new.lines.items in
+    let callers = c.requires.parties.2.callers_count in
+    let rows = c.requires.parties.2.rows_count in
+    let same : length c.args.callers.items ≡ length old = omega (arith, callers, rows) in (
+      limit,
+      hosts,
+      c.last_rounds-end.ensures.done limit hosts
+          (c.connected_keeps.ensures.same limit hosts old told c.requires.hosts.2
+          (rows_same c.args.callers.items c.tell_all.new.callers.items old told same c.tell_all.ensures)),
+    )
 
-pub end_run-requires-clause-low : goal.end_run-requires-clause-low
-end_run-requires-clause-low g c = λ quiet.
-    let one = c.requires.two.1.low_count in
-    let count = c.tell_lines.ensures.lines.count in
-    settled_end c.tied_keeps.ensures.lines c.tell_lines.ensures.tied (omega (arith, one, count)) c.tell_lines.ensures.used c.tell_lines.ensures.told
-    c.last_rounds-end.ensures.low (c.last_rounds-end.ensures.quiet quiet).0
-
-pub end_run-requires-clause-high : goal.end_run-requires-clause-high
-end_run-requires-clause-high g c = λ quiet.
-    let one = c.requires.two.1.high_count in
-    let count = c.tell_lines-2.ensures.lines.count in
-    settled_end c.tied_keeps.ensures.lines c.tell_lines-2.ensures.tied (omega (arith, one, count)) c.tell_lines-2.ensures.used c.tell_lines-2.ensures.told
-    c.last_rounds-end.ensures.high (c.last_rounds-end.ensures.quiet quiet).1
+-- refused where a line isn't told of all orders
+pub end_run-requires-clause-settled : goal.end_run-requires-clause-settled
+end_run-requires-clause-settled g c = λ quiet.
+    let old = rows_of c.args.lines.items in
+    let told = rows_of c.tell_all.new.lines.items in
+    let callers = c.requires.parties.2.callers_count in
+    let rows = c.requires.parties.2.rows_count in
+    let count = c.requires.hosts.2.shape.count in
+    let many = c.requires.parties.1 in
+    let same : length c.args.callers.items ≡ length old = omega (arith, callers, rows) in
+    all_settled c.tied_keeps.ensures.lines c.requires.hosts.1 c.args.callers.items c.tell_all.new.callers.items old told (rows_of c.last_rounds-end.new.lines.items)
+    c.requires.hosts.2.shape (omega (arith, count, rows, many)) same c.tell_all.ensures c.last_rounds-end.ensures.rows (c.last_rounds-end.ensures.quiet quiet)
 
 -- refused where a line isn't drained
 pub end_run-requires-clause-drained : goal.end_run-requires-clause-drained
 end_run-requires-clause-drained g c = c.last_rounds-end.ensures.drained
 
 pub returns-clause-end : goal.returns-clause-end
-returns-clause-end g c = λ limit commands two low_done high_done.
-    c.end_run.ensures.end limit commands (c.last_rounds-end.ensures.done limit
-    (two_heard g.W.End.End.means limit _ _ _ _ two c.tell_lines.ensures.lines c.tell_lines-2.ensures.lines))
-    (record { last = c.args.callers.0.places; done = low_done; left = c.tell_lines.ensures.places })
-    (record { last = c.args.callers.1.places; done = high_done; left = c.tell_lines-2.ensures.places })
+returns-clause-end g c = λ limit hosts commands are did.
+    let old = rows_of c.args.lines.items in
+    let told = rows_of c.tell_all.new.lines.items in
+    let callers = c.requires.parties.2.callers_count in
+    let rows = c.requires.parties.2.rows_count in
+    let same : length c.args.callers.items ≡ length old = omega (arith, callers, rows) in
+    c.end_run.ensures.end limit hosts commands
+    (c.last_rounds-end.ensures.done limit hosts
+    (c.connected_keeps.ensures.same limit hosts old told are
+    (rows_same c.args.callers.items c.tell_all.new.callers.items old told same c.tell_all.ensures)))
+    (done_spared hosts commands c.args.callers.items c.tell_all.new.callers.items old told same c.tell_all.ensures did)

@@ -5,23 +5,14 @@ use Rattle.rds_settling.specs.Tied.{AreLinesTold, AreTied, LinesHear, holdings}
 use Rattle.rds_threads.proofs.Keeping.{back_of}
 use Rattle.rds_threads.proofs.running.tell_lines.Goals as goal
 
-pub returns-clause-told : goal.returns-clause-told
-returns-clause-told g c =
+pub returns : goal.returns
+returns g c =
     let len : c.args.lines.now.len ≡ length c.args.lines.now.items = search rules in
     let hear = subst (λ (l : List (LineView g.row.E.Denot WriterView)). LinesHear l c.settle_lines.new.lines) c.deref_mut.ensures.value c.settle_lines.ensures.lines in
-    let same = back_of c.args.lines.now.items c.settle_lines.new.lines c.args.lines.now.len len hear.count in
-    subst (λ (l : List (LineView g.row.E.Denot WriterView)). AreLinesTold (holdings c.settle_lines.new.caller.places) l) (sym same) c.settle_lines.ensures.told
-
-pub returns-clause-lines : goal.returns-clause-lines
-returns-clause-lines g c =
-    let len : c.args.lines.now.len ≡ length c.args.lines.now.items = search rules in
-    let hear = subst (λ (l : List (LineView g.row.E.Denot WriterView)). LinesHear l c.settle_lines.new.lines) c.deref_mut.ensures.value c.settle_lines.ensures.lines in
-    let same = back_of c.args.lines.now.items c.settle_lines.new.lines c.args.lines.now.len len hear.count in
-    subst (λ (l : List (LineView g.row.E.Denot WriterView)). LinesHear c.args.lines.now.items l) (sym same) hear
-
-pub returns-clause-tied : goal.returns-clause-tied
-returns-clause-tied g c =
-    let len : c.args.lines.now.len ≡ length c.args.lines.now.items = search rules in
-    let hear = subst (λ (l : List (LineView g.row.E.Denot WriterView)). LinesHear l c.settle_lines.new.lines) c.deref_mut.ensures.value c.settle_lines.ensures.lines in
-    let same = back_of c.args.lines.now.items c.settle_lines.new.lines c.args.lines.now.len len hear.count in
-    subst (λ (l : List (LineView g.row.E.Denot WriterView)). AreTied c.settle_lines.new.caller.places l) (sym same) c.settle_lines.ensures.tied
+    let same = back_of c.args.lines.now.items c.settle_lines.new.lines c.args.lines.now.len len hear.count in record {
+      places = c.settle_lines.ensures.places;
+      used = c.settle_lines.ensures.used;
+      told = subst (λ (l : List (LineView g.row.E.Denot WriterView)). AreLinesTold (holdings c.settle_lines.new.caller.places) l) (sym same) c.settle_lines.ensures.told;
+      hear = subst (λ (l : List (LineView g.row.E.Denot WriterView)). LinesHear c.args.lines.now.items l) (sym same) hear;
+      tied = subst (λ (l : List (LineView g.row.E.Denot WriterView)). AreTied c.settle_lines.new.caller.places l) (sym same) c.settle_lines.ensures.tied;
+    }

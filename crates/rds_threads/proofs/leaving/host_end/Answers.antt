@@ -10,7 +10,7 @@ use Rattle.rds_threads.specs.Reliable.{HasReceived}
 use Rattle.rds_threads.specs.Settled.{AreAllSent, AreKeptOf}
 use Rattle.rds_threads.proofs.Outcome.{all_sent, kept_of, on_kept, on_ok}
 use Rattle.rds_threads.proofs.Receiving.{on_gathered, received_of}
-use Rattle.rds_threads.proofs.ending.host_end.Goals as goal
+use Rattle.rds_threads.proofs.leaving.host_end.Goals as goal
 
 pub gather-requires-clause-host : goal.gather-requires-clause-host
 gather-requires-clause-host g c =

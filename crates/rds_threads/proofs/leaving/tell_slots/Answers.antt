@@ -3,7 +3,7 @@ use Rattle.rds_fmap.specs.Readers.{WriterView}
 use Rattle.rds_line.specs.Line.{LineView}
 use Rattle.rds_settling.specs.Tied.{AreSlotsTold, AreTied, holdings}
 use Rattle.rds_threads.proofs.Keeping.{back_of}
-use Rattle.rds_threads.proofs.ending.tell_slots.Goals as goal
+use Rattle.rds_threads.proofs.leaving.tell_slots.Goals as goal
 
 pub returns-clause-told : goal.returns-clause-told
 returns-clause-told g c =

@@ -1,0 +1,34 @@
+use Rattle.std.proofs.Common.{◌≡◌, ℕ, OnOk, length, ap, subst, ◌∙◌, arith}
+use Rattle.std.proofs.lemmas.List.{length_push}
+use Rattle.std.proofs.lemmas.Iterator.{YieldsList-from_zip}
+use Rattle.std.proofs.lemmas.Iterator.Adapters.{YieldsList-from_vec}
+use Rattle.std.proofs.lemmas.Iterator.Consumers.{YieldsList-turn}
+use Rattle.rds_report.specs.Hosts.{address_of}
+use Rattle.rds_report.specs.declared.final_state.HostEnd.{HostEnd}
+use Rattle.rds_rounds.specs.Grid.{rows_of}
+use Rattle.rds_threads.proofs.Left.{AreLeftBelow, added, left_of, zipped_at}
+use Rattle.rds_threads.proofs.Rows.{row_at}
+use Rattle.rds_threads.proofs.Written.{on_ok}
+use Rattle.rds_threads.proofs.leaving.all_ends.Goals as goal
+
+pub loop-caller-preserved : goal.loop-caller-preserved
+loop-caller-preserved g c =
+    let callers = c.args.callers.items in
+    let lines = c.args.lines.items in
+    let seen = c.loop-caller.yielded in
+    let n = length seen in
+    let caller = c.in-Some.caller in
+    let row = c.in-Some.row in
+    let end = c.host_end-end in
+    let from = YieldsList-from_zip {s = c.into_iter-caller-iterator.result} (YieldsList-from_vec callers (cc) (cc)) (YieldsList-from_vec lines (cc) (cc)) in
+    let turn = YieldsList-turn from seen c.loop-caller.caller-iterator c.loop-caller.yielded_by c.next.result c.next.new.self (caller, row) c.in-Some.is c.next.ensures.steps in
+    let at = zipped_at callers lines n caller row turn.0 turn.1 in
+    let addr = on_ok (λ (e : HostEnd). e.addr ≡ c.address.result) (λ (e : HostEnd). e.addr ≡ address_of n) end.result
+    (λ e is. is ∙ (c.address.ensures ∙ ap address_of c.loop-caller.invariant.0)) end.ensures.addr in
+    let more = length_push seen (caller, row) in (
+      omega (arith, more, c.loop-caller.invariant.0),
+      subst (λ (k : ℕ). OnOk c.and-all.result (AreLeftBelow k callers (rows_of lines) c.add.new.ends.items)) (omega (arith, more))
+          (added n callers (rows_of lines) c.loop-caller.ends.items c.add.new.ends.items caller row.items end.result c.loop-caller.all c.add.result c.and-all.result
+          at.first (row_at lines n row at.second) c.loop-caller.invariant.1 (left_of n caller.places row.items end.result addr end.ensures.journals end.ensures.received end.ensures.sent end.ensures.kept)
+          c.add.ensures c.and-all.ensures),
+    )

@@ -1,0 +1,41 @@
+use Rattle.std.proofs.Common.{Vec, arith}
+use Rattle.std.specs.Global.{Global}
+use Rattle.std.proofs.lemmas.List.{length-map}
+use Rattle.rds_report.specs.Views.{AreFinalHosts, host_views}
+use Rattle.rds_report.specs.declared.final_state.HostEnd.{HostEnd}
+use Rattle.rds_rounds.specs.Grid.{rows_of}
+use Rattle.rds_threads.specs.Ends.{AreDrainedHosts, AreEnds}
+use Rattle.rds_threads.specs.Settled.{AreLeftOf}
+use Rattle.rds_threads.proofs.Sound.{drained_of, ends_of, final_of}
+use Rattle.rds_threads.proofs.Written.{on_ok}
+use Rattle.rds_threads.proofs.leaving.host_ends.Goals as goal
+
+pub all_ends-requires-clause-few : goal.all_ends-requires-clause-few
+all_ends-requires-clause-few g c =
+    let few = c.requires.done.2.few in
+    let count = c.requires.done.2.shape.count in
+    omega (arith, few, count, length-map c.args.lines.items (λ list. list.items))
+
+pub returns-clause-ends : goal.returns-clause-ends
+returns-clause-ends g c = λ limit hosts commands done did.
+    on_ok (λ (ends : Vec HostEnd Global). AreLeftOf c.args.callers.items (rows_of c.args.lines.items) ends.items)
+    (λ (ends : Vec HostEnd Global). AreEnds g.W.End.End.means.tells hosts commands (host_views ends.items)) c.all_ends.result
+    (λ ends left.
+    ends_of g.W.End.End.means limit hosts c.args.callers.items (rows_of c.args.lines.items) ends.items done c.requires.settled.count left c.fifo_of_all.ensures
+    commands did) c.all_ends.ensures
+
+pub returns-clause-hosts : goal.returns-clause-hosts
+returns-clause-hosts g c =
+    on_ok (λ (ends : Vec HostEnd Global). AreLeftOf c.args.callers.items (rows_of c.args.lines.items) ends.items)
+    (λ (ends : Vec HostEnd Global). AreFinalHosts (host_views ends.items)) c.all_ends.result
+    (λ ends left.
+    final_of g.W.End.End.means c.requires.done.0 c.requires.done.1 c.args.callers.items (rows_of c.args.lines.items) ends.items c.requires.done.2
+    c.requires.settled.count left) c.all_ends.ensures
+
+pub returns-clause-drained : goal.returns-clause-drained
+returns-clause-drained g c = λ drained.
+    on_ok (λ (ends : Vec HostEnd Global). AreLeftOf c.args.callers.items (rows_of c.args.lines.items) ends.items)
+    (λ (ends : Vec HostEnd Global). AreDrainedHosts (host_views ends.items)) c.all_ends.result
+    (λ ends left.
+    drained_of g.W.End.End.means c.requires.done.0 c.requires.done.1 c.args.callers.items (rows_of c.args.lines.items) ends.items c.requires.done.2
+    c.requires.settled.count left drained) c.all_ends.ensures

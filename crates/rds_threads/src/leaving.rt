@@ -1,0 +1,118 @@
+//! What is left of the hosts of a run.
+ghost use Rattle.std.specs.Prelude.{◌≡◌, ◌≤◌, ◌∷◌, ◌++◌, [], ℕ, List, IfOk, Ok, OnOk, Some, length, map, slice_get};
+ghost use Rattle.rds_text.specs.declared.host.TheConstants.{MAX_HOSTS};
+ghost use Rattle.rds_gather.specs.Sides.{line_side};
+ghost use Rattle.rds_report.specs.declared.final_state.HostEnd.{HostEnd as EndView};
+ghost use Rattle.rds_report.specs.Views.{AreFinalHosts, host_view, host_views, side_view};
+ghost use Rattle.rds_rounds.specs.Done.{AreDone};
+ghost use Rattle.rds_rounds.specs.Drained.{AreDrainedLines};
+ghost use Rattle.rds_rounds.specs.Grid.{rows_of};
+ghost use Rattle.rds_callers.specs.Places.{IsUsed, Place};
+ghost use Rattle.rds_settling.specs.Tied.{AreSlotsTold, AreTied, PlacesHear, holdings};
+ghost use Rattle.rds_script.specs.declared.script.Placed.{Placed};
+ghost use Rattle.rds_threads.specs.Ends.{AreDrainedHosts, AreEnds};
+ghost use Rattle.rds_threads.specs.Reliable.{HasReceived};
+ghost use Rattle.rds_threads.specs.Settled.{AreAllSent, AreKeptOf, AreLeftOf, HasSettled, HaveDoneSpared, HaveSettled};
+
+use crate::giving::end_row;
+use rds_callers::Caller;
+use rds_fmap::Writer;
+use rds_gather::gather;
+use rds_line::Line;
+use rds_link::{End, Wire};
+use rds_model::laws::fifo_of_all;
+use rds_report::{HostEnd, address};
+use rds_rounds::Lines;
+use rds_settling::laws::tied_ends;
+use rds_settling::settle_slots;
+use rds_wire::Memory;
+use std::alloc::Global;
+use std::sync::Wait;
+
+/// What is left of all hosts, once all that waits at open sockets is received. Every end is given back, after a memory error too.
+pub(crate) fn host_ends<W: Wire, R: Wait>(
+    rt: &R,
+    alloc: Global,
+    wire: &mut W,
+    callers: Vec<Caller>,
+    lines: Lines<W::End>,
+) -> Result<Vec<HostEnd>, Memory>
+    requires done { (limit hosts : ℕ) × AreDone W.End.means limit hosts (rows_of lines.items) }
+    requires settled { HaveSettled callers.items (rows_of lines.items) }
+    ensures ends { (limit hosts : ℕ) (commands : List Placed) → AreDone W.End.means limit hosts (rows_of lines.items) →
+        HaveDoneSpared hosts commands callers.items → IfOk result (λ ends. AreEnds W.End.means.tells hosts commands (host_views ends.items)) }
+    ensures hosts { IfOk result (λ ends. AreFinalHosts (host_views ends.items)) }
+    ensures drained { AreDrainedLines (rows_of lines.items) → IfOk result (λ ends. AreDrainedHosts (host_views ends.items)) }
+{
+    fifo_of_all();
+    all_ends(rt, alloc, wire, callers, lines)
+}
+
+// What is left of each host, in order. After a memory error all hosts that are left are ended still.
+fn all_ends<W: Wire, R: Wait>(
+    rt: &R,
+    alloc: Global,
+    wire: &mut W,
+    callers: Vec<Caller>,
+    lines: Lines<W::End>,
+) -> Result<Vec<HostEnd>, Memory>
+    requires few { length lines.items ≤ MAX_HOSTS }
+    requires settled { HaveSettled callers.items (rows_of lines.items) }
+    ensures { IfOk result (λ ends. AreLeftOf callers.items (rows_of lines.items) ends.items) }
+{
+    let mut ends = Vec::new(alloc);
+    let mut all: Result<(), Memory> = Ok(());
+    let mut host = 0u8;
+    for (caller, row) in callers.into_iter().zip(lines) {
+        let end = host_end(rt, alloc, wire, address(host), caller, row);
+        all = all.and(add(&mut ends, end));
+        host += 1;
+    }
+    all?;
+    Ok(ends)
+}
+
+// Adds what is left of one more host, if there was memory for it.
+fn add(ends: &mut Vec<HostEnd>, end: Result<HostEnd, Memory>) -> Result<(), Memory>
+    ensures { OnOk result ((one : EndView) × (end ≡ Ok one) × (ends.new.items ≡ ends.old.items ++ one ∷ [])) }
+{
+    ends.push(end?)?;
+    Ok(())
+}
+
+// What is left of a host, once all that waits at its open sockets is received.
+fn host_end<W: Wire, R: Wait>(
+    rt: &R,
+    alloc: Global,
+    wire: &mut W,
+    addr: u32,
+    mut caller: Caller,
+    mut lines: Vec<Line<W::End, Writer>>,
+) -> Result<HostEnd, Memory>
+    requires { HasSettled caller.places lines.items }
+    ensures addr { IfOk result (λ end. end.addr ≡ addr) }
+    ensures journals { IfOk result (λ end. map side_view end.journals.items ≡ map line_side lines.items) }
+    ensures received { IfOk result (λ end. HasReceived (host_view end)) }
+    ensures sent { OnOk result (AreAllSent caller.places lines.items) }
+    ensures kept { IfOk result (λ end. AreKeptOf caller.places end.kept.items) }
+{
+    tell_slots(&mut caller, &mut lines);
+    let Ok((kept, closed)) = caller.end(rt, alloc) else {
+        end_row(rt, wire, lines);
+        return Err(Memory);
+    };
+    tied_ends::<W::End>();
+    gather(rt, alloc, wire, addr, kept, closed, lines)
+}
+
+// Tells the mailbox of each slot of a host all datagrams that its lines have put there.
+fn tell_slots<E: End>(caller: &mut Caller, lines: &mut Vec<Line<E, Writer>>)
+    requires tied { AreTied caller.old.places lines.old.items }
+    requires used { (slot : ℕ) (p : Place) → slice_get caller.old.places slot ≡ Some p → IsUsed p }
+    ensures places { PlacesHear caller.old.places caller.new.places }
+    ensures told { AreSlotsTold (holdings caller.new.places) lines.new.items }
+    ensures lines { lines.new.items ≡ lines.old.items }
+    ensures tied { AreTied caller.new.places lines.new.items }
+{
+    settle_slots(caller, lines);
+}
