@@ -9,7 +9,7 @@ ghost use Rattle.rds_threads.specs.declared.form.RunEnd.TheVariants as ended;
 use crate::form::{Form, RunEnd};
 use rds_link::{Sink, write_all};
 use rds_model::Journal;
-use rds_report::{HostEnd, report};
+use rds_report::{HostEnd, report, summary};
 use rds_rounds::last_stream;
 use rds_text::{HostName, spent_line};
 use rds_wire::Memory;
@@ -40,6 +40,7 @@ fn text_of(alloc: Global, form: Form, ends: &[HostEnd]) -> Result<String, Memory
     let mut text = String::new(alloc);
     match form {
         Form::Report => report(alloc, &mut text, ends)?,
+        Form::Summary { seed, sends } => summary(alloc, &mut text, ends, seed, sends)?,
     }
     Ok(text)
 }

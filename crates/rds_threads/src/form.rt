@@ -6,6 +6,8 @@ use rds_report::HostEnd;
 pub enum Form {
     /// The report.
     Report,
+    /// The summary of the script that is generated for so many sends and this seed.
+    Summary { seed: u64, sends: u32 },
 }
 
 /// How a run ended, and what was written. Hosts are counted from 0.
