@@ -1,12 +1,22 @@
 -- What stands at a place of a list.
-use Rattle.std.proofs.Common.{◌≡◌, ℕ, zero, suc, List, [], ◌∷◌, Some, length, map, slice_get, refl, sym, arith}
-use Rattle.std.proofs.lemmas.Option.{same_Some}
+use Rattle.std.proofs.Common.{◌≡◌, ◌≢◌, ◌<◌, ◌⊎◌, inl, inr, ⊎_elim, ℕ, zero, suc, List, [], ◌∷◌, ◌++◌, Some, length, map, set, get_or, slice_get, refl, sym, ap, ◌∙◌, arith}
+use Rattle.std.proofs.lemmas.Option.{same_Some, slice_get-get_or}
 
 -- what stands at a place of a mapped list is made of what stands there
 pub at_map : {A B : Type 0} (f : A → B) (xs : List A) (i : ℕ) (b : B) → slice_get (map f xs) i ≡ Some b → (a : A) × (slice_get xs i ≡ Some a) × (b ≡ f a)
 at_map f [] i b at = absurd (cc)
 at_map f (x ∷ xs) zero b at = (x, refl, sym (same_Some (f x) b at))
 at_map f (x ∷ xs) (suc i) b at = at_map f xs i b at
+
+-- and there it stands
+pub map_at : {A B : Type 0} (f : A → B) (xs : List A) (i : ℕ) (a : A) → slice_get xs i ≡ Some a → slice_get (map f xs) i ≡ Some (f a)
+map_at f [] i a at = absurd (cc)
+map_at f (x ∷ xs) zero a at = ap (λ y. Some (f y)) (same_Some x a at)
+map_at f (x ∷ xs) (suc i) a at = map_at f xs i a at
+
+pub length_map : {A B : Type 0} (f : A → B) (xs : List A) → length (map f xs) ≡ length xs
+length_map f [] = refl
+length_map f (x ∷ xs) = ap suc (length_map f xs)
 
 -- what stands at a place of a list that is as long stands at that of the other
 pub stood_at : {A B : Type 0} (xs : List A) (ys : List B) (i : ℕ) (y : B) → length ys ≡ length xs → slice_get ys i ≡ Some y → (x : A) × (slice_get xs i ≡ Some x)
@@ -16,7 +26,28 @@ stood_at (x ∷ xs) [] i y same at = absurd (omega (arith, same))
 stood_at (x ∷ xs) (z ∷ ys) zero y same at = (x, refl)
 stood_at (x ∷ xs) (z ∷ ys) (suc i) y same at = stood_at xs ys i y (omega (arith, same)) at
 
--- the one element of a list
-pub first_of : {T : Type 0} (xs : List T) → length xs ≡ 1 → (x : T) × (slice_get xs 0 ≡ Some x)
-first_of [] one = absurd (omega (arith, one))
-first_of (x ∷ xs) one = (x, refl)
+-- what is read by an index stands there
+pub stands_at : {A : Type 0} (xs : List A) (i : ℕ) (x : A) → i < length xs → x ≡ get_or xs i x → slice_get xs i ≡ Some x
+stands_at xs i x within is = slice_get-get_or xs i x within ∙ ap Some (sym is)
+
+-- something stands at each place within
+pub some_at : {A : Type 0} (xs : List A) (i : ℕ) → i < length xs → (x : A) × (slice_get xs i ≡ Some x)
+some_at [] i within = absurd (omega (arith, within))
+some_at (x ∷ xs) zero within = (x, refl)
+some_at (x ∷ xs) (suc i) within = some_at xs i (omega (arith, within))
+
+-- what stands at a place of a list with one more element stood there before, or is that one
+pub at_snoc : {A : Type 0} (xs : List A) (x : A) (i : ℕ) (y : A) → slice_get (xs ++ x ∷ []) i ≡ Some y → (slice_get xs i ≡ Some y) ⊎ ((i ≡ length xs) × (y ≡ x))
+at_snoc [] x zero y at = inr (refl, sym (same_Some x y at))
+at_snoc [] x (suc i) y at = absurd (cc)
+at_snoc (z ∷ xs) x zero y at = inl at
+at_snoc (z ∷ xs) x (suc i) y at = ⊎_elim (λ stood. inl stood) (λ new. inr (ap suc new.0, new.1)) (at_snoc xs x i y at)
+
+-- what stands at a place of a list of which one was set is what was set, or stood there before
+pub at_set_any : {A : Type 0} (xs : List A) (k : ℕ) (x : A) (i : ℕ) (y : A) → slice_get (set xs k x) i ≡ Some y →
+    ((i ≡ k) × (y ≡ x)) ⊎ ((i ≢ k) × (slice_get xs i ≡ Some y))
+at_set_any [] k x i y at = absurd (cc)
+at_set_any (z ∷ xs) zero x zero y at = inl (refl, sym (same_Some x y at))
+at_set_any (z ∷ xs) zero x (suc i) y at = inr (λ e. omega (arith, e), at)
+at_set_any (z ∷ xs) (suc k) x zero y at = inr (λ e. omega (arith, e), at)
+at_set_any (z ∷ xs) (suc k) x (suc i) y at = ⊎_elim (λ here. inl (ap suc here.0, here.1)) (λ there. inr (λ e. there.0 (omega (arith, e)), there.1)) (at_set_any xs k x i y at)

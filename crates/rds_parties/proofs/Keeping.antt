@@ -5,7 +5,8 @@ use Rattle.std.proofs.lemmas.Option.{same_Some}
 use Rattle.rds_wire.specs.declared.memory.Memory.{Memory}
 use Rattle.rds_fmap.specs.Readers.{ReaderView}
 use Rattle.rds_socket.specs.Holding.{Holding}
-use Rattle.rds_callers.specs.Places.{Place, PlaceKeeps, PlacesKeep, holding_of}
+use Rattle.rds_callers.specs.Places.{CallerView, Place, PlaceKeeps, PlacesKeep, holding_of}
+use Rattle.rds_parties.specs.Leading.{CallersKeep}
 use Rattle.rds_parties.proofs.At.{stood_at}
 
 place_same : (h : Holding ReaderView) → PlaceKeeps h h
@@ -46,6 +47,21 @@ keeps_through a b c one two = record {
       place_through (holding_of p) (holding_of between.0) (holding_of q) (one.each slot p between.0 stood between.1) (two.each slot between.0 q between.1 stands);
 }
 
+pub callers_same : (callers : List CallerView) → CallersKeep callers callers
+callers_same callers = record {
+  count = refl;
+  each = λ host caller after stood stands.
+      subst (λ (c : CallerView). PlacesKeep caller.places c.places) (same_Some caller after (sym stood ∙ stands)) (keeps_same caller.places);
+}
+
+pub callers_through : (a b c : List CallerView) → CallersKeep a b → CallersKeep b c → CallersKeep a c
+callers_through a b c one two = record {
+  count = two.count ∙ one.count;
+  each = λ host first last stood stands.
+      let between = stood_at b c host last two.count stands in
+      keeps_through first.places between.0.places last.places (one.each host first between.0 stood between.1) (two.each host between.0 last between.1 stands);
+}
+
 -- a vector whose items were lent out and came back, as many as before
 drop_end : {T : Type 0} (xs : List T) (k : ℕ) → length xs ≤ k → drop k xs ≡ []
 drop_end [] zero small = refl
@@ -63,6 +79,6 @@ pub on_ok : {A : Type 0} (P Q : A → Type 0) (result : Result A Memory) → ((a
 on_ok P Q (Ok a) f p = f a p
 on_ok P Q (Err e) f p = tt
 
-pub ok_of : {A : Type 0} (P : Type 0) (result : Result A Memory) → P → OnOk result P
-ok_of P (Ok a) p = p
-ok_of P (Err e) p = tt
+pub on_done : (P Q : Type 0) (result : Result (Unit {0}) Memory) → (P → Q) → OnOk result P → OnOk result Q
+on_done P Q (Ok done) f p = f p
+on_done P Q (Err e) f p = tt

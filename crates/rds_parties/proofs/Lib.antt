@@ -1,6 +1,9 @@
 pub mod At
-pub mod Connected
-pub mod Preparing
 pub mod Commands
-pub mod Obeying
+pub mod Growing
 pub mod Keeping
+pub mod Obeying
+pub mod Preparing
+pub mod Made
+pub mod Telling
+pub mod Jobs

@@ -65,34 +65,34 @@ module _ {E : Type 0} (m : Means E) where
           ∙ (ap (λ (ns : List ℕ). ns ++ (b + 1) ∷ []) p.paired.same ∙ sym (map-append (λ (s : ℕ × E). s.0) low ((b + 1, a) ∷ [])));
       pairs = record { at = at_snoc m.meets (b + 1) a c low high (same_count low high p.paired.same) p.paired.pairs meets };
     };
-    low_numbered = rising_snoc 0 b low a (omega arith) p.low_most p.low_numbered;
-    high_numbered = rising_snoc 0 b high c (omega arith) p.high_most p.high_numbered;
-    low_most = more_most b low a p.low_most;
-    high_most = more_most b high c p.high_most;
-    low_unused = more_unused b low a first p.low_unused;
-    high_unused = more_unused b high c second p.high_unused;
+    one_numbered = rising_snoc 0 b low a (omega arith) p.one_most p.one_numbered;
+    other_numbered = rising_snoc 0 b high c (omega arith) p.other_most p.other_numbered;
+    one_most = more_most b low a p.one_most;
+    other_most = more_most b high c p.other_most;
+    one_unused = more_unused b low a first p.one_unused;
+    other_unused = more_unused b high c second p.other_unused;
   }
 
   -- where a stream can't be opened its number is left out
   pub prepared_less : (b : ℕ) (low high : List (ℕ × E)) → ArePrepared m b low high → ArePrepared m (b + 1) low high
   prepared_less b low high p = record {
     paired = p.paired;
-    low_numbered = p.low_numbered;
-    high_numbered = p.high_numbered;
-    low_most = λ k d lt. let few = p.low_most k d lt in omega (arith, few);
-    high_most = λ k d lt. let few = p.high_most k d lt in omega (arith, few);
-    low_unused = p.low_unused;
-    high_unused = p.high_unused;
+    one_numbered = p.one_numbered;
+    other_numbered = p.other_numbered;
+    one_most = λ k d lt. let few = p.one_most k d lt in omega (arith, few);
+    other_most = λ k d lt. let few = p.other_most k d lt in omega (arith, few);
+    one_unused = p.one_unused;
+    other_unused = p.other_unused;
   }
 
   -- before any is opened
   pub none_prepared : ArePrepared m 0 [] []
   none_prepared = record {
     paired = record { same = refl; pairs = record { at = λ place x y at_x at_y. absurd (cc) } };
-    low_numbered = λ k within. absurd (omega (arith, within));
-    high_numbered = λ k within. absurd (omega (arith, within));
-    low_most = All-nil (λ (s : ℕ × E). s.0 ≤ 0);
-    high_most = All-nil (λ (s : ℕ × E). s.0 ≤ 0);
-    low_unused = All-nil (λ (s : ℕ × E). IsUnused m s.1);
-    high_unused = All-nil (λ (s : ℕ × E). IsUnused m s.1);
+    one_numbered = λ k within. absurd (omega (arith, within));
+    other_numbered = λ k within. absurd (omega (arith, within));
+    one_most = All-nil (λ (s : ℕ × E). s.0 ≤ 0);
+    other_most = All-nil (λ (s : ℕ × E). s.0 ≤ 0);
+    one_unused = All-nil (λ (s : ℕ × E). IsUnused m s.1);
+    other_unused = All-nil (λ (s : ℕ × E). IsUnused m s.1);
   }

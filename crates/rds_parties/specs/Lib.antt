@@ -1,3 +1,5 @@
 pub mod Obeyed
 pub mod Preparing
 pub mod Parties
+pub mod Growing
+pub mod Leading

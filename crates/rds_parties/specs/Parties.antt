@@ -1,5 +1,5 @@
 -- The hosts of a run: their callers, and their lines to each other. Source: this project's own.
-use Rattle.std.specs.Prelude.{◌≡◌, ◌×◌, ℕ, List, Some, length, slice_get}
+use Rattle.std.specs.Prelude.{◌≡◌, ℕ, List, Some, length, slice_get}
 use Rattle.rds_fmap.specs.Readers.{WriterView}
 use Rattle.rds_line.specs.Line.{LineView}
 use Rattle.rds_script.specs.declared.script.Placed.{Placed}
@@ -9,8 +9,8 @@ use Rattle.rds_parties.specs.Obeyed.{AreNewPlaces, HasDone, HasObeyed, slot_coun
 
 -- the callers and the lines of so many hosts, by host: those of each belong together
 pub record AreParties {E : Type 0} (hosts : ℕ) (callers : List CallerView) (rows : List (List (LineView E WriterView))) : Type 0 where
-  pub callers : length callers ≡ hosts
-  pub rows : length rows ≡ hosts
+  pub callers_count : length callers ≡ hosts
+  pub rows_count : length rows ≡ hosts
   pub tied : (host : ℕ) (caller : CallerView) (row : List (LineView E WriterView)) → slice_get callers host ≡ Some caller → slice_get rows host ≡ Some row →
       AreTied caller.places row
 

@@ -19,5 +19,5 @@ module _ {E : Type 0} (m : Means E) where
 
   -- each two of so many hosts have streams that were prepared, and none of which was used
   pub record AreAllPrepared (hosts : ℕ) (rows : List (List (Vec (ℕ × E) Global))) : Type 0 where
-    pub rows : AreRows hosts rows
+    pub shape : AreRows hosts rows
     pub pairs : OfEachPair (λ low high (one : Vec (ℕ × E) Global) (other : Vec (ℕ × E) Global). (newest : ℕ) × ArePrepared newest one.items other.items) rows

@@ -1,9 +1,9 @@
 //! The leading binds of a script.
-ghost use Rattle.std.specs.Prelude.{◌≡◌, ◌≤◌, All, IfOk, OnErr, OnOk, true, drop, length, take};
+ghost use Rattle.std.specs.Prelude.{◌≡◌, ◌≤◌, ℕ, All, IfOk, OnErr, OnOk, [], ◌∷◌, drop, length, take};
 ghost use Rattle.rds_script.specs.Script.{IsCommand};
-ghost use Rattle.rds_callers.specs.Commands.{binds};
-ghost use Rattle.rds_callers.specs.Places.{PlacesKeep};
-ghost use Rattle.rds_parties.specs.Obeyed.{DoesCommand, HasObeyed};
+ghost use Rattle.rds_rounds.specs.Grid.{EachRow, rows_of};
+ghost use Rattle.rds_parties.specs.Parties.{AreParties, HaveObeyed};
+ghost use Rattle.rds_parties.specs.Leading.{AllPortsTold, CallersKeep, SamePlaces};
 ghost use Rattle.rds_settling.specs.Tied.{ArePortsTold, AreTied, LinesLearnPorts};
 
 use rds_callers::{Caller, host_of, is_bind};
@@ -23,28 +23,35 @@ pub(crate) fn lead<E: End, R: Wait>(
     rt: &R,
     alloc: Global,
     commands: &[Placed],
-    callers: &mut (Caller, Caller),
+    callers: &mut Vec<Caller>,
     lines: &mut Lines<E>,
 ) -> Result<usize, Memory>
-    requires commands { All (λ p. IsCommand 2 p.command) commands.now }
-    requires low { AreTied callers.old.0.places lines.old.0.items }
-    requires high { AreTied callers.old.1.places lines.old.1.items }
+    requires commands { All (λ p. IsCommand (length callers.old.items) p.command) commands.now }
+    requires parties { (hosts : ℕ) × AreParties hosts callers.old.items (rows_of lines.old.items) }
     ensures count { IfOk result (λ count. count ≤ length commands.now) }
-    ensures low_did { IfOk result (λ count. HasObeyed 0 (take count commands.now) callers.old.0.places callers.new.0.places) }
-    ensures high_did { IfOk result (λ count. HasObeyed 1 (take count commands.now) callers.old.1.places callers.new.1.places) }
-    ensures low { OnOk result (AreTied callers.new.0.places lines.new.0.items) }
-    ensures high { OnOk result (AreTied callers.new.1.places lines.new.1.items) }
-    ensures low_ports { OnOk result (ArePortsTold callers.new.0.places lines.new.0.items) }
-    ensures high_ports { OnOk result (ArePortsTold callers.new.1.places lines.new.1.items) }
-    ensures low_lines { OnOk result (LinesLearnPorts lines.old.0.items lines.new.0.items) }
-    ensures high_lines { OnOk result (LinesLearnPorts lines.old.1.items lines.new.1.items) }
+    ensures obeyed { IfOk result (λ count. HaveObeyed (take count commands.now) callers.old.items callers.new.items) }
+    ensures parties { (hosts : ℕ) → AreParties hosts callers.old.items (rows_of lines.old.items) → OnOk result (AreParties hosts callers.new.items (rows_of lines.new.items)) }
+    ensures told { OnOk result (AllPortsTold callers.new.items (rows_of lines.new.items)) }
+    ensures lines { OnOk result (EachRow LinesLearnPorts (rows_of lines.old.items) (rows_of lines.new.items)) }
     ensures memory { OnErr result (lines.new ≡ lines.old) }
 {
     let leading = bind_leading(rt, alloc, commands, callers)?;
     tied_keeps::<E>();
-    tell_ports(&mut callers.0, &mut lines.0);
-    tell_ports(&mut callers.1, &mut lines.1);
+    tell_all(callers, lines);
     Ok(leading)
+}
+
+// Tells the lines of each host the ports of its sockets.
+fn tell_all<E: End>(callers: &mut Vec<Caller>, lines: &mut Lines<E>)
+    requires { (hosts : ℕ) × AreParties hosts callers.old.items (rows_of lines.old.items) }
+    ensures places { SamePlaces callers.old.items callers.new.items }
+    ensures told { AllPortsTold callers.new.items (rows_of lines.new.items) }
+    ensures lines { EachRow LinesLearnPorts (rows_of lines.old.items) (rows_of lines.new.items) }
+    ensures parties { (hosts : ℕ) → AreParties hosts callers.old.items (rows_of lines.old.items) → AreParties hosts callers.new.items (rows_of lines.new.items) }
+{
+    for host in 0..callers.len() {
+        tell_ports(&mut callers[host], &mut lines[host]);
+    }
 }
 
 // Tells the lines of a host the ports of its sockets.
@@ -58,39 +65,17 @@ fn tell_ports<E: End>(caller: &mut Caller, lines: &mut Vec<Line<E, Writer>>)
     settle_ports(caller, lines);
 }
 
-// Does a bind of one of the two hosts.
-fn bind<R: Wait>(
-    rt: &R,
-    alloc: Global,
-    placed: &Placed,
-    callers: &mut (Caller, Caller),
-) -> Result<(), Memory>
-    requires command { IsCommand 2 placed.now.command }
-    requires binds { binds placed.now.command ≡ true }
-    ensures low_did { OnOk result (DoesCommand 0 placed.now callers.old.0.places callers.new.0.places) }
-    ensures high_did { OnOk result (DoesCommand 1 placed.now callers.old.1.places callers.new.1.places) }
-    ensures low { PlacesKeep callers.old.0.places callers.new.0.places }
-    ensures high { PlacesKeep callers.old.1.places callers.new.1.places }
-{
-    if host_of(&placed.command) == Some(0) {
-        return callers.0.obey(rt, alloc, &placed.command);
-    }
-    callers.1.obey(rt, alloc, &placed.command)
-}
-
 // Does the leading binds, and answers how many there are.
 fn bind_leading<R: Wait>(
     rt: &R,
     alloc: Global,
     commands: &[Placed],
-    callers: &mut (Caller, Caller),
+    callers: &mut Vec<Caller>,
 ) -> Result<usize, Memory>
-    requires { All (λ p. IsCommand 2 p.command) commands.now }
+    requires { All (λ p. IsCommand (length callers.old.items) p.command) commands.now }
     ensures count { IfOk result (λ count. count ≤ length commands.now) }
-    ensures low_did { IfOk result (λ count. HasObeyed 0 (take count commands.now) callers.old.0.places callers.new.0.places) }
-    ensures high_did { IfOk result (λ count. HasObeyed 1 (take count commands.now) callers.old.1.places callers.new.1.places) }
-    ensures low { PlacesKeep callers.old.0.places callers.new.0.places }
-    ensures high { PlacesKeep callers.old.1.places callers.new.1.places }
+    ensures obeyed { IfOk result (λ count. HaveObeyed (take count commands.now) callers.old.items callers.new.items) }
+    ensures keeps { CallersKeep callers.old.items callers.new.items }
 {
     let mut count = 0;
     for placed in commands {
@@ -103,11 +88,27 @@ fn bind_leading<R: Wait>(
     Ok(count)
 }
 
+// Does a command of the host that is to do it.
+fn bind<R: Wait>(
+    rt: &R,
+    alloc: Global,
+    placed: &Placed,
+    callers: &mut Vec<Caller>,
+) -> Result<(), Memory>
+    requires { IsCommand (length callers.old.items) placed.now.command }
+    ensures obeyed { OnOk result (HaveObeyed (placed.now ∷ []) callers.old.items callers.new.items) }
+    ensures keeps { CallersKeep callers.old.items callers.new.items }
+{
+    let Some(host) = host_of(&placed.command) else {
+        return Ok(());
+    };
+    callers[usize::from(host)].obey(rt, alloc, &placed.command)
+}
+
 /// The commands from this place on.
 pub(crate) fn commands_from(commands: &[Placed], place: usize) -> &[Placed]
     requires place { place ≤ length commands.now }
-    requires each { All (λ p. IsCommand 2 p.command) commands.now }
-    ensures each { All (λ p. IsCommand 2 p.command) result.now }
+    ensures each { (hosts : ℕ) → All (λ p. IsCommand hosts p.command) commands.now → All (λ p. IsCommand hosts p.command) result.now }
     ensures rest { result.now ≡ drop place commands.now }
 {
     let (_, rest) = commands.split_at(place);

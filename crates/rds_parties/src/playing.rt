@@ -1,13 +1,16 @@
 //! The threads of a run.
-ghost use Rattle.std.specs.Prelude.{◌≡◌, ℕ, All, IfOk, OnOk};
+ghost use Rattle.std.specs.Prelude.{◌≡◌, ◌≤◌, ℕ, All, IfOk, OnOk, Ok, length, map};
 ghost use Rattle.rds_callers.specs.Places.{PlacesKeep};
+ghost use Rattle.rds_parties.specs.Leading.{AreJobs, CallersKeep, HasCalled};
 ghost use Rattle.rds_parties.specs.Obeyed.{HasObeyed, DoesCommand};
+ghost use Rattle.rds_parties.specs.Parties.{AreParties, HaveObeyed};
 ghost use Rattle.rds_script.specs.Script.{IsCommand, IsScript};
 ghost use Rattle.rds_host.specs.Lines.{AreTurned, pair_of};
-ghost use Rattle.rds_rounds.specs.Connection.{AreTwo};
-ghost use Rattle.rds_settling.specs.Tied.{AreTied};
+ghost use Rattle.rds_rounds.specs.Connection.{AreHosts};
+ghost use Rattle.rds_rounds.specs.Grid.{EachRow, rows_of};
 
 use crate::leading::{commands_from, lead};
+use core::mem::replace_with;
 use rds_callers::{Caller, host_of};
 use rds_fmap::Writer;
 use rds_host::laws::turned_keeps;
@@ -46,7 +49,7 @@ fn call<R: Wait, G: Gate>(
     turn: u32,
     caller: &mut Caller,
 ) -> Result<bool, Memory>
-    requires { IsCommand 2 placed.now.command }
+    requires { (hosts : ℕ) × IsCommand hosts placed.now.command }
     ensures did { OnOk result (DoesCommand host placed.now caller.old.places caller.new.places) }
     ensures keeps { PlacesKeep caller.old.places caller.new.places }
 {
@@ -67,7 +70,7 @@ fn call_all<R: Wait, G: Gate>(
     gate: &G,
     mut caller: Caller,
 ) -> Result<Caller, Memory>
-    requires { All (λ p. IsCommand 2 p.command) commands.now }
+    requires { (hosts : ℕ) × All (λ p. IsCommand hosts p.command) commands.now }
     ensures did { IfOk result (λ after. HasObeyed host commands.now caller.places after.places) }
     ensures keeps { IfOk result (λ after. PlacesKeep caller.places after.places) }
 {
@@ -80,37 +83,70 @@ fn call_all<R: Wait, G: Gate>(
     Ok(caller)
 }
 
-// Both callers, beside each other. When they have ended, the workers are told to stop.
-fn call_both<R: Threads + Wait + Sync, G: Gate + Sync>(
+// The callers of all hosts, beside each other. When they have ended, the workers are told to stop.
+fn call_then_stop<R: Threads + Wait + Sync, G: Gate + Sync>(
     rt: &R,
     alloc: Global,
     commands: &[Placed],
     gate: &G,
-    callers: (Caller, Caller),
+    callers: Vec<Caller>,
     stop: &Stop,
-) -> Result<(Caller, Caller), Memory>
-    requires { All (λ p. IsCommand 2 p.command) commands.now }
-    ensures low_did { IfOk result (λ after. HasObeyed 0 commands.now callers.0.places after.0.places) }
-    ensures high_did { IfOk result (λ after. HasObeyed 1 commands.now callers.1.places after.1.places) }
-    ensures low { IfOk result (λ after. PlacesKeep callers.0.places after.0.places) }
-    ensures high { IfOk result (λ after. PlacesKeep callers.1.places after.1.places) }
+) -> Result<Vec<Caller>, Memory>
+    requires few { length callers.items ≤ 8 }
+    requires commands { (hosts : ℕ) × All (λ p. IsCommand hosts p.command) commands.now }
+    ensures obeyed { IfOk result (λ after. HaveObeyed commands.now callers.items after.items) }
+    ensures keeps { IfOk result (λ after. CallersKeep callers.items after.items) }
 {
-    let (low, high) = callers;
-    let (low, high) = thread::join(
-        rt,
-        move || -> Result<Caller, Memory>
-            requires { All (λ p. IsCommand 2 p.command) commands.now }
-            ensures did { IfOk result (λ after. HasObeyed 0 commands.entry.now low.places after.places) }
-            ensures keeps { IfOk result (λ after. PlacesKeep low.places after.places) }
-        { call_all(rt, alloc, commands, 0, gate, low) },
-        move || -> Result<Caller, Memory>
-            requires { All (λ p. IsCommand 2 p.command) commands.now }
-            ensures did { IfOk result (λ after. HasObeyed 1 commands.entry.now high.places after.places) }
-            ensures keeps { IfOk result (λ after. PlacesKeep high.places after.places) }
-        { call_all(rt, alloc, commands, 1, gate, high) },
-    );
+    let after = call_beside(rt, alloc, commands, gate, callers);
     stop.set();
-    Ok((low?, high?))
+    after
+}
+
+// The callers of all hosts, beside each other.
+fn call_beside<R: Threads + Wait + Sync, G: Gate + Sync>(
+    rt: &R,
+    alloc: Global,
+    commands: &[Placed],
+    gate: &G,
+    callers: Vec<Caller>,
+) -> Result<Vec<Caller>, Memory>
+    requires few { length callers.items ≤ 8 }
+    requires commands { (hosts : ℕ) × All (λ p. IsCommand hosts p.command) commands.now }
+    ensures obeyed { IfOk result (λ after. HaveObeyed commands.now callers.items after.items) }
+    ensures keeps { IfOk result (λ after. CallersKeep callers.items after.items) }
+{
+    let jobs = numbered(alloc, callers)?;
+    let call = |job: (u8, Caller)| -> Result<Caller, Memory>
+        requires { (hosts : ℕ) × All (λ p. IsCommand hosts p.command) commands.now }
+        ensures { IfOk result (HasCalled job.0 commands.entry.now job.1) }
+    { call_all(rt, alloc, commands, job.0, gate, job.1) };
+    let done = thread::map_vec(rt, jobs, &call)?;
+    all_of(alloc, done)
+}
+
+// Each caller with the number of its host.
+fn numbered(alloc: Global, callers: Vec<Caller>) -> Result<Vec<(u8, Caller)>, Memory>
+    requires { length callers.items ≤ 8 }
+    ensures { IfOk result (λ jobs. AreJobs callers.items jobs.items) }
+{
+    let mut jobs = Vec::new(alloc);
+    let mut host = 0u8;
+    for caller in callers {
+        jobs.push((host, caller))?;
+        host += 1;
+    }
+    Ok(jobs)
+}
+
+// The callers, where none ran out of memory.
+fn all_of(alloc: Global, done: Vec<Result<Caller, Memory>>) -> Result<Vec<Caller>, Memory>
+    ensures { IfOk result (λ callers. map Ok callers.items ≡ done.items) }
+{
+    let mut callers = Vec::new(alloc);
+    for caller in done {
+        callers.push(caller?)?;
+    }
+    Ok(callers)
 }
 
 /// Does the commands of a script: the leading binds on the calling thread, and then the others by a caller of each host, while workers
@@ -137,7 +173,7 @@ pub fn play<E: End + Send, R: Threads + Wait + Sync, G: Gate + Sync>(
     tied_keeps::<E>();
     turned_keeps::<E>();
     connected_keeps::<E>();
-    play_both(
+    play_beside(
         rt,
         alloc,
         commands_from(commands, leading),
@@ -147,58 +183,80 @@ pub fn play<E: End + Send, R: Threads + Wait + Sync, G: Gate + Sync>(
     )
 }
 
-// Does these commands, while workers turn the lines.
-fn play_both<E: End + Send, R: Threads + Wait + Sync, G: Gate + Sync>(
+// Does these commands, while workers turn the lines. Where no thread can be made the callers go first, so that the workers find the
+// flag set.
+fn play_beside<E: End + Send, R: Threads + Wait + Sync, G: Gate + Sync>(
     rt: &R,
     alloc: Global,
     commands: &[Placed],
     gate: &G,
-    callers: (Caller, Caller),
+    callers: Vec<Caller>,
     lines: Lines<E>,
-) -> (Result<(Caller, Caller), Memory>, Lines<E>)
-    requires { All (λ p. IsCommand 2 p.command) commands.now }
-    ensures low { AreTurned E.means pair_of lines.0.items result.1.0.items }
-    ensures high { AreTurned E.means pair_of lines.1.items result.1.1.items }
-    ensures low_did { IfOk result.0 (λ after. HasObeyed 0 commands.now callers.0.places after.0.places) }
-    ensures high_did { IfOk result.0 (λ after. HasObeyed 1 commands.now callers.1.places after.1.places) }
-    ensures low_slots { IfOk result.0 (λ after. PlacesKeep callers.0.places after.0.places) }
-    ensures high_slots { IfOk result.0 (λ after. PlacesKeep callers.1.places after.1.places) }
+) -> (Result<Vec<Caller>, Memory>, Lines<E>)
+    requires few { length callers.items ≤ 8 }
+    requires commands { (hosts : ℕ) × All (λ p. IsCommand hosts p.command) commands.now }
+    ensures turned { EachRow (AreTurned E.means pair_of) (rows_of lines.items) (rows_of result.1.items) }
+    ensures obeyed { IfOk result.0 (λ after. HaveObeyed commands.now callers.items after.items) }
+    ensures keeps { IfOk result.0 (λ after. CallersKeep callers.items after.items) }
 {
     let stop = Stop::new();
     let stop = &stop;
-    thread::join(
+    let (lines, callers) = thread::join(
         rt,
-        move || -> Result<(Caller, Caller), Memory>
-            requires { All (λ p. IsCommand 2 p.command) commands.now }
-            ensures low_did { IfOk result (λ after. HasObeyed 0 commands.entry.now callers.0.places after.0.places) }
-            ensures high_did { IfOk result (λ after. HasObeyed 1 commands.entry.now callers.1.places after.1.places) }
-            ensures low { IfOk result (λ after. PlacesKeep callers.0.places after.0.places) }
-            ensures high { IfOk result (λ after. PlacesKeep callers.1.places after.1.places) }
-        { call_both(rt, alloc, commands, gate, callers, stop) },
         move || -> Lines<E>
-            ensures low { AreTurned E.means pair_of lines.0.items result.0.items }
-            ensures high { AreTurned E.means pair_of lines.1.items result.1.items }
-        { work_both(rt, lines, stop) },
-    )
+            ensures { EachRow (AreTurned E.means pair_of) (rows_of lines.items) (rows_of result.items) }
+        { work_all(rt, lines, stop) },
+        move || -> Result<Vec<Caller>, Memory>
+            requires few { length callers.items ≤ 8 }
+            requires commands { (hosts : ℕ) × All (λ p. IsCommand hosts p.command) commands.now }
+            ensures obeyed { IfOk result (λ after. HaveObeyed commands.entry.now callers.items after.items) }
+            ensures keeps { IfOk result (λ after. CallersKeep callers.items after.items) }
+        { call_then_stop(rt, alloc, commands, gate, callers, stop) },
+    );
+    (callers, lines)
 }
 
-// Both workers, beside each other.
-fn work_both<E: End + Send, R: Threads + Wait + Sync>(
+// The workers of all hosts, beside each other.
+fn work_all<E: End + Send, R: Threads + Wait + Sync>(
     rt: &R,
-    lines: Lines<E>,
+    mut lines: Lines<E>,
     stop: &Stop,
 ) -> Lines<E>
-    ensures low { AreTurned E.means pair_of lines.0.items result.0.items }
-    ensures high { AreTurned E.means pair_of lines.1.items result.1.items }
+    ensures { EachRow (AreTurned E.means pair_of) (rows_of lines.items) (rows_of result.items) }
 {
-    let (low, high) = lines;
-    thread::join(
-        rt,
-        move || -> Vec<Line<E, Writer>>
-            ensures { AreTurned E.means pair_of low.items result.items }
-        { work(rt, low, stop) },
-        move || -> Vec<Line<E, Writer>>
-            ensures { AreTurned E.means pair_of high.items result.items }
-        { work(rt, high, stop) },
-    )
+    work_beside(rt, &mut lines, stop);
+    lines
+}
+
+// The same over the rows of the hosts.
+fn work_beside<E: End + Send, R: Threads + Wait + Sync>(
+    rt: &R,
+    rows: &mut [Vec<Line<E, Writer>>],
+    stop: &Stop,
+)
+    ensures { EachRow (AreTurned E.means pair_of) (rows_of rows.old) (rows_of rows.new) }
+{
+    let threads = rows.len().max(1);
+    let turn = |_host: usize, row: &mut Vec<Line<E, Writer>>|
+        ensures { AreTurned E.means pair_of row.entry.now.items row.exit.now.items }
+    { work_on(rt, row, stop) };
+    thread::for_each_mut(rt, rows, threads, &turn);
+}
+
+// The worker of a host: turns its lines until the flag is set and none moves.
+fn work_on<E: End, R: Wait>(rt: &R, row: &mut Vec<Line<E, Writer>>, stop: &Stop)
+    ensures { AreTurned E.means pair_of row.old.items row.new.items }
+{
+    replace_with(row, (rt, stop), worked);
+}
+
+// The lines of a host once its worker has ended.
+fn worked<E: End, R: Wait>(
+    row: Vec<Line<E, Writer>>,
+    with: (&R, &Stop),
+) -> (Vec<Line<E, Writer>>, ())
+    ensures { AreTurned E.means pair_of row.items result.0.items }
+{
+    let (rt, stop) = with;
+    (work(rt, row, stop), ())
 }

@@ -1,31 +1,50 @@
 //! The streams of a run.
-ghost use Rattle.std.specs.Prelude.{◌≡◌, ℕ, ◌+◌, ◌<◌, [], ◌∷◌, ◌++◌, IfOk, OnOk};
-ghost use Rattle.rds_parties.specs.Preparing.{ArePrepared};
+ghost use Rattle.std.specs.Prelude.{◌≡◌, ℕ, ◌+◌, ◌<◌, [], ◌∷◌, ◌++◌, IfOk, OnOk, length};
+ghost use Rattle.rds_rounds.specs.Grid.{rows_of};
+ghost use Rattle.rds_script.specs.Script.{IsScript};
+ghost use Rattle.rds_parties.specs.Growing.{GrowsBy};
+ghost use Rattle.rds_parties.specs.Preparing.{AreAllPrepared, ArePrepared};
 
 use rds_link::{End, Wire, WireError};
 use rds_report::address;
-use rds_script::{Command, Script};
+use rds_rounds::Wanted;
+use rds_script::{Command, Placed, Script};
 use rds_wire::Memory;
 use std::alloc::Global;
 use std::net::Net;
 use std::sync::Wait;
 use std::thread::Threads;
 
-/// How many streams more are prepared than the script has cuts.
+/// How many streams more are prepared between two hosts than the script has cuts between them.
 const MORE: u32 = 3;
 
 /// A host's ends of the streams to a peer, each with its number.
 pub type Ends<E> = Vec<(u32, E)>;
 
 /// The streams of all hosts: for each host its ends to each other one, in ascending order. And what the last rounds have to know of
-/// each two hosts, in the row of the lower one, at the same place as its ends.
+/// each two hosts, in the rows of both, at the same place as their ends.
 #[derive(Drop)]
 pub struct Prepared<E: End> {
     pub streams: Vec<Vec<Ends<E>>>,
     pub wanted: Vec<Vec<Wanted>>,
 }
 
-impl<E: End> Prepared<E> {
+// What a host has for the hosts below it.
+#[derive(Drop)]
+struct Row<E: End> {
+    streams: Vec<Ends<E>>,
+    wanted: Vec<Wanted>,
+}
+
+// The ends of the streams between two hosts, the lower of which has the first, and whether one wasn't opened.
+#[derive(Drop)]
+struct Opened<E: End> {
+    low: Ends<E>,
+    high: Ends<E>,
+    lacks: bool,
+}
+
+impl<E: End> Opened<E> {
     // Adds the ends of a stream.
     fn add(&mut self, number: u32, first: E, second: E) -> Result<(), Memory>
         ensures low { OnOk result (self.new.low.items ≡ self.old.low.items ++ (number, first) ∷ []) }
@@ -39,6 +58,10 @@ impl<E: End> Prepared<E> {
 
 /// For each two hosts opens as many streams as the script has cuts between them, and three more, numbered from 1. One that fails is
 /// left out.
+///
+/// # Errors
+///
+/// Where memory runs out. The streams that were opened are given up.
 pub fn prepare<W: Wire, R: Threads + Wait + Net>(
     rt: &R,
     alloc: Global,
@@ -48,37 +71,133 @@ pub fn prepare<W: Wire, R: Threads + Wait + Net>(
     requires { IsScript script.now }
     ensures { IfOk result (λ p. AreAllPrepared W.End.means script.now.hosts (rows_of p.streams.items)) }
 {
-    let count = cuts(script).saturating_add(MORE);
     let mut prepared = Prepared {
+        streams: Vec::new(alloc),
+        wanted: Vec::new(alloc),
+    };
+    for host in 0..script.hosts {
+        add_host(rt, alloc, wire, script, host, &mut prepared)?;
+    }
+    Ok(prepared)
+}
+
+// Opens the streams between this host and each one below it. Those are all that were prepared so far.
+fn add_host<W: Wire, R: Threads + Wait + Net>(
+    rt: &R,
+    alloc: Global,
+    wire: &mut W,
+    script: &Script,
+    host: u8,
+    prepared: &mut Prepared<W::End>,
+) -> Result<(), Memory>
+    requires prepared { AreAllPrepared W.End.means host (rows_of prepared.old.streams.items) }
+    requires wanted { length prepared.old.wanted.items ≡ host }
+    ensures prepared { OnOk result (AreAllPrepared W.End.means (host + 1) (rows_of prepared.new.streams.items)) }
+    ensures wanted { OnOk result (length prepared.new.wanted.items ≡ host + 1) }
+{
+    let mut row = Row {
+        streams: Vec::new(alloc),
+        wanted: Vec::new(alloc),
+    };
+    for low in 0..host {
+        add_pair(rt, alloc, wire, script, low, host, prepared, &mut row)?;
+    }
+    prepared.streams.push(row.streams)?;
+    prepared.wanted.push(row.wanted)?;
+    Ok(())
+}
+
+// Opens the streams between two hosts. The ends of the lower one go behind those that it has, and those of the higher one into `row`.
+fn add_pair<W: Wire, R: Threads + Wait + Net>(
+    rt: &R,
+    alloc: Global,
+    wire: &mut W,
+    script: &Script,
+    low: u8,
+    high: u8,
+    prepared: &mut Prepared<W::End>,
+    row: &mut Row<W::End>,
+) -> Result<(), Memory>
+    requires streams { low < length prepared.old.streams.items }
+    requires wanted { low < length prepared.old.wanted.items }
+    ensures grows { OnOk result (GrowsBy W.End.means low (rows_of prepared.old.streams.items) (rows_of prepared.new.streams.items) row.old.streams.items row.new.streams.items) }
+    ensures wanted { length prepared.new.wanted.items ≡ length prepared.old.wanted.items }
+{
+    let cuts = cuts_between(&script.commands, low, high);
+    let opened = open_all(rt, alloc, wire, low, high, cuts.saturating_add(MORE))?;
+    let lacks = opened.lacks;
+    let low = usize::from(low);
+    prepared.wanted[low].push(Wanted { lacks, cuts })?;
+    row.wanted.push(Wanted { lacks, cuts })?;
+    prepared.streams[low].push(opened.low)?;
+    row.streams.push(opened.high)?;
+    Ok(())
+}
+
+// How many cuts there are between two hosts, whichever of them cuts.
+fn cuts_between(commands: &[Placed], low: u8, high: u8) -> u32 {
+    let mut cuts = 0u32;
+    for placed in commands {
+        if is_cut_between(&placed.command, low, high) {
+            cuts = cuts.saturating_add(1);
+        }
+    }
+    cuts
+}
+
+// Whether the command is a cut between two hosts.
+fn is_cut_between(command: &Command, low: u8, high: u8) -> bool {
+    match command {
+        Command::Cut { host, to } => {
+            (*host == low && *to == high) || (*host == high && *to == low)
+        }
+        _ => false,
+    }
+}
+
+// Opens so many streams between two hosts, numbered from 1. One that fails is left out.
+fn open_all<W: Wire, R: Threads + Wait + Net>(
+    rt: &R,
+    alloc: Global,
+    wire: &mut W,
+    low: u8,
+    high: u8,
+    count: u32,
+) -> Result<Opened<W::End>, Memory>
+    ensures { IfOk result (λ opened. (newest : ℕ) × ArePrepared W.End.means newest opened.low.items opened.high.items) }
+{
+    let mut opened = Opened {
         low: Vec::new(alloc),
         high: Vec::new(alloc),
         lacks: false,
     };
-    for opened in 0..count {
-        open_next(rt, wire, &mut prepared, opened)?;
+    for before in 0..count {
+        open_next(rt, wire, low, high, &mut opened, before)?;
     }
-    Ok(prepared)
+    Ok(opened)
 }
 
 // Opens the stream behind so many. One that fails is left out.
 fn open_next<W: Wire, R: Threads + Wait + Net>(
     rt: &R,
     wire: &mut W,
-    prepared: &mut Prepared<W::End>,
-    opened: u32,
+    low: u8,
+    high: u8,
+    opened: &mut Opened<W::End>,
+    before: u32,
 ) -> Result<(), Memory>
-    requires room { opened < 4294967295 }
-    requires prepared { ArePrepared W.End.means opened prepared.old.low.items prepared.old.high.items }
-    ensures { OnOk result (ArePrepared W.End.means (opened + 1) prepared.new.low.items prepared.new.high.items) }
+    requires room { before < 4294967295 }
+    requires prepared { ArePrepared W.End.means before opened.old.low.items opened.old.high.items }
+    ensures { OnOk result (ArePrepared W.End.means (before + 1) opened.new.low.items opened.new.high.items) }
 {
-    let number = opened + 1;
-    match wire.open(rt, address(0), address(1), number) {
+    let number = before + 1;
+    match wire.open(rt, address(low), address(high), number) {
         Ok((first, second)) => {
-            prepared.add(number, first, second)?;
+            opened.add(number, first, second)?;
             Ok(())
         }
         Err(WireError::Fault) => {
-            prepared.lacks = true;
+            opened.lacks = true;
             Ok(())
         }
         Err(WireError::Memory) => Err(Memory),

@@ -7,7 +7,10 @@ use Rattle.rds_parties.proofs.Obeying.{obeyed_next}
 use Rattle.rds_parties.proofs.playing.call_all.Goals as goal
 
 pub call-requires : goal.call-requires
-call-requires g c = known_at c.args.commands.now c.loop-placed.placed-index c.placed-item.result c.loop-placed-test.true c.placed-item.is c.requires
+call-requires g c = (
+  c.requires.0,
+  known_at c.requires.0 c.args.commands.now c.loop-placed.placed-index c.placed-item.result c.loop-placed-test.true c.placed-item.is c.requires.1,
+)
 
 pub loop-placed-preserved : goal.loop-placed-preserved
 loop-placed-preserved g c =

@@ -1,52 +1,41 @@
-use Rattle.std.proofs.Common.{List, drop, subst}
+use Rattle.std.proofs.Common.{◌≡◌, ℕ, List, drop, subst}
 use Rattle.rds_script.specs.declared.script.Placed.{Placed}
-use Rattle.rds_host.specs.Lines.{pair_of}
-use Rattle.rds_callers.specs.Places.{PlacesKeep}
-use Rattle.rds_rounds.specs.Connection.{AreTwo}
-use Rattle.rds_settling.specs.Tied.{AreTied}
-use Rattle.rds_parties.specs.Obeyed.{HasObeyed}
-use Rattle.rds_parties.proofs.Connected.{two_learned, two_turned}
-use Rattle.rds_parties.proofs.Keeping.{ok_of, on_ok}
-use Rattle.rds_parties.proofs.Obeying.{obeyed_of}
+use Rattle.rds_host.specs.Lines.{AreTurned, pair_of}
+use Rattle.rds_rounds.specs.Grid.{rows_of}
+use Rattle.rds_parties.specs.Leading.{CallersKeep}
+use Rattle.rds_parties.specs.Parties.{AreParties, HaveObeyed}
+use Rattle.rds_parties.proofs.Jobs.{parties_called, parties_turned}
+use Rattle.rds_parties.proofs.Keeping.{on_ok}
+use Rattle.rds_parties.proofs.Obeying.{all_obeyed_of}
+use Rattle.rds_parties.proofs.Telling.{learned_same}
 use Rattle.rds_parties.proofs.playing.play.Goals as goal
 
-pub returns-clause-low_did : goal.returns-clause-low_did
-returns-clause-low_did g c =
-    on_ok (λ after. HasObeyed 0 c.commands_from.result.now c.lead.new.callers.0.places after.0.places)
-    (λ after. HasObeyed 0 c.args.script.now.commands.items c.args.callers.0.places after.0.places) c.play_both.result.0
+pub returns-clause-obeyed : goal.returns-clause-obeyed
+returns-clause-obeyed g c =
+    on_ok (λ after. HaveObeyed c.commands_from.result.now c.lead.new.callers.items after.items)
+    (λ after. HaveObeyed c.args.script.now.commands.items c.args.callers.items after.items) c.play_beside.result.0
     (λ after did.
-    subst (λ (l : List Placed). HasObeyed 0 l c.args.callers.0.places after.0.places) c.as_slice-commands.ensures.value
-    (obeyed_of 0 c.as_slice-commands.result.now c.in-Ok.leading c.args.callers.0.places c.lead.new.callers.0.places after.0.places c.in-Ok.ensures.low_did
-    (subst (λ (l : List Placed). HasObeyed 0 l c.lead.new.callers.0.places after.0.places) c.commands_from.ensures.rest did)))
-    c.play_both.ensures.low_did
+    subst (λ (l : List Placed). HaveObeyed l c.args.callers.items after.items) c.as_slice-commands.ensures.value
+    (all_obeyed_of c.as_slice-commands.result.now c.in-Ok.leading c.args.callers.items c.lead.new.callers.items after.items c.in-Ok.ensures.obeyed
+    (subst (λ (l : List Placed). HaveObeyed l c.lead.new.callers.items after.items) c.commands_from.ensures.rest did)))
+    c.play_beside.ensures.obeyed
 
-pub returns-clause-high_did : goal.returns-clause-high_did
-returns-clause-high_did g c =
-    on_ok (λ after. HasObeyed 1 c.commands_from.result.now c.lead.new.callers.1.places after.1.places)
-    (λ after. HasObeyed 1 c.args.script.now.commands.items c.args.callers.1.places after.1.places) c.play_both.result.0
-    (λ after did.
-    subst (λ (l : List Placed). HasObeyed 1 l c.args.callers.1.places after.1.places) c.as_slice-commands.ensures.value
-    (obeyed_of 1 c.as_slice-commands.result.now c.in-Ok.leading c.args.callers.1.places c.lead.new.callers.1.places after.1.places c.in-Ok.ensures.high_did
-    (subst (λ (l : List Placed). HasObeyed 1 l c.lead.new.callers.1.places after.1.places) c.commands_from.ensures.rest did)))
-    c.play_both.ensures.high_did
+pub returns-clause-parties : goal.returns-clause-parties
+returns-clause-parties g c =
+    let hosts = c.args.script.now.hosts in
+    on_ok (λ after. CallersKeep c.lead.new.callers.items after.items) (λ after. AreParties hosts after.items (rows_of c.play_beside.result.1.items)) c.play_beside.result.0
+    (λ after kept.
+    parties_turned (AreTurned g.E.End.means pair_of)
+    (λ places lines new tied turned. c.tied_keeps.ensures.lines places lines new tied (c.turned_keeps.ensures lines new turned))
+    hosts after.items (rows_of c.lead.new.lines.items) (rows_of c.play_beside.result.1.items)
+    (parties_called c.tied_keeps.ensures.places hosts c.lead.new.callers.items after.items (rows_of c.lead.new.lines.items)
+    (c.in-Ok.ensures.parties hosts c.requires.parties) kept)
+    c.play_beside.ensures.turned)
+    c.play_beside.ensures.keeps
 
-pub returns-clause-low : goal.returns-clause-low
-returns-clause-low g c =
-    on_ok (λ after. PlacesKeep c.lead.new.callers.0.places after.0.places) (λ after. AreTied after.0.places c.play_both.result.1.0.items) c.play_both.result.0
-    (λ after kept. c.tied_keeps.ensures.lines _ _ _ (c.tied_keeps.ensures.places _ _ _ c.in-Ok.ensures.low kept) (c.turned_keeps.ensures _ _ c.play_both.ensures.low))
-    c.play_both.ensures.low_slots
-
-pub returns-clause-high : goal.returns-clause-high
-returns-clause-high g c =
-    on_ok (λ after. PlacesKeep c.lead.new.callers.1.places after.1.places) (λ after. AreTied after.1.places c.play_both.result.1.1.items) c.play_both.result.0
-    (λ after kept. c.tied_keeps.ensures.lines _ _ _ (c.tied_keeps.ensures.places _ _ _ c.in-Ok.ensures.high kept) (c.turned_keeps.ensures _ _ c.play_both.ensures.high))
-    c.play_both.ensures.high_slots
-
-pub returns-clause-two : goal.returns-clause-two
-returns-clause-two g c = λ limit two.
-    ok_of (AreTwo g.E.End.means limit c.play_both.result.1.0.items c.play_both.result.1.1.items) c.play_both.result.0
-    (two_turned g.E.End.means pair_of c.connected_keeps.ensures limit c.lead.new.lines.0.items c.lead.new.lines.1.items
-    c.play_both.result.1.0.items c.play_both.result.1.1.items
-    (two_learned g.E.End.means limit c.args.lines.0.items c.args.lines.1.items c.lead.new.lines.0.items c.lead.new.lines.1.items two
-    c.in-Ok.ensures.low_lines c.in-Ok.ensures.high_lines)
-    c.play_both.ensures.low c.play_both.ensures.high)
+pub returns-clause-hosts : goal.returns-clause-hosts
+returns-clause-hosts g c = λ limit hosts are.
+    c.connected_keeps.ensures.hosts limit hosts (rows_of c.lead.new.lines.items) (rows_of c.play_beside.result.1.items)
+    (c.connected_keeps.ensures.same limit hosts (rows_of c.args.lines.items) (rows_of c.lead.new.lines.items) are
+    (learned_same (rows_of c.args.lines.items) (rows_of c.lead.new.lines.items) c.in-Ok.ensures.lines))
+    c.play_beside.ensures.turned

@@ -1,15 +1,12 @@
-use Rattle.std.proofs.Common.{◌≡◌, ℕ, List, [], rules, sym, subst}
-use Rattle.rds_parties.specs.Preparing.{ArePrepared}
-use Rattle.rds_parties.proofs.Preparing.{none_prepared}
+use Rattle.std.proofs.Common.{◌≡◌, ℕ, List, Vec, length, ap, sym, subst, arith}
+use Rattle.std.specs.Global.{Global}
+use Rattle.rds_rounds.specs.Grid.{rows_of}
+use Rattle.rds_parties.specs.Preparing.{AreAllPrepared}
+use Rattle.rds_parties.proofs.Made.{none_prepared}
 use Rattle.rds_parties.proofs.streams.prepare.Goals as goal
 
-pub loop-opened-init : goal.loop-opened-init
-loop-opened-init g c =
-    let m = g.W.End.End.means in
-    let low : c.new.result.items ≡ [] = search rules in
-    let high : c.new-2.result.items ≡ [] = search rules in
-    subst (λ (l : List (ℕ × g.row.W-End.Denot)). ArePrepared m 0 l c.new-2.result.items) (sym low)
-    (subst (λ (h : List (ℕ × g.row.W-End.Denot)). ArePrepared m 0 [] h) (sym high) (none_prepared m))
-
-pub returns : goal.returns
-returns g c = (_, c.loop-opened.invariant)
+pub loop-host-init : goal.loop-host-init
+loop-host-init g c = (
+  subst (λ (l : List (Vec (Vec (ℕ × g.row.W-End.Denot) Global) Global)). AreAllPrepared g.W.End.End.means 0 (rows_of l)) (sym c.new.ensures.items) (none_prepared g.W.End.End.means),
+  ap length c.new-2.ensures.items,
+)

@@ -1,15 +1,16 @@
-//! The two hosts of a run.
-ghost use Rattle.std.specs.Prelude.{◌≡◌, ◌≤◌, ◌<◌, ℕ, All, IfOk, Some, filter, length, slice_get};
+//! How the hosts of a run are made.
+ghost use Rattle.std.specs.Prelude.{◌≡◌, ◌≤◌, ◌<◌, suc, All, IfOk, filter, length, map};
 ghost use Rattle.rds_model.specs.declared.entry.TheConstants.{MAX_SLOTS};
 ghost use Rattle.rds_model.specs.declared.journal.TheConstants.{MAX_ENTRIES, MIN_ENTRIES};
 ghost use Rattle.rds_report.specs.Hosts.{address_of};
-ghost use Rattle.rds_line.specs.Line.{LineView};
+ghost use Rattle.rds_script.specs.Script.{IsScript};
 ghost use Rattle.rds_line_streams.specs.Streams.{AreNumbered, IsUnused};
-ghost use Rattle.rds_host.specs.Lines.{IsNewLine};
-ghost use Rattle.rds_fmap.specs.Readers.{WriterView};
-ghost use Rattle.rds_rounds.specs.Connection.{AreTwo};
+ghost use Rattle.rds_host.specs.Lines.{AreNewLines};
+ghost use Rattle.rds_rounds.specs.Connection.{AreHosts};
+ghost use Rattle.rds_rounds.specs.Grid.{others, peer_at, rows_of};
 ghost use Rattle.rds_parties.specs.Obeyed.{AreNewPlaces, is_bind_of as is_bind_of_host, slot_count};
-ghost use Rattle.rds_parties.specs.Preparing.{ArePrepared};
+ghost use Rattle.rds_parties.specs.Parties.{AreNewCallers, AreParties};
+ghost use Rattle.rds_parties.specs.Preparing.{AreAllPrepared};
 ghost use Rattle.rds_settling.specs.Tied.{AreTied};
 
 use crate::streams::Ends;
@@ -76,60 +77,62 @@ pub fn parties<E: End>(
     ensures parties { IfOk result (λ p. AreParties script.now.hosts p.0.items (rows_of p.1.items)) }
     ensures new { IfOk result (λ p. AreNewCallers script.now.hosts script.now.commands.items p.0.items) }
     ensures hosts { IfOk result (λ p. AreHosts E.means limit script.now.hosts (rows_of p.1.items)) }
-/// The callers of the two hosts, and their lines to each other over these streams.
-///
-/// # Errors
-///
-/// Where memory runs out. The streams are given up.
-pub fn parties<E: End>(
-    alloc: Global,
-    script: &Script,
-    streams: (Ends<E>, Ends<E>),
-    limit: u32,
-) -> Result<((Caller, Caller), Lines<E>), Memory>
-    requires streams { (newest : ℕ) × ArePrepared E.means newest streams.0.items streams.1.items }
-    requires least { MIN_ENTRIES ≤ limit }
-    requires most { limit ≤ MAX_ENTRIES }
-    ensures low_count { IfOk result (λ p. length p.0.0.places ≡ slot_count 0 script.now.commands.items) }
-    ensures high_count { IfOk result (λ p. length p.0.1.places ≡ slot_count 1 script.now.commands.items) }
-    ensures low_new { IfOk result (λ p. AreNewPlaces 1 p.0.0.places) }
-    ensures high_new { IfOk result (λ p. AreNewPlaces 0 p.0.1.places) }
-    ensures low_tied { IfOk result (λ p. AreTied p.0.0.places p.1.0.items) }
-    ensures high_tied { IfOk result (λ p. AreTied p.0.1.places p.1.1.items) }
-    ensures two { IfOk result (λ p. AreTwo E.means limit p.1.0.items p.1.1.items) }
 {
-    let (low, high) = streams;
-    let (low, low_lines) = party(alloc, script, 0, 1, low, limit)?;
-    let (high, high_lines) = party(alloc, script, 1, 0, high, limit)?;
-    Ok(((low, high), (low_lines, high_lines)))
+    let mut callers = Vec::new(alloc);
+    let mut lines = Vec::new(alloc);
+    let mut host = 0u8;
+    for row in streams {
+        let (caller, row) = party(alloc, script, host, row, limit)?;
+        callers.push(caller)?;
+        lines.push(row)?;
+        host += 1;
+    }
+    Ok((callers, lines))
 }
 
-// The caller of a host, and its line to the peer over these streams.
+// The caller of a host, and its lines over these streams, a line to each other host.
 fn party<E: End>(
     alloc: Global,
     script: &Script,
     host: u8,
-    peer: u8,
-    streams: Vec<(u32, E)>,
+    streams: Vec<Ends<E>>,
     limit: u32,
 ) -> Result<(Caller, Vec<Line<E, Writer>>), Memory>
-    requires host { host < 2 }
-    requires peer { peer < 2 }
-    requires numbered { AreNumbered streams.items }
-    requires unused { All (λ stream. IsUnused E.means stream.1) streams.items }
+    requires hosts { (2 ≤ script.now.hosts) × (script.now.hosts ≤ 8) }
+    requires host { host < script.now.hosts }
+    requires count { suc (length streams.items) ≡ script.now.hosts }
+    requires numbered { All (λ list. AreNumbered list.items) streams.items }
+    requires unused { All (λ list. All (λ stream. IsUnused E.means stream.1) list.items) streams.items }
     requires least { MIN_ENTRIES ≤ limit }
     requires most { limit ≤ MAX_ENTRIES }
     ensures count { IfOk result (λ p. length p.0.places ≡ slot_count host script.now.commands.items) }
-    ensures slots { IfOk result (λ p. AreNewPlaces peer p.0.places) }
+    ensures slots { IfOk result (λ p. AreNewPlaces script.now.hosts host p.0.places) }
     ensures tied { IfOk result (λ p. AreTied p.0.places p.1.items) }
-    ensures one { IfOk result (λ p. length p.1.items ≡ 1) }
-    ensures new { IfOk result (λ p. (line : LineView E WriterView) → slice_get p.1.items 0 ≡ Some line → IsNewLine (address_of host) (address_of peer) limit streams.items line) }
+    ensures lines { IfOk result (λ p. AreNewLines (address_of host) limit (map address_of (others script.now.hosts host)) (map (λ list. list.items) streams.items) p.1.items) }
 {
-    let peers = [address(peer)];
-    let mut all = Vec::with_capacity(alloc, 1)?;
-    all.push(streams)?;
+    let peers = peers(alloc, script.hosts, host)?;
     let slots = slots(script, host);
-    let (vacants, lines) = make(alloc, address(host), &peers, slots, all, limit)?;
+    let (vacants, lines) = make(alloc, address(host), &peers, slots, streams, limit)?;
     tied_keeps::<E>();
     Ok((Caller::new(alloc, host, vacants)?, lines))
+}
+
+// The addresses of the other hosts, ascending.
+fn peers(alloc: Global, hosts: u8, host: u8) -> Result<Vec<u32>, Memory>
+    requires { (1 ≤ hosts) × (hosts ≤ 8) }
+    ensures { IfOk result (λ peers. peers.items ≡ map address_of (others hosts host)) }
+{
+    let mut peers = Vec::new(alloc);
+    for place in 0..hosts - 1 {
+        peers.push(address(peer_at(host, place)))?;
+    }
+    Ok(peers)
+}
+
+// The host that a place in a host's row stands for.
+fn peer_at(host: u8, place: u8) -> u8
+    requires { place < 255 }
+    ensures { result ≡ peer_at host place }
+{
+    if place < host { place } else { place + 1 }
 }

@@ -1,0 +1,55 @@
+use Rattle.std.proofs.Common.{◌≡◌, ℕ, ◌≤◌, List, ap, length, ◌∙◌, map, sym, subst, arith}
+use Rattle.rds_report.specs.Hosts.{address_of}
+use Rattle.rds_callers.specs.Places.{Place}
+use Rattle.rds_host.specs.Lines.{AreNewLines}
+use Rattle.rds_host.specs.Slots.{AreNewSlots}
+use Rattle.rds_parts.specs.Lanes.{Ascend}
+use Rattle.rds_rounds.specs.Grid.{others}
+use Rattle.rds_settling.specs.Tied.{AreTied}
+use Rattle.rds_parties.specs.Obeyed.{AreNewPlaces}
+use Rattle.rds_parties.proofs.Made.{peers_ascend, peers_count}
+use Rattle.rds_parties.proofs.Obeying.{length_vacant, new_places}
+use Rattle.rds_parties.proofs.making.party.Goals as goal
+use Rattle.rds_parties.proofs.making.party.Goals.{After-deref}
+
+peers_are : (g : _) (c : After-deref g) → c.deref.result.now ≡ map address_of (others c.args.script.now.hosts c.args.host)
+peers_are g c = c.deref.ensures.value ∙ c.in_ok-peers.ensures
+
+peers_length : (g : _) (c : After-deref g) → length c.deref.result.now ≡ length c.args.streams.items
+peers_length g c =
+    let count = peers_count c.args.script.now.hosts c.args.host in
+    let same = ap length (peers_are g c) in
+    omega (arith, count, same, c.requires.count)
+
+pub make-requires-clause-peers : goal.make-requires-clause-peers
+make-requires-clause-peers g c = let size = peers_length g c in omega (arith, size, c.requires.count, c.requires.hosts)
+
+pub make-requires-clause-ascend : goal.make-requires-clause-ascend
+make-requires-clause-ascend g c = subst Ascend (sym (peers_are g c)) (peers_ascend c.args.script.now.hosts c.args.host)
+
+pub make-requires-clause-streams : goal.make-requires-clause-streams
+make-requires-clause-streams g c = sym (peers_length g c)
+
+pub returns-clause-slots : goal.returns-clause-slots
+returns-clause-slots g c =
+    let d = (goal.at.returns-clause-slots g c).After-deref in
+    subst (λ (ps : List Place). AreNewPlaces c.args.script.now.hosts c.args.host ps) (sym c.in_ok-new.ensures.places)
+    (new_places c.slots-slots.result c.args.script.now.hosts c.args.host c.in_ok-vacants.vacants.items
+    (subst (λ (ps : List ℕ). AreNewSlots c.slots-slots.result ps c.in_ok-vacants.vacants.items) (peers_are g d) c.in_ok-vacants.ensures.slots))
+
+pub returns-clause-lines : goal.returns-clause-lines
+returns-clause-lines g c =
+    let d = (goal.at.returns-clause-lines g c).After-deref in
+    subst (λ (ps : List ℕ). AreNewLines (address_of c.args.host) c.args.limit ps (map (λ list. list.items) c.args.streams.items) c.in_ok-vacants.lines.items) (peers_are g d)
+    (subst (λ (a : ℕ). AreNewLines a c.args.limit c.deref.result.now (map (λ list. list.items) c.args.streams.items) c.in_ok-vacants.lines.items) c.address.ensures
+    c.in_ok-vacants.ensures.lines)
+
+pub returns-clause-tied : goal.returns-clause-tied
+returns-clause-tied g c =
+    subst (λ (ps : List Place). AreTied ps c.in_ok-vacants.lines.items) (sym c.in_ok-new.ensures.places)
+    (c.tied_keeps.ensures.made c.in_ok-vacants.vacants.items c.in_ok-vacants.lines.items c.in_ok-vacants.ensures.host c.in_ok-vacants.ensures.passes)
+
+pub returns-clause-count : goal.returns-clause-count
+returns-clause-count g c =
+    ap length c.in_ok-new.ensures.places
+    ∙ (length_vacant c.in_ok-vacants.vacants.items ∙ (c.in_ok-vacants.ensures.slots.count ∙ c.slots-slots.ensures.count))

@@ -1,0 +1,17 @@
+-- Private: it serves the contracts of the private functions that open the streams of a run. Source: this project's own.
+use Rattle.std.specs.Prelude.{◌≡◌, ℕ, List, Vec, [], ◌∷◌, ◌++◌, Some, slice_get, slice_set}
+use Rattle.std.specs.Global.{Global}
+use Rattle.rds_link.specs.Ends.{Means}
+use Rattle.rds_parties.specs.Preparing.{ArePrepared}
+
+-- The streams between a host and a later one were prepared: the ends of the host stand behind those that it had, and those of the later
+-- one behind those in its own row.
+pub record GrowsBy {E : Type 0} (m : Means E) (host : ℕ) (rows after : List (List (Vec (ℕ × E) Global))) (row own : List (Vec (ℕ × E) Global)) : Type 0 where
+  pub stood : List (Vec (ℕ × E) Global)
+  pub one : Vec (ℕ × E) Global
+  pub other : Vec (ℕ × E) Global
+  pub newest : ℕ
+  pub at : slice_get rows host ≡ Some stood
+  pub lower : after ≡ slice_set rows host (stood ++ one ∷ [])
+  pub later : own ≡ row ++ other ∷ []
+  pub prepared : ArePrepared m newest one.items other.items
