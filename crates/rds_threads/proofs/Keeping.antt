@@ -46,15 +46,6 @@ module _ {E : Type 0} where
         heard_same row heard is.4.hear;
   }
 
-  -- none was told yet
-  pub none_told : (old : List CallerView) (rows : List (List (LineView E WriterView))) → AreToldBelow 0 old old rows rows
-  none_told old rows = record {
-    caller_count = refl;
-    row_count = refl;
-    told = λ host caller later row heard below. absurd (omega (arith, below));
-    others = λ host from. (refl, refl);
-  }
-
   -- one more was told
   pub one_told : (count : ℕ) (old new : List CallerView) (rows after : List (List (LineView E WriterView))) (now later : CallerView)
       (row heard : List (LineView E WriterView)) → AreToldBelow count old new rows after → slice_get new count ≡ Some now → slice_get after count ≡ Some row →

@@ -24,9 +24,6 @@ module _ {E : Type 0} where
     pub each : (host : ℕ) (caller : CallerView) (row : List (LineView E WriterView)) (end : HostEnd) → slice_get callers host ≡ Some caller →
         slice_get rows host ≡ Some row → slice_get ends host ≡ Some end → IsLeftOf host caller.places row end
 
-  pub none_left : (callers : List CallerView) (rows : List (List (LineView E WriterView))) → AreLeftBelow 0 callers rows []
-  none_left callers rows = record { number = refl; each = λ host caller row end at_caller at_row at. absurd (cc) }
-
   -- what is known of a host that was ended
   pub left_of : (host : ℕ) (places : List Place) (lines : List (LineView E WriterView)) (result : Result HostEnd Memory) →
       IfOk result (λ end. end.addr ≡ address_of host) → IfOk result (λ end. map side_view end.journals.items ≡ map line_side lines) →
@@ -90,11 +87,6 @@ module _ {E : Type 0} where
       go (Ok x) (Err e) all push = tt
       go (Err e) pushed all push = tt
 
-  -- all hosts were gone through
-  pub all_left : (count : ℕ) (callers : List CallerView) (rows : List (List (LineView E WriterView))) (ends : List HostEnd) → count ≡ length rows →
-      AreLeftBelow count callers rows ends → AreLeftOf callers rows ends
-  all_left count callers rows ends is all = record { count = all.number ∙ is; each = all.each }
-
 -- where two lists are gone through together
 pub record AreAt {X Y : Type 0} (xs : List X) (ys : List Y) (n : ℕ) (x : X) (y : Y) : Type 0 where
   pub within : n < length xs
@@ -117,8 +109,3 @@ zipped_at (a ∷ xs) (b ∷ ys) (suc n) x y within is =
     let rest = later.within in
     let rest_other = later.within_other in
     record { within = omega (arith, rest); within_other = omega (arith, rest_other); first = later.first; second = later.second }
-
-pub zipped_all : {X Y : Type 0} (xs : List X) (ys : List Y) → length ys ≡ length xs → length (zip xs ys) ≡ length xs
-zipped_all [] ys same = refl
-zipped_all (a ∷ xs) [] same = absurd (omega (arith, same))
-zipped_all (a ∷ xs) (b ∷ ys) same = let rest = zipped_all xs ys (omega (arith, same)) in omega (arith, rest)
