@@ -1,5 +1,5 @@
 -- How the streams of a run grow by one host.
-use Rattle.std.proofs.Common.{◌≡◌, ⊎_elim, ℕ, suc, ◌+◌, ◌<◌, ◌≤◌, List, [], ◌∷◌, ◌++◌, All, Some, length, set, slice_get, get_or, refl, sym, ap, subst, ◌∙◌, arith}
+use Rattle.std.proofs.Common.{◌≡◌, ⊎_elim, ℕ, suc, ◌+◌, ◌<◌, ◌≤◌, List, [], ◌∷◌, ◌++◌, Some, length, set, slice_get, get_or, refl, sym, ap, subst, ◌∙◌, arith}
 use Rattle.std.proofs.lemmas.List.{length-set, length_push}
 use Rattle.std.proofs.lemmas.List.Elements.{All-nil, All-cons, All-append}
 use Rattle.std.proofs.lemmas.Option.{same_Some, slice_get_within, slice_get-get_or}
@@ -35,9 +35,9 @@ module _ {T : Type 0} (Holds : ℕ → ℕ → T → T → Type 0) where
     old_cell : (i place : ℕ) (x : T) → suc place < host → IsAt (set rows low (stood ++ one ∷ [])) i place x → IsAt rows i place x
     old_cell i place x within at = ⊎_elim
         (λ here. ⊎_elim
-          (λ old. (stood, subst (λ k. slice_get rows k ≡ Some stood) (sym here.0) at_low, old))
-          (λ new. let size = h.rest low stood (omega arith) at_low in absurd (omega (arith, size, new.0, within)))
-          (at_snoc stood one place x (subst (λ (r : List T). slice_get r place ≡ Some x) here.1 at.2)))
+        (λ old. (stood, subst (λ k. slice_get rows k ≡ Some stood) (sym here.0) at_low, old))
+        (λ new. let size = h.rest low stood (omega arith) at_low in absurd (omega (arith, size, new.0, within)))
+        (at_snoc stood one place x (subst (λ (r : List T). slice_get r place ≡ Some x) here.1 at.2)))
         (λ there. (at.0, there.1, at.2))
         (at_set_any rows low (stood ++ one ∷ []) i at.0 at.1)
 
@@ -49,7 +49,7 @@ module _ {T : Type 0} (Holds : ℕ → ℕ → T → T → Type 0) where
       count = count_after;
       done = λ i row lower at. ⊎_elim
           (λ here. let size = h.rest low stood (omega arith) at_low in let more = length_push stood one in
-            ap length here.1 ∙ omega (arith, size, more))
+          ap length here.1 ∙ omega (arith, size, more))
           (λ there. let ne = there.0 in h.done i row (omega (arith, lower, ne)) there.1)
           (at_set_any rows low (stood ++ one ∷ []) i row at);
       rest = λ i row above at. ⊎_elim
@@ -63,18 +63,18 @@ module _ {T : Type 0} (Holds : ℕ → ℕ → T → T → Type 0) where
       later = length_push own other ∙ ap (λ n. n + 1) h.later ∙ omega arith;
       new = λ i place a b last at_a at_b. ⊎_elim
           (λ old. ⊎_elim
-            (λ here. let within = slice_get_within own i b old in let size = h.later in absurd (omega (arith, within, size, here.0)))
-            (λ there. h.new i place a b last (at_a.0, there.1, at_a.2) old)
-            (at_set_any rows low (stood ++ one ∷ []) i at_a.0 at_a.1))
+          (λ here. let within = slice_get_within own i b old in let size = h.later in absurd (omega (arith, within, size, here.0)))
+          (λ there. h.new i place a b last (at_a.0, there.1, at_a.2) old)
+          (at_set_any rows low (stood ++ one ∷ []) i at_a.0 at_a.1))
           (λ new. ⊎_elim
-            (λ here. ⊎_elim
-              (λ old. let within = slice_get_within stood place a old in let size = h.rest low stood (omega arith) at_low in
-                absurd (omega (arith, within, size, last)))
-              (λ same. subst (λ (x : T). Holds i host x b) (sym same.1) (subst (λ (y : T). Holds i host one y) (sym new.1)
-                (subst (λ k. Holds k host one other) (sym here.0) pair)))
-              (at_snoc stood one place a (subst (λ (r : List T). slice_get r place ≡ Some a) here.1 at_a.2)))
-            (λ there. let size = h.later in let at = new.0 in absurd (there.0 (at ∙ size)))
-            (at_set_any rows low (stood ++ one ∷ []) i at_a.0 at_a.1))
+          (λ here. ⊎_elim
+          (λ old. let within = slice_get_within stood place a old in let size = h.rest low stood (omega arith) at_low in
+          absurd (omega (arith, within, size, last)))
+          (λ same. subst (λ (x : T). Holds i host x b) (sym same.1) (subst (λ (y : T). Holds i host one y) (sym new.1)
+          (subst (λ k. Holds k host one other) (sym here.0) pair)))
+          (at_snoc stood one place a (subst (λ (r : List T). slice_get r place ≡ Some a) here.1 at_a.2)))
+          (λ there. let size = h.later in let at = new.0 in absurd (there.0 (at ∙ size)))
+          (at_set_any rows low (stood ++ one ∷ []) i at_a.0 at_a.1))
           (at_snoc own other i b at_b);
     }
 
@@ -90,13 +90,13 @@ module _ {T : Type 0} (Holds : ℕ → ℕ → T → T → Type 0) where
     pub halfway_pairs : OfEachPair Holds (rows ++ own ∷ [])
     halfway_pairs low place one other le at_one at_other = ⊎_elim
         (λ lower. ⊎_elim
-          (λ higher. h.pairs low place one other le (at_one.0, lower, at_one.2) (at_other.0, higher, at_other.2))
-          (λ last. let size = h.count in
-            subst (λ n. Holds low n one other) (sym (last.0 ∙ size))
-            (h.new low place one other (last.0 ∙ size) (at_one.0, lower, at_one.2) (subst (λ (r : List T). slice_get r low ≡ Some other) last.1 at_other.2)))
-          (at_snoc rows own (suc place) at_other.0 at_other.1))
+        (λ higher. h.pairs low place one other le (at_one.0, lower, at_one.2) (at_other.0, higher, at_other.2))
+        (λ last. let size = h.count in
+        subst (λ n. Holds low n one other) (sym (last.0 ∙ size))
+        (h.new low place one other (last.0 ∙ size) (at_one.0, lower, at_one.2) (subst (λ (r : List T). slice_get r low ≡ Some other) last.1 at_other.2)))
+        (at_snoc rows own (suc place) at_other.0 at_other.1))
         (λ last. ⊎_elim
-          (λ higher. let within = slice_get_within rows (suc place) at_other.0 higher in absurd (omega (arith, within, last.0, le)))
-          (λ other_last. absurd (omega (arith, other_last.0, last.0, le)))
-          (at_snoc rows own (suc place) at_other.0 at_other.1))
+        (λ higher. let within = slice_get_within rows (suc place) at_other.0 higher in absurd (omega (arith, within, last.0, le)))
+        (λ other_last. absurd (omega (arith, other_last.0, last.0, le)))
+        (at_snoc rows own (suc place) at_other.0 at_other.1))
         (at_snoc rows own low at_one.0 at_one.1)

@@ -1,5 +1,5 @@
 -- What the callers of all hosts do beside each other, and their lines.
-use Rattle.std.proofs.Common.{◌≡◌, ℕ, List, Some, length, map, slice_get, Result, Ok, Err, IfOk, refl, sym, ap, subst, ◌∙◌, arith}
+use Rattle.std.proofs.Common.{◌≡◌, ℕ, List, Some, length, map, slice_get, Result, Ok, IfOk, sym, ap, subst, ◌∙◌, arith}
 use Rattle.std.proofs.lemmas.Option.{same_Some, slice_get_within}
 use Rattle.rds_wire.specs.declared.memory.Memory.{Memory}
 use Rattle.rds_fmap.specs.Readers.{WriterView}
@@ -15,12 +15,12 @@ module _ (Does : ℕ → CallerView → CallerView → Type 0) (callers after : 
     (are : AreJobs callers jobs) (size : length done ≡ length jobs) (all : map Ok after ≡ done)
     (each : (host : ℕ) (job : ℕ × CallerView) (r : Result CallerView Memory) → slice_get jobs host ≡ Some job → slice_get done host ≡ Some r → IfOk r (Does job.0 job.1)) where
   pub jobs_count : length after ≡ length callers
-  jobs_count = sym (length_map Ok after) ∙ ap length all ∙ size ∙ are.0
+  jobs_count = sym (length_map Ok after) ∙ ap length all ∙ size ∙ are.count
 
   pub jobs_did : (host : ℕ) (caller x : CallerView) → slice_get callers host ≡ Some caller → slice_get after host ≡ Some x → Does host caller x
   jobs_did host caller x stood stands =
-      let job = some_at jobs host (let within = slice_get_within callers host caller stood in let n = are.0 in omega (arith, within, n)) in
-      let is = are.1 host job.0 job.1 in
+      let job = some_at jobs host (let within = slice_get_within callers host caller stood in let n = are.count in omega (arith, within, n)) in
+      let is = are.each host job.0 job.1 in
       let at : slice_get done host ≡ Some (Ok x) = subst (λ (l : List (Result CallerView Memory)). slice_get l host ≡ Some (Ok x)) all (map_at Ok after host x stands) in
       let did : Does job.0.0 job.0.1 x = each host job.0 (Ok x) job.1 at in
       subst (λ n. Does n caller x) is.0 (subst (λ (c : CallerView). Does job.0.0 c x) (same_Some job.0.1 caller (sym is.1 ∙ stood)) did)

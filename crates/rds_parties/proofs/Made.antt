@@ -16,7 +16,7 @@ use Rattle.rds_report.specs.Hosts.{address_of}
 use Rattle.rds_script.specs.declared.script.Placed.{Placed}
 use Rattle.rds_callers.specs.Places.{CallerView}
 use Rattle.rds_host.specs.Lines.{AreNewLines}
-use Rattle.rds_rounds.specs.Connection.{AreConnected, AreHosts, ArePaired}
+use Rattle.rds_rounds.specs.Connection.{AreHosts, ArePaired}
 use Rattle.rds_rounds.specs.Grid.{AreRows, IsAt, OfEachPair, others, peer_at}
 use Rattle.rds_settling.specs.Tied.{AreTied}
 use Rattle.rds_parties.specs.Obeyed.{AreNewPlaces, slot_count}
@@ -44,6 +44,7 @@ peers_rise host i j lt = by_case (cases i) (cases j)
   where
     cases : (n : ℕ) → ((n < host) × (peer_at host n ≡ n)) ⊎ ((host ≤ n) × (peer_at host n ≡ suc n))
     cases n = ⊎_elim (λ below. inl (below, lower_peer host n below)) (λ above. inr (above, higher_peer host n above)) (order n host)
+
     by_case : ((i < host) × (peer_at host i ≡ i)) ⊎ ((host ≤ i) × (peer_at host i ≡ suc i)) →
         ((j < host) × (peer_at host j ≡ j)) ⊎ ((host ≤ j) × (peer_at host j ≡ suc j)) → peer_at host i < peer_at host j
     by_case (inl one) (inl two) = omega (arith, one.1, two.1, lt)
@@ -101,10 +102,13 @@ module _ {T : Type 0} (Holds : ℕ → ℕ → T → T → Type 0) where
           let size = row_size hosts rows shape i row.0 row.1 in
           let y = some_at row.0 p (omega (arith, size, within)) in
           (y.0, (row.0, row.1, y.1))
+
       host_within : host < hosts
       host_within = let within = slice_get_within rows host at.0 at.1 in let count = shape.count in omega (arith, within, count)
+
       place_within : suc place < hosts
       place_within = let within = slice_get_within at.0 place x at.2 in let size = row_size hosts rows shape host at.0 at.1 in omega (arith, within, size)
+
       by_order : (place < host) ⊎ (host ≤ place) → P x
       by_order (inr le) =
           let other = cell (suc place) host place_within (omega (arith, le, place_within)) in
@@ -113,7 +117,7 @@ module _ {T : Type 0} (Holds : ℕ → ℕ → T → T → Type 0) where
           let last : suc (host - 1) ≡ host = omega (arith, lt) in
           let other = cell place (host - 1) (omega (arith, lt, host_within)) (omega (arith, lt, host_within)) in
           (both place (suc (host - 1)) other.0 x
-            (pairs place (host - 1) other.0 x (omega (arith, lt)) other.1 (subst (λ n. IsAt rows n place x) (sym last) at))).1
+          (pairs place (host - 1) other.0 x (omega (arith, lt)) other.1 (subst (λ n. IsAt rows n place x) (sym last) at))).1
 
 module _ {E : Type 0} (m : Means E) where
   abbrev pub StreamsOf : Type 0
@@ -175,32 +179,32 @@ module _ {E : Type 0} (m : Means E) where
     rows_count = length_push rows new_row ∙ ap (λ k. k + 1) made.rows_count;
     tied = λ host caller row at_caller at_row. ⊎_elim
         (λ old. ⊎_elim
-          (λ old_row. made.tied host caller row old old_row)
-          (λ last. let within = slice_get_within callers host caller old in let a = made.callers_count in let b = made.rows_count in
-            absurd (omega (arith, within, last.0, a, b)))
-          (at_snoc rows new_row host row at_row))
+        (λ old_row. made.tied host caller row old old_row)
+        (λ last. let within = slice_get_within callers host caller old in let a = made.callers_count in let b = made.rows_count in
+        absurd (omega (arith, within, last.0, a, b)))
+        (at_snoc rows new_row host row at_row))
         (λ last. ⊎_elim
-          (λ old_row. let within = slice_get_within rows host row old_row in let a = made.callers_count in let b = made.rows_count in
-            absurd (omega (arith, within, last.0, a, b)))
-          (λ last_row. subst (λ (c : CallerView). AreTied c.places row) (sym last.1)
-            (subst (λ (r : List (LineView E WriterView)). AreTied new.places r) (sym last_row.1) new_tied))
-          (at_snoc rows new_row host row at_row))
+        (λ old_row. let within = slice_get_within rows host row old_row in let a = made.callers_count in let b = made.rows_count in
+        absurd (omega (arith, within, last.0, a, b)))
+        (λ last_row. subst (λ (c : CallerView). AreTied c.places row) (sym last.1)
+        (subst (λ (r : List (LineView E WriterView)). AreTied new.places r) (sym last_row.1) new_tied))
+        (at_snoc rows new_row host row at_row))
         (at_snoc callers new host caller at_caller);
     new = λ host caller at. ⊎_elim
         (λ old. made.new host caller old)
         (λ last.
-          let here : host ≡ n = last.0 ∙ made.callers_count in
-          subst (λ k. (length caller.places ≡ slot_count k commands) × AreNewPlaces hosts k caller.places) (sym here)
-          (subst (λ (c : CallerView). (length c.places ≡ slot_count n commands) × AreNewPlaces hosts n c.places) (sym last.1) (new_count, new_places)))
+        let here : host ≡ n = last.0 ∙ made.callers_count in
+        subst (λ k. (length caller.places ≡ slot_count k commands) × AreNewPlaces hosts k caller.places) (sym here)
+        (subst (λ (c : CallerView). (length c.places ≡ slot_count n commands) × AreNewPlaces hosts n c.places) (sym last.1) (new_count, new_places)))
         (at_snoc callers new host caller at);
     lines = λ host lists row at_lists at_row. ⊎_elim
         (λ old. made.lines host lists row at_lists old)
         (λ last.
-          let here : host ≡ n = last.0 ∙ made.rows_count in
-          let same : list ≡ lists = same_Some list lists (sym at_list ∙ ap (slice_get streams) (sym here) ∙ at_lists) in
-          subst (λ k. AreNewLines (address_of k) limit (map address_of (others hosts k)) (map (λ (l : StreamsOf). l.items) lists) row) (sym here)
-          (subst (λ (r : List (LineView E WriterView)). AreNewLines (address_of n) limit (map address_of (others hosts n)) (map (λ (l : StreamsOf). l.items) lists) r) (sym last.1)
-          (subst (λ (ls : List StreamsOf). AreNewLines (address_of n) limit (map address_of (others hosts n)) (map (λ (l : StreamsOf). l.items) ls) new_row) same new_lines)))
+        let here : host ≡ n = last.0 ∙ made.rows_count in
+        let same : list ≡ lists = same_Some list lists (sym at_list ∙ ap (slice_get streams) (sym here) ∙ at_lists) in
+        subst (λ k. AreNewLines (address_of k) limit (map address_of (others hosts k)) (map (λ (l : StreamsOf). l.items) lists) row) (sym here)
+        (subst (λ (r : List (LineView E WriterView)). AreNewLines (address_of n) limit (map address_of (others hosts n)) (map (λ (l : StreamsOf). l.items) lists) r) (sym last.1)
+        (subst (λ (ls : List StreamsOf). AreNewLines (address_of n) limit (map address_of (others hosts n)) (map (λ (l : StreamsOf). l.items) ls) new_row) same new_lines)))
         (at_snoc rows new_row host row at_row);
   }
 
@@ -236,8 +240,8 @@ module _ {E : Type 0} (m : Means E) where
         let same = row_size hosts streams prepared.shape host lists.0 lists.1 in
         let list = some_at lists.0 place (omega (arith, size, within, same)) in
         let new = (made.lines host lists.0 at.0 lists.1 at.1).each place (address_of (peer_at host place)) list.0.items line
-            (peer_there hosts host place (omega (arith, size, within)))
-            (map_at (λ (l : StreamsOf). l.items) lists.0 place list.0 list.1) at.2 in
+        (peer_there hosts host place (omega (arith, size, within)))
+        (map_at (λ (l : StreamsOf). l.items) lists.0 place list.0 list.1) at.2 in
         (list.0, (lists.0, lists.1, list.1), ap (λ c. c.streams.list) new, ap (λ c. c.conn.log.limit) new, ap (λ c. c.conn.peer) new)
 
     pub made_hosts : hosts ≤ 8 → AreHosts m limit hosts rows

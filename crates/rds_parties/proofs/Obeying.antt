@@ -1,5 +1,5 @@
 -- What callers did over several lists of commands.
-use Rattle.std.proofs.Common.{◌≡◌, ◌≢◌, ◌⊎◌, inl, inr, ⊎_elim, ℕ, zero, suc, ◌<◌, List, [], ◌∷◌, ◌++◌, Some, None, length, map, take, drop, set, slice_get, refl, sym, ap, subst, ◌∙◌}
+use Rattle.std.proofs.Common.{◌≡◌, inl, inr, ⊎_elim, ℕ, zero, suc, ◌<◌, List, [], ◌∷◌, ◌++◌, Some, None, length, map, take, drop, set, slice_get, refl, sym, ap, subst, ◌∙◌}
 use Rattle.std.proofs.lemmas.List.{length-set}
 use Rattle.std.proofs.lemmas.Option.{same_Some}
 use Rattle.rds_fmap.specs.Readers.{ReaderView}
@@ -59,13 +59,14 @@ obeyed_one callers host was after placed at is done = record {
   count = length-set callers host after;
   each = λ k caller x stood stands. ⊎_elim
       (λ here.
-        let same : was ≡ caller = same_Some was caller (sym at ∙ subst (λ n. slice_get callers n ≡ Some caller) here.0 stood) in
-        let own : commander placed.command ≡ Some k = is ∙ ap Some (sym here.0) in
-        (after.places, inl (own, subst (λ (c : CallerView). IsDone placed.command c.places after.places) same done), ap (λ (c : CallerView). c.places) here.1))
-      (λ there.
-        (caller.places,
-          inr (λ own. there.0 (same_Some k host (sym own ∙ is)), refl),
-          ap (λ (c : CallerView). c.places) (same_Some x caller (sym there.1 ∙ stood))))
+      let same : was ≡ caller = same_Some was caller (sym at ∙ subst (λ n. slice_get callers n ≡ Some caller) here.0 stood) in
+      let own : commander placed.command ≡ Some k = is ∙ ap Some (sym here.0) in
+      (after.places, inl (own, subst (λ (c : CallerView). IsDone placed.command c.places after.places) same done), ap (λ (c : CallerView). c.places) here.1))
+      (λ there. (
+        caller.places,
+        inr (λ own. there.0 (same_Some k host (sym own ∙ is)), refl),
+        ap (λ (c : CallerView). c.places) (same_Some x caller (sym there.1 ∙ stood)),
+      ))
       (at_set_any callers host after k x stands);
 }
 
@@ -76,8 +77,8 @@ kept_one callers host was after at keeps = record {
   count = length-set callers host after;
   each = λ k caller x stood stands. ⊎_elim
       (λ here.
-        let same : was ≡ caller = same_Some was caller (sym at ∙ subst (λ n. slice_get callers n ≡ Some caller) here.0 stood) in
-        subst (λ (c : CallerView). PlacesKeep c.places x.places) same (subst (λ (c : CallerView). PlacesKeep was.places c.places) (sym here.1) keeps))
+      let same : was ≡ caller = same_Some was caller (sym at ∙ subst (λ n. slice_get callers n ≡ Some caller) here.0 stood) in
+      subst (λ (c : CallerView). PlacesKeep c.places x.places) same (subst (λ (c : CallerView). PlacesKeep was.places c.places) (sym here.1) keeps))
       (λ there. subst (λ (c : CallerView). PlacesKeep caller.places c.places) (same_Some caller x (sym stood ∙ there.1)) (keeps_same caller.places))
       (at_set_any callers host after k x stands);
 }

@@ -56,36 +56,36 @@ module _ {E : Type 0} where
       rows_count = length-set rows n told_row ∙ before.rows_count;
       same = λ host caller x stood stands. ⊎_elim
           (λ here. ap (λ (c : CallerView). c.places) here.1 ∙ places
-            ∙ before.same host caller was stood (subst (λ k. slice_get callers k ≡ Some was) (sym here.0) at_caller))
+          ∙ before.same host caller was stood (subst (λ k. slice_get callers k ≡ Some was) (sym here.0) at_caller))
           (λ there. before.same host caller x stood there.1)
           (at_set_any callers n after host x stands);
       tied = λ host caller line below at_c at_r. ⊎_elim
           (λ here. ⊎_elim
-            (λ here_row. subst (λ (c : CallerView). AreTied c.places line) (sym here.1)
-              (subst (λ (r : List (LineView E WriterView)). AreTied after.places r) (sym here_row.1) tied))
-            (λ there. absurd (there.0 here.0))
-            (at_set_any rows n told_row host line at_r))
+          (λ here_row. subst (λ (c : CallerView). AreTied c.places line) (sym here.1)
+          (subst (λ (r : List (LineView E WriterView)). AreTied after.places r) (sym here_row.1) tied))
+          (λ there. absurd (there.0 here.0))
+          (at_set_any rows n told_row host line at_r))
           (λ there. ⊎_elim
-            (λ here_row. absurd (there.0 here_row.0))
-            (λ there_row. let ne = there.0 in before.tied host caller line (omega (arith, below, ne)) there.1 there_row.1)
-            (at_set_any rows n told_row host line at_r))
+          (λ here_row. absurd (there.0 here_row.0))
+          (λ there_row. let ne = there.0 in before.tied host caller line (omega (arith, below, ne)) there.1 there_row.1)
+          (at_set_any rows n told_row host line at_r))
           (at_set_any callers n after host caller at_c);
       told = λ host caller line below at_c at_r. ⊎_elim
           (λ here. ⊎_elim
-            (λ here_row. subst (λ (c : CallerView). ArePortsTold c.places line) (sym here.1)
-              (subst (λ (r : List (LineView E WriterView)). ArePortsTold after.places r) (sym here_row.1) told))
-            (λ there. absurd (there.0 here.0))
-            (at_set_any rows n told_row host line at_r))
+          (λ here_row. subst (λ (c : CallerView). ArePortsTold c.places line) (sym here.1)
+          (subst (λ (r : List (LineView E WriterView)). ArePortsTold after.places r) (sym here_row.1) told))
+          (λ there. absurd (there.0 here.0))
+          (at_set_any rows n told_row host line at_r))
           (λ there. ⊎_elim
-            (λ here_row. absurd (there.0 here_row.0))
-            (λ there_row. let ne = there.0 in before.told host caller line (omega (arith, below, ne)) there.1 there_row.1)
-            (at_set_any rows n told_row host line at_r))
+          (λ here_row. absurd (there.0 here_row.0))
+          (λ there_row. let ne = there.0 in before.told host caller line (omega (arith, below, ne)) there.1 there_row.1)
+          (at_set_any rows n told_row host line at_r))
           (at_set_any callers n after host caller at_c);
       learned = λ host line x below stood stands. ⊎_elim
           (λ here.
-            let same : row ≡ line = before.left n line row (omega arith) (subst (λ k. slice_get old_rows k ≡ Some line) here.0 stood) at_row in
-            subst (λ (r : List (LineView E WriterView)). LinesLearnPorts line r) (sym here.1)
-            (subst (λ (r : List (LineView E WriterView)). LinesLearnPorts r told_row) same lines))
+          let same : row ≡ line = before.left n line row (omega arith) (subst (λ k. slice_get old_rows k ≡ Some line) here.0 stood) at_row in
+          subst (λ (r : List (LineView E WriterView)). LinesLearnPorts line r) (sym here.1)
+          (subst (λ (r : List (LineView E WriterView)). LinesLearnPorts r told_row) same lines))
           (λ there. let ne = there.0 in before.learned host line x (omega (arith, below, ne)) stood there.1)
           (at_set_any rows n told_row host x stands);
       left = λ host line x above stood stands. ⊎_elim

@@ -30,6 +30,6 @@ pub record HasCalled (host : ℕ) (commands : List Placed) (caller after : Calle
   pub keeps : PlacesKeep caller.places after.places
 
 -- each caller with the number of its host
-abbrev pub AreJobs : List CallerView → List (ℕ × CallerView) → Type 0
-AreJobs callers jobs = (length jobs ≡ length callers) × ((host : ℕ) (job : ℕ × CallerView) → slice_get jobs host ≡ Some job →
-    (job.0 ≡ host) × (slice_get callers host ≡ Some job.1))
+pub record AreJobs (callers : List CallerView) (jobs : List (ℕ × CallerView)) : Type 0 where
+  pub count : length jobs ≡ length callers
+  pub each : (host : ℕ) (job : ℕ × CallerView) → slice_get jobs host ≡ Some job → (job.0 ≡ host) × (slice_get callers host ≡ Some job.1)

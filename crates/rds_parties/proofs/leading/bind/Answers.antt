@@ -1,4 +1,4 @@
-use Rattle.std.proofs.Common.{◌≡◌, ◌<◌, [], ◌∷◌, length, set, Some, ap, sym, ◌∙◌, arith}
+use Rattle.std.proofs.Common.{◌<◌, [], ◌∷◌, length, set, Some, ap, sym, ◌∙◌, arith}
 use Rattle.rds_parties.specs.Parties.{HaveObeyed}
 use Rattle.rds_parties.proofs.At.{stands_at}
 use Rattle.rds_parties.proofs.Keeping.{on_done}

@@ -1,4 +1,4 @@
-use Rattle.std.proofs.Common.{◌≡◌, ◌+◌, [], ◌∷◌, List, ap, refl, subst, sym, take}
+use Rattle.std.proofs.Common.{◌+◌, [], ◌∷◌, List, ap, refl, subst, sym, take}
 use Rattle.rds_script.specs.Script.{IsCommand}
 use Rattle.rds_script.specs.declared.script.Placed.{Placed}
 use Rattle.rds_parties.specs.Parties.{HaveObeyed}

@@ -1,4 +1,4 @@
-use Rattle.std.proofs.Common.{◌≡◌, ◌+◌, ◌<◌, List, Vec, Some, length, map, set, slice_get, ap, refl, sym, subst, rules, arith}
+use Rattle.std.proofs.Common.{◌≡◌, ◌+◌, ◌<◌, Vec, Some, length, set, slice_get, sym, subst, arith}
 use Rattle.std.specs.Global.{Global}
 use Rattle.std.proofs.lemmas.List.{map-set}
 use Rattle.rds_fmap.specs.Readers.{WriterView}

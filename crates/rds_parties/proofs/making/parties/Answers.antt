@@ -1,4 +1,4 @@
-use Rattle.std.proofs.Common.{◌≡◌, ℕ, ◌+◌, ◌<◌, List, Vec, [], ◌∷◌, ◌++◌, Some, length, map, slice_get, refl, ap, sym, ◌∙◌, subst, arith}
+use Rattle.std.proofs.Common.{◌≡◌, ℕ, ◌+◌, ◌<◌, List, Vec, [], ◌∷◌, ◌++◌, Some, length, slice_get, refl, ap, sym, ◌∙◌, subst, arith}
 use Rattle.std.specs.Global.{Global}
 use Rattle.std.proofs.lemmas.List.{length_push, map-append}
 use Rattle.std.proofs.lemmas.Iterator.Adapters.{YieldsList-from_vec}
@@ -68,11 +68,11 @@ loop-row-preserved g c =
     let host = c.loop-row.host in
     let before = subst (λ n. AreMade m c.args.limit hosts commands streams n callers rows) (sym c.loop-row.invariant.0) c.loop-row.invariant.1 in
     let after = made_more m c.args.limit hosts commands streams host callers rows c.in-Some.row.items c.in_ok-caller.caller c.in_ok-caller.row.items before (row_at g d)
-        c.in_ok-caller.ensures.tied c.in_ok-caller.ensures.count c.in_ok-caller.ensures.slots c.in_ok-caller.ensures.lines in
+    c.in_ok-caller.ensures.tied c.in_ok-caller.ensures.count c.in_ok-caller.ensures.slots c.in_ok-caller.ensures.lines in
     let more : host + 1 ≡ length (c.loop-row.yielded ++ c.in-Some.row ∷ []) = ap (λ n. n + 1) c.loop-row.invariant.0 ∙ sym (length_push c.loop-row.yielded c.in-Some.row) in
     let lines : rows_of c.push-in-loop-row.new.self.items ≡ rows ++ c.in_ok-caller.row.items ∷ [] =
-        ap (λ (l : List (Vec (LineView g.row.E.Denot WriterView) Global)). rows_of l) c.in_ok-push-2.ensures.items
-        ∙ map-append (λ (v : Vec (LineView g.row.E.Denot WriterView) Global). v.items) c.loop-row.lines.items (c.in_ok-caller.row ∷ []) in (
+    ap (λ (l : List (Vec (LineView g.row.E.Denot WriterView) Global)). rows_of l) c.in_ok-push-2.ensures.items
+    ∙ map-append (λ (v : Vec (LineView g.row.E.Denot WriterView) Global). v.items) c.loop-row.lines.items (c.in_ok-caller.row ∷ []) in (
       more,
       subst (λ n. AreMade m c.args.limit hosts commands streams n c.push.new.self.items (rows_of c.push-in-loop-row.new.self.items)) more
           (subst (λ (l : List (List (LineView g.row.E.Denot WriterView))). AreMade m c.args.limit hosts commands streams (host + 1) c.push.new.self.items l) (sym lines)

@@ -1,4 +1,4 @@
-use Rattle.std.proofs.Common.{◌≡◌, ℕ, List, Some, length, map, slice_get, Result, Ok, IfOk, sym, ◌∙◌, subst}
+use Rattle.std.proofs.Common.{◌≡◌, ℕ, Some, length, map, slice_get, Result, Ok, IfOk, sym, ◌∙◌, subst}
 use Rattle.std.proofs.lemmas.Option.{get_or_from_slice_get, slice_get_within}
 use Rattle.rds_wire.specs.declared.memory.Memory.{Memory}
 use Rattle.rds_callers.specs.Places.{CallerView}

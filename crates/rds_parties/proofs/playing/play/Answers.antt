@@ -1,4 +1,4 @@
-use Rattle.std.proofs.Common.{◌≡◌, ℕ, List, drop, subst}
+use Rattle.std.proofs.Common.{List, subst}
 use Rattle.rds_script.specs.declared.script.Placed.{Placed}
 use Rattle.rds_host.specs.Lines.{AreTurned, pair_of}
 use Rattle.rds_rounds.specs.Grid.{rows_of}

@@ -1,4 +1,4 @@
-use Rattle.std.proofs.Common.{◌≡◌, ℕ, List, Vec, length, sym, ◌∙◌, subst}
+use Rattle.std.proofs.Common.{◌≡◌, List, Vec, sym, ◌∙◌, subst}
 use Rattle.std.specs.Global.{Global}
 use Rattle.std.proofs.lemmas.Option.{get_or_from_slice_get, slice_get_within}
 use Rattle.rds_fmap.specs.Readers.{WriterView}

@@ -1,4 +1,4 @@
-use Rattle.std.proofs.Common.{◌≡◌, ℕ, suc, ◌+◌, ◌<◌, List, Vec, [], ◌∷◌, ◌++◌, length, map, set, ap, sym, ◌∙◌, subst, arith}
+use Rattle.std.proofs.Common.{◌≡◌, ℕ, suc, ◌+◌, List, Vec, [], ◌∷◌, ◌++◌, set, ap, sym, ◌∙◌, subst, arith}
 use Rattle.std.specs.Global.{Global}
 use Rattle.std.proofs.lemmas.List.{map-append}
 use Rattle.rds_rounds.specs.Grid.{rows_of}
@@ -50,8 +50,8 @@ returns-clause-prepared g c =
     let half = subst (λ n. IsHalfway (IsPair m) host n rows own) end c.loop-low.invariant.0 in
     let next : suc host ≡ host + 1 = omega arith in
     let all : rows_of c.push.new.self.items ≡ rows ++ own ∷ [] =
-        ap (λ (l : List (Vec (EndsOf g.row.W-End.Denot) Global)). rows_of l) c.in_ok-push.ensures.items
-        ∙ map-append (λ (v : Vec (EndsOf g.row.W-End.Denot) Global). v.items) c.loop-low.prepared.streams.items (c.loop-low.row.streams ∷ []) in
+    ap (λ (l : List (Vec (EndsOf g.row.W-End.Denot) Global)). rows_of l) c.in_ok-push.ensures.items
+    ∙ map-append (λ (v : Vec (EndsOf g.row.W-End.Denot) Global). v.items) c.loop-low.prepared.streams.items (c.loop-low.row.streams ∷ []) in
     subst (λ n. AreAllPrepared m n (rows_of c.push.new.self.items)) next
     (subst (λ (l : List (List (EndsOf g.row.W-End.Denot))). AreAllPrepared m (suc host) l) (sym all)
     (record { shape = halfway_rows (IsPair m) host rows own half; pairs = halfway_pairs (IsPair m) host rows own half }))

@@ -1,4 +1,4 @@
-use Rattle.std.proofs.Common.{◌≡◌, ℕ, List, Vec, length, ap, sym, subst, arith}
+use Rattle.std.proofs.Common.{ℕ, List, Vec, length, ap, sym, subst}
 use Rattle.std.specs.Global.{Global}
 use Rattle.rds_rounds.specs.Grid.{rows_of}
 use Rattle.rds_parties.specs.Preparing.{AreAllPrepared}
