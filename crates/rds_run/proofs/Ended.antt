@@ -93,17 +93,17 @@ first_letter name = slice_index name 0
 play_or_run : (words : List (String Global)) → ArePlay words → AreRun words → ⊥
 play_or_run words play run =
     let e : 112 ≡ 114 = ap first_letter (same_name (map string_bytes words) (codes "play") (codes "run") play.0 run.0) in
-    absurd (omega arith)
+    absurd (omega (arith, e))
 
 play_or_gen : (words : List (String Global)) (sends seed : ℕ) → ArePlay words → AreGen words sends seed → ⊥
 play_or_gen words sends seed play gen =
     let e : 112 ≡ 103 = ap first_letter (same_name (map string_bytes words) (codes "play") (codes "gen") play.0 gen.0) in
-    absurd (omega arith)
+    absurd (omega (arith, e))
 
 run_or_gen : (words : List (String Global)) (sends seed : ℕ) → AreRun words → AreGen words sends seed → ⊥
 run_or_gen words sends seed run gen =
     let e : 114 ≡ 103 = ap first_letter (same_name (map string_bytes words) (codes "run") (codes "gen") run.0 gen.0) in
-    absurd (omega arith)
+    absurd (omega (arith, e))
 
 usage_codes : (sink : SinkSeen) (s : Status) → IsEndOfUsage sink s → (code s ≡ 2) ⊎ (code s ≡ 4)
 usage_codes sink ended.Written e = absurd e
@@ -194,11 +194,11 @@ module _ (words : List (String Global)) (source : SourceSeen) (sink : SinkSeen) 
   write_fault s n is end e = write_at (ends_at s 4 end (sym is ∙ e))
 
   usage_begun_at : Ends ended.WriteFault → AreNoCommand words → SinkGainedFront sink.held_before sink.held_after usage_line
-  usage_begun_at (OfPlay is e) no = absurd (no.no_play is)
-  usage_begun_at (OfRun is e) no = absurd (no.no_run is)
-  usage_begun_at (OfGen sends seed is e) no = absurd (no.no_gen sends seed is)
-  usage_begun_at (OfNone none e) no = e.1
-  usage_begun_at (OfMemory e same) no = absurd (cc)
+  usage_begun_at (OfPlay is e) free = absurd (free.no_play is)
+  usage_begun_at (OfRun is e) free = absurd (free.no_run is)
+  usage_begun_at (OfGen sends seed is e) free = absurd (free.no_gen sends seed is)
+  usage_begun_at (OfNone none e) free = e.1
+  usage_begun_at (OfMemory e same) free = absurd (cc)
 
   pub usage_begun : (s : Status) (n : ℕ) → n ≡ code s → Ends s → n ≡ 4 → AreNoCommand words → SinkGainedFront sink.held_before sink.held_after usage_line
   usage_begun s n is end e = usage_begun_at (ends_at s 4 end (sym is ∙ e))

@@ -22,7 +22,7 @@ pub fn gen_text<K: Sink, G: Gate + Sync, R: Threads + Wait + Net + Sync>(
     sink: &mut K,
     gate: &G,
 ) -> Status
-    requires some { 1 ≤ sends }
+    requires least { 1 ≤ sends }
     requires most { sends ≤ 100000 }
     ensures { IsEndOfGenCall sends seed
         record { held_before = K.held sink.old; held_after = K.held sink.new; faults_before = K.faults sink.old; faults_after = K.faults sink.new }

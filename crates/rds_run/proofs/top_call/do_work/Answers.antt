@@ -24,7 +24,7 @@ gen_text-requires g c =
     let gen : AreGen c.args.words.now c.in-Ok-Some-Gen.sends c.in-Ok-Some-Gen.seed =
     subst (IsWorkOf c.args.words.now) (c.in-Ok-Some-Gen.field-0-is ∙ ap Some c.in-Ok-Some-Gen.field-0-0-is) (c.in-Ok-Some-Gen.ensures {u = tt}) in
     let range = sends_in (gen_word (codes "sends") (map string_bytes c.args.words.now)) c.in-Ok-Some-Gen.sends gen.1.numbers.0 in
-    record { some = range.0; most = range.1 }
+    record { least = range.0; most = range.1 }
 
 pub returns-in-Ok-Some-Gen : goal.returns-in-Ok-Some-Gen
 returns-in-Ok-Some-Gen g c =
