@@ -1,5 +1,4 @@
 -- How a call of `run` ends.
-use Rattle.std.proofs.Common.{◌≡◌}
 use Rattle.rds_script.specs.Grammar.{Meaning}
 use Rattle.rds_run.specs.declared.status.Status.{Status}
 use Rattle.rds_run.specs.declared.status.Status.TheVariants as ended

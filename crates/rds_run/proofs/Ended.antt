@@ -87,7 +87,7 @@ sends_in (Some word) n is = (is.least, is.most)
 same_name : (words : List (List ℕ)) (a b : List ℕ) → slice_get words 0 ≡ Some a → slice_get words 0 ≡ Some b → a ≡ b
 same_name words a b one other = ap (λ (o : Option (List ℕ)). unwrap_or o a) (sym one ∙ other)
 
-first_letter : List ℕ → ℕ
+abbrev first_letter : List ℕ → ℕ
 first_letter name = slice_index name 0
 
 play_or_run : (words : List (String Global)) → ArePlay words → AreRun words → ⊥

@@ -1,4 +1,4 @@
-use Rattle.std.proofs.Common.{Some, ap, codes, map, refl, rules, string_bytes, subst, ◌∙◌}
+use Rattle.std.proofs.Common.{◌≤◌, Some, ap, codes, map, refl, rules, string_bytes, subst, ◌∙◌}
 use Rattle.rds_run.specs.Ending.{OfGen, OfMemory, OfNone}
 use Rattle.rds_words.specs.Gen.{AreGen, gen_word}
 use Rattle.rds_words.specs.Play.{ArePlay}
@@ -24,7 +24,9 @@ gen_text-requires g c =
     let gen : AreGen c.args.words.now c.in-Ok-Some-Gen.sends c.in-Ok-Some-Gen.seed =
     subst (IsWorkOf c.args.words.now) (c.in-Ok-Some-Gen.field-0-is ∙ ap Some c.in-Ok-Some-Gen.field-0-0-is) (c.in-Ok-Some-Gen.ensures {u = tt}) in
     let range = sends_in (gen_word (codes "sends") (map string_bytes c.args.words.now)) c.in-Ok-Some-Gen.sends gen.1.numbers.0 in
-    record { least = range.0; most = range.1 }
+    let least : 1 ≤ c.in-Ok-Some-Gen.sends = range.0 in
+    let most : c.in-Ok-Some-Gen.sends ≤ 100000 = range.1 in
+    search (rules, least, most)
 
 pub returns-in-Ok-Some-Gen : goal.returns-in-Ok-Some-Gen
 returns-in-Ok-Some-Gen g c =
