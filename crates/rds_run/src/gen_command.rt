@@ -29,7 +29,14 @@ pub fn gen_text<K: Sink, G: Gate + Sync, R: Threads + Wait + Net + Sync>(
         result }
 {
     match generate(alloc, sends, seed) {
-        Ok(script) => run_script(rt, alloc, &script, Form::Summary { seed, sends }, sink, gate),
+        Ok(script) => run_script(
+            rt,
+            alloc,
+            &script,
+            Form::Summary { seed, sends },
+            sink,
+            gate,
+        ),
         Err(Memory) => Status::Memory,
     }
 }

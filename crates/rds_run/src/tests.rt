@@ -128,13 +128,15 @@ fn a_run_over_memory(rt: HostRuntime) -> Result<(), Fail> {
 #[test]
 fn a_run_of_three_hosts(rt: HostRuntime) -> Result<(), Fail> {
     let script = "hosts 3\nbind A 7 9 9\nbind C 8 9 9\nsend A 7 C 8 x:01\n";
-    let text = "A:7>C:8 accepted 1 received 1 unread 0 dropped 0 port0 0 cancelled 0 pending 0\n data=01\nend ok\n";
+    let text =
+        "A:7>C:8 accepted 1 received 1 unread 0 dropped 0 port0 0 cancelled 0 pending 0\n data=01\nend ok\n";
     assert_answer(&rt, rt.alloc(), &["run"], script, 0, text)
 }
 
 #[test]
 fn a_generated_script(rt: HostRuntime) -> Result<(), Fail> {
-    let text = "seed 1 sends 5 hosts 8 sockets 32 cuts 0 accepted 5 received 5 unread 0 dropped 0 port0 0 cancelled 0 bytes 10\nend ok\n";
+    let text =
+        "seed 1 sends 5 hosts 8 sockets 32 cuts 0 accepted 5 received 5 unread 0 dropped 0 port0 0 cancelled 0 bytes 10\nend ok\n";
     assert_answer(&rt, rt.alloc(), &["gen", "5", "1"], "", 0, text)
 }
 
