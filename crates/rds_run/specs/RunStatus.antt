@@ -14,7 +14,7 @@ use Rattle.rds_threads.specs.declared.form.Form.TheVariants as form
 use Rattle.rds_generator.specs.Generator.{generated}
 use Rattle.rds_run.specs.declared.status.Status.{Status}
 use Rattle.rds_run.specs.declared.status.Status.TheVariants as status
-use Rattle.rds_run.specs.ExitStatus.{HasFailedIn, HasTaken, HasTakenNothing, IsRefusal, IsSpelled, SinkSeen, SourceSeen}
+use Rattle.rds_run.specs.ExitStatus.{HasTaken, HasTakenNothing, IsRefusal, IsSpelled, SinkSeen, SourceSeen}
 use Rattle.rds_run.specs.Texts.{read_fault_line}
 
 -- A run of the script came to its end: its hosts did the script's commands, what they have then is sound, nothing is left on its way between
