@@ -24,6 +24,11 @@ module _ {E : Type 0} where
     pub each : (host : ℕ) (caller : CallerView) (row : List (LineView E WriterView)) (end : HostEnd) → slice_get callers host ≡ Some caller →
         slice_get rows host ≡ Some row → slice_get ends host ≡ Some end → IsLeftOf host caller.places row end
 
+  -- all hosts were gone through
+  pub all_left : (count : ℕ) (callers : List CallerView) (rows : List (List (LineView E WriterView))) (ends : List HostEnd) → count ≡ length rows →
+      AreLeftBelow count callers rows ends → AreLeftOf callers rows ends
+  all_left count callers rows ends is all = record { count = all.number ∙ is; each = all.each }
+
   -- what is known of a host that was ended
   pub left_of : (host : ℕ) (places : List Place) (lines : List (LineView E WriterView)) (result : Result HostEnd Memory) →
       IfOk result (λ end. end.addr ≡ address_of host) → IfOk result (λ end. map side_view end.journals.items ≡ map line_side lines) →
@@ -109,3 +114,8 @@ zipped_at (a ∷ xs) (b ∷ ys) (suc n) x y within is =
     let rest = later.within in
     let rest_other = later.within_other in
     record { within = omega (arith, rest); within_other = omega (arith, rest_other); first = later.first; second = later.second }
+
+pub zipped_all : {X Y : Type 0} (xs : List X) (ys : List Y) → length ys ≡ length xs → length (zip xs ys) ≡ length xs
+zipped_all [] ys same = refl
+zipped_all (a ∷ xs) [] same = absurd (omega (arith, same))
+zipped_all (a ∷ xs) (b ∷ ys) same = let rest = zipped_all xs ys (omega (arith, same)) in omega (arith, rest)

@@ -2,14 +2,42 @@ use Rattle.std.proofs.Common.{◌≡◌, ℕ, OnOk, length, ap, subst, ◌∙◌
 use Rattle.std.proofs.lemmas.List.{length_push}
 use Rattle.std.proofs.lemmas.Iterator.{YieldsList-from_zip}
 use Rattle.std.proofs.lemmas.Iterator.Adapters.{YieldsList-from_vec}
-use Rattle.std.proofs.lemmas.Iterator.Consumers.{YieldsList-turn}
+use Rattle.std.proofs.lemmas.Iterator.Consumers.{YieldsList-end, YieldsList-turn}
 use Rattle.rds_report.specs.Hosts.{address_of}
 use Rattle.rds_report.specs.declared.final_state.HostEnd.{HostEnd}
 use Rattle.rds_rounds.specs.Grid.{rows_of}
-use Rattle.rds_threads.proofs.Left.{AreLeftBelow, added, left_of, zipped_at}
-use Rattle.rds_threads.proofs.Rows.{row_at}
+use Rattle.rds_threads.proofs.Left.{AreLeftBelow, added, all_left, left_of, zipped_all, zipped_at}
+use Rattle.rds_threads.proofs.Rows.{row_at, rows_count}
 use Rattle.rds_threads.proofs.Written.{on_ok}
 use Rattle.rds_threads.proofs.leaving.all_ends.Goals as goal
+
+pub host_end-end-requires : goal.host_end-end-requires
+host_end-end-requires g c =
+    let callers = c.args.callers.items in
+    let lines = c.args.lines.items in
+    let seen = c.loop-caller.yielded in
+    let n = length seen in
+    let caller = c.in-Some.caller in
+    let row = c.in-Some.row in
+    let from = YieldsList-from_zip {s = c.into_iter-caller-iterator.result} (YieldsList-from_vec callers (cc) (cc)) (YieldsList-from_vec lines (cc) (cc)) in
+    let turn = YieldsList-turn from seen c.loop-caller.caller-iterator c.loop-caller.yielded_by c.next.result c.next.new.self (caller, row) c.in-Some.is c.next.ensures.steps in
+    let at = zipped_at callers lines n caller row turn.0 turn.1 in
+    c.requires.settled.each n caller row.items at.first (row_at lines n row at.second)
+
+pub returns : goal.returns
+returns g c =
+    let callers = c.args.callers.items in
+    let lines = c.args.lines.items in
+    let seen = c.loop-caller.yielded in
+    let from = YieldsList-from_zip {s = c.into_iter-caller-iterator.result} (YieldsList-from_vec callers (cc) (cc)) (YieldsList-from_vec lines (cc) (cc)) in
+    let done = YieldsList-end from seen c.loop-caller.caller-iterator c.loop-caller.yielded_by c.next.result c.next.new.self c.in-None.is c.next.ensures.steps in
+    let rows = rows_count lines in
+    let same = c.requires.settled.count in
+    let whole = zipped_all callers lines (omega (arith, rows, same)) in
+    let long = done.1 in
+    let count : length seen ≡ length (rows_of lines) = omega (arith, long, whole, same) in
+    all_left (length seen) callers (rows_of lines) c.loop-caller.ends.items count
+    (subst (λ r. OnOk r (AreLeftBelow (length seen) callers (rows_of lines) c.loop-caller.ends.items)) c.in_ok-all.was c.loop-caller.invariant.1)
 
 pub loop-caller-preserved : goal.loop-caller-preserved
 loop-caller-preserved g c =
