@@ -4,7 +4,8 @@
 BELOW := rds_wire rds_views rds_frame rds_model rds_cong rds_script rds_link rds_msgs rds_conn rds_text \
 	rds_report rds_history rds_pair rds_joint rds_mesh rds_hosts rds_world rds_play \
 	rds_bindtab rds_meter rds_mail rds_fmap rds_parts rds_socket rds_joins rds_line_parts rds_line_streams \
-	rds_line_channel rds_line rds_host rds_gather rds_callers rds_rounds rds_settling rds_parties rds_threads rds_run
+	rds_line_channel rds_line rds_host rds_gather rds_callers rds_rounds rds_settling rds_parties rds_threads \
+	rds_words rds_generator rds_run
 
 .PHONY: hello test below $(BELOW)
 
@@ -21,7 +22,8 @@ $(BELOW):
 	@mkdir -p crates/$@/out
 	@cd crates/$@ && { rt check > out/make.log 2>&1 || { cat out/make.log; exit 1; }; }
 
-rds_frame rds_model rds_cong rds_script: rds_wire
+rds_frame rds_model rds_cong rds_script rds_words: rds_wire
+rds_generator: rds_script
 rds_link: rds_wire rds_views
 rds_msgs rds_text: rds_model
 rds_conn: rds_frame rds_msgs rds_cong
@@ -49,7 +51,7 @@ rds_rounds: rds_host
 rds_settling: rds_host rds_callers
 rds_parties: rds_rounds rds_settling
 rds_threads: rds_gather rds_history rds_parties
-rds_run: rds_play rds_threads
+rds_run: rds_play rds_threads rds_words rds_generator
 
 # Every proof, test, must-fail edit and program.
 test:
