@@ -12,21 +12,7 @@ for count in "$@"; do
         print "drain"
     }' > "$script"
     for word in run play; do
-        python3 - "$PROGRAM" "$word" "$script" "$count" <<'PY'
-import resource, subprocess, sys, time
-program, word, script, count = sys.argv[1:]
-best = None
-for _ in range(3):
-    begun, used = time.monotonic(), resource.getrusage(resource.RUSAGE_CHILDREN)
-    with open(script) as source:
-        subprocess.run([program, word], stdin=source, stdout=subprocess.DEVNULL, check=True)
-    wall, after = time.monotonic() - begun, resource.getrusage(resource.RUSAGE_CHILDREN)
-    cpu = after.ru_utime + after.ru_stime - used.ru_utime - used.ru_stime
-    best = min(best or (wall, cpu), (wall, cpu))
-each = 1e9 / int(count)
-print(f"{word} {count}: {best[0] * each:.0f} ns of wall time and {best[1] * each:.0f} ns of processor time a datagram,"
-      f" {after.ru_maxrss // 1024} MiB at most")
-PY
+        python3 bench/timed.py "$count" "$PROGRAM" "$word" < "$script"
     done
     rm -f "$script"
     if [ -f /usr/include/zmq.h ]; then

@@ -1,4 +1,4 @@
--- Private: it serves the contracts of the private functions that turn the lines of a run for the last time. Source: this project's own.
+-- When the last rounds ended since nothing moved, and what they leave of each line. Source: this project's own.
 use Rattle.std.specs.Prelude.{◌≡◌, ℕ, List, Some, length, slice_get}
 use Rattle.rds_fmap.specs.Readers.{WriterView}
 use Rattle.rds_mail.specs.Learning.{AllGot}
