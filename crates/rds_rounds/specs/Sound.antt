@@ -5,12 +5,12 @@ use Rattle.rds_model.specs.Legal.{IsWhole}
 use Rattle.rds_model.specs.Honest.{IsHonest}
 use Rattle.rds_model.specs.Pairs.{IsDeliveredOnce}
 
--- Both journals of the connection follow the rules. Where the ends of its streams tell their bytes, each host got a beginning of
--- what the other wrote, and for each port pair the datagrams that were delivered are accepted ones, in order and each once, and each
--- accepted one up to the last that arrived is accounted for.
+-- Both journals of the connection follow the rules. Where each stream gave a beginning of what was written to it, for each port pair the
+-- datagrams that were delivered are accepted ones, in order and each once, and each accepted one up to the last that arrived is accounted
+-- for. Where the ends of the streams tell their bytes, each stream did give that.
 pub record AreSoundJournals (tells : Bool) (low high : List Entry) : Type 0 where
   pub low_legal : IsWhole low
   pub high_legal : IsWhole high
   pub honest : tells ≡ true → IsHonest low high
-  pub forth : tells ≡ true → (sport dport : ℕ) → IsDeliveredOnce sport dport low high
-  pub back : tells ≡ true → (sport dport : ℕ) → IsDeliveredOnce sport dport high low
+  pub forth : IsHonest low high → (sport dport : ℕ) → IsDeliveredOnce sport dport low high
+  pub back : IsHonest low high → (sport dport : ℕ) → IsDeliveredOnce sport dport high low

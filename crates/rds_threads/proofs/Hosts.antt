@@ -18,8 +18,8 @@ sound_back tells low high s = record {
   low_legal = s.high_legal;
   high_legal = s.low_legal;
   honest = λ told. record { forth = (s.honest told).back; back = (s.honest told).forth };
-  forth = s.back;
-  back = s.forth;
+  forth = λ honest. s.back (record { forth = honest.back; back = honest.forth });
+  back = λ honest. s.forth (record { forth = honest.back; back = honest.forth });
 }
 
 -- a line of a host has this limit, and this host as its peer

@@ -13,13 +13,15 @@ use Rattle.rds_wire.specs.declared.memory.Memory.{Memory}
 use Rattle.rds_script.specs.declared.script.Placed.{Placed}
 use Rattle.rds_socket.specs.Holding.{Holding}
 use Rattle.rds_line.specs.Line.{LineView}
-use Rattle.rds_gather.specs.Joined.{AreJoined, orders_of}
+use Rattle.rds_gather.specs.Joined.{AreJoined, AreLooksOfJournals, orders_of}
 use Rattle.rds_gather.specs.Sides.{line_side}
+use Rattle.rds_gather.specs.Shown.{HasLookedAt}
+use Rattle.rds_model.specs.Sums.{maps}
 use Rattle.rds_callers.specs.Ends.{AreEndsOf, AreLeft, IsLeft, UnreadFits, kept_name, used_name}
 use Rattle.rds_callers.specs.Places.{Bound, Ended, Place, Spare, Vacant, holding_of, somes, spared, with_holding}
 use Rattle.rds_threads.specs.Outcome.{HandedOutAt, IsOutcome, socket_name}
 use Rattle.rds_rounds.specs.Quiet.{AreQuiet}
-use Rattle.rds_threads.specs.Settled.{AreAllSent, AreKeptOf, HasDoneSpared}
+use Rattle.rds_threads.specs.Settled.{AreAllSent, AreKeptOf, HasDoneSpared, HaveAllLooked}
 use Rattle.rds_settling.specs.Tied.{AreLinesTold, PlacesHear, holdings}
 use Rattle.rds_threads.proofs.At.{at_map, held_at, spared_holds, stood_at}
 
@@ -64,6 +66,17 @@ module _ {E : Type 0} where
       let was = routes_kept places told closed hear ends other k at_k in
       all place line at_line other (holding_of was.0) way (held_at places other was.0 was.1)
       (subst (λ (l : List (Lane ReaderView)). IsLaneAt l place way) was.2 at_way))
+
+module _ {E : Type 0} where
+  -- what the slots saw stands in the journals
+  pub all_looked : (places told : List Place) (closed : List (Holding ReaderView)) (lines : List (LineView E WriterView)) → PlacesHear places told → AreEndsOf told closed →
+      AreLooksOfJournals closed lines → HaveAllLooked places lines
+  all_looked places told closed lines hear ends looks slot place p lane line at at_lane at_line =
+      let q = stood_at told places slot p (sym hear.count) at in
+      let heard = hear.each slot p q.0 at q.1 in
+      let h = stood_at closed told slot q.0 (sym ends.count) q.1 in
+      let routes = (ends.each slot q.0 h.0 q.1 h.1).routes ∙ ap (λ (x : Holding ReaderView). x.routes) heard.1 in
+      looks slot place h.0 lane line h.1 (subst (λ (l : List (Lane ReaderView)). IsLaneAt l place lane) (sym routes) at_lane) at_line
 
 -- a place that was told has the name and hands out what it had
 name_heard : (p : Place) (k : Holding ReaderView) → k.words.slot ≡ (holding_of p).words.slot → used_name (with_holding p k) ≡ used_name p
@@ -111,9 +124,9 @@ hands_spared (Spare h) s is = absurd is
 
 module _ {E : Type 0} where
   pub outcome_of : (hosts host : ℕ) (commands : List Placed) (places : List Place) (lines : List (LineView E WriterView)) (kept : List Kept) →
-      HasDoneSpared hosts host commands places → AreAllSent places lines → AreKeptOf places kept →
+      HasDoneSpared hosts host commands places → AreAllSent places lines → HaveAllLooked places lines → AreKeptOf places kept →
       IsOutcome hosts host commands (map line_side lines) (map socket_view kept)
-  outcome_of hosts host commands places lines kept did sent of_kept = record {
+  outcome_of hosts host commands places lines kept did sent looked of_kept = record {
     last = did.last;
     done = did.done;
     sent = λ slot place p lane side at at_lane at_side.
@@ -121,6 +134,11 @@ module _ {E : Type 0} where
         ap (λ (s : FinalJournal). orders_of slot s.past) line.2
         ∙ sent slot place (spared p) lane line.0 (here slot p at)
         (subst (λ (h : Holding ReaderView). IsLaneAt h.routes place lane) (sym (spared_holds p)) at_lane) line.1;
+    looked = λ slot place p lane side at at_lane at_side.
+        let line = at_map line_side lines place side at_side in
+        subst (λ (s : FinalJournal). HasLookedAt (maps s.past) lane.reader) (sym line.2)
+        (looked slot place (spared p) lane line.0 (here slot p at)
+        (subst (λ (h : Holding ReaderView). IsLaneAt h.routes place lane) (sym (spared_holds p)) at_lane) line.1);
     names = names_of kept ∙ (of_kept.names ∙ (ap (λ (l : List Place). somes (map used_name l)) did.left ∙ names_spared did.last));
     handed = All-map (λ (s : FinalSocket). (p : Place) × (slice_get did.last s.slot ≡ Some p) × HandedOutAt p s) socket_view kept
         (All-weaker (λ (k : Kept). (p : Place) × (slice_get places k.slot ≡ Some p) × HandedOutAt p (socket_view k))

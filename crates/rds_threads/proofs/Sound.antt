@@ -133,29 +133,31 @@ module _ {E : Type 0} (m : Means E) (limit hosts : ℕ) (callers : List CallerVi
         });
   }
 
-  reliable_all : ((a b : List Entry) → IsLegal a → IsLegal b → IsHonest a b → (IsFifo a b × IsFifo b a)) → m.tells ≡ true → AreReliable (host_views ends)
-  reliable_all fifo told low place one other a b least at at_other at_a at_b =
+  reliable_all : ((a b : List Entry) → IsLegal a → IsLegal b → IsHonest a b → (IsFifo a b × IsFifo b a)) → AreReliable (host_views ends)
+  reliable_all fifo low place one other a b least at at_other at_a at_b honest =
       let first = host_at low one at in
       let second = host_at (suc place) other at_other in
       let la = line_at low place one a at at_a in
       let lb = line_at (suc place) low other b at_other at_b in
       let pair = done.sound low place la.0 lb.0 least la.2 lb.2 in
       let s = pair.sound in
-      let both = fifo (line_past la.0) (line_past lb.0) s.low_legal.legal s.high_legal.legal (s.honest told) in
       let one_peer : a.peer ≡ address_of (suc place) = ap (λ (j : FinalJournal). j.peer) la.1 ∙ pair.hosts.one_peer in
       let other_peer : b.peer ≡ address_of low = ap (λ (j : FinalJournal). j.peer) lb.1 ∙ pair.hosts.other_peer in
       let a_past : line_past la.0 ≡ a.past = sym (ap (λ (j : FinalJournal). j.past) la.1) in
       let b_past : line_past lb.0 ≡ b.past = sym (ap (λ (j : FinalJournal). j.past) lb.1) in
+      let begins =
+          subst (λ (p : List Entry). IsHonest p (line_past lb.0)) (sym a_past) (subst (λ (p : List Entry). IsHonest a.past p) (sym b_past) honest) in
+      let both = fifo (line_past la.0) (line_past lb.0) s.low_legal.legal s.high_legal.legal begins in
       let one_has : HasReceived one = subst HasReceived (sym first.is) first.rest.received in
       let other_has : HasReceived other = subst HasReceived (sym second.is) second.rest.received in (
         reliable_of low low a.past other b at_b other_peer other_has
             (subst (λ (p : List Entry). AreAccepted p b.past) a_past (subst (λ (p : List Entry). AreAccepted (line_past la.0) p) b_past both.0.accepted))
             (subst (λ (p : List Entry). (sport dport : ℕ) → IsDeliveredOnce sport dport p b.past) a_past
-            (subst (λ (p : List Entry). (sport dport : ℕ) → IsDeliveredOnce sport dport (line_past la.0) p) b_past (s.forth told))),
+            (subst (λ (p : List Entry). (sport dport : ℕ) → IsDeliveredOnce sport dport (line_past la.0) p) b_past (s.forth begins))),
         reliable_of (suc place) place b.past one a at_a one_peer one_has
             (subst (λ (p : List Entry). AreAccepted p a.past) b_past (subst (λ (p : List Entry). AreAccepted (line_past lb.0) p) a_past both.1.accepted))
             (subst (λ (p : List Entry). (sport dport : ℕ) → IsDeliveredOnce sport dport p a.past) b_past
-            (subst (λ (p : List Entry). (sport dport : ℕ) → IsDeliveredOnce sport dport (line_past lb.0) p) a_past (s.back told))),
+            (subst (λ (p : List Entry). (sport dport : ℕ) → IsDeliveredOnce sport dport (line_past lb.0) p) a_past (s.back begins))),
       )
 
   -- what they have in the end
@@ -175,7 +177,7 @@ module _ {E : Type 0} (m : Means E) (limit hosts : ℕ) (callers : List CallerVi
             let is = host_at host final at in
             subst (λ (h : FinalHost). IsOutcome hosts host commands h.sides h.sockets) (sym is.is)
             (subst (λ (l : List FinalJournal). IsOutcome hosts host commands l (map socket_view is.end.kept.items)) (sym is.rest.journals)
-            (outcome_of hosts host commands is.caller.places is.row is.end.kept.items (did host is.caller is.caller_at) is.rest.sent is.rest.kept));
+            (outcome_of hosts host commands is.caller.places is.row is.end.kept.items (did host is.caller is.caller_at) is.rest.sent is.rest.looked is.rest.kept));
         received = all_from HasReceived (host_views ends) (λ host final at. let is = host_at host final at in subst HasReceived (sym is.is) is.rest.received);
         reliable = reliable_all fifo;
       }

@@ -2,6 +2,7 @@
 use Rattle.std.specs.Prelude.{◌≡◌, ◌⊎◌, ◌≤◌, ℕ, suc, ◌+◌, ◌<◌, All, Bool, true, List, Some, length, map, Option, slice_get}
 use Rattle.rds_link.specs.Streaming.{HasRisen, SinkGained, SinkGainedFront}
 use Rattle.rds_model.specs.declared.entry.Entry.{Entry}
+use Rattle.rds_model.specs.Honest.{IsHonest}
 use Rattle.rds_report.specs.FinalState.{FinalHost, FinalJournal}
 use Rattle.rds_report.specs.Hosts.{address_of}
 use Rattle.rds_report.specs.Views.{host_views}
@@ -22,16 +23,17 @@ abbrev pub OfEachJournals : ((low high : ℕ) → List Entry → List Entry → 
 OfEachJournals Holds ends =
     OfEachPair (λ low high (one : FinalJournal) (other : FinalJournal). Holds low high one.past other.past) (map (λ (end : FinalHost). end.sides) ends)
 
--- From each host to each other one: for each port pair what was delivered was sent, in order and each once, each sent datagram up to the
--- last that arrived is accounted for, and the sockets hand it out so.
+-- From each host to each other one, where each stream between them gave a beginning of what was written to it: for each port pair what was
+-- delivered was sent, in order and each once, each sent datagram up to the last that arrived is accounted for, and the sockets hand it out
+-- so.
 abbrev pub AreReliable : List FinalHost → Type 0
 AreReliable ends = (low place : ℕ) (one other : FinalHost) (a b : FinalJournal) → low ≤ place → slice_get ends low ≡ Some one → slice_get ends (suc place) ≡ Some other →
-    slice_get one.sides place ≡ Some a → slice_get other.sides low ≡ Some b →
+    slice_get one.sides place ≡ Some a → slice_get other.sides low ≡ Some b → IsHonest a.past b.past →
     IsReliableTo low a.past b.past other.sockets × IsReliableTo (suc place) b.past a.past one.sockets
 
 -- What so many hosts have in the end, by host: each did the script's commands, and has a journal of its connection with each other one, in
--- ascending order. The journals are sound. What the sockets of each host handed out is what its journals delivered; where ends tell their
--- bytes, it is what the other hosts sent.
+-- ascending order. The journals are sound. What the sockets of each host handed out is what its journals delivered; where streams gave
+-- beginnings of what was written to them, as those of ends that tell their bytes did, it is what the other hosts sent.
 pub record AreEnds (tells : Bool) (hosts : ℕ) (commands : List Placed) (ends : List FinalHost) : Type 0 where
   pub count : length ends ≡ hosts
   pub addresses : (host : ℕ) (end : FinalHost) → slice_get ends host ≡ Some end → end.addr ≡ address_of host
@@ -40,7 +42,7 @@ pub record AreEnds (tells : Bool) (hosts : ℕ) (commands : List Placed) (ends :
   pub sound : OfEachJournals (λ low high. AreSoundJournals tells) ends
   pub did : (host : ℕ) (end : FinalHost) → slice_get ends host ≡ Some end → IsOutcome hosts host commands end.sides end.sockets
   pub received : All HasReceived ends
-  pub reliable : tells ≡ true → AreReliable ends
+  pub reliable : AreReliable ends
 
 -- nothing is left to do between any two hosts
 abbrev pub AreDrainedHosts : List FinalHost → Type 0

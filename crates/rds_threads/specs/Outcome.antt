@@ -6,6 +6,8 @@ use Rattle.rds_report.specs.FinalState.{FinalJournal, FinalSocket}
 use Rattle.rds_script.specs.declared.script.Placed.{Placed}
 use Rattle.rds_line.specs.Keeps.{uncut}
 use Rattle.rds_gather.specs.Joined.{orders_of}
+use Rattle.rds_gather.specs.Shown.{HasLookedAt}
+use Rattle.rds_model.specs.Sums.{maps}
 use Rattle.rds_callers.specs.Ends.{used_name}
 use Rattle.rds_callers.specs.Places.{Bound, Ended, Place, Spare, Vacant, holding_of, somes}
 use Rattle.rds_parties.specs.Obeyed.{HasDone}
@@ -24,11 +26,14 @@ socket_name s = (s.slot, s.port)
 
 -- What one of so many hosts, with these journals and these sockets, comes to did the script's commands: from slots that were new its caller
 -- did exactly its own commands. In the journal with each other host stand, for each slot, exactly the orders that its socket put on the route
--- to that host, in order and each once. There is one socket of each slot that was bound, in order, with its port.
+-- to that host, in order and each once. Each look of a socket at a peer's congestion map found what the map of its version has, among those
+-- that the journal with that peer read. There is one socket of each slot that was bound, in order, with its port.
 pub record IsOutcome (hosts host : ℕ) (commands : List Placed) (sides : List FinalJournal) (sockets : List FinalSocket) : Type 0 where
   pub last : List Place
   pub done : HasDone hosts host commands last
   pub sent : (slot place : ℕ) (p : Place) (lane : Lane ReaderView) (side : FinalJournal) → slice_get last slot ≡ Some p →
       IsLaneAt (holding_of p).routes place lane → slice_get sides place ≡ Some side → orders_of slot side.past ≡ uncut lane.pass.put
+  pub looked : (slot place : ℕ) (p : Place) (lane : Lane ReaderView) (side : FinalJournal) → slice_get last slot ≡ Some p →
+      IsLaneAt (holding_of p).routes place lane → slice_get sides place ≡ Some side → HasLookedAt (maps side.past) lane.reader
   pub names : map socket_name sockets ≡ somes (map used_name last)
   pub handed : All (λ (s : FinalSocket). (p : Place) × (slice_get last s.slot ≡ Some p) × HandedOutAt p s) sockets

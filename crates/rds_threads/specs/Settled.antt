@@ -9,6 +9,8 @@ use Rattle.rds_report.specs.declared.final_state.Kept.{Kept}
 use Rattle.rds_line.specs.Keeps.{uncut}
 use Rattle.rds_line.specs.Line.{LineView, line_past}
 use Rattle.rds_gather.specs.Joined.{orders_of}
+use Rattle.rds_gather.specs.Shown.{HasLookedAt}
+use Rattle.rds_model.specs.Sums.{maps}
 use Rattle.rds_gather.specs.Sides.{line_side}
 use Rattle.rds_callers.specs.Ends.{kept_name, used_name}
 use Rattle.rds_callers.specs.Places.{CallerView, IsUsed, Place, holding_of, somes, spared}
@@ -23,6 +25,11 @@ use Rattle.rds_settling.specs.Tied.{AreLinesTold, AreTied, LinesHear, holdings}
 abbrev pub AreAllSent : {E : Type 0} → List Place → List (LineView E WriterView) → Type 0
 AreAllSent {E} places lines = (slot place : ℕ) (p : Place) (lane : Lane ReaderView) (line : LineView E WriterView) → slice_get places slot ≡ Some p →
     IsLaneAt (holding_of p).routes place lane → slice_get lines place ≡ Some line → orders_of slot (line_past line) ≡ uncut lane.pass.put
+
+-- each look of a slot at a peer's congestion map found what the map of its version has, among those that the journal with that peer read
+abbrev pub HaveAllLooked : {E : Type 0} → List Place → List (LineView E WriterView) → Type 0
+HaveAllLooked {E} places lines = (slot place : ℕ) (p : Place) (lane : Lane ReaderView) (line : LineView E WriterView) → slice_get places slot ≡ Some p →
+    IsLaneAt (holding_of p).routes place lane → slice_get lines place ≡ Some line → HasLookedAt (maps (line_past line)) lane.reader
 
 -- so the caller did its commands, and then gave up the slots that no socket had
 pub record HasDoneSpared (hosts host : ℕ) (commands : List Placed) (places : List Place) : Type 0 where
@@ -77,6 +84,7 @@ pub record IsLeftOf {E : Type 0} (host : ℕ) (places : List Place) (lines : Lis
   pub journals : map side_view end.journals.items ≡ map line_side lines
   pub received : HasReceived (host_view end)
   pub sent : AreAllSent places lines
+  pub looked : HaveAllLooked places lines
   pub kept : AreKeptOf places end.kept.items
 
 -- so it is of each host

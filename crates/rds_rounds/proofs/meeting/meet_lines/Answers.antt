@@ -1,6 +1,20 @@
 use Rattle.std.proofs.Common.{sym, ◌∙◌}
+use Rattle.rds_line.specs.Line.{line_past}
 use Rattle.rds_rounds.proofs.Knowing.{know_each_other}
 use Rattle.rds_rounds.proofs.meeting.meet_lines.Goals as goal
+
+pub returns-clause-sound : goal.returns-clause-sound
+returns-clause-sound g c =
+    let one = c.known.ensures.whole in
+    let other = c.known-2.ensures.whole in
+    record {
+      low_legal = one;
+      high_legal = other;
+      honest = c.meet.ensures.honest;
+      forth = λ honest. c.headline_of_all.ensures (line_past c.meet.new.a) (line_past c.meet.new.b) one.legal other.legal honest;
+      back = λ honest.
+          c.headline_of_all.ensures (line_past c.meet.new.b) (line_past c.meet.new.a) other.legal one.legal (record { forth = honest.back; back = honest.forth });
+    }
 
 pub returns-clause-met : goal.returns-clause-met
 returns-clause-met g c =
