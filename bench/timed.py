@@ -16,5 +16,6 @@ for _ in range(3):
     cpu = after.ru_utime + after.ru_stime - used.ru_utime - used.ru_stime
     shortest = min(shortest or (wall, cpu), (wall, cpu))
 each = 1e9 / count
-print(f"{words[1]} {count}: {shortest[0] * each:.0f} ns of wall time and {shortest[1] * each:.0f} ns of processor time a datagram,"
+name = " ".join(words[1:])
+print(f"{name} {count}: {shortest[0] * each:.0f} ns of wall time and {shortest[1] * each:.0f} ns of processor time a datagram,"
       f" {after.ru_maxrss // 1024} MiB at most, {after.ru_maxrss * 1024 // count} bytes each")

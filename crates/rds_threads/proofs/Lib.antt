@@ -4,6 +4,7 @@ pub mod Hosts
 pub mod HandedOut
 pub mod Receiving
 pub mod Outcome
+pub mod Owning
 pub mod Sound
 pub mod Written
 pub mod Keeping

@@ -1,0 +1,59 @@
+-- What was delivered to a slot went to a socket that had its port.
+use Rattle.std.proofs.Common.{◌≡◌, ℕ, zero, suc, List, [], ◌∷◌, Option, Some, None, length, map, option_map, slice_get, sym, ap, subst, ◌∙◌}
+use Rattle.std.proofs.lemmas.Option.{same_Some, slice_get-map}
+use Rattle.rds_fmap.specs.Readers.{ReaderView, WriterView}
+use Rattle.rds_report.specs.Views.{socket_view}
+use Rattle.rds_report.specs.declared.final_state.Kept.{Kept}
+use Rattle.rds_socket.specs.Holding.{Holding}
+use Rattle.rds_line.specs.Line.{LineView}
+use Rattle.rds_host.specs.Slots.{AreInPlace}
+use Rattle.rds_gather.specs.Owned.{AreOwned}
+use Rattle.rds_gather.specs.Sides.{line_side}
+use Rattle.rds_callers.specs.Ends.{HaveClaimedOnly, claimed_port, kept_name, used_name}
+use Rattle.rds_callers.specs.Places.{Bound, Ended, Place, Spare, Vacant, holding_of, somes}
+use Rattle.rds_settling.specs.Tied.{holdings}
+use Rattle.rds_threads.specs.Reliable.{AllWentToSockets}
+use Rattle.rds_threads.proofs.At.{at_map, held_at, stood_at}
+
+name_first : (name : Option (ℕ × ℕ)) (rest : List (Option (ℕ × ℕ))) (n : ℕ × ℕ) → name ≡ Some n → slice_get (somes (name ∷ rest)) 0 ≡ Some n
+name_first None rest n is = absurd (cc)
+name_first (Some m) rest n is = is
+
+name_later : (name : Option (ℕ × ℕ)) (rest : List (Option (ℕ × ℕ))) (n : ℕ × ℕ) → (i : ℕ) × (slice_get (somes rest) i ≡ Some n) →
+    (i : ℕ) × (slice_get (somes (name ∷ rest)) i ≡ Some n)
+name_later None rest n at = at
+name_later (Some m) rest n at = (suc at.0, at.1)
+
+-- the name of a slot that had a socket is among those of all slots
+named_at : (places : List Place) (slot : ℕ) (p : Place) (n : ℕ × ℕ) → slice_get places slot ≡ Some p → used_name p ≡ Some n →
+    (i : ℕ) × (slice_get (somes (map used_name places)) i ≡ Some n)
+named_at [] slot p n at is = absurd (cc)
+named_at (q ∷ places) zero p n at is = (0, name_first (used_name q) (map used_name places) n (ap used_name (same_Some q p at) ∙ is))
+named_at (q ∷ places) (suc slot) p n at is = name_later (used_name q) (map used_name places) n (named_at places slot p n at is)
+
+-- a slot that has claimed a port had a socket with it
+name_of : (p : Place) (port : ℕ) → claimed_port p ≡ Some port → used_name p ≡ Some ((holding_of p).words.slot, port)
+name_of (Vacant h) port is = absurd (cc)
+name_of (Bound o got) port is = ap (λ (x : Option ℕ). option_map (λ (n : ℕ). (o.own.words.slot, n)) x) is
+name_of (Ended q h got) port is = ap (λ (x : Option ℕ). option_map (λ (n : ℕ). (h.words.slot, n)) x) is
+name_of (Spare h) port is = absurd (cc)
+
+module _ {E : Type 0} where
+  pub went_to_sockets : (places : List Place) (closed : List (Holding ReaderView)) (lines : List (LineView E WriterView)) (kept : List Kept) →
+      AreInPlace (holdings places) → length closed ≡ length places → AreOwned closed lines → HaveClaimedOnly places closed →
+      map kept_name kept ≡ somes (map used_name places) → (place : ℕ) (line : LineView E WriterView) → slice_get lines place ≡ Some line →
+      AllWentToSockets (map socket_view kept) (line_side line)
+  went_to_sockets places closed lines kept numbered count owned claims names place line at stream slot f read =
+      let h = owned place line at stream slot f read in
+      let p = stood_at places closed slot h.0 count h.1 in
+      let port = claims slot p.0 h.0 p.1 h.1 f.header.dport slot h.2 in
+      let number = numbered slot (holding_of p.0) (held_at places slot p.0 p.1) in
+      let name : ℕ × ℕ = ((holding_of p.0).words.slot, f.header.dport) in
+      let found = named_at places slot p.0 name p.1 (name_of p.0 f.header.dport port) in
+      let k = at_map kept_name kept found.0 name (subst (λ (l : List (ℕ × ℕ)). slice_get l found.0 ≡ Some name) (sym names) found.1) in (
+        found.0,
+        socket_view k.0,
+        slice_get-map socket_view kept found.0 ∙ ap (option_map socket_view) k.1,
+        ap (λ (n : ℕ × ℕ). n.0) (sym k.2) ∙ number,
+        ap (λ (n : ℕ × ℕ). n.1) (sym k.2),
+      )
