@@ -6,7 +6,6 @@ use crate::pumps::{read_on, write_on};
 use crate::rings::Far;
 use crossbeam_channel::{Receiver, SendError, Sender, bounded};
 use rds_link::WireError;
-use rtrb::{Consumer, Producer};
 use std::alloc::Global;
 use std::net::{Net, TcpListener, TcpStream};
 use std::sync::Wait;
@@ -87,8 +86,9 @@ fn open<
     let Ok((low, high)) = dial(&rt) else {
         return Err(WireError::Fault);
     };
-    let low = attended(rt, alloc, handles, low, job.0)?;
-    let high = attended(rt, alloc, handles, high, job.1)?;
+    let (low_far, high_far) = job;
+    let low = attended(rt, alloc, handles, low, low_far)?;
+    let high = attended(rt, alloc, handles, high, high_far)?;
     Ok((low, high))
 }
 
@@ -103,44 +103,26 @@ fn attended<R: Threads + Wait + Copy + Send + 'static>(
     let Ok(pipe) = Pipe::new(alloc, tcp) else {
         return Err(WireError::Memory);
     };
+    let (Ok(one), Ok(other)) = (pipe.share(), pipe.share()) else {
+        return Err(WireError::Memory);
+    };
     let Far { incoming, outgoing } = far;
-    start_reader(rt, handles, &pipe, incoming)?;
-    start_writer(rt, handles, &pipe, outgoing)?;
+    start(&rt, handles, move || read_on(&rt, &one, incoming))?;
+    start(&rt, handles, move || write_on(&rt, &other, outgoing))?;
     Ok(pipe)
 }
 
-fn start_reader<R: Threads + Wait + Copy + Send + 'static>(
-    rt: R,
+fn start<R: Threads, F: FnOnce() + Send + Drop + 'static>(
+    rt: &R,
     handles: &mut Vec<JoinHandle<()>>,
-    pipe: &Pipe,
-    ring: Producer<u8>,
-) -> Result<(), WireError> {
-    let Ok(shared) = pipe.share() else {
-        return Err(WireError::Memory);
-    };
+    run: F,
+) -> Result<(), WireError>
+    requires { F.pre run }
+{
     if handles.reserve(1).is_err() {
         return Err(WireError::Memory);
     }
-    let Ok(handle) = thread::spawn(&rt, move || read_on(&rt, &shared, ring)) else {
-        return Err(WireError::Fault);
-    };
-    handles.push_reserved(handle);
-    Ok(())
-}
-
-fn start_writer<R: Threads + Wait + Copy + Send + 'static>(
-    rt: R,
-    handles: &mut Vec<JoinHandle<()>>,
-    pipe: &Pipe,
-    ring: Consumer<u8>,
-) -> Result<(), WireError> {
-    let Ok(shared) = pipe.share() else {
-        return Err(WireError::Memory);
-    };
-    if handles.reserve(1).is_err() {
-        return Err(WireError::Memory);
-    }
-    let Ok(handle) = thread::spawn(&rt, move || write_on(&rt, &shared, ring)) else {
+    let Ok(handle) = thread::spawn(rt, run) else {
         return Err(WireError::Fault);
     };
     handles.push_reserved(handle);

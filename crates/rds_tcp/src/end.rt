@@ -81,8 +81,7 @@ impl End for TcpEnd {
 
     ghost means = { tcp_means };
 
-    // Whether the TCP stream broke is loaded before the words of the stream: where it broke since the other end shut, the load of
-    // the words finds that.
+    // Whether the TCP stream broke is loaded before the two words: where it broke because the other end shut, they tell so.
     fn read(&mut self, buf: &mut [u8]) -> Got {
         let is_broken = self.pipe.is_broken();
         if self.standing.is_over() {

@@ -33,6 +33,7 @@ impl Hand {
     }
 }
 
+/// What an end, its reader and its writer share.
 #[derive(Drop)]
 pub(crate) struct Shared {
     tcp: TcpStream,
@@ -127,7 +128,7 @@ impl Shared {
     }
 }
 
-/// An end's own hold of it. Both threads end once it is dropped.
+/// An end's own hold of what it shares. Both threads end once it is dropped.
 pub(crate) struct Pipe {
     shared: Arc<Shared>,
 }
