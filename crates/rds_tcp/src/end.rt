@@ -1,0 +1,134 @@
+//! An end of a stream over TCP.
+ghost use Rattle.std.specs.Prelude.{◌≡◌, ◌++◌, ◌≤◌, ◌<◌, length, take, drop, false};
+ghost use Rattle.rtrb.specs.Ring.{sent, received};
+ghost use Rattle.rds_link.specs.Standing.{standing as standing_of, Failed};
+
+use crate::pipe::Pipe;
+use crate::rings::Near;
+use rds_link::{End, Got, Put, Standing};
+use rtrb::{Consumer, Producer};
+use std::sync::Wait;
+
+/// An end of a stream over TCP. Two threads move its bytes between the TCP stream and its two rings; they end once it has shut, or is
+/// dropped.
+#[derive(Drop)]
+pub struct TcpEnd {
+    pub(crate) out: Producer<u8>,
+    pub(crate) inp: Consumer<u8>,
+    pub(crate) standing: Standing,
+    pub(crate) pipe: Pipe,
+    pub(crate) nothings: u64,
+    pub(crate) fulls: u64,
+}
+
+impl TcpEnd {
+    pub(crate) fn new(pipe: Pipe, near: Near, standing: Standing) -> TcpEnd
+        ensures { result ≡ record { out = near.out; inp = near.inp; standing = standing; pipe = pipe; nothings = 0; fulls = 0 } }
+    {
+        let Near { out, inp } = near;
+        TcpEnd {
+            out,
+            inp,
+            standing,
+            pipe,
+            nothings: 0,
+            fulls: 0,
+        }
+    }
+
+    // Takes bytes that came from the ring, and tells the reader that there is room.
+    fn pull(&mut self, buf: &mut [u8]) -> usize
+        ensures same { self.new ≡ record self.old { inp = self.new.inp } }
+        ensures count { result ≤ length buf.old }
+        ensures got { received self.new.inp ≡ received self.old.inp ++ take result buf.new }
+        ensures rest { drop result buf.new ≡ drop result buf.old }
+    {
+        let count = self.inp.pop_partial_slice(buf);
+        if count > 0 {
+            self.pipe.ring_reader();
+        }
+        count
+    }
+
+    // Puts bytes into the ring, and tells the writer.
+    fn push(&mut self, piece: &[u8]) -> usize
+        ensures same { self.new ≡ record self.old { out = self.new.out } }
+        ensures count { result ≤ length piece.now }
+        ensures sent { sent self.new.out ≡ sent self.old.out ++ take result piece.now }
+    {
+        let (taken, _) = self.out.push_partial_slice(piece);
+        if !taken.is_empty() {
+            self.pipe.ring_writer();
+        }
+        taken.len()
+    }
+
+    // Counts the first fault, which shuts the end: the TCP stream had broken before the end found that neither end had shut.
+    fn fail(&mut self)
+        requires shut { self.old.standing.stand.is_shut ≡ false }
+        requires other { self.old.standing.stand.other_shut ≡ false }
+        ensures same { self.new ≡ record self.old { standing = self.new.standing } }
+        ensures stream { self.new.standing ≡ standing_of self.old.standing self.new.standing.stand }
+        ensures failed { Failed self.old.standing.stand self.new.standing.stand }
+    {
+        self.standing.fail();
+        self.pipe.stop(&self.standing);
+    }
+}
+
+impl End for TcpEnd {
+    ghost use Rattle.rds_tcp.specs.Tcp.{tcp_means};
+
+    ghost means = { tcp_means };
+
+    // Whether the TCP stream broke is loaded before the two words: where it broke because the other end shut, they tell so.
+    fn read(&mut self, buf: &mut [u8]) -> Got {
+        let is_broken = self.pipe.is_broken();
+        if self.standing.is_over() {
+            return Got::Over;
+        }
+        let came = self.pull(buf);
+        if came > 0 {
+            return Got::Bytes(came);
+        }
+        if is_broken {
+            self.fail();
+            return Got::Over;
+        }
+        self.nothings = self.nothings.saturating_add(1);
+        Got::Nothing
+    }
+
+    fn write(&mut self, piece: &[u8]) -> Put {
+        let is_broken = self.pipe.is_broken();
+        if self.standing.is_over() {
+            return Put::Over;
+        }
+        let taken = self.push(piece);
+        if taken > 0 {
+            return Put::Took(taken);
+        }
+        if is_broken {
+            self.fail();
+            return Put::Over;
+        }
+        self.pipe.note_full();
+        self.fulls = self.fulls.saturating_add(1);
+        Put::Full
+    }
+
+    fn shut(&mut self) {
+        self.standing.shut();
+        self.pipe.stop(&self.standing);
+    }
+
+    fn finish<R: Wait>(mut self, rt: &R) {
+        self.pipe.drain(rt);
+        self.shut();
+        self.pipe.await_threads(rt);
+    }
+
+    fn rest<R: Wait>(&self, rt: &R) {
+        self.pipe.rest(rt);
+    }
+}

@@ -1,0 +1,161 @@
+//! What opens streams over TCP.
+ghost use Rattle.std.specs.Prelude.{◌≡◌, IfOk};
+ghost use Rattle.rds_link.specs.Ends.{IsFresh};
+ghost use Rattle.rds_tcp.specs.Tcp.{tcp_means, HasMovedNothing};
+
+use crate::crew::Crew;
+use crate::end::TcpEnd;
+use crate::rings::rings;
+use rds_link::{End, Standing, Wire, WireError};
+use rds_wire::Memory;
+use std::alloc::Global;
+use std::marker::Model;
+use std::net::{Net, TcpListener, TcpStream};
+use std::sync::Wait;
+use std::thread::Threads;
+
+/// A wire whose streams go over TCP from this machine to itself. It can't be let go but by `finish`, which joins its threads.
+pub struct TcpWire {
+    alloc: Global,
+    crew: Option<Crew>,
+    faults: u64,
+    nothings: u64,
+    fulls: u64,
+}
+
+impl Model for TcpWire {
+    ghost use Rattle.rds_tcp.specs.Tcp.{Counts};
+
+    ghost Value = { Counts };
+
+    ghost view = { λ w. record { faults = w.faults; nothings = w.nothings; fulls = w.fulls } };
+}
+
+impl TcpWire {
+    /// Starts the thread that opens streams. Where that is refused, each opening is a fault.
+    pub fn new<
+        R: Threads + Wait + Net<Listener = TcpListener, Stream = TcpStream> + Copy + Send + 'static,
+    >(rt: &R, alloc: Global) -> TcpWire
+        ensures { result ≡ record { faults = 0; nothings = 0; fulls = 0 } }
+    {
+        TcpWire {
+            alloc,
+            crew: Crew::new(rt, alloc),
+            faults: 0,
+            nothings: 0,
+            fulls: 0,
+        }
+    }
+
+    // A wire whose thread was refused.
+    #[cfg(test)]
+    pub(crate) fn refused(alloc: Global) -> TcpWire {
+        TcpWire {
+            alloc,
+            crew: None,
+            faults: 0,
+            nothings: 0,
+            fulls: 0,
+        }
+    }
+
+    /// How many faults there were, of openings and of ends that were given back.
+    pub fn faults(&self) -> u64
+        ensures { result ≡ self.now.faults }
+    {
+        self.faults
+    }
+
+    /// How many answers `Nothing` the ends that were given back had counted.
+    pub fn nothings(&self) -> u64
+        ensures { result ≡ self.now.nothings }
+    {
+        self.nothings
+    }
+
+    /// How many answers `Full` the ends that were given back had counted.
+    pub fn fulls(&self) -> u64
+        ensures { result ≡ self.now.fulls }
+    {
+        self.fulls
+    }
+
+    /// Returns once all threads have ended, those of an end after it was given back, has shut or was dropped.
+    pub fn finish<R: Threads>(self, rt: &R) {
+        let TcpWire {
+            alloc: _,
+            crew,
+            faults: _,
+            nothings: _,
+            fulls: _,
+        } = self;
+        if let Some(crew) = crew {
+            crew.finish(rt);
+        }
+    }
+
+    fn pair<R: Wait>(&self, rt: &R) -> Result<(TcpEnd, TcpEnd), WireError>
+        ensures fresh { IfOk result (λ ends. IsFresh tcp_means ends.0 × IsFresh tcp_means ends.1) }
+        ensures pair { IfOk result (λ ends. tcp_means.meets ends.0 ends.1) }
+        ensures empty { IfOk result (λ ends. HasMovedNothing ends.0 × HasMovedNothing ends.1) }
+    {
+        let Some(crew) = &self.crew else {
+            return Err(WireError::Fault);
+        };
+        let Ok((low, high)) = Standing::pair(self.alloc) else {
+            return Err(WireError::Memory);
+        };
+        let Ok((near, far)) = rings(self.alloc) else {
+            return Err(WireError::Memory);
+        };
+        let Ok((high_near, high_far)) = rings(self.alloc) else {
+            return Err(WireError::Memory);
+        };
+        let (pipe, high_pipe) = crew.open(rt, (far, high_far))?;
+        let first = TcpEnd::new(pipe, near, low);
+        let second = TcpEnd::new(high_pipe, high_near, high);
+        Ok((first, second))
+    }
+}
+
+impl Wire for TcpWire {
+    type End = TcpEnd;
+
+    ghost faults = { λ w. w.faults };
+
+    ghost nothings = { λ w. w.nothings };
+
+    ghost fulls = { λ w. w.fulls };
+
+    fn tells(&self) -> bool {
+        false
+    }
+
+    fn open<R: Threads + Wait + Net>(
+        &mut self,
+        rt: &R,
+        _low: u32,
+        _high: u32,
+        _stream: u32,
+    ) -> Result<(TcpEnd, TcpEnd), WireError> {
+        match self.pair(rt) {
+            Ok(ends) => Ok(ends),
+            Err(WireError::Memory) => Err(WireError::Memory),
+            Err(WireError::Fault) => {
+                self.faults = self.faults.saturating_add(1);
+                Err(WireError::Fault)
+            }
+        }
+    }
+
+    fn meet(a: &mut TcpEnd, b: &mut TcpEnd) {
+        Standing::meet(&mut a.standing, &mut b.standing);
+    }
+
+    fn give_back<R: Wait>(&mut self, rt: &R, end: TcpEnd) {
+        self.faults = self.faults.saturating_add(end.standing.faults());
+        self.nothings = self.nothings.saturating_add(end.nothings);
+        self.fulls = self.fulls.saturating_add(end.fulls);
+        end.finish(rt);
+    }
+}
