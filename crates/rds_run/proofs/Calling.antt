@@ -1,33 +1,39 @@
 -- How a call of `run` ends.
+use Rattle.std.proofs.Common.{◌≡◌, ◌⊎◌, inl, inr, ℕ, Bool, List, Err, sym, subst}
+use Rattle.rds_link.specs.Streaming.{HasRisen, SinkGained, SinkGainedFront}
 use Rattle.rds_script.specs.Grammar.{Meaning}
+use Rattle.rds_words.specs.declared.wire.RunWire.{RunWire}
 use Rattle.rds_run.specs.declared.status.Status.{Status}
 use Rattle.rds_run.specs.declared.status.Status.TheVariants as ended
-use Rattle.rds_run.specs.ExitStatus.{SourceSeen, SinkSeen, IsSpelled}
-use Rattle.rds_run.specs.Reading.{IsEndOfReading}
-use Rattle.rds_run.specs.RunStatus.{IsEndOfRunCall, IsEndOfScript}
-use Rattle.rds_threads.specs.declared.form.Form.TheVariants as form
+use Rattle.rds_run.specs.ExitStatus.{SourceSeen, SinkSeen}
+use Rattle.rds_run.specs.Reading.{IsEndOfReading, IsReadAs}
+use Rattle.rds_run.specs.RunStatus.{IsEndOfRunOver, IsEndOfTooMany, IsTooMany, Ran, TooMany}
+use Rattle.rds_run.specs.Streams.{prepared_streams}
+use Rattle.rds_run.specs.Texts.{too_many_line}
 
--- where there is no script, the call ends as its reading did
-pub run_ends_unread : (source : SourceSeen) (sink : SinkSeen) (s : Status) → IsEndOfReading source sink s → IsEndOfRunCall source sink s
-run_ends_unread source sink ended.Written unread = absurd unread
-run_ends_unread source sink ended.Refused unread = unread
-run_ends_unread source sink ended.Usage unread = absurd unread
-run_ends_unread source sink ended.ReadFault unread = unread
-run_ends_unread source sink ended.WriteFault unread = unread.2.0
-run_ends_unread source sink ended.WireFault unread = absurd unread
-run_ends_unread source sink ended.Memory unread = unread
-run_ends_unread source sink ended.Spent unread = absurd unread
-run_ends_unread source sink ended.Unfinished unread = absurd unread
+-- a script with too many streams is answered so
+too_many_over : (tells : Bool) (over : RunWire) (m : Meaning) (sink : SinkSeen) (s : Status) → IsTooMany over m → IsEndOfRunOver tells over m sink s →
+    IsEndOfTooMany (prepared_streams m) sink s
+too_many_over tells over m sink s many (TooMany is end) = end
+too_many_over tells over m sink s many (Ran few end) = absurd (few many)
 
--- a script ends it as its run ended
-pub run_ends_of_script : (source : SourceSeen) (sink : SinkSeen) (m : Meaning) (s : Status) → IsSpelled source.left m →
-    IsEndOfScript form.Report m sink s → IsEndOfRunCall source sink s
-run_ends_of_script source sink m ended.Written read ran = (m, read, ran)
-run_ends_of_script source sink m ended.Refused read ran = absurd ran
-run_ends_of_script source sink m ended.Usage read ran = absurd ran
-run_ends_of_script source sink m ended.ReadFault read ran = absurd ran
-run_ends_of_script source sink m ended.WriteFault read ran = ran
-run_ends_of_script source sink m ended.WireFault read ran = ran
-run_ends_of_script source sink m ended.Memory read ran = ran
-run_ends_of_script source sink m ended.Spent read ran = (m, read, ran)
-run_ends_of_script source sink m ended.Unfinished read ran = ran
+-- and so is the one that was read
+pub too_many_read : (tells : Bool) (over : RunWire) (read m : Meaning) (sink : SinkSeen) (s : Status) → read ≡ m → IsTooMany over m →
+    IsEndOfRunOver tells over read sink s → IsEndOfTooMany (prepared_streams m) sink s
+too_many_read tells over read m sink s same many end =
+    too_many_over tells over m sink s many (subst (λ (r : Meaning). IsEndOfRunOver tells over r sink s) same end)
+
+-- where such a script wasn't read, memory ran out, or the source or the sink failed
+pub too_many_unread : (m : Meaning) (source : SourceSeen) (sink : SinkSeen) (s : Status) → IsReadAs m source (Err s) → IsEndOfReading source sink s →
+    IsEndOfTooMany (prepared_streams m) sink s ⊎ ((s ≡ ended.ReadFault) ⊎ (s ≡ ended.WriteFault))
+too_many_unread m source sink s (inr failed) ends = inr failed.1
+too_many_unread m source sink s (inl memory) ends = inl (subst (IsEndOfTooMany (prepared_streams m) sink) (sym memory) (subst (IsEndOfReading source sink) memory ends))
+
+-- what is said of too many streams is how that may end
+pub many_said : (count : ℕ) (sink : SinkSeen) (s : Status) (line : List ℕ) → line ≡ too_many_line count →
+    ((s ≡ ended.TooManyStreams) × SinkGained sink.held_before sink.held_after line) ⊎ ((s ≡ ended.WriteFault) × HasRisen sink.faults_before sink.faults_after) →
+    SinkGainedFront sink.held_before sink.held_after line → IsEndOfTooMany count sink s
+many_said count sink s line is (inl said) begun =
+    subst (IsEndOfTooMany count sink) (sym said.0) (subst (SinkGained sink.held_before sink.held_after) is said.1)
+many_said count sink s line is (inr failed) begun =
+    subst (IsEndOfTooMany count sink) (sym failed.0) (failed.1, subst (SinkGainedFront sink.held_before sink.held_after) is begun)

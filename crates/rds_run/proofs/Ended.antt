@@ -1,65 +1,30 @@
 -- What the program's exit status says, by how it ends.
-use Rattle.std.proofs.Common.{◌≡◌, ◌⊎◌, inl, inr, ℕ, ◌==◌, ◌≤◌, ◌++◌, List, Option, Some, None, String, codes, cond, map, slice_get, slice_index, string_bytes, sym, ap, subst, unwrap_or, ⊎_elim, ◌∙◌, refl, arith}
+use Rattle.std.proofs.Common.{◌≡◌, ◌⊎◌, inl, inr, ℕ, ◌<◌, ◌≤◌, ◌++◌, Bool, true, List, String, sym, ap, subst, ⊎_elim, ◌∙◌, refl, arith}
 use Rattle.std.specs.Global.{Global}
 use Rattle.rds_link.specs.Streaming.{HasRisen, SinkGained, SinkGainedFront}
 use Rattle.rds_script.specs.declared.cause.Cause.{Cause}
-use Rattle.rds_script.specs.Cause.{cause_text}
 use Rattle.rds_script.specs.Grammar.{Meaning}
 use Rattle.rds_text.specs.Lines.{end_line, spent_line}
 use Rattle.rds_history.specs.History.{text_of as played_text}
 use Rattle.rds_run.specs.declared.status.Status.{Status}
 use Rattle.rds_run.specs.declared.status.Status.TheVariants as ended
 use Rattle.rds_run.specs.ExitStatus.{HasTaken, IsAnswer, code, IsEndOfCall, IsEndOfRefusal, IsPlayed, IsRefusal, IsSpelled, IsSpent, IsToldRefused, IsToldSpelled, SinkSeen, SourceSeen}
-use Rattle.rds_run.specs.RunStatus.{HasFilled, IsEndOfGenCall, IsEndOfRunCall, IsRan, IsRunUnfinished, IsWireFault}
-use Rattle.rds_run.specs.Texts.{bad_line, read_fault_line, usage_line}
-use Rattle.rds_run.specs.Ending.{IsEndOfProgram, IsEndOfUsage, OfGen, OfMemory, OfNone, OfPlay, OfRun}
+use Rattle.rds_run.specs.Reading.{IsEndOfReading}
+use Rattle.rds_run.specs.RunStatus.{HasFilled, IsEndOfGenCall, IsEndOfRunCall, IsEndOfRunOver, IsEndOfScript, IsEndOfTooMany, IsRan, IsRunUnfinished, IsTooMany, IsWireFault, Ran, TooMany, tells_over}
+use Rattle.rds_run.specs.Streams.{prepared_streams}
+use Rattle.rds_run.specs.Texts.{read_fault_line, too_many_line, usage_line}
+use Rattle.rds_run.specs.Ending.{IsEndOfProgram, IsEndOfRunning, IsEndOfUsage, OfGen, OfMemory, OfNone, OfPlay, OfRun}
 use Rattle.rds_generator.specs.Generator.{generated}
 use Rattle.rds_threads.specs.declared.form.Form.TheVariants as form
-use Rattle.rds_words.specs.Gen.{AreGen, IsNamed, gen_word}
+use Rattle.rds_words.specs.declared.wire.RunWire.{RunWire}
+use Rattle.rds_words.specs.declared.wire.RunWire.TheVariants as wire
+use Rattle.rds_words.specs.Gen.{AreGen}
 use Rattle.rds_words.specs.Play.{ArePlay}
 use Rattle.rds_words.specs.Run.{AreRun}
 use Rattle.rds_words.specs.Works.{AreNoCommand}
+use Rattle.rds_run.proofs.Codes.{IsRefusalCode, IsTooManyCode, is_of, of_code, refusal_found, too_many_found, usage_codes}
+use Rattle.rds_run.proofs.Commands.{play_or_gen, play_or_run, run_or_gen, same_gen, same_wire}
 use Rattle.rds_run.proofs.Whole.{ends_in_end_line}
-
--- which status a number stands for
-abbrev of_code : ℕ → Status
-of_code n =
-    cond (n == 0) ended.Written
-    (cond (n == 1) ended.Refused
-    (cond (n == 2) ended.Usage
-    (cond (n == 3) ended.ReadFault
-    (cond (n == 4) ended.WriteFault
-    (cond (n == 5) ended.WireFault
-    (cond (n == 6) ended.Memory
-    (cond (n == 7) ended.Spent ended.Unfinished)))))))
-
-back : (s : Status) → of_code (code s) ≡ s
-back ended.Written = refl
-back ended.Refused = refl
-back ended.Usage = refl
-back ended.ReadFault = refl
-back ended.WriteFault = refl
-back ended.WireFault = refl
-back ended.Memory = refl
-back ended.Spent = refl
-back ended.Unfinished = refl
-
-is_of : (s : Status) (n : ℕ) → code s ≡ n → s ≡ of_code n
-is_of s n e = sym (back s) ∙ ap of_code e
-
-most : (s : Status) → code s ≤ 8
-most ended.Written = omega arith
-most ended.Refused = omega arith
-most ended.Usage = omega arith
-most ended.ReadFault = omega arith
-most ended.WriteFault = omega arith
-most ended.WireFault = omega arith
-most ended.Memory = omega arith
-most ended.Spent = omega arith
-most ended.Unfinished = omega arith
-
-pub at_most : (s : Status) (n : ℕ) → n ≡ code s → n ≤ 8
-at_most s n is = subst (λ (k : ℕ). k ≤ 8) (sym is) (most s)
 
 -- the words of no command are answered by the usage line
 pub usage_of : (sink : SinkSeen) (s : Status) → ((s ≡ ended.Usage) × HasTaken sink usage_line) ⊎ ((s ≡ ended.WriteFault) × HasRisen sink.faults_before sink.faults_after)
@@ -68,78 +33,38 @@ usage_of sink s (inl t) begun = subst (IsEndOfUsage sink) (sym t.0) t.1
 usage_of sink s (inr t) begun = subst (IsEndOfUsage sink) (sym t.0) (t.1, begun)
 
 -- the words are those of one command, which ended so
-pub of_play : (words : List (String Global)) (source : SourceSeen) (sink : SinkSeen) (s : Status) → ArePlay words → IsEndOfCall source sink s
+pub of_play : (tells : Bool) (words : List (String Global)) (source : SourceSeen) (sink : SinkSeen) (s : Status) → ArePlay words → IsEndOfCall source sink s
     → ((line : ℕ) (why : Cause) → IsToldRefused source.left line why → IsEndOfRefusal line why sink s ⊎ ((s ≡ ended.ReadFault) ⊎ (s ≡ ended.WriteFault)))
     → ((m : Meaning) → IsToldSpelled source.left m → (HasRisen source.faults_before source.faults_after → ⊥) → (HasRisen sink.faults_before sink.faults_after → ⊥)
-    → (s ≡ ended.Written) ⊎ ((s ≡ ended.Memory) ⊎ (s ≡ ended.Spent))) → IsEndOfProgram words source sink s
-of_play words source sink s is ends refuses plays = OfPlay is (record { ends = ends; refuses = refuses; plays = plays })
+    → (s ≡ ended.Written) ⊎ ((s ≡ ended.Memory) ⊎ (s ≡ ended.Spent))) → IsEndOfProgram tells words source sink s
+of_play tells words source sink s is ends refuses plays = OfPlay is (record { ends = ends; refuses = refuses; plays = plays })
 
-pub of_run : (words : List (String Global)) (source : SourceSeen) (sink : SinkSeen) (s : Status) → AreRun words → IsEndOfRunCall source sink s
-    → ((line : ℕ) (why : Cause) → IsToldRefused source.left line why → IsEndOfRefusal line why sink s ⊎ ((s ≡ ended.ReadFault) ⊎ (s ≡ ended.WriteFault))) → IsEndOfProgram words source sink s
-of_run words source sink s is ends refuses = OfRun is (record { ends = ends; refuses = refuses })
+pub of_run : (tells : Bool) (words : List (String Global)) (source : SourceSeen) (sink : SinkSeen) (s : Status) (over : RunWire) → AreRun words over
+    → IsEndOfRunCall (tells_over over tells) over source sink s
+    → ((line : ℕ) (why : Cause) → IsToldRefused source.left line why → IsEndOfRefusal line why sink s ⊎ ((s ≡ ended.ReadFault) ⊎ (s ≡ ended.WriteFault)))
+    → ((m : Meaning) → IsToldSpelled source.left m → IsTooMany over m → IsEndOfTooMany (prepared_streams m) sink s ⊎ ((s ≡ ended.ReadFault) ⊎ (s ≡ ended.WriteFault)))
+    → IsEndOfProgram tells words source sink s
+of_run tells words source sink s over is ends refuses too_many = OfRun over is (record { ends = ends; refuses = refuses; too_many = too_many })
 
--- a number of sends is in range
-pub sends_in : (word : Option (List ℕ)) (n : ℕ) → IsNamed 1 100000 word n → (1 ≤ n) × (n ≤ 100000)
-sends_in None n is = absurd is
-sends_in (Some word) n is = (is.least, is.most)
+-- 96 streams are not too many
+few_of : (m : Meaning) → (IsTooMany wire.Tcp m → ⊥) → prepared_streams m ≤ 96
+few_of m none = let not_above : 96 < prepared_streams m → ⊥ = λ above. none (refl, above) in omega (arith, not_above)
 
--- the names of two commands differ, so no words are those of both
-same_name : (words : List (List ℕ)) (a b : List ℕ) → slice_get words 0 ≡ Some a → slice_get words 0 ≡ Some b → a ≡ b
-same_name words a b one other = ap (λ (o : Option (List ℕ)). unwrap_or o a) (sym one ∙ other)
-
-abbrev first_letter : List ℕ → ℕ
-first_letter name = slice_index name 0
-
-play_or_run : (words : List (String Global)) → ArePlay words → AreRun words → ⊥
-play_or_run words play run =
-    let e : 112 ≡ 114 = ap first_letter (same_name (map string_bytes words) (codes "play") (codes "run") play.0 run.0) in
-    absurd (omega (arith, e))
-
-play_or_gen : (words : List (String Global)) (sends seed : ℕ) → ArePlay words → AreGen words sends seed → ⊥
-play_or_gen words sends seed play gen =
-    let e : 112 ≡ 103 = ap first_letter (same_name (map string_bytes words) (codes "play") (codes "gen") play.0 gen.0) in
-    absurd (omega (arith, e))
-
-run_or_gen : (words : List (String Global)) (sends seed : ℕ) → AreRun words → AreGen words sends seed → ⊥
-run_or_gen words sends seed run gen =
-    let e : 114 ≡ 103 = ap first_letter (same_name (map string_bytes words) (codes "run") (codes "gen") run.0 gen.0) in
-    absurd (omega (arith, e))
-
-usage_codes : (sink : SinkSeen) (s : Status) → IsEndOfUsage sink s → (code s ≡ 2) ⊎ (code s ≡ 4)
-usage_codes sink ended.Written e = absurd e
-usage_codes sink ended.Refused e = absurd e
-usage_codes sink ended.Usage e = inl refl
-usage_codes sink ended.ReadFault e = absurd e
-usage_codes sink ended.WriteFault e = inr refl
-usage_codes sink ended.WireFault e = absurd e
-usage_codes sink ended.Memory e = absurd e
-usage_codes sink ended.Spent e = absurd e
-usage_codes sink ended.Unfinished e = absurd e
-
--- what a refusal exits with
-abbrev IsRefusalCode : (line : ℕ) → Cause → SinkSeen → ℕ → Type 0
-IsRefusalCode line why sink n = ((n ≡ 1) × HasTaken sink (bad_line line (cause_text why))) ⊎ ((n ≡ 3) ⊎ ((n ≡ 4) ⊎ (n ≡ 6)))
-
-refusal_codes : (line : ℕ) (why : Cause) (sink : SinkSeen) (s : Status) → IsEndOfRefusal line why sink s → IsRefusalCode line why sink (code s)
-refusal_codes line why sink ended.Written e = absurd e
-refusal_codes line why sink ended.Refused e = inl (refl, e)
-refusal_codes line why sink ended.Usage e = absurd e
-refusal_codes line why sink ended.ReadFault e = absurd e
-refusal_codes line why sink ended.WriteFault e = inr (inr (inl refl))
-refusal_codes line why sink ended.WireFault e = absurd e
-refusal_codes line why sink ended.Memory e = inr (inr (inr refl))
-refusal_codes line why sink ended.Spent e = absurd e
-refusal_codes line why sink ended.Unfinished e = absurd e
-
-refusal_found : (line : ℕ) (why : Cause) (sink : SinkSeen) (s : Status) → IsEndOfRefusal line why sink s ⊎ ((s ≡ ended.ReadFault) ⊎ (s ≡ ended.WriteFault))
-    → IsRefusalCode line why sink (code s)
-refusal_found line why sink s (inl e) = refusal_codes line why sink s e
-refusal_found line why sink s (inr (inl e)) = inr (inl (ap code e))
-refusal_found line why sink s (inr (inr e)) = inr (inr (inl (ap code e)))
-
-module _ (words : List (String Global)) (source : SourceSeen) (sink : SinkSeen) where
+module _ (tells : Bool) (words : List (String Global)) (source : SourceSeen) (sink : SinkSeen) where
   abbrev Ends : Status → Type 0
-  Ends s = IsEndOfProgram words source sink s
+  Ends s = IsEndOfProgram tells words source sink s
+
+  -- what a call of `run` with this status leads to: no script was read, or one with too many streams, or one was run
+  by_run : (over : RunWire) (s : Status) (P : Type 0) → (IsEndOfReading source sink s → P)
+      → ((m : Meaning) → IsSpelled source.left m → IsTooMany over m → IsEndOfTooMany (prepared_streams m) sink s → P)
+      → ((m : Meaning) → IsSpelled source.left m → (IsTooMany over m → ⊥) → IsEndOfScript (tells_over over tells) form.Report m sink s → P)
+      → IsEndOfRunCall (tells_over over tells) over source sink s → P
+  by_run over s P unread many ran (inl e) = unread e
+  by_run over s P unread many ran (inr e) = go e.2
+    where
+      go : IsEndOfRunOver (tells_over over tells) over e.0 sink s → P
+      go (TooMany is end) = many e.0 e.1 is end
+      go (Ran few end) = ran e.0 e.1 few end
 
   ends_at : (s : Status) (n : ℕ) → Ends s → code s ≡ n → Ends (of_code n)
   ends_at s n end e = subst Ends (is_of s n e) end
@@ -149,7 +74,7 @@ module _ (words : List (String Global)) (source : SourceSeen) (sink : SinkSeen) 
 
   usage_code : (s : Status) → Ends s → AreNoCommand words → AreUsageCodes (code s)
   usage_code s (OfPlay is e) none = absurd (none.no_play is)
-  usage_code s (OfRun is e) none = absurd (none.no_run is)
+  usage_code s (OfRun over is e) none = absurd (none.no_run over is)
   usage_code s (OfGen sends seed is e) none = absurd (none.no_gen sends seed is)
   usage_code s (OfNone none e) _ = ⊎_elim (λ (t : code s ≡ 2). inl t) (λ (t : code s ≡ 4). inr (inl t)) (usage_codes sink s e)
   usage_code s (OfMemory e same) none = inr (inr (ap code e))
@@ -159,7 +84,7 @@ module _ (words : List (String Global)) (source : SourceSeen) (sink : SinkSeen) 
 
   usage_at : Ends ended.Usage → AreNoCommand words × HasTaken sink usage_line
   usage_at (OfPlay is e) = absurd e.ends
-  usage_at (OfRun is e) = absurd e.ends
+  usage_at (OfRun over is e) = by_run over _ _ (λ r. absurd r) (λ m read many r. absurd r) (λ m read few r. absurd r) e.ends
   usage_at (OfGen sends seed is e) = absurd e
   usage_at (OfNone none e) = (none, e)
   usage_at (OfMemory e same) = absurd (cc)
@@ -172,7 +97,7 @@ module _ (words : List (String Global)) (source : SourceSeen) (sink : SinkSeen) 
 
   read_at : Ends ended.ReadFault → HasRisen source.faults_before source.faults_after × HasTaken sink read_fault_line
   read_at (OfPlay is e) = e.ends
-  read_at (OfRun is e) = e.ends
+  read_at (OfRun over is e) = by_run over _ _ (λ r. r) (λ m read many r. absurd r) (λ m read few r. absurd r) e.ends
   read_at (OfGen sends seed is e) = absurd e
   read_at (OfNone none e) = absurd e
   read_at (OfMemory e same) = absurd (cc)
@@ -185,7 +110,7 @@ module _ (words : List (String Global)) (source : SourceSeen) (sink : SinkSeen) 
 
   write_at : Ends ended.WriteFault → HasRisen sink.faults_before sink.faults_after
   write_at (OfPlay is e) = e.ends.2.0
-  write_at (OfRun is e) = e.ends
+  write_at (OfRun over is e) = by_run over _ _ (λ r. r.2.0) (λ m read many r. r.0) (λ m read few r. r) e.ends
   write_at (OfGen sends seed is e) = e
   write_at (OfNone none e) = e.0
   write_at (OfMemory e same) = absurd (cc)
@@ -195,7 +120,7 @@ module _ (words : List (String Global)) (source : SourceSeen) (sink : SinkSeen) 
 
   usage_begun_at : Ends ended.WriteFault → AreNoCommand words → SinkGainedFront sink.held_before sink.held_after usage_line
   usage_begun_at (OfPlay is e) free = absurd (free.no_play is)
-  usage_begun_at (OfRun is e) free = absurd (free.no_run is)
+  usage_begun_at (OfRun over is e) free = absurd (free.no_run over is)
   usage_begun_at (OfGen sends seed is e) free = absurd (free.no_gen sends seed is)
   usage_begun_at (OfNone none e) free = e.1
   usage_begun_at (OfMemory e same) free = absurd (cc)
@@ -208,7 +133,7 @@ module _ (words : List (String Global)) (source : SourceSeen) (sink : SinkSeen) 
 
   answer_begun_at : Ends ended.WriteFault → ArePlay words → IsBegun
   answer_begun_at (OfPlay is e) play = (e.ends.0, e.ends.1, e.ends.2.1)
-  answer_begun_at (OfRun is e) play = absurd (play_or_run words play is)
+  answer_begun_at (OfRun over is e) play = absurd (play_or_run words over play is)
   answer_begun_at (OfGen sends seed is e) play = absurd (play_or_gen words sends seed play is)
   answer_begun_at (OfNone none e) play = absurd (none.no_play play)
   answer_begun_at (OfMemory e same) play = absurd (cc)
@@ -218,7 +143,7 @@ module _ (words : List (String Global)) (source : SourceSeen) (sink : SinkSeen) 
 
   memory_at : Ends ended.Memory → sink.held_after ≡ sink.held_before
   memory_at (OfPlay is e) = e.ends
-  memory_at (OfRun is e) = e.ends
+  memory_at (OfRun over is e) = by_run over _ _ (λ r. r) (λ m read many r. r) (λ m read few r. r) e.ends
   memory_at (OfGen sends seed is e) = e
   memory_at (OfNone none e) = absurd e
   memory_at (OfMemory e same) = same
@@ -228,7 +153,7 @@ module _ (words : List (String Global)) (source : SourceSeen) (sink : SinkSeen) 
 
   refused_at : Ends ended.Refused → IsRefusal source.left sink.held_before sink.held_after
   refused_at (OfPlay is e) = e.ends
-  refused_at (OfRun is e) = e.ends
+  refused_at (OfRun over is e) = by_run over _ _ (λ r. r) (λ m read many r. absurd r) (λ m read few r. absurd r) e.ends
   refused_at (OfGen sends seed is e) = absurd e
   refused_at (OfNone none e) = absurd e
   refused_at (OfMemory e same) = absurd (cc)
@@ -236,16 +161,16 @@ module _ (words : List (String Global)) (source : SourceSeen) (sink : SinkSeen) 
   pub refused : (s : Status) (n : ℕ) → n ≡ code s → Ends s → n ≡ 1 → IsRefusal source.left sink.held_before sink.held_after
   refused s n is end e = refused_at (ends_at s 1 end (sym is ∙ e))
 
-  refusal_code : (s : Status) → Ends s → ArePlay words ⊎ AreRun words → (line : ℕ) (why : Cause) → IsToldRefused source.left line why → IsRefusalCode line why sink (code s)
+  refusal_code : (s : Status) → Ends s → ArePlay words ⊎ ((over : RunWire) × AreRun words over) → (line : ℕ) (why : Cause) → IsToldRefused source.left line why → IsRefusalCode line why sink (code s)
   refusal_code s (OfPlay is e) asked line why told = refusal_found line why sink s (e.refuses line why told)
-  refusal_code s (OfRun is e) asked line why told = refusal_found line why sink s (e.refuses line why told)
+  refusal_code s (OfRun over is e) asked line why told = refusal_found line why sink s (e.refuses line why told)
   refusal_code s (OfGen sends seed is e) (inl play) line why told = absurd (play_or_gen words sends seed play is)
-  refusal_code s (OfGen sends seed is e) (inr run) line why told = absurd (run_or_gen words sends seed run is)
+  refusal_code s (OfGen sends seed is e) (inr run) line why told = absurd (run_or_gen words run.0 sends seed run.1 is)
   refusal_code s (OfNone none e) (inl play) line why told = absurd (none.no_play play)
-  refusal_code s (OfNone none e) (inr run) line why told = absurd (none.no_run run)
+  refusal_code s (OfNone none e) (inr run) line why told = absurd (none.no_run run.0 run.1)
   refusal_code s (OfMemory e same) asked line why told = inr (inr (inr (ap code e)))
 
-  pub refuses : (s : Status) (n : ℕ) → n ≡ code s → Ends s → ArePlay words ⊎ AreRun words → (line : ℕ) (why : Cause) → IsToldRefused source.left line why → IsRefusalCode line why sink n
+  pub refuses : (s : Status) (n : ℕ) → n ≡ code s → Ends s → ArePlay words ⊎ ((over : RunWire) × AreRun words over) → (line : ℕ) (why : Cause) → IsToldRefused source.left line why → IsRefusalCode line why sink n
   refuses s n is end asked line why told = subst (IsRefusalCode line why sink) (sym is) (refusal_code s end asked line why told)
 
   abbrev IsPlayedWhole : Type 0
@@ -253,7 +178,7 @@ module _ (words : List (String Global)) (source : SourceSeen) (sink : SinkSeen) 
 
   played_at : Ends ended.Written → ArePlay words → IsPlayedWhole
   played_at (OfPlay is e) play = e.ends
-  played_at (OfRun is e) play = absurd (play_or_run words play is)
+  played_at (OfRun over is e) play = absurd (play_or_run words over play is)
   played_at (OfGen sends seed is e) play = absurd (play_or_gen words sends seed play is)
   played_at (OfNone none e) play = absurd (none.no_play play)
   played_at (OfMemory e same) play = absurd (cc)
@@ -264,45 +189,55 @@ module _ (words : List (String Global)) (source : SourceSeen) (sink : SinkSeen) 
   pub written : (s : Status) (n : ℕ) → n ≡ code s → Ends s → ArePlay words → n ≡ 0 → (front : List ℕ) × SinkGained sink.held_before sink.held_after (front ++ end_line)
   written s n is end play e = let p = played s n is end play e in ends_in_end_line p.0 sink.held_before sink.held_after p.2
 
-  abbrev IsRanWhole : Type 0
-  IsRanWhole = (m : Meaning) × IsSpelled source.left m × IsRan form.Report m sink.held_before sink.held_after
+  -- words of `run` over a wire end the program as `run` over that wire ended, unless memory ran out before
+  abbrev HasRun : RunWire → Status → Type 0
+  HasRun over s = IsEndOfRunning (tells_over over tells) over source sink s ⊎ ((s ≡ ended.Memory) × (sink.held_after ≡ sink.held_before))
 
-  ran_at : Ends ended.Written → AreRun words → IsRanWhole
-  ran_at (OfPlay is e) run = absurd (play_or_run words is run)
-  ran_at (OfRun is e) run = e.ends
-  ran_at (OfGen sends seed is e) run = absurd (run_or_gen words sends seed run is)
-  ran_at (OfNone none e) run = absurd (none.no_run run)
-  ran_at (OfMemory e same) run = absurd (cc)
+  run_at : (over : RunWire) (s : Status) → Ends s → AreRun words over → HasRun over s
+  run_at over s (OfPlay is e) run = absurd (play_or_run words over is run)
+  run_at over s (OfRun asked is e) run = subst (λ (w : RunWire). HasRun w s) (same_wire words asked over is run) (inl e)
+  run_at over s (OfGen sends seed is e) run = absurd (run_or_gen words over sends seed run is)
+  run_at over s (OfNone none e) run = absurd (none.no_run over run)
+  run_at over s (OfMemory e same) run = inr (e, same)
 
-  pub ran : (s : Status) (n : ℕ) → n ≡ code s → Ends s → AreRun words → n ≡ 0 → IsRanWhole
-  ran s n is end run e = ran_at (ends_at s 0 end (sym is ∙ e)) run
+  abbrev IsRanWhole : RunWire → Type 0
+  IsRanWhole over = (m : Meaning) × IsSpelled source.left m × IsRan (tells_over over tells) form.Report m sink.held_before sink.held_after
+      × (IsTooMany over m → ⊥)
 
-  -- the words of `gen` name one number of sends and one seed
-  same_word : (low high : ℕ) (word : Option (List ℕ)) (n k : ℕ) → IsNamed low high word n → IsNamed low high word k → n ≡ k
-  same_word low high None n k one other = absurd one
-  same_word low high (Some word) n k one other = one.value ∙ sym other.value
+  ran_at : (over : RunWire) → HasRun over ended.Written → IsRanWhole over
+  ran_at over (inl e) = by_run over _ _ (λ r. absurd r) (λ m read many r. absurd r) (λ m read few r. (m, read, r, few)) e.ends
+  ran_at over (inr none) = let e = none.0 in absurd (cc)
 
-  same_gen : (sends seed n k : ℕ) → AreGen words sends seed → AreGen words n k → (sends ≡ n) × (seed ≡ k)
-  same_gen sends seed n k one other = (
-    same_word 1 100000 (gen_word (codes "sends") (map string_bytes words)) sends n one.1.numbers.0 other.1.numbers.0,
-    same_word 0 18446744073709551615 (gen_word (codes "seed") (map string_bytes words)) seed k one.1.numbers.1 other.1.numbers.1,
-  )
+  ran_whole : (over : RunWire) (s : Status) (n : ℕ) → n ≡ code s → Ends s → AreRun words over → n ≡ 0 → IsRanWhole over
+  ran_whole over s n is end run e = ran_at over (run_at over ended.Written (ends_at s 0 end (sym is ∙ e)) run)
+
+  pub ran : (s : Status) (n : ℕ) → n ≡ code s → Ends s → AreRun words wire.Memory → n ≡ 0 →
+      (m : Meaning) × IsSpelled source.left m × IsRan true form.Report m sink.held_before sink.held_after
+  ran s n is end run e = let r = ran_whole wire.Memory s n is end run e in (r.0, r.1, r.2)
+
+  pub ran_over_tcp : (s : Status) (n : ℕ) → n ≡ code s → Ends s → AreRun words wire.Tcp → n ≡ 0 →
+      (m : Meaning) × IsSpelled source.left m × IsRan tells form.Report m sink.held_before sink.held_after
+  ran_over_tcp s n is end run e = let r = ran_whole wire.Tcp s n is end run e in (r.0, r.1, r.2)
+
+  pub few : (s : Status) (n : ℕ) → n ≡ code s → Ends s → AreRun words wire.Tcp → n ≡ 0 →
+      (m : Meaning) × IsSpelled source.left m × (prepared_streams m ≤ 96)
+  few s n is end run e = let r = ran_whole wire.Tcp s n is end run e in (r.0, r.1, few_of r.0 r.3)
 
   gen_at : (sends seed : ℕ) (s : Status) → Ends s → AreGen words sends seed → IsEndOfGenCall sends seed sink s ⊎ ((s ≡ ended.Memory) × (sink.held_after ≡ sink.held_before))
   gen_at sends seed s (OfPlay is e) gen = absurd (play_or_gen words sends seed is gen)
-  gen_at sends seed s (OfRun is e) gen = absurd (run_or_gen words sends seed is gen)
+  gen_at sends seed s (OfRun over is e) gen = absurd (run_or_gen words over sends seed is gen)
   gen_at sends seed s (OfGen n k is e) gen =
-      let same = same_gen n k sends seed is gen in
+      let same = same_gen words n k sends seed is gen in
       inl (subst (λ (x : ℕ). IsEndOfGenCall x seed sink s) same.0 (subst (λ (x : ℕ). IsEndOfGenCall n x sink s) same.1 e))
   gen_at sends seed s (OfNone none e) gen = absurd (none.no_gen sends seed gen)
   gen_at sends seed s (OfMemory e same) gen = inr (e, same)
 
   pub summed : (s : Status) (n : ℕ) → n ≡ code s → Ends s → (sends seed : ℕ) → AreGen words sends seed → n ≡ 0 →
-      IsRan (form.Summary seed sends) (generated sends seed) sink.held_before sink.held_after
+      IsRan true (form.Summary seed sends) (generated sends seed) sink.held_before sink.held_after
   summed s n is end sends seed gen e = go (gen_at sends seed ended.Written (ends_at s 0 end (sym is ∙ e)) gen)
     where
       go : IsEndOfGenCall sends seed sink ended.Written ⊎ ((ended.Written ≡ ended.Memory) × (sink.held_after ≡ sink.held_before)) →
-          IsRan (form.Summary seed sends) (generated sends seed) sink.held_before sink.held_after
+          IsRan true (form.Summary seed sends) (generated sends seed) sink.held_before sink.held_after
       go (inl ran) = ran
       go (inr none) = let e = none.0 in absurd (cc)
 
@@ -311,7 +246,7 @@ module _ (words : List (String Global)) (source : SourceSeen) (sink : SinkSeen) 
 
   full_at : Ends ended.Spent → ArePlay words → IsFull
   full_at (OfPlay is e) play = e.ends
-  full_at (OfRun is e) play = absurd (play_or_run words play is)
+  full_at (OfRun over is e) play = absurd (play_or_run words over play is)
   full_at (OfGen sends seed is e) play = absurd (play_or_gen words sends seed play is)
   full_at (OfNone none e) play = absurd (none.no_play play)
   full_at (OfMemory e same) play = absurd (cc)
@@ -319,18 +254,15 @@ module _ (words : List (String Global)) (source : SourceSeen) (sink : SinkSeen) 
   pub full : (s : Status) (n : ℕ) → n ≡ code s → Ends s → ArePlay words → n ≡ 7 → IsFull
   full s n is end play e = full_at (ends_at s 7 end (sym is ∙ e)) play
 
-  abbrev IsFilled : Type 0
-  IsFilled = (m : Meaning) × IsSpelled source.left m × HasFilled sink.held_before sink.held_after
+  abbrev IsFilled : RunWire → Type 0
+  IsFilled over = (m : Meaning) × IsSpelled source.left m × HasFilled (tells_over over tells) sink.held_before sink.held_after
 
-  filled_at : Ends ended.Spent → AreRun words → IsFilled
-  filled_at (OfPlay is e) run = absurd (play_or_run words is run)
-  filled_at (OfRun is e) run = e.ends
-  filled_at (OfGen sends seed is e) run = absurd (run_or_gen words sends seed run is)
-  filled_at (OfNone none e) run = absurd (none.no_run run)
-  filled_at (OfMemory e same) run = absurd (cc)
+  filled_at : (over : RunWire) → HasRun over ended.Spent → IsFilled over
+  filled_at over (inl e) = by_run over _ _ (λ r. absurd r) (λ m read many r. absurd r) (λ m read few r. (m, read, r)) e.ends
+  filled_at over (inr none) = let e = none.0 in absurd (cc)
 
-  pub filled : (s : Status) (n : ℕ) → n ≡ code s → Ends s → AreRun words → n ≡ 7 → IsFilled
-  filled s n is end run e = filled_at (ends_at s 7 end (sym is ∙ e)) run
+  pub filled : (s : Status) (n : ℕ) → n ≡ code s → Ends s → (over : RunWire) → AreRun words over → n ≡ 7 → IsFilled over
+  filled s n is end over run e = filled_at over (run_at over ended.Spent (ends_at s 7 end (sym is ∙ e)) run)
 
   abbrev HasSpent : Type 0
   HasSpent = (host peer entries : ℕ) × HasTaken sink (spent_line host peer entries)
@@ -340,7 +272,8 @@ module _ (words : List (String Global)) (source : SourceSeen) (sink : SinkSeen) 
       let m = e.ends.0 in
       let at = e.ends.2.full in
       (at.host, at.peer, at.entries, subst (HasTaken sink) (ap (played_text m.hosts) e.ends.2.ends) e.ends.2.written)
-  spent_at (OfRun is e) = let at = e.ends.2 in (at.host, at.peer, at.entries, at.written)
+  spent_at (OfRun over is e) =
+      by_run over _ _ (λ r. absurd r) (λ m read many r. absurd r) (λ m read few r. (r.host, r.peer, r.entries, r.written)) e.ends
   spent_at (OfGen sends seed is e) = (e.host, e.peer, e.entries, e.written)
   spent_at (OfNone none e) = absurd e
   spent_at (OfMemory e same) = absurd (cc)
@@ -357,7 +290,7 @@ module _ (words : List (String Global)) (source : SourceSeen) (sink : SinkSeen) 
       (λ (t : s ≡ ended.Written). inl (ap code t))
       (λ (t : (s ≡ ended.Memory) ⊎ (s ≡ ended.Spent)). inr (⊎_elim (λ (u : s ≡ ended.Memory). inl (ap code u)) (λ (u : s ≡ ended.Spent). inr (ap code u)) t))
       (e.plays m told read wrote)
-  play_code s (OfRun is e) play m told read wrote = absurd (play_or_run words play is)
+  play_code s (OfRun over is e) play m told read wrote = absurd (play_or_run words over play is)
   play_code s (OfGen sends seed is e) play m told read wrote = absurd (play_or_gen words sends seed play is)
   play_code s (OfNone none e) play m told read wrote = absurd (none.no_play play)
   play_code s (OfMemory e same) play m told read wrote = inr (inl (ap code e))
@@ -368,7 +301,10 @@ module _ (words : List (String Global)) (source : SourceSeen) (sink : SinkSeen) 
 
   wire_at : Ends ended.WireFault → (ArePlay words → ⊥) × IsWireFault sink.held_before sink.held_after
   wire_at (OfPlay is e) = absurd e.ends
-  wire_at (OfRun is e) = (λ play. play_or_run words play is, e.ends)
+  wire_at (OfRun over is e) = (
+    λ play. play_or_run words over play is,
+    by_run over _ _ (λ r. absurd r) (λ m read many r. absurd r) (λ m read few r. r) e.ends,
+  )
   wire_at (OfGen sends seed is e) = (λ play. play_or_gen words sends seed play is, e)
   wire_at (OfNone none e) = absurd e
   wire_at (OfMemory e same) = absurd (cc)
@@ -378,10 +314,37 @@ module _ (words : List (String Global)) (source : SourceSeen) (sink : SinkSeen) 
 
   unfinished_at : Ends ended.Unfinished → (ArePlay words → ⊥) × IsRunUnfinished sink.held_before sink.held_after
   unfinished_at (OfPlay is e) = absurd e.ends
-  unfinished_at (OfRun is e) = (λ play. play_or_run words play is, e.ends)
+  unfinished_at (OfRun over is e) = (
+    λ play. play_or_run words over play is,
+    by_run over _ _ (λ r. absurd r) (λ m read many r. absurd r) (λ m read few r. r) e.ends,
+  )
   unfinished_at (OfGen sends seed is e) = (λ play. play_or_gen words sends seed play is, e)
   unfinished_at (OfNone none e) = absurd e
   unfinished_at (OfMemory e same) = absurd (cc)
 
   pub unfinished : (s : Status) (n : ℕ) → n ≡ code s → Ends s → n ≡ 8 → (ArePlay words → ⊥) × IsRunUnfinished sink.held_before sink.held_after
   unfinished s n is end e = unfinished_at (ends_at s 8 end (sym is ∙ e))
+
+  abbrev HasTooMany : Type 0
+  HasTooMany = AreRun words wire.Tcp × ((m : Meaning) × IsSpelled source.left m × (96 < prepared_streams m) × HasTaken sink (too_many_line (prepared_streams m)))
+
+  too_many_at : Ends ended.TooManyStreams → HasTooMany
+  too_many_at (OfPlay is e) = absurd e.ends
+  too_many_at (OfRun over is e) = by_run over _ _ (λ r. absurd r)
+      (λ m read many r. (subst (λ (w : RunWire). AreRun words w) many.0 is, (m, read, many.1, r))) (λ m read few r. absurd r) e.ends
+  too_many_at (OfGen sends seed is e) = absurd e
+  too_many_at (OfNone none e) = absurd e
+  too_many_at (OfMemory e same) = absurd (cc)
+
+  pub too_many : (s : Status) (n : ℕ) → n ≡ code s → Ends s → n ≡ 9 → HasTooMany
+  too_many s n is end e = too_many_at (ends_at s 9 end (sym is ∙ e))
+
+  refuses_many_at : (s : Status) → HasRun wire.Tcp s → (m : Meaning) → IsToldSpelled source.left m → 96 < prepared_streams m →
+      IsTooManyCode (prepared_streams m) sink (code s)
+  refuses_many_at s (inl e) m told above = too_many_found (prepared_streams m) sink s (e.too_many m told (refl, above))
+  refuses_many_at s (inr none) m told above = inr (inr (inr (ap code none.0)))
+
+  pub refuses_many : (s : Status) (n : ℕ) → n ≡ code s → Ends s → AreRun words wire.Tcp → (m : Meaning) → IsToldSpelled source.left m →
+      96 < prepared_streams m → IsTooManyCode (prepared_streams m) sink n
+  refuses_many s n is end run m told above =
+      subst (IsTooManyCode (prepared_streams m) sink) (sym is) (refuses_many_at s (run_at wire.Tcp s end run) m told above)

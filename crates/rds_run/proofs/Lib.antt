@@ -1,4 +1,6 @@
 pub mod Whole
+pub mod Codes
+pub mod Commands
 pub mod Calling
 pub mod Ended
 pub mod Ran

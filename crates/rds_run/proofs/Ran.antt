@@ -1,5 +1,5 @@
 -- A run that ended well is one of which the status says so.
-use Rattle.std.proofs.Common.{◌≡◌, ℕ, true, Vec, refl, subst}
+use Rattle.std.proofs.Common.{◌≡◌, ℕ, Bool, Vec, subst}
 use Rattle.std.specs.Global.{Global}
 use Rattle.rds_script.specs.Grammar.{Meaning}
 use Rattle.rds_report.specs.Views.{host_views}
@@ -10,8 +10,8 @@ use Rattle.rds_threads.specs.declared.form.RunEnd.{RunEnd}
 use Rattle.rds_threads.specs.declared.form.RunEnd.TheVariants as ended
 use Rattle.rds_run.specs.RunStatus.{IsRan}
 
-pub ran_of : (limit : ℕ) (form : Form) (s : Meaning) (sink : Written) (result : RunEnd) (ends : Vec HostEnd Global) → result ≡ ended.Ok ends →
-    IsEndOfRun form true limit s.hosts s.commands sink result → IsRan form s sink.held_before sink.held_after
-ran_of limit form s sink result ends is end =
-    let ran = subst (IsEndOfRun form true limit s.hosts s.commands sink) is end in
-    record { ends = host_views ends.items; did = ran.0; drained = ran.1 refl; written = ran.2 }
+pub ran_of : (tells : Bool) (limit : ℕ) (form : Form) (s : Meaning) (sink : Written) (result : RunEnd) (ends : Vec HostEnd Global) → result ≡ ended.Ok ends →
+    IsEndOfRun form tells limit s.hosts s.commands sink result → IsRan tells form s sink.held_before sink.held_after
+ran_of tells limit form s sink result ends is end =
+    let ran = subst (IsEndOfRun form tells limit s.hosts s.commands sink) is end in
+    record { ends = host_views ends.items; did = ran.0; drained = ran.1; written = ran.2 }

@@ -101,6 +101,7 @@ ends_of_played source sink m ended.WireFault read played = absurd played
 ends_of_played source sink m ended.Memory read played = played
 ends_of_played source sink m ended.Spent read played = (m, read, played)
 ends_of_played source sink m ended.Unfinished read played = absurd played
+ends_of_played source sink m ended.TooManyStreams read played = absurd played
 
 ends_of_refusal : (line : ℕ) (why : Cause) (source : SourceSeen) (sink : SinkSeen) (s : Status) → IsRefusedAt source.left line why →
     IsEndOfRefusal line why sink s → IsEndOfReading source sink s
@@ -113,6 +114,7 @@ ends_of_refusal line why source sink ended.WireFault at refused = absurd refused
 ends_of_refusal line why source sink ended.Memory at refused = refused
 ends_of_refusal line why source sink ended.Spent at refused = absurd refused
 ends_of_refusal line why source sink ended.Unfinished at refused = absurd refused
+ends_of_refusal line why source sink ended.TooManyStreams at refused = absurd refused
 
 -- what a refused text leaves is how a reading may end
 pub ends_of_refused : (text : List ℕ) (line : ℕ) (why : Cause) (source : SourceSeen) (sink : SinkSeen) (s : Status) →
@@ -131,6 +133,7 @@ ends_unread source sink ended.WireFault unread = absurd unread
 ends_unread source sink ended.Memory unread = unread
 ends_unread source sink ended.Spent unread = absurd unread
 ends_unread source sink ended.Unfinished unread = absurd unread
+ends_unread source sink ended.TooManyStreams unread = absurd unread
 
 -- a played script ends in one of three ways, where the sink does not fail
 pub plays : (m : Meaning) (sink : SinkSeen) (s : Status) → IsEndOfPlay m sink s → (HasRisen sink.faults_before sink.faults_after → ⊥) →
@@ -142,6 +145,7 @@ plays m sink ended.ReadFault played well = absurd played
 plays m sink ended.WriteFault played well = absurd (well played.0)
 plays m sink ended.WireFault played well = absurd played
 plays m sink ended.Unfinished played well = absurd played
+plays m sink ended.TooManyStreams played well = absurd played
 plays m sink ended.Memory played well = inr (inl refl)
 plays m sink ended.Spent played well = inr (inr refl)
 

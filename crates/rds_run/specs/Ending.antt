@@ -1,5 +1,5 @@
 -- How the program ends, by what its words ask for. Source: this project's own.
-use Rattle.std.specs.Prelude.{◌≡◌, ◌⊎◌, ℕ, List, String}
+use Rattle.std.specs.Prelude.{◌≡◌, ◌⊎◌, ℕ, Bool, List, String}
 use Rattle.std.specs.Global.{Global}
 use Rattle.rds_link.specs.Streaming.{HasRisen}
 use Rattle.rds_script.specs.declared.cause.Cause.{Cause}
@@ -7,8 +7,10 @@ use Rattle.rds_script.specs.Grammar.{Meaning}
 use Rattle.rds_run.specs.declared.status.Status.{Status}
 use Rattle.rds_run.specs.declared.status.Status.TheVariants as status
 use Rattle.rds_run.specs.ExitStatus.{HasFailedIn, HasTaken, HasTakenNothing, IsEndOfCall, IsEndOfRefusal, IsToldRefused, IsToldSpelled, SinkSeen, SourceSeen}
-use Rattle.rds_run.specs.RunStatus.{IsEndOfGenCall, IsEndOfRunCall}
+use Rattle.rds_run.specs.RunStatus.{IsEndOfGenCall, IsEndOfRunCall, IsEndOfTooMany, IsTooMany, tells_over}
+use Rattle.rds_run.specs.Streams.{prepared_streams}
 use Rattle.rds_run.specs.Texts.{usage_line}
+use Rattle.rds_words.specs.declared.wire.RunWire.{RunWire}
 use Rattle.rds_words.specs.Gen.{AreGen}
 use Rattle.rds_words.specs.Play.{ArePlay}
 use Rattle.rds_words.specs.Run.{AreRun}
@@ -26,10 +28,13 @@ pub record IsEndOfPlaying (source : SourceSeen) (sink : SinkSeen) (s : Status) :
   pub plays : (m : Meaning) → IsToldSpelled source.left m → (HasRisen source.faults_before source.faults_after → ⊥) → (HasRisen sink.faults_before sink.faults_after → ⊥) →
       (s ≡ status.Written) ⊎ ((s ≡ status.Memory) ⊎ (s ≡ status.Spent))
 
--- how `run` ends
-pub record IsEndOfRunning (source : SourceSeen) (sink : SinkSeen) (s : Status) : Type 0 where
-  pub ends : IsEndOfRunCall source sink s
+-- how `run` ends; a text that spells a script for which too many streams would be prepared is answered so, unless the source or the sink
+-- fails or memory runs out
+pub record IsEndOfRunning (tells : Bool) (over : RunWire) (source : SourceSeen) (sink : SinkSeen) (s : Status) : Type 0 where
+  pub ends : IsEndOfRunCall tells over source sink s
   pub refuses : Refuses source sink s
+  pub too_many : (m : Meaning) → IsToldSpelled source.left m → IsTooMany over m →
+      IsEndOfTooMany (prepared_streams m) sink s ⊎ ((s ≡ status.ReadFault) ⊎ (s ≡ status.WriteFault))
 
 -- the usage line was written, or the sink failed after it took a beginning of it; another status can't come
 abbrev pub IsEndOfUsage : SinkSeen → Status → Type 0
@@ -37,10 +42,11 @@ IsEndOfUsage sink status.Usage = HasTaken sink usage_line
 IsEndOfUsage sink status.WriteFault = HasFailedIn sink usage_line
 IsEndOfUsage sink _ = ⊥
 
--- the words are those of one command, which ends so, or those of none, or memory ran out before that was known
-pub data IsEndOfProgram (words : List (String Global)) (source : SourceSeen) (sink : SinkSeen) (s : Status) : Type 0 where
-  OfPlay : ArePlay words → IsEndOfPlaying source sink s → IsEndOfProgram words source sink s
-  OfRun : AreRun words → IsEndOfRunning source sink s → IsEndOfProgram words source sink s
-  OfGen : (sends seed : ℕ) → AreGen words sends seed → IsEndOfGenCall sends seed sink s → IsEndOfProgram words source sink s
-  OfNone : AreNoCommand words → IsEndOfUsage sink s → IsEndOfProgram words source sink s
-  OfMemory : s ≡ status.Memory → HasTakenNothing sink → IsEndOfProgram words source sink s
+-- The words are those of one command, which ends so, or those of none, or memory ran out before that was known. The ends of the wire over
+-- TCP tell so.
+pub data IsEndOfProgram (tells : Bool) (words : List (String Global)) (source : SourceSeen) (sink : SinkSeen) (s : Status) : Type 0 where
+  OfPlay : ArePlay words → IsEndOfPlaying source sink s → IsEndOfProgram tells words source sink s
+  OfRun : (over : RunWire) → AreRun words over → IsEndOfRunning (tells_over over tells) over source sink s → IsEndOfProgram tells words source sink s
+  OfGen : (sends seed : ℕ) → AreGen words sends seed → IsEndOfGenCall sends seed sink s → IsEndOfProgram tells words source sink s
+  OfNone : AreNoCommand words → IsEndOfUsage sink s → IsEndOfProgram tells words source sink s
+  OfMemory : s ≡ status.Memory → HasTakenNothing sink → IsEndOfProgram tells words source sink s

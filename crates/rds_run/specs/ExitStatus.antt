@@ -26,6 +26,7 @@ code status.WireFault = 5
 code status.Memory = 6
 code status.Spent = 7
 code status.Unfinished = 8
+code status.TooManyStreams = 9
 
 -- what a call sees of its source: the bytes that it had left, where it tells them, and how often it has failed
 pub record SourceSeen : Type 0 where
@@ -134,3 +135,4 @@ IsEndOfCall source sink status.WriteFault = (answer : List ℕ) × IsAnswer sour
 IsEndOfCall source sink status.Memory = HasTakenNothing sink
 IsEndOfCall source sink status.WireFault = ⊥
 IsEndOfCall source sink status.Unfinished = ⊥
+IsEndOfCall source sink status.TooManyStreams = ⊥

@@ -1,4 +1,5 @@
 pub mod Texts
+pub mod Streams
 pub mod ExitStatus
 pub mod Reading
 pub mod RunStatus

@@ -23,7 +23,8 @@ abbrev pub IsRefusedBy : (line : ℕ) → Cause → SinkSeen → Result Script S
 IsRefusedBy line cause sink (Ok script) = ⊥
 IsRefusedBy line cause sink (Err s) = IsEndOfRefusal line cause sink s ⊎ ((s ≡ status.ReadFault) ⊎ (s ≡ status.WriteFault))
 
--- this script was read, or memory ran out, or the source failed
+-- this script was read, or memory ran out, or the source failed, and the status says so unless the sink failed too
 abbrev pub IsReadAs : Meaning → SourceSeen → Result Script Status → Type 0
 IsReadAs m source (Ok script) = meaning script ≡ m
-IsReadAs m source (Err s) = (s ≡ status.Memory) ⊎ HasRisen source.faults_before source.faults_after
+IsReadAs m source (Err s) =
+    (s ≡ status.Memory) ⊎ (HasRisen source.faults_before source.faults_after × ((s ≡ status.ReadFault) ⊎ (s ≡ status.WriteFault)))

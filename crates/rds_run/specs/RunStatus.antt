@@ -1,5 +1,5 @@
 -- What the exit status of a run says of its source and its sink. Source: this project's own; docs/COMMAND.md has the table.
-use Rattle.std.specs.Prelude.{◌≡◌, ℕ, ◌+◌, ◌<◌, Option, List, length, true}
+use Rattle.std.specs.Prelude.{◌≡◌, ◌⊎◌, ℕ, ◌+◌, ◌<◌, Bool, true, Option, List, length}
 use Rattle.rds_link.specs.Streaming.{HasRisen, SinkGained}
 use Rattle.rds_model.specs.declared.entry.Entry.{Entry}
 use Rattle.rds_model.specs.declared.journal.TheConstants.{MAX_ENTRIES}
@@ -12,21 +12,30 @@ use Rattle.rds_threads.specs.Texts.{fault_line, text_of, unfinished_line}
 use Rattle.rds_threads.specs.declared.form.Form.{Form}
 use Rattle.rds_threads.specs.declared.form.Form.TheVariants as form
 use Rattle.rds_generator.specs.Generator.{generated}
+use Rattle.rds_words.specs.declared.wire.RunWire.{RunWire}
+use Rattle.rds_words.specs.declared.wire.RunWire.TheVariants as wire
 use Rattle.rds_run.specs.declared.status.Status.{Status}
 use Rattle.rds_run.specs.declared.status.Status.TheVariants as status
-use Rattle.rds_run.specs.ExitStatus.{HasTaken, HasTakenNothing, IsRefusal, IsSpelled, SinkSeen, SourceSeen}
-use Rattle.rds_run.specs.Texts.{read_fault_line}
+use Rattle.rds_run.specs.ExitStatus.{HasFailedIn, HasTaken, HasTakenNothing, IsSpelled, SinkSeen, SourceSeen}
+use Rattle.rds_run.specs.Reading.{IsEndOfReading}
+use Rattle.rds_run.specs.Streams.{prepared_streams}
+use Rattle.rds_run.specs.Texts.{too_many_line}
 
--- A run of the script came to its end: its hosts did the script's commands, what they have then is sound, nothing is left on its way between
--- any two of them, and the sink took exactly the text of this form on it. Streams in memory tell their bytes.
-pub record IsRan (form : Form) (s : Meaning) (held_before held_after : Option (List ℕ)) : Type 0 where
+-- whether the ends of a wire tell their bytes: those in memory do, and those over TCP as they say
+abbrev pub tells_over : RunWire → (tcp : Bool) → Bool
+tells_over wire.Memory tcp = true
+tells_over wire.Tcp tcp = tcp
+
+-- A run of the script came to its end: its hosts did the script's commands, what they have then is sound, and the sink took exactly the
+-- text of this form on it. Where ends tell their bytes, nothing is left on its way between any two of the hosts.
+pub record IsRan (tells : Bool) (form : Form) (s : Meaning) (held_before held_after : Option (List ℕ)) : Type 0 where
   pub ends : List FinalHost
-  pub did : AreEnds true s.hosts s.commands ends
-  pub drained : AreDrainedHosts ends
+  pub did : AreEnds tells s.hosts s.commands ends
+  pub drained : tells ≡ true → AreDrainedHosts ends
   pub written : SinkGained held_before held_after (text_of form ends)
 
 -- a run filled the journal of a host with a peer: both journals are sound, and the sink took the line that says so
-pub record HasFilled (held_before held_after : Option (List ℕ)) : Type 0 where
+pub record HasFilled (tells : Bool) (held_before held_after : Option (List ℕ)) : Type 0 where
   pub host : ℕ
   pub peer : ℕ
   pub entries : ℕ
@@ -34,7 +43,7 @@ pub record HasFilled (held_before held_after : Option (List ℕ)) : Type 0 where
   pub other : List Entry
   pub count : length own ≡ entries
   pub most : MAX_ENTRIES < entries + 2
-  pub sound : AreSoundJournals true own other
+  pub sound : AreSoundJournals tells own other
   pub written : SinkGained held_before held_after (spent_line host peer entries)
 
 -- a stream of two hosts couldn't be opened, and the sink took the line that says so
@@ -45,33 +54,40 @@ IsWireFault held_before held_after = (low high stream : ℕ) × SinkGained held_
 abbrev pub IsRunUnfinished : (held_before held_after : Option (List ℕ)) → Type 0
 IsRunUnfinished held_before held_after = (count : ℕ) × SinkGained held_before held_after (unfinished_line count)
 
+-- more streams would be prepared for a run of the script over TCP than may be
+abbrev pub IsTooMany : RunWire → Meaning → Type 0
+IsTooMany over s = (over ≡ wire.Tcp) × (96 < prepared_streams s)
+
 -- A status for which `⊥` stands can't come.
 
+-- the status where so many streams are too many: the line that says so was written, or a fault of the sink or a memory error kept the call
+-- from that
+abbrev pub IsEndOfTooMany : (count : ℕ) → SinkSeen → Status → Type 0
+IsEndOfTooMany count sink status.TooManyStreams = HasTaken sink (too_many_line count)
+IsEndOfTooMany count sink status.WriteFault = HasFailedIn sink (too_many_line count)
+IsEndOfTooMany count sink status.Memory = HasTakenNothing sink
+IsEndOfTooMany count sink _ = ⊥
+
 -- the status after a script was run, whose text has this form
-abbrev pub IsEndOfScript : Form → Meaning → SinkSeen → Status → Type 0
-IsEndOfScript form s sink status.Written = IsRan form s sink.held_before sink.held_after
-IsEndOfScript form s sink status.WireFault = IsWireFault sink.held_before sink.held_after
-IsEndOfScript form s sink status.Spent = HasFilled sink.held_before sink.held_after
-IsEndOfScript form s sink status.Unfinished = IsRunUnfinished sink.held_before sink.held_after
-IsEndOfScript form s sink status.WriteFault = HasRisen sink.faults_before sink.faults_after
-IsEndOfScript form s sink status.Memory = HasTakenNothing sink
-IsEndOfScript form s sink _ = ⊥
+abbrev pub IsEndOfScript : (tells : Bool) → Form → Meaning → SinkSeen → Status → Type 0
+IsEndOfScript tells form s sink status.Written = IsRan tells form s sink.held_before sink.held_after
+IsEndOfScript tells form s sink status.WireFault = IsWireFault sink.held_before sink.held_after
+IsEndOfScript tells form s sink status.Spent = HasFilled tells sink.held_before sink.held_after
+IsEndOfScript tells form s sink status.Unfinished = IsRunUnfinished sink.held_before sink.held_after
+IsEndOfScript tells form s sink status.WriteFault = HasRisen sink.faults_before sink.faults_after
+IsEndOfScript tells form s sink status.Memory = HasTakenNothing sink
+IsEndOfScript tells form s sink _ = ⊥
 
--- the status of the command `run`
-abbrev pub IsEndOfRunCall : SourceSeen → SinkSeen → Status → Type 0
-IsEndOfRunCall source sink status.Written =
-    (s : Meaning) × IsSpelled source.left s × IsRan form.Report s sink.held_before sink.held_after
-IsEndOfRunCall source sink status.Refused = IsRefusal source.left sink.held_before sink.held_after
-IsEndOfRunCall source sink status.Usage = ⊥
-IsEndOfRunCall source sink status.ReadFault =
-    HasRisen source.faults_before source.faults_after × HasTaken sink read_fault_line
-IsEndOfRunCall source sink status.WriteFault = HasRisen sink.faults_before sink.faults_after
-IsEndOfRunCall source sink status.WireFault = IsWireFault sink.held_before sink.held_after
-IsEndOfRunCall source sink status.Memory = HasTakenNothing sink
-IsEndOfRunCall source sink status.Spent =
-    (s : Meaning) × IsSpelled source.left s × HasFilled sink.held_before sink.held_after
-IsEndOfRunCall source sink status.Unfinished = IsRunUnfinished sink.held_before sink.held_after
+-- how the command `run` ends with a script: its streams are too many, or it was run
+pub data IsEndOfRunOver (tells : Bool) (over : RunWire) (s : Meaning) (sink : SinkSeen) (end : Status) : Type 0 where
+  TooMany : IsTooMany over s → IsEndOfTooMany (prepared_streams s) sink end → IsEndOfRunOver tells over s sink end
+  Ran : (IsTooMany over s → ⊥) → IsEndOfScript tells form.Report s sink end → IsEndOfRunOver tells over s sink end
 
--- the status of the command `gen`: the generated script was run, or memory ran out before
+-- the status of the command `run`: no script was read, or the source's bytes spell one
+abbrev pub IsEndOfRunCall : (tells : Bool) → RunWire → SourceSeen → SinkSeen → Status → Type 0
+IsEndOfRunCall tells over source sink end =
+    IsEndOfReading source sink end ⊎ ((s : Meaning) × IsSpelled source.left s × IsEndOfRunOver tells over s sink end)
+
+-- the status of the command `gen`: the generated script was run over memory, or memory ran out before
 abbrev pub IsEndOfGenCall : (sends seed : ℕ) → SinkSeen → Status → Type 0
-IsEndOfGenCall sends seed sink s = IsEndOfScript (form.Summary seed sends) (generated sends seed) sink s
+IsEndOfGenCall sends seed sink s = IsEndOfScript true (form.Summary seed sends) (generated sends seed) sink s

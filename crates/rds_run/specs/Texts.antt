@@ -13,3 +13,7 @@ read_fault_line = text_line (codes "read fault" ∷ [])
 -- the line of a script that is refused: the number of the line, and the words of the cause
 abbrev pub bad_line : ℕ → List ℕ → List ℕ
 bad_line number cause = text_line (codes "bad line " ∷ decimal number ∷ codes ": " ∷ cause ∷ [])
+
+-- the line of a script for which so many streams would be prepared
+abbrev pub too_many_line : ℕ → List ℕ
+too_many_line count = text_line (codes "too many streams " ∷ decimal count ∷ [])

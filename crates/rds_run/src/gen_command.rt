@@ -1,7 +1,7 @@
 ghost use Rattle.std.specs.Prelude.{◌≤◌};
 ghost use Rattle.rds_run.specs.RunStatus.{IsEndOfGenCall};
 
-use crate::running::run_script;
+use crate::running::run_in_memory;
 use crate::status::Status;
 use rds_generator::generate;
 use rds_link::{Gate, Sink};
@@ -29,7 +29,7 @@ pub fn gen_text<K: Sink, G: Gate + Sync, R: Threads + Wait + Net + Sync>(
         result }
 {
     match generate(alloc, sends, seed) {
-        Ok(script) => run_script(
+        Ok(script) => run_in_memory(
             rt,
             alloc,
             &script,

@@ -1,29 +1,42 @@
-ghost use Rattle.std.specs.Prelude.{◌≡◌, ◌≢◌, ◌⊎◌, ℕ};
+ghost use Rattle.std.specs.Prelude.{◌≡◌, ◌⊎◌, ◌↔◌, ◌<◌, ℕ, IsTrue};
+ghost use Rattle.rds_script.specs.Script.{IsScript};
 ghost use Rattle.rds_script.specs.declared.cause.Cause.{Cause as Why};
-ghost use Rattle.rds_run.specs.ExitStatus.{IsEndOfRefusal, IsToldRefused};
-ghost use Rattle.rds_run.specs.RunStatus.{IsEndOfRunCall};
+ghost use Rattle.rds_script.specs.Grammar.{Meaning, meaning};
+ghost use Rattle.rds_words.specs.declared.wire.RunWire.TheVariants as wires;
+ghost use Rattle.rds_run.specs.ExitStatus.{IsEndOfRefusal, IsToldRefused, IsToldSpelled};
+ghost use Rattle.rds_run.specs.RunStatus.{IsEndOfRunCall, IsEndOfRunOver, IsEndOfTooMany, IsTooMany, tells_over};
+ghost use Rattle.rds_run.specs.Streams.{prepared_streams as streams_of};
 ghost use Rattle.rds_run.specs.declared.status.Status.TheVariants as ended;
 
+use crate::answer::say;
 use crate::reading::read_script;
-use crate::running::run_script;
+use crate::running::{run_in_memory, run_script};
 use crate::status::Status;
-use rds_link::{Gate, Sink, Source};
+use crate::streams::{MAX_STREAMS, prepared_streams};
+use rds_link::{Gate, Sink, Source, Wire};
+use rds_script::Script;
 use rds_threads::Form;
+use rds_words::RunWire;
 use std::alloc::Global;
 use std::net::Net;
 use std::sync::Wait;
 use std::thread::Threads;
 
-/// The command `run`: reads a script from the source to its end, runs it with threads over streams in memory, and writes its report
-/// to the sink. A script that is refused is answered by a text line, and so is a source that fails.
-pub fn run_text<S: Source, K: Sink, G: Gate + Sync, R: Threads + Wait + Net + Sync>(
+/// The command `run`: reads a script from the source to its end, runs it with threads over the wire that is asked for, and writes
+/// its report to the sink. A script that is refused is answered by a text line, and so are a source that fails and a script that
+/// would need too many streams over TCP.
+pub fn run_text<S: Source, K: Sink, W: Wire, G: Gate + Sync, R: Threads + Wait + Net + Sync>(
     rt: &R,
     alloc: Global,
+    wire: RunWire,
     source: &mut S,
     sink: &mut K,
+    tcp: &mut W,
     gate: &G,
 ) -> Status
-    ensures ends { IsEndOfRunCall
+where
+    W::End: Send,
+    ensures ends { IsEndOfRunCall (tells_over wire W.End.means.tells) wire
         record { left = S.left source.old; faults_before = S.faults source.old; faults_after = S.faults source.new }
         record { held_before = K.held sink.old; held_after = K.held sink.new; faults_before = K.faults sink.old; faults_after = K.faults sink.new }
         result }
@@ -32,10 +45,60 @@ pub fn run_text<S: Source, K: Sink, G: Gate + Sync, R: Threads + Wait + Net + Sy
         record { held_before = K.held sink.old; held_after = K.held sink.new; faults_before = K.faults sink.old; faults_after = K.faults sink.new }
         result
         ⊎ ((result ≡ ended.ReadFault) ⊎ (result ≡ ended.WriteFault)) }
-    ensures run { result ≢ ended.Usage }
+    ensures too_many { (s : Meaning) → IsToldSpelled (S.left source.old) s → IsTooMany wire s →
+        IsEndOfTooMany (streams_of s)
+        record { held_before = K.held sink.old; held_after = K.held sink.new; faults_before = K.faults sink.old; faults_after = K.faults sink.new }
+        result
+        ⊎ ((result ≡ ended.ReadFault) ⊎ (result ≡ ended.WriteFault)) }
 {
     match read_script(alloc, source, sink) {
-        Ok(script) => run_script(rt, alloc, &script, Form::Report, sink, gate),
+        Ok(script) => run_over(rt, alloc, wire, &script, sink, tcp, gate),
         Err(status) => status,
+    }
+}
+
+// Runs a script over the wire that is asked for, unless it would need too many streams.
+fn run_over<K: Sink, W: Wire, G: Gate + Sync, R: Threads + Wait + Net + Sync>(
+    rt: &R,
+    alloc: Global,
+    wire: RunWire,
+    script: &Script,
+    sink: &mut K,
+    tcp: &mut W,
+    gate: &G,
+) -> Status
+where
+    W::End: Send,
+    requires { IsScript script.now }
+    ensures { IsEndOfRunOver (tells_over wire W.End.means.tells) wire (meaning script.now)
+        record { held_before = K.held sink.old; held_after = K.held sink.new; faults_before = K.faults sink.old; faults_after = K.faults sink.new }
+        result }
+{
+    let streams = prepared_streams(script);
+    if are_too_many(wire, streams) {
+        return refuse_streams(alloc, streams, sink);
+    }
+    match wire {
+        RunWire::Memory => run_in_memory(rt, alloc, script, Form::Report, sink, gate),
+        RunWire::Tcp => run_script(rt, alloc, script, Form::Report, tcp, sink, gate),
+    }
+}
+
+// Whether so many streams are more than may be prepared for a run over this wire.
+fn are_too_many(wire: RunWire, streams: u64) -> bool
+    ensures { IsTrue result ↔ ((wire ≡ wires.Tcp) × (96 < streams)) }
+{
+    wire == RunWire::Tcp && MAX_STREAMS < streams
+}
+
+// Says how many streams would be prepared for the script.
+fn refuse_streams<K: Sink>(alloc: Global, streams: u64, sink: &mut K) -> Status
+    ensures { IsEndOfTooMany streams
+        record { held_before = K.held sink.old; held_after = K.held sink.new; faults_before = K.faults sink.old; faults_after = K.faults sink.new }
+        result }
+{
+    match format!(in alloc; "too many streams {streams}\n") {
+        Ok(text) => say(sink, text.as_str(), Status::TooManyStreams),
+        Err(_) => Status::Memory,
     }
 }

@@ -1,9 +1,10 @@
+ghost use Rattle.std.specs.Prelude.{true};
 ghost use Rattle.rds_script.specs.Script.{IsScript};
 ghost use Rattle.rds_script.specs.Grammar.{meaning};
 ghost use Rattle.rds_run.specs.RunStatus.{IsEndOfScript};
 
 use crate::status::Status;
-use rds_link::{Gate, MemWire, Sink};
+use rds_link::{Gate, MemWire, Sink, Wire};
 use rds_model::MAX_ENTRIES;
 use rds_script::Script;
 use rds_threads::{Form, RunEnd, run};
@@ -16,7 +17,7 @@ use std::thread::Threads;
 const BUDGET: u64 = 20_000_000;
 
 /// Runs a script over streams in memory, and writes the text of this form to the sink.
-pub(crate) fn run_script<K: Sink, G: Gate + Sync, R: Threads + Wait + Net + Sync>(
+pub(crate) fn run_in_memory<K: Sink, G: Gate + Sync, R: Threads + Wait + Net + Sync>(
     rt: &R,
     alloc: Global,
     script: &Script,
@@ -25,16 +26,36 @@ pub(crate) fn run_script<K: Sink, G: Gate + Sync, R: Threads + Wait + Net + Sync
     gate: &G,
 ) -> Status
     requires script { IsScript script.now }
-    ensures { IsEndOfScript form (meaning script.now)
+    ensures { IsEndOfScript true form (meaning script.now)
         record { held_before = K.held sink.old; held_after = K.held sink.new; faults_before = K.faults sink.old; faults_after = K.faults sink.new }
         result }
 {
     let mut wire = MemWire::new(alloc, Vec::new(alloc), Vec::new(alloc));
+    run_script(rt, alloc, script, form, &mut wire, sink, gate)
+}
+
+/// Runs a script over streams of the wire, and writes the text of this form to the sink.
+pub(crate) fn run_script<K: Sink, W: Wire, G: Gate + Sync, R: Threads + Wait + Net + Sync>(
+    rt: &R,
+    alloc: Global,
+    script: &Script,
+    form: Form,
+    wire: &mut W,
+    sink: &mut K,
+    gate: &G,
+) -> Status
+where
+    W::End: Send,
+    requires script { IsScript script.now }
+    ensures { IsEndOfScript W.End.means.tells form (meaning script.now)
+        record { held_before = K.held sink.old; held_after = K.held sink.new; faults_before = K.faults sink.old; faults_after = K.faults sink.new }
+        result }
+{
     match run(
         rt,
         alloc,
         script,
-        &mut wire,
+        wire,
         gate,
         form,
         MAX_ENTRIES,

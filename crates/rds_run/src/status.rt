@@ -22,6 +22,8 @@ pub enum Status {
     Spent = 7,
     /// A run stopped while some datagrams weren't acknowledged.
     Unfinished = 8,
+    /// A script would need more streams than may be prepared for a run over TCP.
+    TooManyStreams = 9,
 }
 
 impl Status {

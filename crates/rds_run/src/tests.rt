@@ -44,6 +44,21 @@ fn answer<R: Threads + Wait + Net + Sync>(
     Ok(main_of(rt, alloc, &all, source, sink))
 }
 
+// The program answers these words by the status, and the sink then holds the text.
+fn assert_held<R: Threads + Wait + Net + Sync + Abort>(
+    rt: &R,
+    alloc: Global,
+    words: &[&str],
+    source: &mut MemSource,
+    sink: &mut MemSink,
+    status: u8,
+    text: &str,
+) -> Result<(), Fail> {
+    assert_eq!(rt; answer(rt, alloc, words, source, sink)?, status);
+    assert_eq!(rt; sink.held(), text.as_bytes());
+    Ok(())
+}
+
 // The program answers these words and this script by the status and the text.
 fn assert_answer<R: Threads + Wait + Net + Sync + Abort>(
     rt: &R,
@@ -55,9 +70,30 @@ fn assert_answer<R: Threads + Wait + Net + Sync + Abort>(
 ) -> Result<(), Fail> {
     let mut source = MemSource::new(script.as_bytes().to_vec(alloc)?, Vec::new(alloc));
     let mut sink = MemSink::new(alloc, Vec::new(alloc));
-    assert_eq!(rt; answer(rt, alloc, words, &mut source, &mut sink)?, status);
-    assert_eq!(rt; sink.held(), text.as_bytes());
+    assert_held(rt, alloc, words, &mut source, &mut sink, status, text)
+}
+
+// Adds the lines of a script of eight hosts with so many cuts.
+fn add_cuts(script: &mut String, cuts: u32) -> Result<(), Fail> {
+    script.push_str("hosts 8\n")?;
+    for _ in 0..cuts {
+        script.push_str("cut A B\n")?;
+    }
     Ok(())
+}
+
+// The program answers these words and a script of eight hosts with so many cuts by the status and the text.
+fn assert_answer_to_cuts<R: Threads + Wait + Net + Sync + Abort>(
+    rt: &R,
+    alloc: Global,
+    words: &[&str],
+    cuts: u32,
+    status: u8,
+    text: &str,
+) -> Result<(), Fail> {
+    let mut script = String::new(alloc);
+    add_cuts(&mut script, cuts)?;
+    assert_answer(rt, alloc, words, script.as_str(), status, text)
 }
 
 #[test]
@@ -71,9 +107,15 @@ fn a_failing_source(rt: HostRuntime) -> Result<(), Fail> {
     let fail = vec![in alloc; 1]?;
     let mut source = MemSource::new(BINDS.as_bytes().to_vec(alloc)?, fail);
     let mut sink = MemSink::new(alloc, Vec::new(alloc));
-    assert_eq!(rt; answer(&rt, alloc, &["play"], &mut source, &mut sink)?, 3);
-    assert_eq!(rt; sink.held(), b"read fault\n".as_slice());
-    Ok(())
+    assert_held(
+        &rt,
+        alloc,
+        &["play"],
+        &mut source,
+        &mut sink,
+        3,
+        "read fault\n",
+    )
 }
 
 #[test]
@@ -81,8 +123,7 @@ fn a_failing_sink(rt: HostRuntime) -> Result<(), Fail> {
     let alloc = rt.alloc();
     let mut sink = MemSink::new(alloc, vec![in alloc; 1]?);
     let mut source = MemSource::new(BINDS.as_bytes().to_vec(alloc)?, Vec::new(alloc));
-    assert_eq!(rt; answer(&rt, alloc, &["play"], &mut source, &mut sink)?, 4);
-    Ok(())
+    assert_held(&rt, alloc, &["play"], &mut source, &mut sink, 4, "")
 }
 
 #[test]
@@ -113,16 +154,34 @@ fn a_lone_pair_of_dashes_after_play(rt: HostRuntime) -> Result<(), Fail> {
 }
 
 #[test]
-fn a_run_over_memory(rt: HostRuntime) -> Result<(), Fail> {
-    let lines: [&[&str]; 3] = [
+fn a_run_over_each_wire(rt: HostRuntime) -> Result<(), Fail> {
+    let lines: [&[&str]; 4] = [
         &["run"],
         &["run", "--wire", "memory"],
         &["run", "--wire=memory"],
+        &["run", "--wire", "tcp"],
     ];
     for words in lines {
         assert_answer(&rt, rt.alloc(), words, BINDS, 0, "end ok\n")?;
     }
     Ok(())
+}
+
+#[test]
+fn streams_that_are_not_too_many(rt: HostRuntime) -> Result<(), Fail> {
+    let words = ["run", "--wire", "tcp"];
+    assert_answer_to_cuts(&rt, rt.alloc(), &words, 12, 0, "end ok\n")
+}
+
+#[test]
+fn too_many_streams(rt: HostRuntime) -> Result<(), Fail> {
+    let words = ["run", "--wire", "tcp"];
+    assert_answer_to_cuts(&rt, rt.alloc(), &words, 13, 9, "too many streams 97\n")
+}
+
+#[test]
+fn more_streams_in_memory(rt: HostRuntime) -> Result<(), Fail> {
+    assert_answer_to_cuts(&rt, rt.alloc(), &["run"], 13, 0, "end ok\n")
 }
 
 #[test]

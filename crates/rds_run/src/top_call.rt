@@ -1,4 +1,4 @@
-ghost use Rattle.std.specs.Prelude.{◌≡◌, ◌⊎◌, ◌≤◌, ◌++◌, ℕ, List};
+ghost use Rattle.std.specs.Prelude.{◌≡◌, ◌⊎◌, ◌≤◌, ◌<◌, ◌++◌, ℕ, true, List};
 ghost use Rattle.rds_link.specs.Streaming.{HasRisen, SinkGained, SinkGainedFront};
 ghost use Rattle.rds_script.specs.Cause.{cause_text};
 ghost use Rattle.rds_script.specs.declared.cause.Cause.{Cause as Why};
@@ -7,13 +7,16 @@ ghost use Rattle.rds_text.specs.Lines.{end_line, spent_line};
 ghost use Rattle.rds_run.specs.ExitStatus.{IsAnswer, IsPlayed, IsRefusal, IsSpelled, IsSpent, IsToldRefused, IsToldSpelled};
 ghost use Rattle.rds_generator.specs.Generator.{generated};
 ghost use Rattle.rds_threads.specs.declared.form.Form.TheVariants as form;
+ghost use Rattle.rds_words.specs.declared.wire.RunWire.{RunWire};
+ghost use Rattle.rds_words.specs.declared.wire.RunWire.TheVariants as wires;
 ghost use Rattle.rds_words.specs.Gen.{AreGen};
 ghost use Rattle.rds_words.specs.Play.{ArePlay};
 ghost use Rattle.rds_words.specs.Run.{AreRun};
 ghost use Rattle.rds_words.specs.Works.{AreNoCommand};
-ghost use Rattle.rds_run.specs.RunStatus.{HasFilled, IsRan, IsRunUnfinished, IsWireFault};
+ghost use Rattle.rds_run.specs.RunStatus.{HasFilled, IsRan, IsRunUnfinished, IsWireFault, tells_over};
+ghost use Rattle.rds_run.specs.Streams.{prepared_streams};
 ghost use Rattle.rds_run.specs.Ending.{IsEndOfProgram};
-ghost use Rattle.rds_run.specs.Texts.{usage_line, read_fault_line, bad_line};
+ghost use Rattle.rds_run.specs.Texts.{usage_line, read_fault_line, bad_line, too_many_line};
 
 use crate::answer::say;
 use crate::gen_command::gen_text;
@@ -31,9 +34,9 @@ use std::thread::Threads;
 const USAGE: &str = "usage: rds play | rds run [--wire memory|tcp] | rds gen N SEED\n";
 
 /// Runs the program on the words after its name, and gives its exit status (docs/COMMAND.md has the table). Two of its
-/// commands read a script from the source: `play` writes its transcript and its report to the sink, and `run` runs it with threads over
-/// streams in memory and writes its report. `gen` generates a script, runs it so, and writes a summary. Before each command of a run its
-/// caller asks the gate. Nothing is done with `tcp` yet.
+/// commands read a script from the source: `play` writes its transcript and its report to the sink, and `run` runs it with threads and
+/// writes its report. `gen` generates a script, runs it so, and writes a summary. Before each command of a run its caller asks the gate.
+/// A run goes over streams in memory, or over those of `tcp` where the words name that wire.
 ///
 /// | Status | When |
 /// |---|---|
@@ -46,15 +49,18 @@ const USAGE: &str = "usage: rds play | rds run [--wire memory|tcp] | rds gen N S
 /// | 6 | memory ran out |
 /// | 7 | a journal had no room for its next two entries; the text line `spent H K ENTRIES` was written |
 /// | 8 | a run stopped while datagrams weren't acknowledged; the text line `unfinished N` was written |
+/// | 9 | a run over `tcp` would need N streams, more than 96; the text line `too many streams N` was written |
 pub fn rds_main<S: Source, K: Sink, W: Wire, G: Gate + Sync, R: Threads + Wait + Net + Sync>(
     rt: &R,
     alloc: Global,
     words: &[String],
     source: &mut S,
     sink: &mut K,
-    _tcp: &mut W,
+    tcp: &mut W,
     gate: &G,
 ) -> u8
+where
+    W::End: Send,
     ensures usage { AreNoCommand words.now → (result ≡ 2) ⊎ ((result ≡ 4) ⊎ (result ≡ 6)) }
     ensures usage_only { result ≡ 2 → AreNoCommand words.now }
     ensures usage_text { result ≡ 2 → SinkGained (K.held sink.old) (K.held sink.new) usage_line }
@@ -73,7 +79,8 @@ pub fn rds_main<S: Source, K: Sink, W: Wire, G: Gate + Sync, R: Threads + Wait +
     // The text of the source is refused, and the line that was written says where and why.
     ensures refused { result ≡ 1 → IsRefusal (S.left source.old) (K.held sink.old) (K.held sink.new) }
     // A text that is refused is answered so, unless the source or the sink fails or memory runs out.
-    ensures refuses { ArePlay words.now ⊎ AreRun words.now → (line : ℕ) → (cause : Why) → IsToldRefused (S.left source.old) line cause →
+    ensures refuses { ArePlay words.now ⊎ ((over : RunWire) × AreRun words.now over) →
+        (line : ℕ) → (cause : Why) → IsToldRefused (S.left source.old) line cause →
         (result ≡ 1 × SinkGained (K.held sink.old) (K.held sink.new) (bad_line line (cause_text cause)))
         ⊎ ((result ≡ 3) ⊎ ((result ≡ 4) ⊎ (result ≡ 6))) }
 
@@ -82,19 +89,26 @@ pub fn rds_main<S: Source, K: Sink, W: Wire, G: Gate + Sync, R: Threads + Wait +
         (s : Meaning) × IsSpelled (S.left source.old) s × IsPlayed s (K.held sink.old) (K.held sink.new) }
     // The source's bytes spell a script. It was run to its end, its hosts did its commands, what they have then is sound, and exactly the
     // report on it was written.
-    ensures ran { AreRun words.now → result ≡ 0 →
-        (s : Meaning) × IsSpelled (S.left source.old) s × IsRan form.Report s (K.held sink.old) (K.held sink.new) }
+    ensures ran { AreRun words.now wires.Memory → result ≡ 0 →
+        (s : Meaning) × IsSpelled (S.left source.old) s × IsRan true form.Report s (K.held sink.old) (K.held sink.new) }
+    // The same over TCP. The ends of that wire say whether they tell their bytes.
+    ensures ran_over_tcp { AreRun words.now wires.Tcp → result ≡ 0 →
+        (s : Meaning) × IsSpelled (S.left source.old) s × IsRan W.End.means.tells form.Report s (K.held sink.old) (K.held sink.new) }
+    // No more streams were prepared for it than may be over TCP.
+    ensures few { AreRun words.now wires.Tcp → result ≡ 0 →
+        (s : Meaning) × IsSpelled (S.left source.old) s × (prepared_streams s ≤ 96) }
     // The script of so many sends and this seed was run to its end, its hosts did its commands, what they have then is sound, and exactly
     // the summary of it was written.
     ensures summed { (sends seed : ℕ) → AreGen words.now sends seed → result ≡ 0 →
-        IsRan (form.Summary seed sends) (generated sends seed) (K.held sink.old) (K.held sink.new) }
+        IsRan true (form.Summary seed sends) (generated sends seed) (K.held sink.old) (K.held sink.new) }
     ensures written { ArePlay words.now → result ≡ 0 → (text : List ℕ) × SinkGained (K.held sink.old) (K.held sink.new) (text ++ end_line) }
     // The source's bytes spell a script. It filled a journal, and exactly its text was written, which is the line of that.
     ensures full { ArePlay words.now → result ≡ 7 →
         (s : Meaning) × IsSpelled (S.left source.old) s × IsSpent s (K.held sink.old) (K.held sink.new) }
     // The same of a run, whose journals are sound then.
-    ensures filled { AreRun words.now → result ≡ 7 →
-        (s : Meaning) × IsSpelled (S.left source.old) s × HasFilled (K.held sink.old) (K.held sink.new) }
+    ensures filled { (over : RunWire) → AreRun words.now over → result ≡ 7 →
+        (s : Meaning) × IsSpelled (S.left source.old) s
+        × HasFilled (tells_over over W.End.means.tells) (K.held sink.old) (K.held sink.new) }
     ensures spent { result ≡ 7 → (host : ℕ) × (peer : ℕ) × (entries : ℕ)
         × SinkGained (K.held sink.old) (K.held sink.new) (spent_line host peer entries) }
     // A text that spells a script is answered so by `play`, unless the source or the sink fails or memory runs out.
@@ -104,28 +118,39 @@ pub fn rds_main<S: Source, K: Sink, W: Wire, G: Gate + Sync, R: Threads + Wait +
 
     ensures wire_fault { result ≡ 5 → (ArePlay words.now → ⊥) × IsWireFault (K.held sink.old) (K.held sink.new) }
     ensures unfinished { result ≡ 8 → (ArePlay words.now → ⊥) × IsRunUnfinished (K.held sink.old) (K.held sink.new) }
-    ensures known { result ≤ 8 }
+
+    // The source's bytes spell a script, which would need so many streams over TCP, and exactly the line that says so was written.
+    ensures too_many { result ≡ 9 → AreRun words.now wires.Tcp × ((s : Meaning) × IsSpelled (S.left source.old) s
+        × (96 < prepared_streams s) × SinkGained (K.held sink.old) (K.held sink.new) (too_many_line (prepared_streams s))) }
+    // Such a script is answered so, unless the source or the sink fails or memory runs out.
+    ensures refuses_many { AreRun words.now wires.Tcp → (s : Meaning) → IsToldSpelled (S.left source.old) s → 96 < prepared_streams s →
+        (result ≡ 9 × SinkGained (K.held sink.old) (K.held sink.new) (too_many_line (prepared_streams s)))
+        ⊎ ((result ≡ 3) ⊎ ((result ≡ 4) ⊎ (result ≡ 6))) }
+    ensures known { result ≤ 9 }
 {
-    do_work(rt, alloc, words, source, sink, gate).code()
+    do_work(rt, alloc, words, source, sink, tcp, gate).code()
 }
 
 // Does what the words ask for.
-fn do_work<S: Source, K: Sink, G: Gate + Sync, R: Threads + Wait + Net + Sync>(
+fn do_work<S: Source, K: Sink, W: Wire, G: Gate + Sync, R: Threads + Wait + Net + Sync>(
     rt: &R,
     alloc: Global,
     words: &[String],
     source: &mut S,
     sink: &mut K,
+    tcp: &mut W,
     gate: &G,
 ) -> Status
-    ensures { IsEndOfProgram words.now
+where
+    W::End: Send,
+    ensures { IsEndOfProgram W.End.means.tells words.now
         record { left = S.left source.old; faults_before = S.faults source.old; faults_after = S.faults source.new }
         record { held_before = K.held sink.old; held_after = K.held sink.new; faults_before = K.faults sink.old; faults_after = K.faults sink.new }
         result }
 {
     match work_of(alloc, words) {
         Ok(Some(Work::Play)) => play_text(alloc, source, sink),
-        Ok(Some(Work::Run)) => run_text(rt, alloc, source, sink, gate),
+        Ok(Some(Work::Run { wire })) => run_text(rt, alloc, wire, source, sink, tcp, gate),
         Ok(Some(Work::Gen { sends, seed })) => gen_text(rt, alloc, sends, seed, sink, gate),
         Ok(None) => say(sink, USAGE, Status::Usage),
         Err(Memory) => Status::Memory,

@@ -1,12 +1,14 @@
 -- What `clap` makes of words.
-use Rattle.std.proofs.Common.{◌≡◌, ◌⊎◌, ◌↔◌, inl, inr, IsTrue, ℕ, Bool, List, [], Option, true, refl, sym, ap, subst, ◌∙◌, codes}
+use Rattle.std.proofs.Common.{◌≡◌, ◌⊎◌, inl, inr, ℕ, List, [], Option, Some, None, Result, Ok, Err, IfOk, true, refl, sym, ap, subst, ◌∙◌, codes}
 use Rattle.clap.specs.Words.{App, Kinds, IsAmong, HasMatchesOf, fault_of, first_of, is_simple_and_free}
 use Rattle.clap.specs.Matches.{found_of, first_value}
 use Rattle.clap.specs.declared.parser.matches.ArgMatches.{ArgMatches}
 use Rattle.clap.specs.declared.error.kind.ErrorKind.{ErrorKind}
 use Rattle.clap.specs.declared.error.kind.ErrorKind.TheVariants as kind
 use Rattle.clap.proofs.WalkLemmas.{first_value-rows}
-use Rattle.rds_words.specs.Run.{IsMemoryWire, TakesRun, run_app, run_faults, wire_named}
+use Rattle.rds_wire.specs.declared.memory.Memory.{Memory}
+use Rattle.rds_words.specs.declared.wire.RunWire.{RunWire}
+use Rattle.rds_words.specs.Run.{IsWireFound, NamesWire, TakesRun, run_app, run_faults, wire_named}
 
 -- an error of another kind than memory shows that there was a fault
 pub fault_found : (k : ErrorKind) (faults : Kinds) → (k ≡ kind.OutOfMemory → ⊥) → (k ≡ kind.OutOfMemory) ⊎ IsAmong k faults → faults ≡ [] → ⊥
@@ -35,10 +37,15 @@ wire_found app words m is has =
     let rows = subst (λ a. HasMatchesOf a words m) is has in
     first_value-rows (found_of m) (codes "wire") ∙ ap (first_of (codes "wire")) (rows refl).0
 
--- `run` takes words without a fault exactly where the wire that they name is that in memory
-pub takes : (words : List (List ℕ)) (is_memory : Bool) (found : Option (List ℕ)) → run_faults words ≡ [] → found ≡ wire_named words →
-    IsTrue is_memory ↔ IsMemoryWire found → IsTrue is_memory ↔ TakesRun words
-takes words is_memory found none same decides = (
-  λ t. record { faults = none; wire = subst IsMemoryWire same (decides.0 t) },
-  λ taken. decides.1 (subst IsMemoryWire (sym same) taken.wire),
-)
+-- `run` takes words without a fault over exactly the wire that they name
+pub takes : (words : List (List ℕ)) (wire : Option RunWire) (name : Option (List ℕ)) → run_faults words ≡ [] → name ≡ wire_named words →
+    IsWireFound (NamesWire name) wire → IsWireFound (TakesRun words) wire
+takes words (Some wire) name none same found = record { faults = none; names = subst (λ (n : Option (List ℕ)). NamesWire n wire) same found }
+takes words None name none same found = λ asked taken. found asked (subst (λ (n : Option (List ℕ)). NamesWire n asked) (sym same) taken.names)
+
+-- what was found of words under A was found of them
+pub with_run_name : (A : Type 0) (B : RunWire → Type 0) (r : Result (Option RunWire) Memory) → A → IfOk r (IsWireFound B) →
+    IfOk r (IsWireFound (λ asked. A × B asked))
+with_run_name A B (Ok None) a found = λ asked both. found asked both.1
+with_run_name A B (Ok (Some wire)) a found = (a, found)
+with_run_name A B (Err e) a found = found

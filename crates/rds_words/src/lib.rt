@@ -4,6 +4,8 @@
 mod gen_words;
 mod play_words;
 mod run_words;
+mod wire;
 mod work;
 
+pub use wire::RunWire;
 pub use work::{Work, work_of};

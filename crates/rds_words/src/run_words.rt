@@ -1,43 +1,46 @@
-ghost use Rattle.std.specs.Prelude.{◌≡◌, ◌↔◌, IsTrue, IfOk, [], map, option_map, string_bytes};
-ghost use Rattle.rds_words.specs.Run.{AreRun, IsMemoryWire, TakesRun};
+ghost use Rattle.std.specs.Prelude.{IfOk, map, option_map, string_bytes};
+ghost use Rattle.rds_words.specs.Run.{AreRun, IsWireFound, NamesWire, TakesRun};
 
+use crate::wire::RunWire;
 use clap::error::ErrorKind;
 use clap::{Arg, ArgAction, Command};
 use rds_wire::Memory;
 use std::alloc::Global;
 
-/// Whether the words are those of `run` over streams in memory: its name, and after it nothing but the option `--wire` with the
-/// value `memory`, or not even that. A request for help is refused.
-pub fn is_run(alloc: Global, words: &[String]) -> Result<bool, Memory>
-    ensures { IfOk result (λ runs. IsTrue runs ↔ AreRun words.now) }
+/// The wire that a run is to go over, if the words are those of `run`: its name, and after it nothing but the option `--wire` with
+/// the value `memory` or `tcp`, or not even that, which means `memory`. A request for help is refused.
+pub fn run_wire(alloc: Global, words: &[String]) -> Result<Option<RunWire>, Memory>
+    ensures { IfOk result (IsWireFound (AreRun words.now)) }
 {
     match words.first() {
-        Some(name) if name.as_str() == "run" => has_memory_wire(alloc, words),
-        Some(_) | None => Ok(false),
+        Some(name) if name.as_str() == "run" => wire_asked(alloc, words),
+        Some(_) | None => Ok(None),
     }
 }
 
-// Whether `clap` refuses none of the words after the command's name, and the wire that they name, if they do, is `memory`.
-fn has_memory_wire(alloc: Global, words: &[String]) -> Result<bool, Memory>
-    ensures { IfOk result (λ runs. IsTrue runs ↔ TakesRun (map string_bytes words.now)) }
+// The wire that the words after the command's name ask for, if `clap` refuses none of them.
+fn wire_asked(alloc: Global, words: &[String]) -> Result<Option<RunWire>, Memory>
+    ensures { IfOk result (IsWireFound (TakesRun (map string_bytes words.now))) }
 {
     let wire = Arg::new(alloc, "wire").long("wire").action(ArgAction::Set);
     let command = Command::new(alloc, "run").arg(wire)?;
     match command.try_get_matches_from(words) {
-        Ok(matches) => Ok(is_memory(matches.get_str("wire"))),
+        Ok(matches) => Ok(wire_named(matches.get_str("wire"))),
         Err(error) => match error.kind() {
             ErrorKind::OutOfMemory => Err(Memory),
-            _ => Ok(false),
+            _ => Ok(None),
         },
     }
 }
 
-// Whether the wire is the one that goes without a name, or is named so.
-fn is_memory(wire: Option<&str>) -> bool
-    ensures { IsTrue result ↔ IsMemoryWire (option_map (λ s. s.now) wire.entry) }
+// The wire of this name, if one has it. The one in memory goes without a name too.
+fn wire_named(name: Option<&str>) -> Option<RunWire>
+    ensures { IsWireFound (NamesWire (option_map (λ s. s.now) name.entry)) result }
 {
-    match wire {
-        Some(name) => name == "memory",
-        None => true,
+    match name {
+        None => Some(RunWire::Memory),
+        Some(name) if name == "memory" => Some(RunWire::Memory),
+        Some(name) if name == "tcp" => Some(RunWire::Tcp),
+        Some(_) => None,
     }
 }

@@ -3,7 +3,8 @@ ghost use Rattle.rds_words.specs.Works.{IsWorkOf};
 
 use crate::gen_words::gen_numbers;
 use crate::play_words::is_play;
-use crate::run_words::is_run;
+use crate::run_words::run_wire;
+use crate::wire::RunWire;
 use rds_wire::Memory;
 use std::alloc::Global;
 
@@ -12,8 +13,8 @@ use std::alloc::Global;
 pub enum Work {
     /// Play a script.
     Play,
-    /// Run a script with threads, over streams in memory.
-    Run,
+    /// Run a script with threads, over streams of this wire.
+    Run { wire: RunWire },
     /// Generate a script of so many sends from a seed, and run it over streams in memory.
     Gen { sends: u32, seed: u64 },
 }
@@ -29,8 +30,8 @@ pub fn work_of(alloc: Global, words: &[String]) -> Result<Option<Work>, Memory>
     if is_play(alloc, words)? {
         return Ok(Some(Work::Play));
     }
-    if is_run(alloc, words)? {
-        return Ok(Some(Work::Run));
+    if let Some(wire) = run_wire(alloc, words)? {
+        return Ok(Some(Work::Run { wire }));
     }
     let numbers = gen_numbers(alloc, words)?;
     Ok(numbers.map(|(sends, seed)| Work::Gen { sends, seed }))

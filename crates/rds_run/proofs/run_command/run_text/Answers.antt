@@ -1,10 +1,30 @@
+use Rattle.std.proofs.Common.{inl, inr}
 use Rattle.rds_script.specs.Grammar.{meaning}
 use Rattle.rds_run.specs.ExitStatus.{SourceSeen, SinkSeen}
-use Rattle.rds_run.proofs.Calling.{run_ends_of_script}
+use Rattle.rds_run.proofs.Calling.{too_many_read, too_many_unread}
 use Rattle.rds_run.proofs.run_command.run_text.Goals as goal
 
 pub returns-in-Ok-clause-ends : goal.returns-in-Ok-clause-ends
 returns-in-Ok-clause-ends g c =
+    let ran = rw c.in-Ok.ensures.same at c.run_over.ensures in
+    inr (meaning c.in-Ok.script, c.in-Ok.ensures.spelled, ran)
+
+pub returns-in-Err-clause-ends : goal.returns-in-Err-clause-ends
+returns-in-Err-clause-ends g c = inl c.in-Err.ensures.ends
+
+pub returns-in-Ok-clause-too_many : goal.returns-in-Ok-clause-too_many
+returns-in-Ok-clause-too_many g c s told many =
+    let sink : SinkSeen = record {
+      held_before = g.K.Sink.held c.args.sink.now;
+      held_after = g.K.Sink.held c.run_over.new.sink;
+      faults_before = g.K.Sink.faults c.args.sink.now;
+      faults_after = g.K.Sink.faults c.run_over.new.sink;
+    } in
+    let ran = rw c.in-Ok.ensures.same at c.run_over.ensures in
+    inl (too_many_read _ _ _ s sink c.run_over.result (c.in-Ok.ensures.reads s told) many ran)
+
+pub returns-in-Err-clause-too_many : goal.returns-in-Err-clause-too_many
+returns-in-Err-clause-too_many g c s told many =
     let source : SourceSeen = record {
       left = g.S.Source.left c.args.source.now;
       faults_before = g.S.Source.faults c.args.source.now;
@@ -12,9 +32,8 @@ returns-in-Ok-clause-ends g c =
     } in
     let sink : SinkSeen = record {
       held_before = g.K.Sink.held c.args.sink.now;
-      held_after = g.K.Sink.held c.run_script.new.sink;
+      held_after = g.K.Sink.held c.read_script.new.sink;
       faults_before = g.K.Sink.faults c.args.sink.now;
-      faults_after = g.K.Sink.faults c.run_script.new.sink;
+      faults_after = g.K.Sink.faults c.read_script.new.sink;
     } in
-    let ran = rw c.in-Ok.ensures.same at c.run_script.ensures in
-    run_ends_of_script source sink (meaning c.in-Ok.script) c.run_script.result c.in-Ok.ensures.spelled ran
+    too_many_unread s source sink c.in-Err.status (c.in-Err.ensures.reads s told) c.in-Err.ensures.ends

@@ -13,4 +13,4 @@ returns-in-Ok g c =
       faults_before = g.K.Sink.faults c.args.sink.now;
       faults_after = g.K.Sink.faults c.run.new.sink;
     } in
-    ran_of MAX_ENTRIES c.args.form (meaning c.args.script.now) sink c.run.result _ c.in-Ok.is c.run.ensures
+    ran_of _ MAX_ENTRIES c.args.form (meaning c.args.script.now) sink c.run.result _ c.in-Ok.is c.run.ensures

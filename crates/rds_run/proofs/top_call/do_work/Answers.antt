@@ -4,7 +4,8 @@ use Rattle.rds_words.specs.Gen.{AreGen, gen_word}
 use Rattle.rds_words.specs.Play.{ArePlay}
 use Rattle.rds_words.specs.Run.{AreRun}
 use Rattle.rds_words.specs.Works.{IsWorkOf}
-use Rattle.rds_run.proofs.Ended.{of_play, of_run, sends_in, usage_of}
+use Rattle.rds_run.proofs.Commands.{sends_in}
+use Rattle.rds_run.proofs.Ended.{of_play, of_run, usage_of}
 use Rattle.rds_run.proofs.top_call.do_work.Goals as goal
 
 pub returns-in-Ok-Some-Play : goal.returns-in-Ok-Some-Play
@@ -15,7 +16,7 @@ returns-in-Ok-Some-Play g c =
 
 pub returns-in-Ok-Some-Run : goal.returns-in-Ok-Some-Run
 returns-in-Ok-Some-Run g c =
-    let run : AreRun c.args.words.now =
+    let run : AreRun c.args.words.now c.in-Ok-Some-Run.wire =
     subst (IsWorkOf c.args.words.now) (c.in-Ok-Some-Run.field-0-is ∙ ap Some c.in-Ok-Some-Run.field-0-0-is) (c.in-Ok-Some-Run.ensures {u = tt}) in
     search (rules, of_run)
 

@@ -1,9 +1,10 @@
 use Rattle.std.proofs.Common.{map, codes, string_bytes}
 use Rattle.rds_words.specs.Run.{TakesRun}
-use Rattle.rds_words.proofs.Named.{named, with_name}
-use Rattle.rds_words.proofs.run_words.is_run.Goals as goal
+use Rattle.rds_words.proofs.Named.{named}
+use Rattle.rds_words.proofs.Parsed.{with_run_name}
+use Rattle.rds_words.proofs.run_words.run_wire.Goals as goal
 
 pub returns-in-Some : goal.returns-in-Some
 returns-in-Some c =
     let first = named (codes "run") _ _ _ _ c.eq.ensures c.if-eq.true c.as_str.ensures.value c.in-Some.ensures.value in
-    with_name _ (TakesRun (map string_bytes c.args.words.now)) _ first c.has_memory_wire.ensures
+    with_run_name _ (TakesRun (map string_bytes c.args.words.now)) _ first c.wire_asked.ensures
