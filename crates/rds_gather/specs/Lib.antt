@@ -2,3 +2,5 @@ pub mod Sides
 pub mod Columns
 pub mod Shown
 pub mod Joined
+pub mod Heard
+pub mod Owned

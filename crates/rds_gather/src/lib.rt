@@ -4,6 +4,7 @@
 mod gathering;
 mod lines;
 mod orders;
+mod owners;
 mod receipts;
 mod slots;
 

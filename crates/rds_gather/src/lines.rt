@@ -8,7 +8,7 @@ ghost use Rattle.rds_gather.specs.Sides.{line_side};
 
 use rds_fmap::Writer;
 use rds_line::{Line, LineParts};
-use rds_line_parts::{Boxes, LineOrders, SlotBox};
+use rds_line_parts::{Boxes, LineOrders, LinePorts, SlotBox};
 use rds_link::Wire;
 use rds_model::Journal;
 use rds_wire::Memory;
@@ -17,12 +17,13 @@ use std::sync::Wait;
 use std::vec::IntoIter;
 
 /// What is left of the lines of a host: the journals, each beside the peer's address, the queues of their orders, each beside who
-/// published the peer's map, and of each line its putters at the mailboxes.
+/// published the peer's map, and of each line its putters at the mailboxes and its seat at the port table.
 #[derive(Drop)]
 pub(crate) struct LinesLeft {
     pub(crate) journals: Vec<(u32, Journal)>,
     pub(crate) orders: Vec<(LineOrders, Writer)>,
     pub(crate) boxes: Vec<IntoIter<SlotBox>>,
+    pub(crate) ports: Vec<LinePorts>,
 }
 
 // What is left of a line.
@@ -33,6 +34,7 @@ struct LineLeft {
     orders: LineOrders,
     map: Writer,
     boxes: Boxes,
+    ports: LinePorts,
 }
 
 impl LinesLeft {
@@ -41,6 +43,7 @@ impl LinesLeft {
         ensures journals { OnOk result (self.new.journals.items ≡ self.old.journals.items ++ (line.peer, line.journal) ∷ []) }
         ensures orders { OnOk result (self.new.orders.items ≡ self.old.orders.items ++ (line.orders, line.map) ∷ []) }
         ensures boxes { OnOk result (rows_left self.new.boxes.items ≡ rows_left self.old.boxes.items ++ line.boxes ∷ []) }
+        ensures ports { OnOk result (self.new.ports.items ≡ self.old.ports.items ++ line.ports ∷ []) }
     {
         let LineLeft {
             peer,
@@ -48,10 +51,12 @@ impl LinesLeft {
             orders,
             map,
             boxes,
+            ports,
         } = line;
         self.journals.push((peer, journal))?;
         self.orders.push((orders, map))?;
         self.boxes.push(boxes.into_vec().into_iter())?;
+        self.ports.push(ports)?;
         Ok(())
     }
 
@@ -60,11 +65,13 @@ impl LinesLeft {
         ensures journals { self.new.journals.items ≡ self.old.journals.items }
         ensures orders { self.new.orders.items ≡ self.old.orders.items }
         ensures boxes { self.new.boxes.items ≡ self.old.boxes.items }
+        ensures ports { self.new.ports.items ≡ self.old.ports.items }
     {
         let journals = self.journals.reserve(lines);
         let orders = self.orders.reserve(lines);
         let boxes = self.boxes.reserve(lines);
-        journals.and(orders).and(boxes)?;
+        let ports = self.ports.reserve(lines);
+        journals.and(orders).and(boxes).and(ports)?;
         Ok(())
     }
 }
@@ -79,12 +86,14 @@ pub(crate) fn take_lines<W: Wire, R: Wait>(
     ensures journals { IfOk result (λ left. map side_view left.journals.items ≡ map line_side lines.items) }
     ensures orders { IfOk result (λ left. left.orders.items ≡ map (λ line. (line.orders, line.map)) lines.items) }
     ensures boxes { IfOk result (λ left. rows_left left.boxes.items ≡ map (λ line. line.boxes) lines.items) }
+    ensures ports { IfOk result (λ left. left.ports.items ≡ map (λ line. line.ports) lines.items) }
     ensures kept { All (KeepsLine (λ w. w.published)) lines.items }
 {
     let mut left = LinesLeft {
         journals: Vec::new(alloc),
         orders: Vec::new(alloc),
         boxes: Vec::new(alloc),
+        ports: Vec::new(alloc),
     };
     let mut all = left.reserve(lines.len());
     for line in lines {
@@ -102,6 +111,7 @@ fn take_line<W: Wire, R: Wait>(rt: &R, wire: &mut W, line: Line<W::End, Writer>)
     ensures orders { result.orders ≡ line.orders }
     ensures map { result.map ≡ line.map }
     ensures boxes { result.boxes ≡ line.boxes }
+    ensures ports { result.ports ≡ line.ports }
     ensures kept { KeepsLine (λ w. w.published) line }
 {
     line.known();
@@ -112,7 +122,7 @@ fn take_line<W: Wire, R: Wait>(rt: &R, wire: &mut W, line: Line<W::End, Writer>)
         streams,
         orders,
         inboxes,
-        ports: _ports,
+        ports,
         words: _words,
         map,
     } = parts;
@@ -125,6 +135,7 @@ fn take_line<W: Wire, R: Wait>(rt: &R, wire: &mut W, line: Line<W::End, Writer>)
         orders,
         map,
         boxes: inboxes,
+        ports,
     }
 }
 
@@ -138,6 +149,7 @@ pub fn end_line<W: Wire, R: Wait>(rt: &R, wire: &mut W, line: Line<W::End, Write
         orders: _orders,
         map: _map,
         boxes: _boxes,
+        ports: _ports,
     } = take_line(rt, wire, line);
     journal
 }

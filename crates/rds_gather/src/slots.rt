@@ -5,49 +5,62 @@ ghost use Rattle.rds_socket.specs.Holding.{IsEnded};
 ghost use Rattle.rds_gather.specs.Columns.{rows_left};
 
 use rds_fmap::Reader;
-use rds_parts::Inbox;
+use rds_parts::{Inbox, Ports};
 use rds_socket::{Closed, Route, SocketParts};
 use rds_wire::Memory;
 use std::alloc::Global;
 use std::vec::IntoIter;
 
-/// What is left of the slots of a host: their mailboxes, and of each slot its routes.
+/// What is left of the slots of a host: their mailboxes, of each slot its routes, and their seats at the port table.
 #[derive(Drop)]
 pub(crate) struct SlotsLeft {
     pub(crate) inboxes: Vec<Inbox>,
     pub(crate) routes: Vec<IntoIter<Route<Reader>>>,
+    pub(crate) ports: Vec<Ports>,
 }
 
 /// Takes the slots of a host apart.
 pub(crate) fn take_slots(alloc: Global, closed: Vec<Closed<Reader>>) -> Result<SlotsLeft, Memory>
     ensures inboxes { IfOk result (λ left. map (λ b. b.get) left.inboxes.items ≡ map (λ h. h.inbox.get) closed.items) }
     ensures routes { IfOk result (λ left. rows_left left.routes.items ≡ map (λ h. h.routes) closed.items) }
+    ensures ports { IfOk result (λ left. left.ports.items ≡ map (λ h. h.ports) closed.items) }
     ensures ended { OnOk result (All IsEnded closed.items) }
 {
     let mut inboxes = Vec::with_capacity(alloc, closed.len())?;
     let mut routes = Vec::with_capacity(alloc, closed.len())?;
+    let mut ports = Vec::with_capacity(alloc, closed.len())?;
     for slot in closed {
-        let (inbox, own) = take_slot(slot);
+        let (inbox, own, seat) = take_slot(slot);
         inboxes.push(inbox)?;
         routes.push(own)?;
+        ports.push(seat)?;
     }
-    Ok(SlotsLeft { inboxes, routes })
+    Ok(SlotsLeft {
+        inboxes,
+        routes,
+        ports,
+    })
 }
 
 // Takes a slot apart.
-fn take_slot(slot: Closed<Reader>) -> (Inbox, IntoIter<Route<Reader>>)
+fn take_slot(slot: Closed<Reader>) -> (Inbox, IntoIter<Route<Reader>>, Ports)
     ensures inbox { result.0.get ≡ slot.inbox.get }
     ensures routes { into_iter_items result.1 ≡ slot.routes }
+    ensures ports { result.2 ≡ slot.ports }
     ensures ended { IsEnded slot }
 {
     let SocketParts {
-        table: _table,
-        seat: _seat,
+        table,
+        seat,
         meter: _meter,
         own: _own,
         inbox,
         get,
         routes,
     } = slot.into_parts();
-    (Inbox::new(inbox, get), routes.into_iter())
+    (
+        Inbox::new(inbox, get),
+        routes.into_iter(),
+        Ports::new(table, seat),
+    )
 }

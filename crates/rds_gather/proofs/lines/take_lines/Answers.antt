@@ -1,4 +1,4 @@
-use Rattle.std.proofs.Common.{◌≡◌, ℕ, List, Result, Ok, Err, OnOk, is_ok, refl, sym, ap, true, ◌∙◌}
+use Rattle.std.proofs.Common.{◌≡◌, ℕ, List, [], ◌∷◌, ◌++◌, Result, Ok, Err, OnOk, is_ok, refl, sym, ap, true, ◌∙◌}
 use Rattle.std.specs.Result.{result_and}
 use Rattle.std.proofs.lemmas.Bool.{false≢true}
 use Rattle.std.proofs.lemmas.List.Elements.{All-push}
@@ -23,6 +23,9 @@ on_ok : {X Z : Type 0} (r : Result X Z) (P : Type 0) → OnOk r P → is_ok r �
 on_ok (Ok x) P known is = known
 on_ok (Err e) P known is = absurd (false≢true is)
 
+added : {X Y Z : Type 0} (r : Result Y Z) (old new : List X) (x : X) → OnOk r (new ≡ old ++ x ∷ []) → is_ok r ≡ true → new ≡ old ++ x ∷ []
+added r old new x known is = on_ok r (new ≡ old ++ x ∷ []) known is
+
 same_side : (p q : ℕ) (a b : List Entry) → p ≡ q → a ≡ b → ◌≡◌ {A = FinalJournal} (record { peer = p; past = a }) (record { peer = q; past = b })
 same_side p q a b peers pasts = cc
 
@@ -40,10 +43,11 @@ loop-line-preserved g c =
       λ ok.
           let both = both_ok c.loop-line.all c.add.result c.and-all.result c.and-all.ensures ok in
           let inv = c.loop-line.invariant.1 both.0 in (
-            mapped_push side_view line_side old.journals.items new.journals.items seen (own.result.peer, own.result.journal) line (on_ok c.add.result _ c.add.ensures.journals both.1) inv.0
+            mapped_push side_view line_side old.journals.items new.journals.items seen (own.result.peer, own.result.journal) line (added c.add.result old.journals.items new.journals.items (own.result.peer, own.result.journal) c.add.ensures.journals both.1) inv.0
                 (same_side own.result.peer line.channel.conn.peer own.result.journal.past (line_past line) own.ensures.peer own.ensures.past),
-            pushed_map (λ (l : LineView g.row.W-End.Denot WriterView). (l.orders, l.map)) old.orders.items new.orders.items seen (own.result.orders, own.result.map) line (on_ok c.add.result _ c.add.ensures.orders both.1) inv.1
+            pushed_map (λ (l : LineView g.row.W-End.Denot WriterView). (l.orders, l.map)) old.orders.items new.orders.items seen (own.result.orders, own.result.map) line (added c.add.result old.orders.items new.orders.items (own.result.orders, own.result.map) c.add.ensures.orders both.1) inv.1
                 (same_asked own.result.orders line.orders own.result.map line.map own.ensures.orders own.ensures.map),
-            pushed_map (λ (l : LineView g.row.W-End.Denot WriterView). l.boxes) (rows_left old.boxes.items) (rows_left new.boxes.items) seen own.result.boxes line (on_ok c.add.result _ c.add.ensures.boxes both.1) inv.2 own.ensures.boxes,
+            pushed_map (λ (l : LineView g.row.W-End.Denot WriterView). l.boxes) (rows_left old.boxes.items) (rows_left new.boxes.items) seen own.result.boxes line (added c.add.result (rows_left old.boxes.items) (rows_left new.boxes.items) own.result.boxes c.add.ensures.boxes both.1) inv.2 own.ensures.boxes,
+            pushed_map (λ (l : LineView g.row.W-End.Denot WriterView). l.ports) old.ports.items new.ports.items seen own.result.ports line (added c.add.result old.ports.items new.ports.items own.result.ports c.add.ensures.ports both.1) inv.3 own.ensures.ports,
           ),
     )

@@ -11,4 +11,5 @@ invariant-loop-line g l =
     × (is_ok l.all ≡ true →
     (map side_view l.left.journals.items ≡ map line_side l.yielded)
     × (l.left.orders.items ≡ map (λ line. (line.orders, line.map)) l.yielded)
-    × (rows_left l.left.boxes.items ≡ map (λ line. line.boxes) l.yielded))
+    × (rows_left l.left.boxes.items ≡ map (λ line. line.boxes) l.yielded)
+    × (l.left.ports.items ≡ map (λ line. line.ports) l.yielded))

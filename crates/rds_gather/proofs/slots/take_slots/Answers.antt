@@ -6,7 +6,7 @@ use Rattle.rds_fmap.specs.Readers.{ReaderView}
 use Rattle.rds_parts.specs.Boxes.{Box}
 use Rattle.rds_parts.specs.Lanes.{Lane}
 use Rattle.rds_socket.specs.Holding.{Holding, IsEnded}
-use Rattle.rds_gather.proofs.Columns.{mapped_push}
+use Rattle.rds_gather.proofs.Columns.{mapped_push, pushed_map}
 use Rattle.rds_gather.proofs.slots.take_slots.Goals as goal
 
 pub loop-slot-preserved : goal.loop-slot-preserved
@@ -19,5 +19,7 @@ loop-slot-preserved c =
           c.in_ok-push.ensures.items inv.0 took.ensures.inbox,
       mapped_push (λ (it : IntoIter (Lane ReaderView) Global). into_iter_items it) (λ (h : Holding ReaderView). h.routes) c.loop-slot.routes.items c.push-in-loop-slot.new.self.items seen took.result.1 slot
           c.in_ok-push-2.ensures.items inv.1 took.ensures.routes,
-      All-push IsEnded seen slot inv.2 took.ensures.ended,
+      pushed_map (λ (h : Holding ReaderView). h.ports) c.loop-slot.ports.items c.push-in-loop-slot-2.new.self.items seen took.result.2 slot
+          c.in_ok-push-3.ensures.items inv.2 took.ensures.ports,
+      All-push IsEnded seen slot inv.3 took.ensures.ended,
     )

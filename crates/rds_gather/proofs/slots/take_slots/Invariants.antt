@@ -7,4 +7,5 @@ abbrev pub invariant-loop-slot : goal.invariant-loop-slot
 invariant-loop-slot l =
     (map (λ b. b.get) l.inboxes.items ≡ map (λ h. h.inbox.get) l.yielded)
     × (rows_left l.routes.items ≡ map (λ h. h.routes) l.yielded)
+    × (l.ports.items ≡ map (λ h. h.ports) l.yielded)
     × All IsEnded l.yielded
