@@ -1,8 +1,9 @@
 //! Reliable Datagram Sockets: the program `rds`.
 #![tactic(auto)]
 
-use rds_link::{MemWire, OpenGate, StdSink, StdSource};
+use rds_link::{OpenGate, StdSink, StdSource};
 use rds_run::rds_main;
+use rds_tcp::TcpWire;
 use std::alloc::AllocError;
 use std::process::ExitCode;
 use std::rt::Env;
@@ -18,8 +19,8 @@ fn main(rt: HostRuntime) -> ExitCode {
     let mut source = StdSource::new(rt.reader());
     let mut sink = StdSink::new(io::writer(&rt));
     let alloc = rt.alloc();
-    let mut wire = MemWire::new(alloc, Vec::new(alloc), Vec::new(alloc));
-    ExitCode::from(rds_main(
+    let mut wire = TcpWire::new(&rt, alloc);
+    let status = rds_main(
         &rt,
         alloc,
         &words,
@@ -27,7 +28,9 @@ fn main(rt: HostRuntime) -> ExitCode {
         &mut sink,
         &mut wire,
         &OpenGate,
-    ))
+    );
+    wire.finish(&rt);
+    ExitCode::from(status)
 }
 
 // The words behind the program's name, or none where one of them isn't UTF-8: no command has none.
