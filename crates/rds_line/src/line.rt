@@ -18,6 +18,7 @@ use rds_model::{Datagram, Journal, MAX_SLOTS};
 use rds_wire::Memory;
 use std::alloc::Global;
 use std::marker::Model;
+use std::sync::Wait;
 
 /// A line: all that a host has for one peer. It takes the orders that sockets gave, drives the connection over its streams, puts
 /// what comes into mailboxes, and publishes the peer's congestion map. Contracts see each of these, and what the line keeps
@@ -202,6 +203,11 @@ impl<E: End, M: MapWriter> Line<E, M> {
         ensures { result ≡ length self.now.channel.out }
     {
         self.channel.unwritten()
+    }
+
+    /// Waits a short while, where nothing can be read or written.
+    pub fn rest<R: Wait>(&self, rt: &R) {
+        self.channel.rest(rt);
     }
 
     /// The getter of the orders is told of what a putter had put.

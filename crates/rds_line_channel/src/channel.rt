@@ -18,6 +18,7 @@ use rds_model::{Journal, JournalError, Verdict};
 use rds_wire::{Frame, Memory};
 use std::alloc::Global;
 use std::marker::Model;
+use std::sync::Wait;
 
 /// What became of the bytes that came from the open stream.
 #[derive(Clone, Copy, Debug, PartialEq, Eq)]
@@ -191,6 +192,11 @@ impl<E: End> Channel<E> {
         ensures { IsTrue result ↔ (self.now.streams.opened < length self.now.streams.list) }
     {
         self.streams.has_next()
+    }
+
+    /// Waits a short while, where nothing can be read or written.
+    pub fn rest<R: Wait>(&self, rt: &R) {
+        self.streams.rest(rt);
     }
 
     /// The whole frame that came and wasn't passed, if there is one.

@@ -39,7 +39,7 @@ impl Piece {
         ensures { IfOk result (λ p. p ≡ []) }
     {
         Ok(Piece {
-            buf: vec![in alloc; 0u8; MOST]?,
+            buf: room(alloc, MOST)?,
             start: 0,
             end: 0,
         })
@@ -87,4 +87,12 @@ impl Piece {
         };
         got
     }
+}
+
+// Room for so many bytes.
+fn room(alloc: Global, size: usize) -> Result<Vec<u8>, Memory>
+    requires { 0 < size }
+    ensures { IfOk result (λ buf. 0 < length buf.items) }
+{
+    Ok(vec![in alloc; 0u8; size]?)
 }

@@ -23,6 +23,15 @@ type Came = (Taken, (u32, u16, u16, u32), Verdict);
 
 type Carried = ((Pulled, Pulled, Put), [Came; 2], bool);
 
+// The stream 1, with this end.
+fn one<E: End>(alloc: Global, end: E) -> Option<Vec<(u32, E)>>
+    ensures { IfSome result (λ list. list.items ≡ (1, end) ∷ []) }
+{
+    let mut streams = Vec::new(alloc);
+    streams.push((1, end)).ok()?;
+    Some(streams)
+}
+
 // A channel of a host with one socket, over the stream 1.
 fn channel<E: End>(alloc: Global, me: u32, peer: u32, end: E) -> Option<Channel<E>>
     requires { IsUnused E.means end }
@@ -30,9 +39,11 @@ fn channel<E: End>(alloc: Global, me: u32, peer: u32, end: E) -> Option<Channel<
     ensures closed { IfSome result (λ c. c.streams.is_open ≡ false) }
     ensures slots { IfSome result (λ c. c.conn.slots ≡ 1) }
 {
-    let mut streams = Vec::new(alloc);
-    streams.push((1, end)).ok()?;
-    Channel::new(alloc, me, peer, 1, 20, streams).ok()
+    let streams = one(alloc, end)?;
+    match Channel::new(alloc, me, peer, 1, 20, streams) {
+        Ok(channel) => Some(channel),
+        Err(_) => None,
+    }
 }
 
 // The channels of two hosts to each other.

@@ -10,6 +10,8 @@ ghost use Rattle.rds_line_streams.specs.Streams.{AreKept, AreNumbered, IsUnused,
 use crate::places::{read_at, shut_at, write_at};
 use rds_link::{End, Got, Put};
 use std::marker::Model;
+use std::sync::Wait;
+use std::thread;
 
 /// All streams that a line was given: the number of each and the line's end of it. The line opens them one after another,
 /// each at most once, and at most one is open at a time. An end that isn't open any more has shut, and one that wasn't
@@ -131,6 +133,15 @@ impl<E: End> Streams<E> {
     {
         shut_at(&mut self.streams, self.opened - 1);
         self.is_open = false;
+    }
+
+    /// Waits a short while, where nothing can be read from the open stream or written to it. Where none is open, other threads
+    /// get their turn.
+    pub fn rest<R: Wait>(&self, rt: &R) {
+        if !self.is_open {
+            return thread::yield_now();
+        }
+        self.streams[self.opened - 1].1.rest(rt);
     }
 
     /// Every stream that was given, in the same order.
