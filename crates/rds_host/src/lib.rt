@@ -5,6 +5,7 @@
 mod column;
 pub mod laws;
 mod making;
+mod resting;
 mod seats;
 mod settling;
 mod stop;

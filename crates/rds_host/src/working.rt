@@ -1,12 +1,12 @@
-//! The worker of a host.
+//! The worker of lines of a host.
 ghost use Rattle.rds_host.specs.Lines.{AreTurned, pair_of};
 
+use crate::resting::{Idle, rest};
 use crate::stop::Stop;
 use rds_fmap::Writer;
 use rds_line::{Line, Turn};
 use rds_link::End;
 use std::sync::Wait;
-use std::thread;
 
 /// Turns each line in order, round after round, until the stop flag is set and no line moved in a whole round. After a round
 /// in which none moved it rests. The lines come back in the same order.
@@ -17,15 +17,14 @@ pub fn work<E: End, R: Wait>(
 ) -> Vec<Line<E, Writer>>
     ensures { AreTurned E.means pair_of lines.items result.items }
 {
+    let mut idle = Idle::new();
     for _ in rt.forever() {
         let was_set = stop.is_set();
         let moved = turn_all(rt, &mut lines);
         if !moved && was_set {
             break;
         }
-        if !moved {
-            thread::yield_now();
-        }
+        rest(rt, &lines, moved, &mut idle);
     }
     lines
 }

@@ -1,5 +1,6 @@
 -- What stands at a place of a list.
 use Rattle.std.proofs.Common.{◌≡◌, ◌≢◌, ◌<◌, ◌⊎◌, inl, inr, ⊎_elim, ℕ, zero, suc, List, [], ◌∷◌, ◌++◌, Some, length, map, set, get_or, slice_get, refl, sym, ap, ◌∙◌, arith}
+use Rattle.std.proofs.lemmas.List.{length_push}
 use Rattle.std.proofs.lemmas.Option.{same_Some, slice_get-get_or}
 
 -- what stands at a place of a mapped list is made of what stands there
@@ -51,3 +52,8 @@ at_set_any (z ∷ xs) zero x zero y at = inl (refl, sym (same_Some x y at))
 at_set_any (z ∷ xs) zero x (suc i) y at = inr (λ e. omega (arith, e), at)
 at_set_any (z ∷ xs) (suc k) x zero y at = inr (λ e. omega (arith, e), at)
 at_set_any (z ∷ xs) (suc k) x (suc i) y at = ⊎_elim (λ here. inl (ap suc here.0, here.1)) (λ there. inr (λ e. there.0 (omega (arith, e)), there.1)) (at_set_any xs k x i y at)
+
+-- a list of one thing is that which stands at its end
+pub the_one : {A : Type 0} (xs front : List A) (x : A) → xs ≡ front ++ x ∷ [] → length xs ≡ 1 → xs ≡ x ∷ []
+the_one xs [] x is one = is
+the_one xs (y ∷ front) x is one = absurd (let n = ap length is in let m = length_push front x in omega (arith, n, m, one))

@@ -1,10 +1,11 @@
-//! The hosts of a run: how they are made, and how the caller of each does its commands beside a worker that turns its lines.
+//! The hosts of a run: how they are made, and how the caller of each does its commands beside the workers, one of which turns each line.
 #![tactic(auto)]
 
 mod leading;
 mod making;
 mod playing;
 mod streams;
+mod working;
 
 pub use making::parties;
 pub use playing::play;

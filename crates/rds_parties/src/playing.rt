@@ -1,4 +1,4 @@
-//! The threads of a run.
+//! The callers of a run, beside its workers.
 ghost use Rattle.std.specs.Prelude.{◌≡◌, ◌≤◌, ℕ, All, IfOk, OnOk, Ok, length, map};
 ghost use Rattle.rds_callers.specs.Places.{PlacesKeep};
 ghost use Rattle.rds_parties.specs.Leading.{AreJobs, CallersKeep, HasCalled};
@@ -10,12 +10,10 @@ ghost use Rattle.rds_rounds.specs.Connection.{AreHosts};
 ghost use Rattle.rds_rounds.specs.Grid.{EachRow, rows_of};
 
 use crate::leading::{commands_from, lead};
-use core::mem::replace_with;
+use crate::working::work_all;
 use rds_callers::{Caller, host_of};
-use rds_fmap::Writer;
+use rds_host::Stop;
 use rds_host::laws::turned_keeps;
-use rds_host::{Stop, work};
-use rds_line::Line;
 use rds_link::{End, Gate};
 use rds_rounds::Lines;
 use rds_rounds::laws::connected_keeps;
@@ -205,7 +203,7 @@ fn play_beside<E: End + Send, R: Threads + Wait + Sync, G: Gate + Sync>(
         rt,
         move || -> Lines<E>
             ensures { EachRow (AreTurned E.means pair_of) (rows_of lines.items) (rows_of result.items) }
-        { work_all(rt, lines, stop) },
+        { work_all(rt, alloc, lines, stop) },
         move || -> Result<Vec<Caller>, Memory>
             requires few { length callers.items ≤ 8 }
             requires commands { (hosts : ℕ) × All (λ p. IsCommand hosts p.command) commands.now }
@@ -214,49 +212,4 @@ fn play_beside<E: End + Send, R: Threads + Wait + Sync, G: Gate + Sync>(
         { call_then_stop(rt, alloc, commands, gate, callers, stop) },
     );
     (callers, lines)
-}
-
-// The workers of all hosts, beside each other.
-fn work_all<E: End + Send, R: Threads + Wait + Sync>(
-    rt: &R,
-    mut lines: Lines<E>,
-    stop: &Stop,
-) -> Lines<E>
-    ensures { EachRow (AreTurned E.means pair_of) (rows_of lines.items) (rows_of result.items) }
-{
-    work_beside(rt, &mut lines, stop);
-    lines
-}
-
-// The same over the rows of the hosts.
-fn work_beside<E: End + Send, R: Threads + Wait + Sync>(
-    rt: &R,
-    rows: &mut [Vec<Line<E, Writer>>],
-    stop: &Stop,
-)
-    ensures { EachRow (AreTurned E.means pair_of) (rows_of rows.old) (rows_of rows.new) }
-{
-    let threads = rows.len().max(1);
-    let turn = |_host: usize, row: &mut Vec<Line<E, Writer>>|
-        ensures { AreTurned E.means pair_of row.entry.now.items row.exit.now.items }
-    { work_on(rt, row, stop) };
-    thread::for_each_mut(rt, rows, threads, &turn);
-}
-
-// The worker of a host: turns its lines until the flag is set and none moves.
-fn work_on<E: End, R: Wait>(rt: &R, row: &mut Vec<Line<E, Writer>>, stop: &Stop)
-    ensures { AreTurned E.means pair_of row.old.items row.new.items }
-{
-    replace_with(row, (rt, stop), worked);
-}
-
-// The lines of a host once its worker has ended.
-fn worked<E: End, R: Wait>(
-    row: Vec<Line<E, Writer>>,
-    with: (&R, &Stop),
-) -> (Vec<Line<E, Writer>>, ())
-    ensures { AreTurned E.means pair_of row.items result.0.items }
-{
-    let (rt, stop) = with;
-    (work(rt, row, stop), ())
 }

@@ -1,16 +1,10 @@
 //! A worker writes the frame of a caller's command while that caller waits at its gate for its next one.
 use crate::CountingWire;
-use rds_link::{Gate, MemSink};
-use rds_model::MAX_ENTRIES;
-use rds_script::read;
-use rds_threads::{Form, run};
-use std::alloc::Global;
-use std::net::Net;
-use std::sync::Wait;
+use crate::written::written;
+use rds_link::Gate;
 use std::sync::atomic::{AtomicBool, AtomicUsize, Ordering};
 use std::test::Fail;
 use std::thread;
-use std::thread::Threads;
 
 const SCRIPT: &[u8] =
     b"hosts 2\nbind A 4000 65536 65536\nbind B 4001 65536 65536\nsend A 4000 B 4001 t:a\nsend A 4000 B 4001 t:b\nrecv B 4001\nrecv B 4001\n";
@@ -55,30 +49,6 @@ impl Gate for Counted<'_> {
     }
 }
 
-// What the run writes over a wire that counts, past this gate.
-fn written<R: Threads + Wait + Net + Sync>(
-    rt: &R,
-    alloc: Global,
-    gate: &Counted,
-) -> Option<MemSink> {
-    let script = read(alloc, SCRIPT).ok()?;
-    let mut wire = CountingWire::new(alloc, gate.taken);
-    let mut sink = MemSink::new(alloc, Vec::new(alloc));
-    let form = Form::Report;
-    run(
-        rt,
-        alloc,
-        &script,
-        &mut wire,
-        gate,
-        form,
-        MAX_ENTRIES,
-        1,
-        &mut sink,
-    );
-    Some(sink)
-}
-
 #[test]
 fn frames_are_written_while_the_caller_waits(rt: HostRuntime) -> Result<(), Fail> {
     let taken = AtomicUsize::new(0);
@@ -86,7 +56,8 @@ fn frames_are_written_while_the_caller_waits(rt: HostRuntime) -> Result<(), Fail
         taken: &taken,
         is_late: AtomicBool::new(false),
     };
-    let sink = written(&rt, rt.alloc(), &gate);
+    let mut wire = CountingWire::new(rt.alloc(), &taken);
+    let sink = written(&rt, rt.alloc(), SCRIPT, &mut wire, &gate, 1);
     assert_eq!(rt; sink.expect(&rt, "memory").held(), TEXT);
     assert!(rt; !gate.is_late.load(Ordering::SeqCst));
     Ok(())

@@ -15,11 +15,6 @@ loop-preserved g c =
     lines_back g.E.End.means pair_of c.args.lines.items c.loop.lines.items c.deref_mut.result.now c.turn_all-moved.new.lines c.loop.lines.len
     c.loop.invariant c.deref_mut.ensures.value c.turn_all-moved.ensures c.loop.lines.ok.0
 
-pub loop-preserved-then-not-moved-2 : goal.loop-preserved-then-not-moved-2
-loop-preserved-then-not-moved-2 g c =
-    lines_back g.E.End.means pair_of c.args.lines.items c.loop.lines.items c.deref_mut.result.now c.turn_all-moved.new.lines c.loop.lines.len
-    c.loop.invariant c.deref_mut.ensures.value c.turn_all-moved.ensures c.loop.lines.ok.0
-
 pub returns : goal.returns
 returns g c = elim c.match-next.branch [
   | in-None w ↦ subst (λ (v : Vec (LineView g.row.E.Denot WriterView) Global). AreTurned g.E.End.means pair_of c.args.lines.items v.items) (sym w.lines-is) c.loop.invariant

@@ -5,7 +5,7 @@ use Rattle.rds_fmap.specs.Readers.{WriterView}
 use Rattle.rds_line.specs.Line.{LineView}
 use Rattle.rds_host.specs.Lines.{AreTurned, pair_of}
 use Rattle.rds_parties.proofs.At.{at_map, length_map}
-use Rattle.rds_parties.proofs.playing.work_beside.Goals as goal
+use Rattle.rds_parties.proofs.working.work_rows.Goals as goal
 
 pub returns : goal.returns
 returns g c =

@@ -1,0 +1,37 @@
+use rds_link::{Gate, MemSink, Wire};
+use rds_model::MAX_ENTRIES;
+use rds_script::read;
+use rds_threads::{Form, run};
+use std::alloc::Global;
+use std::net::Net;
+use std::sync::Wait;
+use std::thread::Threads;
+
+/// What a run of the script writes over this wire and past this gate, where its last rounds stop after so many quiet ones.
+pub(crate) fn written<W: Wire, G: Gate + Sync, R: Threads + Wait + Net + Sync>(
+    rt: &R,
+    alloc: Global,
+    script: &[u8],
+    wire: &mut W,
+    gate: &G,
+    budget: u64,
+) -> Option<MemSink>
+where
+    W::End: Send,
+{
+    let script = read(alloc, script).ok()?;
+    let mut sink = MemSink::new(alloc, Vec::new(alloc));
+    let form = Form::Report;
+    run(
+        rt,
+        alloc,
+        &script,
+        wire,
+        gate,
+        form,
+        MAX_ENTRIES,
+        budget,
+        &mut sink,
+    );
+    Some(sink)
+}
