@@ -4,3 +4,4 @@ pub mod Keys
 pub mod Showing
 pub mod Joining
 pub mod Looking
+pub mod Cutting

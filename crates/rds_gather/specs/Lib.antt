@@ -2,3 +2,4 @@ pub mod Sides
 pub mod Columns
 pub mod Shown
 pub mod Joined
+pub mod Cuts

@@ -4,6 +4,7 @@ ghost use Rattle.rds_report.specs.Views.{side_view};
 ghost use Rattle.rds_line.specs.Keeps.{KeepsLine};
 ghost use Rattle.rds_line.specs.Line.{line_past};
 ghost use Rattle.rds_gather.specs.Columns.{rows_left};
+ghost use Rattle.rds_gather.specs.Cuts.{HasCut};
 ghost use Rattle.rds_gather.specs.Sides.{line_side};
 
 use rds_fmap::Writer;
@@ -80,6 +81,7 @@ pub(crate) fn take_lines<W: Wire, R: Wait>(
     ensures orders { IfOk result (λ left. left.orders.items ≡ map (λ line. (line.orders, line.map)) lines.items) }
     ensures boxes { IfOk result (λ left. rows_left left.boxes.items ≡ map (λ line. line.boxes) lines.items) }
     ensures kept { All (KeepsLine (λ w. w.published)) lines.items }
+    ensures cut { All HasCut lines.items }
 {
     let mut left = LinesLeft {
         journals: Vec::new(alloc),
@@ -103,6 +105,7 @@ fn take_line<W: Wire, R: Wait>(rt: &R, wire: &mut W, line: Line<W::End, Writer>)
     ensures map { result.map ≡ line.map }
     ensures boxes { result.boxes ≡ line.boxes }
     ensures kept { KeepsLine (λ w. w.published) line }
+    ensures cut { HasCut line }
 {
     line.known();
     let (journal, parts) = line.into_parts();
