@@ -5,3 +5,4 @@ pub mod Showing
 pub mod Joining
 pub mod Looking
 pub mod Owning
+pub mod Cutting

@@ -4,3 +4,4 @@ pub mod Shown
 pub mod Joined
 pub mod Heard
 pub mod Owned
+pub mod Cuts

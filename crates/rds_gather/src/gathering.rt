@@ -2,6 +2,7 @@ ghost use Rattle.std.specs.Prelude.{◌≡◌, IfOk, OnOk, map};
 ghost use Rattle.rds_report.specs.Views.{side_view};
 ghost use Rattle.rds_host.specs.Passes.{AreAllPasses};
 ghost use Rattle.rds_host.specs.Ties.{AreOfHost};
+ghost use Rattle.rds_gather.specs.Cuts.{AreCutsOfSlots};
 ghost use Rattle.rds_gather.specs.Joined.{AreJoined, AreLooksOfJournals};
 ghost use Rattle.rds_gather.specs.Owned.{AreOwned};
 ghost use Rattle.rds_gather.specs.Sides.{line_side};
@@ -44,6 +45,7 @@ pub fn gather<W: Wire, R: Wait>(
     ensures joined { OnOk result (AreJoined closed.items lines.items) }
     ensures looks { OnOk result (AreLooksOfJournals closed.items lines.items) }
     ensures owned { OnOk result (AreOwned closed.items lines.items) }
+    ensures cut { OnOk result (AreCutsOfSlots closed.items lines.items) }
 {
     let mut left = take_lines(rt, alloc, wire, lines)?;
     let mut slots = take_slots(alloc, closed)?;

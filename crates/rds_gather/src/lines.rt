@@ -4,6 +4,7 @@ ghost use Rattle.rds_report.specs.Views.{side_view};
 ghost use Rattle.rds_line.specs.Keeps.{KeepsLine};
 ghost use Rattle.rds_line.specs.Line.{line_past};
 ghost use Rattle.rds_gather.specs.Columns.{rows_left};
+ghost use Rattle.rds_gather.specs.Cuts.{HasCut};
 ghost use Rattle.rds_gather.specs.Sides.{line_side};
 
 use rds_fmap::Writer;
@@ -88,6 +89,7 @@ pub(crate) fn take_lines<W: Wire, R: Wait>(
     ensures boxes { IfOk result (λ left. rows_left left.boxes.items ≡ map (λ line. line.boxes) lines.items) }
     ensures ports { IfOk result (λ left. left.ports.items ≡ map (λ line. line.ports) lines.items) }
     ensures kept { All (KeepsLine (λ w. w.published)) lines.items }
+    ensures cut { All HasCut lines.items }
 {
     let mut left = LinesLeft {
         journals: Vec::new(alloc),
@@ -113,6 +115,7 @@ fn take_line<W: Wire, R: Wait>(rt: &R, wire: &mut W, line: Line<W::End, Writer>)
     ensures boxes { result.boxes ≡ line.boxes }
     ensures ports { result.ports ≡ line.ports }
     ensures kept { KeepsLine (λ w. w.published) line }
+    ensures cut { HasCut line }
 {
     line.known();
     let (journal, parts) = line.into_parts();

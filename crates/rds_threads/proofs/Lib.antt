@@ -3,6 +3,8 @@ pub mod Rows
 pub mod Hosts
 pub mod HandedOut
 pub mod Receiving
+pub mod CutsPut
+pub mod Cutting
 pub mod Outcome
 pub mod Owning
 pub mod Sound

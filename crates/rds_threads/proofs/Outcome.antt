@@ -1,5 +1,5 @@
 -- What a host that has ended did of a script's commands.
-use Rattle.std.proofs.Common.{◌≡◌, ℕ, suc, arith, List, [], ◌∷◌, Some, Option, map, option_map, slice_get, Result, Ok, Err, IfOk, OnOk, Vec, refl, sym, ap, subst, ◌∙◌}
+use Rattle.std.proofs.Common.{◌≡◌, ◌<◌, ◌≤◌, ℕ, suc, arith, List, [], ◌∷◌, Some, Option, map, option_map, slice_get, Result, Ok, Err, IfOk, OnOk, Vec, refl, sym, ap, subst, ◌∙◌}
 use Rattle.std.specs.Global.{Global}
 use Rattle.std.proofs.lemmas.List.Elements.{All-map, All-weaker}
 use Rattle.std.proofs.lemmas.Option.{slice_get-map}
@@ -13,17 +13,22 @@ use Rattle.rds_wire.specs.declared.memory.Memory.{Memory}
 use Rattle.rds_script.specs.declared.script.Placed.{Placed}
 use Rattle.rds_socket.specs.Holding.{Holding}
 use Rattle.rds_line.specs.Line.{LineView}
+use Rattle.rds_report.specs.Hosts.{address_of}
+use Rattle.rds_rounds.specs.Grid.{peer_at}
+use Rattle.rds_gather.specs.Cuts.{AreCutsDone, AreCutsOfSlots}
 use Rattle.rds_gather.specs.Joined.{AreJoined, AreLooksOfJournals, orders_of}
 use Rattle.rds_gather.specs.Sides.{line_side}
+use Rattle.rds_line.specs.Keeps.{cuts_among}
 use Rattle.rds_gather.specs.Shown.{HasLookedAt}
 use Rattle.rds_model.specs.Sums.{maps}
 use Rattle.rds_callers.specs.Ends.{AreEndsOf, AreLeft, IsLeft, UnreadFits, kept_name, used_name}
 use Rattle.rds_callers.specs.Places.{Bound, Ended, Place, Spare, Vacant, holding_of, somes, spared, with_holding}
-use Rattle.rds_threads.specs.Outcome.{HandedOutAt, IsOutcome, socket_name}
+use Rattle.rds_threads.specs.Outcome.{HandedOutAt, IsOutcome, cuts_to, socket_name}
 use Rattle.rds_rounds.specs.Quiet.{AreQuiet}
-use Rattle.rds_threads.specs.Settled.{AreAllSent, AreKeptOf, HasDoneSpared, HaveAllLooked}
+use Rattle.rds_threads.specs.Settled.{AreAllCut, AreAllSent, AreKeptOf, HasDoneSpared, HaveAllLooked}
 use Rattle.rds_settling.specs.Tied.{AreLinesTold, PlacesHear, holdings}
-use Rattle.rds_threads.proofs.At.{at_map, held_at, spared_holds, stood_at}
+use Rattle.rds_threads.proofs.At.{all_from, at_map, held_at, spared_holds, stood_at}
+use Rattle.rds_threads.proofs.Cutting.{cuts_of_done, fewer_done}
 
 -- the names of slots stay where they are given up
 name_spared : (p : Place) → used_name (spared p) ≡ used_name p
@@ -78,6 +83,21 @@ module _ {E : Type 0} where
       let routes = (ends.each slot q.0 h.0 q.1 h.1).routes ∙ ap (λ (x : Holding ReaderView). x.routes) heard.1 in
       looks slot place h.0 lane line h.1 (subst (λ (l : List (Lane ReaderView)). IsLaneAt l place lane) (sym routes) at_lane) at_line
 
+module _ {E : Type 0} where
+  -- the cuts that slots asked for were done
+  pub all_cut : (places told : List Place) (closed : List (Holding ReaderView)) (lines : List (LineView E WriterView)) → PlacesHear places told → AreEndsOf told closed →
+      AreCutsOfSlots closed lines → AreLinesTold (holdings places) lines → AreQuiet lines → AreAllCut places lines
+  all_cut places told closed lines hear ends cut all quiet slot place p lane line at at_lane at_line =
+      let q = stood_at told places slot p (sym hear.count) at in
+      let heard = hear.each slot p q.0 at q.1 in
+      let h = stood_at closed told slot q.0 (sym ends.count) q.1 in
+      let routes = (ends.each slot q.0 h.0 q.1 h.1).routes ∙ ap (λ (x : Holding ReaderView). x.routes) heard.1 in
+      cut slot place h.0 lane line h.1 (subst (λ (l : List (Lane ReaderView)). IsLaneAt l place lane) (sym routes) at_lane) at_line (quiet place line at_line)
+      (λ other k way at_k at_way.
+      let was = routes_kept places told closed hear ends other k at_k in
+      all place line at_line other (holding_of was.0) way (held_at places other was.0 was.1)
+      (subst (λ (l : List (Lane ReaderView)). IsLaneAt l place way) was.2 at_way))
+
 -- a place that was told has the name and hands out what it had
 name_heard : (p : Place) (k : Holding ReaderView) → k.words.slot ≡ (holding_of p).words.slot → used_name (with_holding p k) ≡ used_name p
 name_heard (Vacant h) k same = refl
@@ -124,9 +144,10 @@ hands_spared (Spare h) s is = absurd is
 
 module _ {E : Type 0} where
   pub outcome_of : (hosts host : ℕ) (commands : List Placed) (places : List Place) (lines : List (LineView E WriterView)) (kept : List Kept) →
-      HasDoneSpared hosts host commands places → AreAllSent places lines → HaveAllLooked places lines → AreKeptOf places kept →
+      ((place : ℕ) (line : LineView E WriterView) → slice_get lines place ≡ Some line → (line.channel.conn.peer ≡ address_of (peer_at host place)) × (suc place < hosts)) →
+      HasDoneSpared hosts host commands places → AreAllSent places lines → HaveAllLooked places lines → AreAllCut places lines → AreKeptOf places kept →
       IsOutcome hosts host commands (map line_side lines) (map socket_view kept)
-  outcome_of hosts host commands places lines kept did sent looked of_kept = record {
+  outcome_of hosts host commands places lines kept peers did sent looked cut of_kept = record {
     last = did.last;
     done = did.done;
     sent = λ slot place p lane side at at_lane at_side.
@@ -139,6 +160,16 @@ module _ {E : Type 0} where
         subst (λ (s : FinalJournal). HasLookedAt (maps s.past) lane.reader) (sym line.2)
         (looked slot place (spared p) lane line.0 (here slot p at)
         (subst (λ (h : Holding ReaderView). IsLaneAt h.routes place lane) (sym (spared_holds p)) at_lane) line.1);
+    cut = all_from (λ (side : FinalJournal). AreCutsDone (cuts_to host side.peer commands) side.past) (map line_side lines)
+        (λ place side at_side.
+        let line = at_map line_side lines place side at_side in
+        let to = peers place line.0 line.1 in
+        let way = cuts_of_done hosts host place commands did.last did.done to.1 in
+        let done = cut way.slot place (spared way.p) way.cut.lane line.0 (here way.slot way.p way.at)
+        (subst (λ (h : Holding ReaderView). IsLaneAt h.routes place way.cut.lane) (sym (spared_holds way.p)) way.cut.at) line.1 in
+        subst (λ (s : FinalJournal). AreCutsDone (cuts_to host s.peer commands) s.past) (sym line.2)
+        (fewer_done (cuts_to host line.0.channel.conn.peer commands) (cuts_among way.cut.lane.pass.put) line.0.channel.conn.log.past
+        (subst (λ (peer : ℕ). cuts_to host peer commands ≤ cuts_among way.cut.lane.pass.put) (sym to.0) way.cut.cuts) done));
     names = names_of kept ∙ (of_kept.names ∙ (ap (λ (l : List Place). somes (map used_name l)) did.left ∙ names_spared did.last));
     handed = All-map (λ (s : FinalSocket). (p : Place) × (slice_get did.last s.slot ≡ Some p) × HandedOutAt p s) socket_view kept
         (All-weaker (λ (k : Kept). (p : Place) × (slice_get places k.slot ≡ Some p) × HandedOutAt p (socket_view k))

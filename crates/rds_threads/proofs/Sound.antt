@@ -146,7 +146,7 @@ module _ {E : Type 0} (m : Means E) (limit hosts : ℕ) (callers : List CallerVi
       let a_past : line_past la.0 ≡ a.past = sym (ap (λ (j : FinalJournal). j.past) la.1) in
       let b_past : line_past lb.0 ≡ b.past = sym (ap (λ (j : FinalJournal). j.past) lb.1) in
       let begins =
-          subst (λ (p : List Entry). IsHonest p (line_past lb.0)) (sym a_past) (subst (λ (p : List Entry). IsHonest a.past p) (sym b_past) honest) in
+      subst (λ (p : List Entry). IsHonest p (line_past lb.0)) (sym a_past) (subst (λ (p : List Entry). IsHonest a.past p) (sym b_past) honest) in
       let both = fifo (line_past la.0) (line_past lb.0) s.low_legal.legal s.high_legal.legal begins in
       let one_has : HasReceived one = subst HasReceived (sym first.is) first.rest.received in
       let other_has : HasReceived other = subst HasReceived (sym second.is) second.rest.received in (
@@ -177,7 +177,12 @@ module _ {E : Type 0} (m : Means E) (limit hosts : ℕ) (callers : List CallerVi
             let is = host_at host final at in
             subst (λ (h : FinalHost). IsOutcome hosts host commands h.sides h.sockets) (sym is.is)
             (subst (λ (l : List FinalJournal). IsOutcome hosts host commands l (map socket_view is.end.kept.items)) (sym is.rest.journals)
-            (outcome_of hosts host commands is.caller.places is.row is.end.kept.items (did host is.caller is.caller_at) is.rest.sent is.rest.looked is.rest.kept));
+            (outcome_of hosts host commands is.caller.places is.row is.end.kept.items
+            (λ place line at_line. (
+              (line_of m limit hosts rows done host place line (is.row, is.row_at, at_line)).peer_is,
+              place_within hosts rows done.shape host place line (is.row, is.row_at, at_line),
+            ))
+            (did host is.caller is.caller_at) is.rest.sent is.rest.looked is.rest.cut is.rest.kept));
         received = all_from HasReceived (host_views ends) (λ host final at. let is = host_at host final at in subst HasReceived (sym is.is) is.rest.received);
         reliable = reliable_all fifo;
       }

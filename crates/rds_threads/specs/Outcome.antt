@@ -1,10 +1,14 @@
 -- What came of what the callers of a run did. Source: this project's own.
-use Rattle.std.specs.Prelude.{◌≡◌, ℕ, List, [], All, Some, map, slice_get}
+use Rattle.std.specs.Prelude.{◌≡◌, ℕ, ◌==◌, ◌&&◌, Bool, false, List, [], All, Some, filter, length, map, slice_get}
 use Rattle.rds_fmap.specs.Readers.{ReaderView}
 use Rattle.rds_parts.specs.Lanes.{IsLaneAt, Lane}
 use Rattle.rds_report.specs.FinalState.{FinalJournal, FinalSocket}
+use Rattle.rds_report.specs.Hosts.{address_of}
+use Rattle.rds_script.specs.declared.script.Command.{Command}
+use Rattle.rds_script.specs.declared.script.Command.TheVariants.{Cut}
 use Rattle.rds_script.specs.declared.script.Placed.{Placed}
 use Rattle.rds_line.specs.Keeps.{uncut}
+use Rattle.rds_gather.specs.Cuts.{AreCutsDone}
 use Rattle.rds_gather.specs.Joined.{orders_of}
 use Rattle.rds_gather.specs.Shown.{HasLookedAt}
 use Rattle.rds_model.specs.Sums.{maps}
@@ -24,10 +28,20 @@ HandedOutAt (Spare h) s = ⊥
 abbrev pub socket_name : FinalSocket → ℕ × ℕ
 socket_name s = (s.slot, s.port)
 
+-- whether the command has the host cut its stream to the peer at this address
+abbrev pub is_cut_to : (host peer : ℕ) → Command → Bool
+is_cut_to host peer (Cut by to) = by == host && (address_of to == peer)
+is_cut_to host peer _ = false
+
+-- how many of the commands do
+abbrev pub cuts_to : (host peer : ℕ) → List Placed → ℕ
+cuts_to host peer commands = length (filter (λ (placed : Placed). is_cut_to host peer placed.command) commands)
+
 -- What one of so many hosts, with these journals and these sockets, comes to did the script's commands: from slots that were new its caller
 -- did exactly its own commands. In the journal with each other host stand, for each slot, exactly the orders that its socket put on the route
 -- to that host, in order and each once. Each look of a socket at a peer's congestion map found what the map of its version has, among those
--- that the journal with that peer read. There is one socket of each slot that was bound, in order, with its port.
+-- that the journal with that peer read. Where a stream to a peer is open in the end, at least as many were shut as the commands have the host
+-- cut. There is one socket of each slot that was bound, in order, with its port.
 pub record IsOutcome (hosts host : ℕ) (commands : List Placed) (sides : List FinalJournal) (sockets : List FinalSocket) : Type 0 where
   pub last : List Place
   pub done : HasDone hosts host commands last
@@ -35,5 +49,6 @@ pub record IsOutcome (hosts host : ℕ) (commands : List Placed) (sides : List F
       IsLaneAt (holding_of p).routes place lane → slice_get sides place ≡ Some side → orders_of slot side.past ≡ uncut lane.pass.put
   pub looked : (slot place : ℕ) (p : Place) (lane : Lane ReaderView) (side : FinalJournal) → slice_get last slot ≡ Some p →
       IsLaneAt (holding_of p).routes place lane → slice_get sides place ≡ Some side → HasLookedAt (maps side.past) lane.reader
+  pub cut : All (λ (side : FinalJournal). AreCutsDone (cuts_to host side.peer commands) side.past) sides
   pub names : map socket_name sockets ≡ somes (map used_name last)
   pub handed : All (λ (s : FinalSocket). (p : Place) × (slice_get last s.slot ≡ Some p) × HandedOutAt p s) sockets

@@ -6,8 +6,9 @@ use Rattle.rds_report.specs.Hosts.{address_of}
 use Rattle.rds_report.specs.Views.{host_view, side_view, socket_view}
 use Rattle.rds_report.specs.declared.final_state.HostEnd.{HostEnd}
 use Rattle.rds_report.specs.declared.final_state.Kept.{Kept}
-use Rattle.rds_line.specs.Keeps.{uncut}
+use Rattle.rds_line.specs.Keeps.{cuts_among, uncut}
 use Rattle.rds_line.specs.Line.{LineView, line_past}
+use Rattle.rds_gather.specs.Cuts.{AreCutsDone}
 use Rattle.rds_gather.specs.Joined.{orders_of}
 use Rattle.rds_gather.specs.Shown.{HasLookedAt}
 use Rattle.rds_model.specs.Sums.{maps}
@@ -30,6 +31,11 @@ AreAllSent {E} places lines = (slot place : ℕ) (p : Place) (lane : Lane Reader
 abbrev pub HaveAllLooked : {E : Type 0} → List Place → List (LineView E WriterView) → Type 0
 HaveAllLooked {E} places lines = (slot place : ℕ) (p : Place) (lane : Lane ReaderView) (line : LineView E WriterView) → slice_get places slot ≡ Some p →
     IsLaneAt (holding_of p).routes place lane → slice_get lines place ≡ Some line → HasLookedAt (maps (line_past line)) lane.reader
+
+-- the cuts that each slot asked a line for were done
+abbrev pub AreAllCut : {E : Type 0} → List Place → List (LineView E WriterView) → Type 0
+AreAllCut {E} places lines = (slot place : ℕ) (p : Place) (lane : Lane ReaderView) (line : LineView E WriterView) → slice_get places slot ≡ Some p →
+    IsLaneAt (holding_of p).routes place lane → slice_get lines place ≡ Some line → AreCutsDone (cuts_among lane.pass.put) (line_past line)
 
 -- so the caller did its commands, and then gave up the slots that no socket had
 pub record HasDoneSpared (hosts host : ℕ) (commands : List Placed) (places : List Place) : Type 0 where
@@ -85,6 +91,7 @@ pub record IsLeftOf {E : Type 0} (host : ℕ) (places : List Place) (lines : Lis
   pub received : HasReceived (host_view end)
   pub sent : AreAllSent places lines
   pub looked : HaveAllLooked places lines
+  pub cut : AreAllCut places lines
   pub kept : AreKeptOf places end.kept.items
 
 -- so it is of each host

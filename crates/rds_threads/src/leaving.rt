@@ -12,7 +12,7 @@ ghost use Rattle.rds_settling.specs.Tied.{AreSlotsTold, AreTied, PlacesHear, hol
 ghost use Rattle.rds_script.specs.declared.script.Placed.{Placed};
 ghost use Rattle.rds_threads.specs.Ends.{AreDrainedHosts, AreEnds};
 ghost use Rattle.rds_threads.specs.Reliable.{HasReceived};
-ghost use Rattle.rds_threads.specs.Settled.{AreAllSent, AreKeptOf, AreLeftOf, HasSettled, HaveAllLooked, HaveDoneSpared, HaveSettled};
+ghost use Rattle.rds_threads.specs.Settled.{AreAllCut, AreAllSent, AreKeptOf, AreLeftOf, HasSettled, HaveAllLooked, HaveDoneSpared, HaveSettled};
 
 use crate::giving::end_row;
 use rds_callers::Caller;
@@ -95,6 +95,7 @@ fn host_end<W: Wire, R: Wait>(
     ensures received { IfOk result (λ end. HasReceived (host_view end)) }
     ensures sent { OnOk result (AreAllSent caller.places lines.items) }
     ensures looked { OnOk result (HaveAllLooked caller.places lines.items) }
+    ensures cut { OnOk result (AreAllCut caller.places lines.items) }
     ensures kept { IfOk result (λ end. AreKeptOf caller.places end.kept.items) }
 {
     tell_slots(&mut caller, &mut lines);

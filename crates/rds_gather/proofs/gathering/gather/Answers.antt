@@ -10,6 +10,7 @@ use Rattle.rds_gather.specs.Columns.{passes_of, rows_left}
 use Rattle.rds_gather.specs.Heard.{ClaimsNothing, HasClaimedAll}
 use Rattle.rds_gather.specs.Shown.{ArePuttersOf, AreReadersOf, HaveLookedAt, ShowsAllPuts}
 use Rattle.rds_gather.proofs.Columns.{each_same}
+use Rattle.rds_gather.proofs.Cutting.{cuts_of_slots}
 use Rattle.rds_gather.proofs.Joining.{asked_of, beside_maps, box_rows, boxes_fit, joined, looked, orders_fit, readers_fit, route_rows, without_maps}
 use Rattle.rds_gather.proofs.Owning.{at_one_table, line_seat, lines_claim_nothing, owned, same_seats, slot_seat}
 use Rattle.rds_gather.proofs.gathering.gather.Goals as goal
@@ -99,6 +100,9 @@ returns-clause-looks g c =
     looked closed lines c.requires.passes c.in_ok-left.ensures.kept
     (each_same Looks c.in_ok-left.left.orders.items (map asked_of lines) (rows_left c.deref_mut.result.now) (route_rows closed)
     c.in_ok-left.ensures.orders lanes c.in_ok-join_all_orders.ensures.looks)
+
+pub returns-clause-cut : goal.returns-clause-cut
+returns-clause-cut g c = cuts_of_slots c.args.closed.items c.args.lines.items c.in_ok-left.ensures.cut
 
 -- refused where what was kept is dropped
 pub returns-clause-kept : goal.returns-clause-kept

@@ -11,6 +11,7 @@ use Rattle.rds_report.specs.Views.{side_view}
 use Rattle.rds_line.specs.Keeps.{KeepsLine}
 use Rattle.rds_line.specs.Line.{LineView, line_past}
 use Rattle.rds_gather.specs.Columns.{rows_left}
+use Rattle.rds_gather.specs.Cuts.{HasCut}
 use Rattle.rds_gather.specs.Sides.{line_side}
 use Rattle.rds_gather.proofs.Columns.{mapped_push, pushed_map}
 use Rattle.rds_gather.proofs.lines.take_lines.Goals as goal
@@ -40,9 +41,10 @@ loop-line-preserved g c =
     let old = c.loop-line.left in
     let new = c.add.new.self in (
       All-push (KeepsLine (λ w. w.published)) seen line c.loop-line.invariant.0 own.ensures.kept,
+      All-push HasCut seen line c.loop-line.invariant.1 own.ensures.cut,
       λ ok.
           let both = both_ok c.loop-line.all c.add.result c.and-all.result c.and-all.ensures ok in
-          let inv = c.loop-line.invariant.1 both.0 in (
+          let inv = c.loop-line.invariant.2 both.0 in (
             mapped_push side_view line_side old.journals.items new.journals.items seen (own.result.peer, own.result.journal) line (added c.add.result old.journals.items new.journals.items (own.result.peer, own.result.journal) c.add.ensures.journals both.1) inv.0
                 (same_side own.result.peer line.channel.conn.peer own.result.journal.past (line_past line) own.ensures.peer own.ensures.past),
             pushed_map (λ (l : LineView g.row.W-End.Denot WriterView). (l.orders, l.map)) old.orders.items new.orders.items seen (own.result.orders, own.result.map) line (added c.add.result old.orders.items new.orders.items (own.result.orders, own.result.map) c.add.ensures.orders both.1) inv.1

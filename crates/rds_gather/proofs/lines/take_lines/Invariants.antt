@@ -2,12 +2,14 @@ use Rattle.std.proofs.Common.{◌≡◌, All, map, is_ok, true}
 use Rattle.rds_report.specs.Views.{side_view}
 use Rattle.rds_line.specs.Keeps.{KeepsLine}
 use Rattle.rds_gather.specs.Columns.{rows_left}
+use Rattle.rds_gather.specs.Cuts.{HasCut}
 use Rattle.rds_gather.specs.Sides.{line_side}
 use Rattle.rds_gather.proofs.lines.take_lines.Given as goal
 
 abbrev pub invariant-loop-line : goal.invariant-loop-line
 invariant-loop-line g l =
     All (KeepsLine (λ w. w.published)) l.yielded
+    × All HasCut l.yielded
     × (is_ok l.all ≡ true →
     (map side_view l.left.journals.items ≡ map line_side l.yielded)
     × (l.left.orders.items ≡ map (λ line. (line.orders, line.map)) l.yielded)

@@ -1,6 +1,7 @@
 use Rattle.std.proofs.Common.{◌∙◌, List, ap, map, subst}
 use Rattle.rds_fmap.specs.Readers.{WriterView}
 use Rattle.rds_line.specs.Line.{LineView}
+use Rattle.rds_gather.specs.Cuts.{AreCutsOfSlots}
 use Rattle.rds_gather.specs.Joined.{AreJoined, AreLooksOfJournals}
 use Rattle.rds_gather.specs.Owned.{AreOwned}
 use Rattle.rds_gather.specs.Sides.{line_side}
@@ -8,8 +9,8 @@ use Rattle.rds_report.specs.Views.{host_view}
 use Rattle.rds_report.specs.declared.final_state.HostEnd.{HostEnd}
 use Rattle.rds_settling.specs.Tied.{AreSlotsTold}
 use Rattle.rds_threads.specs.Reliable.{HasReceived}
-use Rattle.rds_threads.specs.Settled.{AreAllSent, AreKeptOf, HaveAllLooked}
-use Rattle.rds_threads.proofs.Outcome.{all_looked, all_sent, kept_of, on_kept, on_ok}
+use Rattle.rds_threads.specs.Settled.{AreAllCut, AreAllSent, AreKeptOf, HaveAllLooked}
+use Rattle.rds_threads.proofs.Outcome.{all_cut, all_looked, all_sent, kept_of, on_kept, on_ok}
 use Rattle.rds_threads.proofs.Owning.{went_to_sockets}
 use Rattle.rds_threads.proofs.Receiving.{on_both, on_gathered, received_of}
 use Rattle.rds_threads.proofs.leaving.host_end.Goals as goal
@@ -51,6 +52,13 @@ returns-clause-looked g c =
     (λ looks.
     all_looked c.args.caller.places c.tell_slots.new.caller.places c.in-Ok.closed.items c.args.lines.items c.tell_slots.ensures.places c.in-Ok.ensures.slots
     (subst (λ (l : List (LineView g.row.W-End.Denot WriterView)). AreLooksOfJournals c.in-Ok.closed.items l) c.tell_slots.ensures.lines looks))
+
+pub returns-clause-cut : goal.returns-clause-cut
+returns-clause-cut g c =
+    on_ok c.gather.result _ (AreAllCut c.args.caller.places c.args.lines.items) c.gather.ensures.cut
+    (λ cut.
+    all_cut c.args.caller.places c.tell_slots.new.caller.places c.in-Ok.closed.items c.args.lines.items c.tell_slots.ensures.places c.in-Ok.ensures.slots
+    (subst (λ (l : List (LineView g.row.W-End.Denot WriterView)). AreCutsOfSlots c.in-Ok.closed.items l) c.tell_slots.ensures.lines cut) c.requires.told c.requires.quiet)
 
 pub returns-clause-kept : goal.returns-clause-kept
 returns-clause-kept g c =
