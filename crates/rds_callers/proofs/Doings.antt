@@ -46,21 +46,21 @@ shows_held : (x : State) (o : Open ReaderView) (got : List Datagram) (port : ℕ
 shows_held (state.Vacant h) o got port e at = absurd (unbound_not (Vacant h) o got tt (same_Some (Vacant h) (Bound o got) e))
 shows_held (state.Bound t) o got port e at = eq-eqb t.socket.port port (ap (λ (p : Place). (socket_or o p).port) (same_Some (Bound t.socket t.got.items) (Bound o got) e) ∙ at)
 shows_held (state.Ended f) o got port e at = absurd (unbound_not (Ended f.port f.closed f.got.items) o got tt (same_Some (Ended f.port f.closed f.got.items) (Bound o got) e))
-shows_held (state.Spare h) o got port e at = absurd (unbound_not (Spare h) o got tt (same_Some (Spare h) (Bound o got) e))
+shows_held (state.Spare s) o got port e at = absurd (unbound_not (Spare s.closed) o got tt (same_Some (Spare s.closed) (Bound o got) e))
 shows_held state.Away o got port e at = absurd (cc)
 
 shows_vacant : (x : State) (h : Holding ReaderView) → shown x ≡ Some (Vacant h) → is_vacant x ≡ true
 shows_vacant (state.Vacant k) h e = refl
 shows_vacant (state.Bound t) h e = absurd (used_not (Bound t.socket t.got.items) tt (h, same_Some (Bound t.socket t.got.items) (Vacant h) e))
 shows_vacant (state.Ended f) h e = absurd (used_not (Ended f.port f.closed f.got.items) tt (h, same_Some (Ended f.port f.closed f.got.items) (Vacant h) e))
-shows_vacant (state.Spare k) h e = absurd (used_not (Spare k) tt (h, same_Some (Spare k) (Vacant h) e))
+shows_vacant (state.Spare s) h e = absurd (used_not (Spare s.closed) tt (h, same_Some (Spare s.closed) (Vacant h) e))
 shows_vacant state.Away h e = absurd (cc)
 
 held_shows : (states : List State) (whole : NoneAway states) (slot port : ℕ) (x : State) → slice_get states slot ≡ Some x → holds_port port x ≡ true → IsHeld (shown_all states) port
 held_shows states whole slot port (state.Vacant h) at held = absurd (cc)
 held_shows states whole slot port (state.Bound t) at held = (slot, t.socket, t.got.items, read_seen states whole slot (state.Bound t) at, eqb-true t.socket.port port held)
 held_shows states whole slot port (state.Ended f) at held = absurd (cc)
-held_shows states whole slot port (state.Spare h) at held = absurd (cc)
+held_shows states whole slot port (state.Spare s) at held = absurd (cc)
 held_shows states whole slot port state.Away at held = absurd (cc)
 
 module _ (states : List State) (whole : NoneAway states) where

@@ -1,5 +1,6 @@
 pub mod Asking
 pub mod Keeping
+pub mod Claiming
 pub mod Putting
 pub mod Seen
 pub mod Searches

@@ -4,51 +4,38 @@ use Rattle.std.specs.Option.{option_map}
 use Rattle.std.proofs.lemmas.Option.{same_Some, slice_get-map}
 use Rattle.std.proofs.lemmas.List.{length-map}
 use Rattle.rds_model.specs.declared.order.Datagram.{Datagram}
-use Rattle.rds_mail.proofs.Numbers.{cons_head, cons_tail}
 use Rattle.rds_fmap.specs.Readers.{ReaderView}
 use Rattle.rds_socket.specs.Holding.{Holding, Open}
 use Rattle.rds_callers.specs.Places.{Place, Vacant, Bound, Ended, Spare, ArePlaces, HasKept, holding_of, spared, somes}
-use Rattle.rds_callers.specs.States.{shown, shown_all, AreSlots, spared_state}
+use Rattle.rds_callers.specs.States.{shown, shown_all, AreSlots}
 use Rattle.rds_callers.specs.declared.state.State.{State}
 use Rattle.rds_callers.specs.declared.state.State.TheVariants as state
 use Rattle.rds_callers.proofs.Seen.{mapped, somes_some}
 use Rattle.rds_callers.proofs.Doings.{used_not, unbound_not}
 
--- those before this slot were given up
-abbrev pub part : ℕ → List State → List State
-part zero l = l
-part (suc n) [] = []
-part (suc n) (x ∷ l) = spared_state x ∷ part n l
+-- those before this place were changed
+abbrev pub part : {A : Type 0} → (A → A) → ℕ → List A → List A
+part f zero l = l
+part f (suc n) [] = []
+part f (suc n) (x ∷ l) = f x ∷ part f n l
 
-pub part_step : (n : ℕ) (l : List State) (x : State) → slice_get (part n l) n ≡ Some x → set (part n l) n (spared_state x) ≡ part (n + 1) l
-part_step zero [] x e = absurd (cc)
-part_step zero (y ∷ l) x e = ap (λ z. spared_state z ∷ l) (sym (same_Some y x e))
-part_step (suc n) [] x e = absurd (cc)
-part_step (suc n) (y ∷ l) x e =
+pub part_step : {A : Type 0} (f : A → A) (n : ℕ) (l : List A) (x : A) → slice_get (part f n l) n ≡ Some x → set (part f n l) n (f x) ≡ part f (n + 1) l
+part_step f zero [] x e = absurd (cc)
+part_step f zero (y ∷ l) x e = ap (λ z. f z ∷ l) (sym (same_Some y x e))
+part_step f (suc n) [] x e = absurd (cc)
+part_step f (suc n) (y ∷ l) x e =
     let next : suc (n + 1) ≡ suc n + 1 = omega arith in
-    ap (λ r. spared_state y ∷ r) (part_step n l x e) ∙ ap (λ k. part k (y ∷ l)) next
+    ap (λ r. f y ∷ r) (part_step f n l x e) ∙ ap (λ k. part f k (y ∷ l)) next
 
-pub part_all : (n : ℕ) (l : List State) → length l ≤ n → part n l ≡ map spared_state l
-part_all zero [] e = refl
-part_all zero (x ∷ l) e = absurd (omega arith)
-part_all (suc n) [] e = refl
-part_all (suc n) (x ∷ l) e = ap (λ r. spared_state x ∷ r) (part_all n l (omega arith))
+pub part_all : {A : Type 0} (f : A → A) (n : ℕ) (l : List A) → length l ≤ n → part f n l ≡ map f l
+part_all f zero [] e = refl
+part_all f zero (x ∷ l) e = absurd (omega arith)
+part_all f (suc n) [] e = refl
+part_all f (suc n) (x ∷ l) e = ap (λ r. f x ∷ r) (part_all f n l (omega arith))
 
-shown_spared : (x : State) → shown (spared_state x) ≡ option_map spared (shown x)
-shown_spared (state.Vacant h) = refl
-shown_spared (state.Bound t) = refl
-shown_spared (state.Ended f) = refl
-shown_spared (state.Spare h) = refl
-shown_spared state.Away = refl
-
-all_shown : (l : List State) (places : List Place) → map shown l ≡ map Some places → map shown (map spared_state l) ≡ map Some (map spared places)
-all_shown [] [] e = refl
-all_shown [] (p ∷ places) e = absurd (cc)
-all_shown (x ∷ l) [] e = absurd (cc)
-all_shown (x ∷ l) (p ∷ places) e =
-    let head : shown (spared_state x) ≡ Some (spared p) = shown_spared x ∙ ap (option_map spared) (cons_head (shown x) (Some p) (map shown l) (map Some places) e) in
-    let rest = all_shown l places (cons_tail (shown x) (Some p) (map shown l) (map Some places) e) in
-    λ i. head i ∷ rest i
+some_spared : (places : List Place) → map (option_map spared) (map Some places) ≡ map Some (map spared places)
+some_spared [] = refl
+some_spared (p ∷ places) = ap (λ r. Some (spared p) ∷ r) (some_spared places)
 
 same_holding : (p : Place) → holding_of (spared p) ≡ holding_of p
 same_holding (Vacant h) = refl
@@ -89,14 +76,16 @@ places_spared places a = record {
   order = λ slot other h p at there le. let f = back places slot (Vacant h) at in absurd (none_vacant f.0 h f.2);
 }
 
-pub sound_spared : (states : List State) → AreSlots states → AreSlots (map spared_state states) × (shown_all (map spared_state states) ≡ map spared (shown_all states))
-sound_spared states s =
-    let shows = all_shown states (shown_all states) s.whole in
-    let is : shown_all (map spared_state states) ≡ map spared (shown_all states) = ap somes shows ∙ somes_some (map spared (shown_all states)) in (
+pub sound_spared : (old new : List State) → AreSlots old → map shown new ≡ map (option_map spared) (map shown old) → AreSlots new × (shown_all new ≡ map spared (shown_all old))
+sound_spared old new s made =
+    let places = shown_all old in
+    let shows : map shown new ≡ map Some (map spared places) = made ∙ (ap (map (option_map spared)) s.whole ∙ some_spared places) in
+    let is : shown_all new ≡ map spared places = ap somes shows ∙ somes_some (map spared places) in
+    let size : length new ≡ length old = sym (length-map new shown) ∙ (ap length made ∙ (length-map (map shown old) (option_map spared) ∙ length-map old shown)) in (
       record {
         whole = shows ∙ ap (map Some) (sym is);
-        count = let c = s.count in let e = length-map states spared_state in omega arith;
-        places = subst ArePlaces (sym is) (places_spared (shown_all states) s.places);
+        count = let c = s.count in omega arith;
+        places = subst ArePlaces (sym is) (places_spared places s.places);
       },
       is,
     )

@@ -4,6 +4,7 @@ use Rattle.rds_fmap.specs.Readers.{ReaderView}
 use Rattle.rds_mail.specs.Learning.{AllGot}
 use Rattle.rds_mail.specs.Numbers.{bare_items}
 use Rattle.rds_parts.specs.Lanes.{Ascend}
+use Rattle.rds_parts.specs.Ports.{HasClaimedOnly}
 use Rattle.rds_report.specs.declared.final_state.Kept.{Kept}
 use Rattle.rds_socket.specs.Holding.{Holding}
 use Rattle.rds_callers.specs.Places.{Place, Vacant, Bound, Ended, Spare, PlaceKeeps, holding_of, somes}
@@ -17,6 +18,17 @@ pub record IsEndOf (old new : Holding ReaderView) : Type 0 where
 pub record AreEndsOf (places : List Place) (closed : List (Holding ReaderView)) : Type 0 where
   pub count : length closed ≡ length places
   pub each : (slot : ℕ) (p : Place) (h : Holding ReaderView) → slice_get places slot ≡ Some p → slice_get closed slot ≡ Some h → IsEndOf (holding_of p) h
+
+-- the port that the socket of a slot had, if it had one
+abbrev pub claimed_port : Place → Option ℕ
+claimed_port (Vacant h) = None
+claimed_port (Bound o got) = Some o.port
+claimed_port (Ended port h got) = Some port
+claimed_port (Spare h) = None
+
+-- the seat of each slot has claimed no port but that of its socket
+abbrev pub HaveClaimedOnly : List Place → List (Holding ReaderView) → Type 0
+HaveClaimedOnly places closed = (slot : ℕ) (p : Place) (h : Holding ReaderView) → slice_get places slot ≡ Some p → slice_get closed slot ≡ Some h → HasClaimedOnly (claimed_port p) h.ports.view
 
 -- the slot and the port of a place that had a socket
 abbrev pub used_name : Place → Option (ℕ × ℕ)

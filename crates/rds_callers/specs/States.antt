@@ -12,7 +12,7 @@ abbrev pub shown : State → Option Place
 shown (state.Vacant h) = Some (Vacant h)
 shown (state.Bound t) = Some (Bound t.socket t.got.items)
 shown (state.Ended f) = Some (Ended f.port f.closed f.got.items)
-shown (state.Spare h) = Some (Spare h)
+shown (state.Spare s) = Some (Spare s.closed)
 shown state.Away = None
 
 -- what contracts see of all slots
@@ -27,7 +27,7 @@ abbrev pub is_vacant : State → Bool
 is_vacant (state.Vacant h) = true
 is_vacant (state.Bound t) = false
 is_vacant (state.Ended f) = false
-is_vacant (state.Spare h) = false
+is_vacant (state.Spare s) = false
 is_vacant state.Away = false
 
 -- whether a socket holds the port
@@ -35,16 +35,8 @@ abbrev pub holds_port : ℕ → State → Bool
 holds_port port (state.Vacant h) = false
 holds_port port (state.Bound t) = t.socket.port == port
 holds_port port (state.Ended f) = false
-holds_port port (state.Spare h) = false
+holds_port port (state.Spare s) = false
 holds_port port state.Away = false
-
--- a vacant slot is given up, and another stays as it is
-abbrev pub spared_state : State → State
-spared_state (state.Vacant h) = state.Spare h
-spared_state (state.Bound t) = state.Bound t
-spared_state (state.Ended f) = state.Ended f
-spared_state (state.Spare h) = state.Spare h
-spared_state state.Away = state.Away
 
 -- none of them is one of these
 abbrev pub AreNot : (State → Bool) → List State → Type 0

@@ -197,6 +197,7 @@ fn ended(alloc: Global, socket: Socket<Reader>) -> State
 {
     let slot = socket.slot();
     let port = socket.port();
+    socket.known();
     let former = FormerTenant::new(slot, port, Vec::new(alloc), socket.finish());
     State::Ended(former)
 }

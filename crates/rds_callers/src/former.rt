@@ -1,7 +1,8 @@
 //! Sockets whose use has ended.
-ghost use Rattle.std.specs.Prelude.{◌≡◌, ◌++◌, IfOk, OnOk};
+ghost use Rattle.std.specs.Prelude.{◌≡◌, ◌++◌, Some, IfOk, OnOk};
 ghost use Rattle.rds_mail.specs.Numbers.{bare_items};
 ghost use Rattle.rds_mail.specs.Learning.{AllGot};
+ghost use Rattle.rds_parts.specs.Ports.{HasClaimedOnly};
 ghost use Rattle.rds_callers.specs.Ends.{IsEndOf};
 
 use crate::tenant::told;
@@ -22,6 +23,7 @@ pub(crate) struct FormerTenant {
     pub(crate) closed: Closed<Reader>,
     ghost place: { slot ≡ closed.words.slot },
     ghost kept: { got.items ≡ bare_items closed.inbox.get.got },
+    ghost claimed: { HasClaimedOnly (Some port) closed.ports.view },
 }
 
 // By hand, so that one call drops it wherever it is let go, and no function that owns one drops each field.
@@ -37,12 +39,13 @@ impl Drop for FormerTenant {
 }
 
 impl FormerTenant {
-    ghost use Rattle.std.specs.Prelude.{◌<◌, ◌++◌, ℕ, [], length, IfOk, OnOk, OnErr};
+    ghost use Rattle.std.specs.Prelude.{◌<◌, ◌++◌, ℕ, [], Some, length, IfOk, OnOk, OnErr};
     ghost use Rattle.rds_fmap.specs.Readers.{ReaderView};
     ghost use Rattle.rds_mail.specs.Learning.{AllGot};
     ghost use Rattle.rds_mail.specs.Passes.{after_note};
     ghost use Rattle.rds_model.specs.declared.order.Order.TheVariants as order;
     ghost use Rattle.rds_parts.specs.Lanes.{IsLaneAt, Lane};
+    ghost use Rattle.rds_parts.specs.Ports.{HasClaimedOnly};
     ghost use Rattle.rds_socket.specs.Calls.{with_inbox, with_routes};
     ghost use Rattle.rds_callers.specs.Places.{PlaceKeeps};
     ghost use Rattle.rds_callers.specs.Tenants.{Asks};
@@ -57,6 +60,7 @@ impl FormerTenant {
     ) -> FormerTenant
         requires place { slot ≡ closed.words.slot }
         requires kept { got.items ≡ bare_items closed.inbox.get.got }
+        requires claimed { HasClaimedOnly (Some port) closed.ports.view }
         ensures port { result.port ≡ port }
         ensures got { result.got ≡ got }
         ensures closed { result.closed ≡ closed }
@@ -110,6 +114,7 @@ impl FormerTenant {
         ensures all { IfOk result (λ r. r.0.got.items ++ r.0.unread.items ≡ bare_items r.1.inbox.get.got) }
         ensures empty { IfOk result (λ r. AllGot r.1.inbox.get) }
         ensures ends { IfOk result (λ r. IsEndOf self.closed r.1) }
+        ensures claimed { IfOk result (λ r. HasClaimedOnly (Some self.port) r.1.ports.view) }
     {
         let FormerTenant {
             slot,
@@ -137,6 +142,7 @@ fn take_unread<R: Wait>(
     ensures unread { IfOk result (λ unread. bare_items closed.new.inbox.get.got ≡ bare_items closed.old.inbox.get.got ++ unread.items) }
     ensures empty { OnOk result (AllGot closed.new.inbox.get) }
     ensures ends { IsEndOf closed.old closed.new }
+    ensures ports { OnOk result (closed.new.ports ≡ closed.old.ports) }
 {
     let mut unread = Vec::new(alloc);
     for _ in rt.forever() {

@@ -1,9 +1,10 @@
 //! What a caller does when its host has ended: notes of what its slots have put, and what their mailboxes are told.
 ghost use Rattle.std.specs.Prelude.{◌≡◌, ◌<◌, ℕ, length, map, Some, slice_get, slice_set};
+ghost use Rattle.std.specs.Option.{option_map};
 ghost use Rattle.rds_fmap.specs.Readers.{ReaderView};
 ghost use Rattle.rds_parts.specs.Lanes.{IsLaneAt, Lane};
 ghost use Rattle.rds_callers.specs.Places.{Place, IsUsed, holding_of, told_by, bind_note, spared};
-ghost use Rattle.rds_callers.specs.States.{spared_state};
+ghost use Rattle.rds_callers.specs.States.{shown};
 
 use crate::caller::Caller;
 use crate::state::State;
@@ -51,7 +52,7 @@ impl Caller {
 
 // Gives up each slot that no socket had.
 fn leave_all(states: &mut Vec<State>)
-    ensures { states.new.items ≡ map spared_state states.old.items }
+    ensures { map shown states.new.items ≡ map (option_map spared) (map shown states.old.items) }
 {
     for slot in 0..states.len() {
         let state = mem::replace(&mut states[slot], State::Away);

@@ -1,14 +1,17 @@
 //! What became of a slot.
 ghost use Rattle.std.specs.Prelude.{◌≡◌, ◌<◌, ℕ, length, Some, IfOk, OnOk, OnErr};
+ghost use Rattle.std.specs.Option.{option_map};
 ghost use Rattle.rds_bindtab.specs.Seats.{knowing, note_of};
 ghost use Rattle.rds_parts.specs.Lanes.{IsLaneAt, Lane};
+ghost use Rattle.rds_parts.specs.Ports.{HasClaimedOnly};
 ghost use Rattle.rds_fmap.specs.Readers.{ReaderView};
-ghost use Rattle.rds_callers.specs.Places.{Place, PlaceKeeps, holding_of, told_by, bind_note, IsUsed};
+ghost use Rattle.rds_callers.specs.Places.{Place, PlaceKeeps, holding_of, told_by, bind_note, spared, IsUsed};
 ghost use Rattle.rds_callers.specs.Tenants.{Cuts};
-ghost use Rattle.rds_callers.specs.Ends.{IsEndOf, HasLeft};
-ghost use Rattle.rds_callers.specs.States.{shown, is_vacant, holds_port, spared_state};
+ghost use Rattle.rds_callers.specs.Ends.{IsEndOf, HasLeft, claimed_port};
+ghost use Rattle.rds_callers.specs.States.{shown, is_vacant, holds_port};
 
 use crate::former::FormerTenant;
+use crate::spare::SpareSlot;
 use crate::tenant::{Tenant, told};
 use rds_bindtab::BindNote;
 use rds_fmap::Reader;
@@ -30,7 +33,7 @@ pub(crate) enum State {
     /// Its socket has ended.
     Ended(FormerTenant),
     /// It was given up before any socket had it.
-    Spare(Closed<Reader>),
+    Spare(SpareSlot),
     /// A call has it in its hands, until it returns.
     Away,
 }
@@ -55,10 +58,10 @@ impl State {
 
     /// A vacant slot is given up, and another stays as it is.
     pub(crate) fn spared(self) -> State
-        ensures { result ≡ spared_state self }
+        ensures { shown result ≡ option_map spared (shown self) }
     {
         match self {
-            State::Vacant(vacant) => State::Spare(vacant.finish()),
+            State::Vacant(vacant) => State::Spare(SpareSlot::new(vacant)),
             used => used,
         }
     }
@@ -73,7 +76,7 @@ impl State {
             State::Vacant(vacant) => told(vacant.cut(rt, peer)),
             State::Bound(tenant) => tenant.cut(rt, peer),
             State::Ended(former) => former.cut(rt, peer),
-            State::Spare(closed) => told(closed.cut(rt, peer)),
+            State::Spare(spare) => spare.cut(rt, peer),
             State::Away => Ok(()),
         }
     }
@@ -87,7 +90,7 @@ impl State {
         match self {
             State::Bound(tenant) => tenant.order_note(place),
             State::Ended(former) => former.order_note(place),
-            State::Spare(closed) => closed.order_note(place),
+            State::Spare(spare) => spare.order_note(place),
             State::Vacant(_) | State::Away => unreachable!(),
         }
     }
@@ -100,7 +103,7 @@ impl State {
         match self {
             State::Bound(tenant) => tenant.hear(note),
             State::Ended(former) => former.hear(note),
-            State::Spare(closed) => closed.hear(note),
+            State::Spare(spare) => spare.hear(note),
             State::Vacant(_) | State::Away => unreachable!(),
         }
     }
@@ -125,9 +128,10 @@ impl State {
         requires here { (p : Place) × (shown self ≡ Some p) }
         ensures ends { IfOk result (λ r. (p : Place) → shown self ≡ Some p → IsEndOf (holding_of p) r.1) }
         ensures kept { IfOk result (λ r. (p : Place) → shown self ≡ Some p → HasLeft p r.1 r.0) }
+        ensures claims { IfOk result (λ r. (p : Place) → shown self ≡ Some p → HasClaimedOnly (claimed_port p) r.1.ports.view) }
     {
         match self {
-            State::Vacant(vacant) => Ok((None, vacant.finish())),
+            State::Vacant(vacant) => Ok((None, SpareSlot::new(vacant).end())),
             State::Bound(tenant) => {
                 let (kept, closed) = tenant.end(rt, alloc)?;
                 Ok((Some(kept), closed))
@@ -136,7 +140,7 @@ impl State {
                 let (kept, closed) = former.end(rt, alloc)?;
                 Ok((Some(kept), closed))
             }
-            State::Spare(closed) => Ok((None, closed)),
+            State::Spare(spare) => Ok((None, spare.end())),
             State::Away => unreachable!(),
         }
     }

@@ -33,7 +33,7 @@ impl Drop for Tenant {
 }
 
 impl Tenant {
-    ghost use Rattle.std.specs.Prelude.{[], ◌∷◌, ◌++◌, ◌<◌, ℕ, length, true, false, IfOk, OnErr};
+    ghost use Rattle.std.specs.Prelude.{[], ◌∷◌, ◌++◌, ◌<◌, ℕ, Some, length, true, false, IfOk, OnErr};
     ghost use Rattle.rds_bindtab.specs.Seats.{knowing, note_of};
     ghost use Rattle.rds_fmap.specs.Readers.{ReaderView};
     ghost use Rattle.rds_mail.specs.Learning.{AllGot};
@@ -41,6 +41,7 @@ impl Tenant {
     ghost use Rattle.rds_model.specs.declared.order.Datagram.{Datagram as Item};
     ghost use Rattle.rds_model.specs.declared.order.Order.TheVariants as order;
     ghost use Rattle.rds_parts.specs.Lanes.{IsLaneAt, Lane};
+    ghost use Rattle.rds_parts.specs.Ports.{HasClaimedOnly};
     ghost use Rattle.rds_socket.specs.Calls.{IsClosed, IsReceived, with_own, with_inbox};
     ghost use Rattle.rds_callers.specs.Places.{PlaceKeeps, bound_place};
     ghost use Rattle.rds_callers.specs.Tenants.{Asks, ReceivesNext, SendsOrNot};
@@ -172,6 +173,7 @@ impl Tenant {
         let Tenant { socket, got } = self;
         let slot = socket.slot();
         let port = socket.port();
+        socket.known();
         match socket.close(rt) {
             Ok(closed) => (FormerTenant::new(slot, port, got, closed), Ok(())),
             Err((closing, memory)) => (
@@ -192,9 +194,11 @@ impl Tenant {
         ensures unread { IfOk result (λ r. r.0.unread.items ≡ []) }
         ensures empty { IfOk result (λ r. AllGot r.1.inbox.get) }
         ensures ends { IfOk result (λ r. IsEndOf self.socket.own r.1) }
+        ensures claimed { IfOk result (λ r. HasClaimedOnly (Some self.socket.port) r.1.ports.view) }
     {
         self.receive_all(rt)?;
         let Tenant { socket, got } = self;
+        socket.known();
         let kept = Kept {
             slot: socket.slot(),
             port: socket.port(),

@@ -6,6 +6,7 @@ ghost use Rattle.rds_model.specs.declared.order.Order.TheVariants as order;
 ghost use Rattle.rds_parts.specs.Lanes.{IsLaneAt, Lane, NoneTo, IsPutTo, IsLookTo, RoutesStay};
 ghost use Rattle.rds_parts.specs.Refusals.{AskRefused};
 ghost use Rattle.rds_socket.specs.Calls.{with_own, with_words, with_inbox, with_routes, after_freed, IsClosed, IsClosing};
+ghost use Rattle.rds_socket.specs.Holding.{IsOpen};
 ghost use Rattle.rds_socket.specs.Stays.{Stays};
 
 use crate::closed::Closed;
@@ -81,6 +82,13 @@ impl<R: MapReader> Socket<R> {
         ensures { result ≡ is_some self.now.told }
     {
         self.told.is_some()
+    }
+
+    /// Changes nothing: what every socket is.
+    pub fn known(&self)
+        ensures { IsOpen self.now }
+    {
+        let _ = &self.ports;
     }
 
     /// Takes back what it has sent to a port of the peer and the peer hasn't acknowledged. What was on its way may still arrive.

@@ -12,6 +12,7 @@ ghost use Rattle.rds_parts.specs.Lanes.{Ascend, peers_of, ArePutOf, IsPutTo};
 ghost use Rattle.rds_parts.specs.Refusals.{AskRefused};
 ghost use Rattle.rds_socket.specs.Binds.{BindFits, BindAnyFits};
 ghost use Rattle.rds_socket.specs.Calls.{with_routes};
+ghost use Rattle.rds_socket.specs.Holding.{IsVacant};
 ghost use Rattle.rds_socket.specs.Stays.{HoldingStays};
 
 use crate::closed::Closed;
@@ -182,6 +183,13 @@ impl<R: MapReader> Vacant<R> {
                 Err((vacant, BindError::NoneFree))
             }
         }
+    }
+
+    /// Changes nothing: what every slot without a port is.
+    pub fn known(&self)
+        ensures { IsVacant self.now }
+    {
+        let _ = &self.ports;
     }
 
     /// Ends the slot without an order to any peer.

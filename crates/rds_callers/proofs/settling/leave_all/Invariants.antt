@@ -1,6 +1,9 @@
-use Rattle.std.proofs.Common.{◌≡◌, vec_len}
+use Rattle.std.proofs.Common.{◌≡◌, map, vec_len}
+use Rattle.std.specs.Option.{option_map}
+use Rattle.rds_callers.specs.Places.{spared}
+use Rattle.rds_callers.specs.States.{shown}
 use Rattle.rds_callers.proofs.Sparing.{part}
 use Rattle.rds_callers.proofs.settling.leave_all.Given as goal
 
 abbrev pub invariant-loop-slot : goal.invariant-loop-slot
-invariant-loop-slot l = (l.states.items ≡ part l.slot l.fn.states.items) × (l.slot-end ≡ vec_len l.states) × (vec_len l.states ≡ vec_len l.fn.states)
+invariant-loop-slot l = (map shown l.states.items ≡ part (option_map spared) l.slot (map shown l.fn.states.items)) × (l.slot-end ≡ vec_len l.states) × (vec_len l.states ≡ vec_len l.fn.states)

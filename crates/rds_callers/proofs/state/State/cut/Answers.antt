@@ -29,9 +29,7 @@ returns-in-Ended-clause-done g c =
 
 pub returns-in-Spare-clause-done : goal.returns-in-Spare-clause-done
 returns-in-Spare-clause-done g c =
-    let old = c.in-Spare.closed in
+    let old = c.in-Spare.spare in
     let new = c.cut-in-Spare.new.self in
-    cuts_place c.args.peer c.args.self.now (Spare old) (Spare new) c.told-in-Spare.result
-    (asks_of c.args.peer order.Cut old new c.cut-in-Spare.result c.told-in-Spare.result c.told-in-Spare.ensures.allowed c.cut-in-Spare.ensures.put c.cut-in-Spare.ensures.refused
-    c.cut-in-Spare.ensures.same c.cut-in-Spare.ensures.rest)
+    cuts_place c.args.peer c.args.self.now (Spare old.closed) (Spare new.closed) c.cut-in-Spare.result c.cut-in-Spare.ensures.done
     (ap shown c.in-Spare.is) refl

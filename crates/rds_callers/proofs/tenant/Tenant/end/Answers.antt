@@ -1,4 +1,5 @@
 use Rattle.std.proofs.Common.{rules}
+use Rattle.rds_callers.proofs.Claiming.{claims_of}
 use Rattle.rds_callers.proofs.tenant.Tenant.end.Goals as goal
 
 pub returns-clause-empty : goal.returns-clause-empty
@@ -6,3 +7,8 @@ returns-clause-empty g c = search rules
 
 pub returns-clause-name : goal.returns-clause-name
 returns-clause-name g c = search rules
+
+pub returns-clause-claimed : goal.returns-clause-claimed
+returns-clause-claimed g c =
+    let now = c.receive_all.new.self.socket in
+    claims_of c.args.self.socket.port now.port now.own c.finish.result c.finish.ensures c.receive_all.ensures.port c.known.ensures.held.claimed

@@ -1,0 +1,32 @@
+-- Which port a slot has claimed, through the calls on it.
+use Rattle.std.proofs.Common.{◌≡◌, ℕ, Option, Some, sym, ap, subst, ◌∙◌}
+use Rattle.std.proofs.lemmas.Option.{same_Some}
+use Rattle.rds_bindtab.specs.Seats.{PortSeat}
+use Rattle.rds_fmap.specs.Readers.{ReaderView}
+use Rattle.rds_parts.specs.Ports.{HasClaimedOnly}
+use Rattle.rds_socket.specs.Holding.{Holding, Open}
+use Rattle.rds_socket.specs.Calls.{IsClosed}
+use Rattle.rds_socket.proofs.Claims.{claims_released}
+use Rattle.rds_callers.specs.Places.{Place}
+use Rattle.rds_callers.specs.Ends.{claimed_port}
+use Rattle.rds_callers.specs.States.{shown}
+use Rattle.rds_callers.specs.declared.state.State.{State}
+
+-- the seat at the port table is the same
+pub claims_same : (port : Option ℕ) (old new : Holding ReaderView) → new.ports ≡ old.ports → HasClaimedOnly port old.ports.view → HasClaimedOnly port new.ports.view
+claims_same port old new same claimed = subst (λ (p : PortSeat). HasClaimedOnly port p.view) (sym same) claimed
+
+-- so is what is held, and the port is called otherwise
+pub claims_of : (port other : ℕ) (old new : Holding ReaderView) → new ≡ old → other ≡ port → HasClaimedOnly (Some other) old.ports.view → HasClaimedOnly (Some port) new.ports.view
+claims_of port other old new same called claimed =
+    claims_same (Some port) old new (ap (λ (h : Holding ReaderView). h.ports) same) (subst (λ (q : ℕ). HasClaimedOnly (Some q) old.ports.view) called claimed)
+
+-- the port was released
+pub claims_closed : (o : Open ReaderView) (h : Holding ReaderView) → IsClosed o h → HasClaimedOnly (Some o.port) o.own.ports.view → HasClaimedOnly (Some o.port) h.ports.view
+claims_closed o h closed claimed =
+    subst (λ (k : Holding ReaderView). HasClaimedOnly (Some o.port) k.ports.view) (sym closed.1.1) (claims_released o.own.ports.view (Some o.port) claimed)
+
+-- a slot shows one place
+pub claims_shown : (x : State) (q : Place) (h : Holding ReaderView) → shown x ≡ Some q → HasClaimedOnly (claimed_port q) h.ports.view
+    → (p : Place) → shown x ≡ Some p → HasClaimedOnly (claimed_port p) h.ports.view
+claims_shown x q h shows claimed p at = subst (λ (r : Place). HasClaimedOnly (claimed_port r) h.ports.view) (same_Some q p (sym shows ∙ at)) claimed
