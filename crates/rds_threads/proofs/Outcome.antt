@@ -1,6 +1,7 @@
 -- What a host that has ended did of a script's commands.
-use Rattle.std.proofs.Common.{◌≡◌, ◌<◌, ◌≤◌, ℕ, suc, arith, List, [], ◌∷◌, Some, Option, map, option_map, slice_get, Result, Ok, Err, IfOk, OnOk, Vec, refl, sym, ap, subst, ◌∙◌}
+use Rattle.std.proofs.Common.{◌≡◌, ◌<◌, ◌≤◌, ℕ, suc, arith, List, [], ◌∷◌, Some, Option, length, map, option_map, slice_get, Result, Ok, Err, IfOk, OnOk, Vec, refl, sym, ap, subst, ◌∙◌}
 use Rattle.std.specs.Global.{Global}
+use Rattle.std.proofs.lemmas.List.{length-map}
 use Rattle.std.proofs.lemmas.List.Elements.{All-map, All-weaker}
 use Rattle.std.proofs.lemmas.Option.{slice_get-map}
 use Rattle.rds_fmap.specs.Readers.{ReaderView, WriterView}
@@ -24,8 +25,9 @@ use Rattle.rds_model.specs.Sums.{maps}
 use Rattle.rds_callers.specs.Ends.{AreEndsOf, AreLeft, IsLeft, UnreadFits, kept_name, used_name}
 use Rattle.rds_callers.specs.Places.{Bound, Ended, Place, Spare, Vacant, holding_of, somes, spared, with_holding}
 use Rattle.rds_threads.specs.Outcome.{HandedOutAt, IsOutcome, cuts_to, socket_name}
+use Rattle.rds_threads.specs.Reliable.{AllWentToSockets}
 use Rattle.rds_rounds.specs.Quiet.{AreQuiet}
-use Rattle.rds_threads.specs.Settled.{AreAllCut, AreAllSent, AreKeptOf, HasDoneSpared, HaveAllLooked}
+use Rattle.rds_threads.specs.Settled.{AreAllCut, AreAllSent, AreKeptOf, HasDoneSpared, HaveAllGone, HaveAllLooked}
 use Rattle.rds_settling.specs.Tied.{AreLinesTold, PlacesHear, holdings}
 use Rattle.rds_threads.proofs.At.{all_from, at_map, held_at, spared_holds, stood_at}
 use Rattle.rds_threads.proofs.Cutting.{cuts_of_done, fewer_done}
@@ -145,9 +147,10 @@ hands_spared (Spare h) s is = absurd is
 module _ {E : Type 0} where
   pub outcome_of : (hosts host : ℕ) (commands : List Placed) (places : List Place) (lines : List (LineView E WriterView)) (kept : List Kept) →
       ((place : ℕ) (line : LineView E WriterView) → slice_get lines place ≡ Some line → (line.channel.conn.peer ≡ address_of (peer_at host place)) × (suc place < hosts)) →
-      HasDoneSpared hosts host commands places → AreAllSent places lines → HaveAllLooked places lines → AreAllCut places lines → AreKeptOf places kept →
+      HasDoneSpared hosts host commands places → AreAllSent places lines → HaveAllLooked places lines → AreAllCut places lines → HaveAllGone places lines (map socket_view kept) →
+      AreKeptOf places kept →
       IsOutcome hosts host commands (map line_side lines) (map socket_view kept)
-  outcome_of hosts host commands places lines kept peers did sent looked cut of_kept = record {
+  outcome_of hosts host commands places lines kept peers did sent looked cut gone of_kept = record {
     last = did.last;
     done = did.done;
     sent = λ slot place p lane side at at_lane at_side.
@@ -170,6 +173,12 @@ module _ {E : Type 0} where
         subst (λ (s : FinalJournal). AreCutsDone (cuts_to host s.peer commands) s.past) (sym line.2)
         (fewer_done (cuts_to host line.0.channel.conn.peer commands) (cuts_among way.cut.lane.pass.put) line.0.channel.conn.log.past
         (subst (λ (peer : ℕ). cuts_to host peer commands ≤ cuts_among way.cut.lane.pass.put) (sym to.0) way.cut.cuts) done));
+    gone = all_from (AllWentToSockets (length did.last) (map socket_view kept)) (map line_side lines)
+        (λ place side at_side.
+        let line = at_map line_side lines place side at_side in
+        let count : length places ≡ length did.last = ap length did.left ∙ length-map did.last spared in
+        subst (λ (s : FinalJournal). AllWentToSockets (length did.last) (map socket_view kept) s) (sym line.2)
+        (subst (λ (n : ℕ). AllWentToSockets n (map socket_view kept) (line_side line.0)) count (gone place line.0 line.1)));
     names = names_of kept ∙ (of_kept.names ∙ (ap (λ (l : List Place). somes (map used_name l)) did.left ∙ names_spared did.last));
     handed = All-map (λ (s : FinalSocket). (p : Place) × (slice_get did.last s.slot ≡ Some p) × HandedOutAt p s) socket_view kept
         (All-weaker (λ (k : Kept). (p : Place) × (slice_get places k.slot ≡ Some p) × HandedOutAt p (socket_view k))

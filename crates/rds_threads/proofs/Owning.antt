@@ -1,19 +1,21 @@
 -- What was delivered to a slot went to a socket that had its port.
-use Rattle.std.proofs.Common.{◌≡◌, ℕ, zero, suc, List, [], ◌∷◌, Option, Some, None, length, map, option_map, slice_get, sym, ap, subst, ◌∙◌}
+use Rattle.std.proofs.Common.{◌≡◌, ℕ, zero, suc, List, [], ◌∷◌, Option, Some, None, length, map, option_map, slice_get, Result, Ok, Err, IfOk, OnOk, Vec, sym, ap, subst, ◌∙◌, arith}
+use Rattle.std.specs.Global.{Global}
 use Rattle.std.proofs.lemmas.Option.{same_Some, slice_get-map}
 use Rattle.rds_fmap.specs.Readers.{ReaderView, WriterView}
 use Rattle.rds_report.specs.Views.{socket_view}
+use Rattle.rds_report.specs.declared.final_state.HostEnd.{HostEnd}
 use Rattle.rds_report.specs.declared.final_state.Kept.{Kept}
+use Rattle.rds_wire.specs.declared.memory.Memory.{Memory}
 use Rattle.rds_socket.specs.Holding.{Holding}
 use Rattle.rds_line.specs.Line.{LineView}
 use Rattle.rds_host.specs.Slots.{AreInPlace}
 use Rattle.rds_gather.specs.Owned.{AreOwned}
-use Rattle.rds_gather.specs.Sides.{line_side}
 use Rattle.rds_callers.specs.Ends.{HaveClaimedOnly, claimed_port, kept_name, used_name}
 use Rattle.rds_callers.specs.Places.{Bound, Ended, Place, Spare, Vacant, holding_of, somes}
-use Rattle.rds_settling.specs.Tied.{holdings}
-use Rattle.rds_threads.specs.Reliable.{AllWentToSockets}
-use Rattle.rds_threads.proofs.At.{at_map, held_at, stood_at}
+use Rattle.rds_settling.specs.Tied.{PlacesHear, holdings}
+use Rattle.rds_threads.specs.Settled.{HaveAllGone}
+use Rattle.rds_threads.proofs.At.{at_map, held_at, some_at, stood_at}
 
 name_first : (name : Option (ℕ × ℕ)) (rest : List (Option (ℕ × ℕ))) (n : ℕ × ℕ) → name ≡ Some n → slice_get (somes (name ∷ rest)) 0 ≡ Some n
 name_first None rest n is = absurd (cc)
@@ -39,17 +41,17 @@ name_of (Ended q h got) port is = ap (λ (x : Option ℕ). option_map (λ (n : �
 name_of (Spare h) port is = absurd (cc)
 
 module _ {E : Type 0} where
-  pub went_to_sockets : (places : List Place) (closed : List (Holding ReaderView)) (lines : List (LineView E WriterView)) (kept : List Kept) →
-      AreInPlace (holdings places) → length closed ≡ length places → AreOwned closed lines → HaveClaimedOnly places closed →
-      map kept_name kept ≡ somes (map used_name places) → (place : ℕ) (line : LineView E WriterView) → slice_get lines place ≡ Some line →
-      AllWentToSockets (map socket_view kept) (line_side line)
-  went_to_sockets places closed lines kept numbered count owned claims names place line at stream slot f read =
-      let h = owned place line at stream slot f read in
-      let p = stood_at places closed slot h.0 count h.1 in
-      let port = claims slot p.0 h.0 p.1 h.1 f.header.dport slot h.2 in
-      let number = numbered slot (holding_of p.0) (held_at places slot p.0 p.1) in
+  pub went_to_sockets : (places told : List Place) (closed : List (Holding ReaderView)) (lines : List (LineView E WriterView)) (kept : List Kept) →
+      PlacesHear places told → AreInPlace (holdings told) → length closed ≡ length told → AreOwned closed lines → HaveClaimedOnly told closed →
+      map kept_name kept ≡ somes (map used_name told) → HaveAllGone places lines (map socket_view kept)
+  went_to_sockets places told closed lines kept hear numbered count owned claims names place line at stream slot f within read =
+      let same = hear.count in
+      let p = some_at told slot (omega (arith, within, same)) in
+      let h = stood_at closed told slot p.0 (sym count) p.1 in
+      let port = claims slot p.0 h.0 p.1 h.1 f.header.dport slot (owned place line at stream slot f read h.0 h.1) in
+      let number = numbered slot (holding_of p.0) (held_at told slot p.0 p.1) in
       let name : ℕ × ℕ = ((holding_of p.0).words.slot, f.header.dport) in
-      let found = named_at places slot p.0 name p.1 (name_of p.0 f.header.dport port) in
+      let found = named_at told slot p.0 name p.1 (name_of p.0 f.header.dport port) in
       let k = at_map kept_name kept found.0 name (subst (λ (l : List (ℕ × ℕ)). slice_get l found.0 ≡ Some name) (sym names) found.1) in (
         found.0,
         socket_view k.0,
@@ -57,3 +59,9 @@ module _ {E : Type 0} where
         ap (λ (n : ℕ × ℕ). n.0) (sym k.2) ∙ number,
         ap (λ (n : ℕ × ℕ). n.1) (sym k.2),
       )
+
+-- what is known of a host end by what was kept and by what was joined
+pub on_kept_joined : (r : Result HostEnd Memory) (kept : Vec Kept Global) (J : Type 0) (P : List Kept → Type 0) → OnOk r J → (J → P kept.items) →
+    IfOk r (λ end. end.kept ≡ kept) → IfOk r (λ end. P end.kept.items)
+on_kept_joined (Ok end) kept J P j f is = subst (λ (v : Vec Kept Global). P v.items) (sym is) (f j)
+on_kept_joined (Err e) kept J P j f is = tt

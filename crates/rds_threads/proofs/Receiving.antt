@@ -22,7 +22,7 @@ use Rattle.rds_gather.specs.Joined.{AreJoined, IsPeer, from_peer, got_by, peer_o
 use Rattle.rds_gather.specs.Sides.{line_side}
 use Rattle.rds_callers.specs.Places.{Place}
 use Rattle.rds_callers.specs.Ends.{IsLeft}
-use Rattle.rds_threads.specs.Reliable.{AllWentToSockets, HandsOutDelivered, HandsOutSent, HasReceived, IsReliableTo, IsWithPeer, from_host, all_handed}
+use Rattle.rds_threads.specs.Reliable.{HandsOutDelivered, HandsOutSent, HasReceived, IsReliableTo, IsWithPeer, from_host, all_handed}
 use Rattle.rds_threads.proofs.At.{all_at}
 use Rattle.rds_threads.proofs.HandedOut.{AreAccepted, agrees_journal}
 
@@ -60,14 +60,11 @@ module _ {E : Type 0} where
         (got_by h) (joined.known_senders some k.slot h left.3))
 
     pub received_of : (end : HostEnd) (kept : Vec Kept Global) → map side_view end.journals.items ≡ map line_side lines → end.kept ≡ kept →
-        All (IsLeft places closed) kept.items →
-        ((place : ℕ) (line : LineView E WriterView) → slice_get lines place ≡ Some line → AllWentToSockets (map socket_view kept.items) (line_side line)) →
-        HasReceived (host_view end)
-    received_of end kept sides is left went =
+        All (IsLeft places closed) kept.items → HasReceived (host_view end)
+    received_of end kept sides is left =
         subst (λ (l : List FinalJournal). HasReceived (record { addr = end.addr; sides = l; sockets = map socket_view end.kept.items })) (sym sides)
         (subst (λ (v : Vec Kept Global). HasReceived (record { addr = end.addr; sides = map line_side lines; sockets = map socket_view v.items })) (sym is)
         (record {
-          owned = all_sides (AllWentToSockets (map socket_view kept.items)) lines went;
           delivered = All-map (λ (s : FinalSocket). All (HandsOutDelivered s) (map line_side lines)) socket_view kept.items
               (All-weaker (IsLeft places closed) (λ (k : Kept). All (HandsOutDelivered (socket_view k)) (map line_side lines)) sides_received kept.items left);
           known = All-map (λ (s : FinalSocket). All (λ (d : Datagram). IsWithPeer (map line_side lines) d.from) (all_handed s)) socket_view kept.items
@@ -113,11 +110,6 @@ reliable_of h place sender host side at peer received accepted once = record {
     delivered s all =
         subst (λ (addr : ℕ). from_host addr (all_handed s) ≡ delivered_datagrams addr s.slot side.past) peer
         (all_at (HandsOutDelivered s) host.sides place side all at)
-
--- what is known of a host end in two ways
-pub on_both : (r : Result HostEnd Memory) (J K : Type 0) → OnOk r J → OnOk r K → OnOk r (J × K)
-on_both (Ok end) J K j k = (j, k)
-on_both (Err e) J K j k = tt
 
 -- what follows of a host end that was gathered
 pub on_gathered : (r : Result HostEnd Memory) (P Q R : HostEnd → Type 0) (J : Type 0) → IfOk r P → IfOk r Q → OnOk r J → ((end : HostEnd) → P end → Q end → J → R end) →

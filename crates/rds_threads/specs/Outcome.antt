@@ -15,6 +15,7 @@ use Rattle.rds_model.specs.Sums.{maps}
 use Rattle.rds_callers.specs.Ends.{used_name}
 use Rattle.rds_callers.specs.Places.{Bound, Ended, Place, Spare, Vacant, holding_of, somes}
 use Rattle.rds_parties.specs.Obeyed.{HasDone}
+use Rattle.rds_threads.specs.Reliable.{AllWentToSockets}
 
 -- A socket that was open when its host's commands were done handed out all that it got. One that was closed before had handed out what its
 -- receives gave, and the rest is unread.
@@ -41,7 +42,8 @@ cuts_to host peer commands = length (filter (λ (placed : Placed). is_cut_to hos
 -- did exactly its own commands. In the journal with each other host stand, for each slot, exactly the orders that its socket put on the route
 -- to that host, in order and each once. Each look of a socket at a peer's congestion map found what the map of its version has, among those
 -- that the journal with that peer read. Where a stream to a peer is open in the end, at least as many were shut as the commands have the host
--- cut. There is one socket of each slot that was bound, in order, with its port.
+-- cut. There is one socket of each slot that was bound, in order, with its port. Each datagram that a journal delivered to a slot of the host
+-- went to the socket of that slot, which had its port.
 pub record IsOutcome (hosts host : ℕ) (commands : List Placed) (sides : List FinalJournal) (sockets : List FinalSocket) : Type 0 where
   pub last : List Place
   pub done : HasDone hosts host commands last
@@ -50,5 +52,6 @@ pub record IsOutcome (hosts host : ℕ) (commands : List Placed) (sides : List F
   pub looked : (slot place : ℕ) (p : Place) (lane : Lane ReaderView) (side : FinalJournal) → slice_get last slot ≡ Some p →
       IsLaneAt (holding_of p).routes place lane → slice_get sides place ≡ Some side → HasLookedAt (maps side.past) lane.reader
   pub cut : All (λ (side : FinalJournal). AreCutsDone (cuts_to host side.peer commands) side.past) sides
+  pub gone : All (AllWentToSockets (length last) sockets) sides
   pub names : map socket_name sockets ≡ somes (map used_name last)
   pub handed : All (λ (s : FinalSocket). (p : Place) × (slice_get last s.slot ≡ Some p) × HandedOutAt p s) sockets

@@ -2,6 +2,7 @@
 use Rattle.std.specs.Prelude.{◌≡◌, ℕ, ◌<◌, ◌≤◌, All, List, Some, length, map, slice_get}
 use Rattle.rds_fmap.specs.Readers.{ReaderView, WriterView}
 use Rattle.rds_parts.specs.Lanes.{IsLaneAt, Lane}
+use Rattle.rds_report.specs.FinalState.{FinalSocket}
 use Rattle.rds_report.specs.Hosts.{address_of}
 use Rattle.rds_report.specs.Views.{host_view, side_view, socket_view}
 use Rattle.rds_report.specs.declared.final_state.HostEnd.{HostEnd}
@@ -18,7 +19,7 @@ use Rattle.rds_callers.specs.Places.{CallerView, IsUsed, Place, holding_of, some
 use Rattle.rds_script.specs.declared.script.Placed.{Placed}
 use Rattle.rds_parties.specs.Obeyed.{HasDone}
 use Rattle.rds_threads.specs.Outcome.{HandedOutAt}
-use Rattle.rds_threads.specs.Reliable.{HasReceived}
+use Rattle.rds_threads.specs.Reliable.{AllWentToSockets, HasReceived}
 use Rattle.rds_rounds.specs.Quiet.{AreQuiet}
 use Rattle.rds_settling.specs.Tied.{AreLinesTold, AreTied, LinesHear, holdings}
 
@@ -36,6 +37,11 @@ HaveAllLooked {E} places lines = (slot place : ℕ) (p : Place) (lane : Lane Rea
 abbrev pub AreAllCut : {E : Type 0} → List Place → List (LineView E WriterView) → Type 0
 AreAllCut {E} places lines = (slot place : ℕ) (p : Place) (lane : Lane ReaderView) (line : LineView E WriterView) → slice_get places slot ≡ Some p →
     IsLaneAt (holding_of p).routes place lane → slice_get lines place ≡ Some line → AreCutsDone (cuts_among lane.pass.put) (line_past line)
+
+-- each datagram that a line's journal delivered to one of these slots went to a socket that had its port
+abbrev pub HaveAllGone : {E : Type 0} → List Place → List (LineView E WriterView) → List FinalSocket → Type 0
+HaveAllGone {E} places lines sockets = (place : ℕ) (line : LineView E WriterView) → slice_get lines place ≡ Some line →
+    AllWentToSockets (length places) sockets (line_side line)
 
 -- so the caller did its commands, and then gave up the slots that no socket had
 pub record HasDoneSpared (hosts host : ℕ) (commands : List Placed) (places : List Place) : Type 0 where
@@ -92,6 +98,7 @@ pub record IsLeftOf {E : Type 0} (host : ℕ) (places : List Place) (lines : Lis
   pub sent : AreAllSent places lines
   pub looked : HaveAllLooked places lines
   pub cut : AreAllCut places lines
+  pub gone : HaveAllGone places lines (map socket_view end.kept.items)
   pub kept : AreKeptOf places end.kept.items
 
 -- so it is of each host

@@ -3,7 +3,7 @@ ghost use Rattle.std.specs.Prelude.{◌≡◌, ◌≤◌, ◌∷◌, ◌++◌, [
 ghost use Rattle.rds_text.specs.declared.host.TheConstants.{MAX_HOSTS};
 ghost use Rattle.rds_gather.specs.Sides.{line_side};
 ghost use Rattle.rds_report.specs.declared.final_state.HostEnd.{HostEnd as EndView};
-ghost use Rattle.rds_report.specs.Views.{AreFinalHosts, host_view, host_views, side_view};
+ghost use Rattle.rds_report.specs.Views.{AreFinalHosts, host_view, host_views, side_view, socket_view};
 ghost use Rattle.rds_rounds.specs.Done.{AreDone};
 ghost use Rattle.rds_rounds.specs.Drained.{AreDrainedLines};
 ghost use Rattle.rds_rounds.specs.Grid.{rows_of};
@@ -12,7 +12,7 @@ ghost use Rattle.rds_settling.specs.Tied.{AreSlotsTold, AreTied, PlacesHear, hol
 ghost use Rattle.rds_script.specs.declared.script.Placed.{Placed};
 ghost use Rattle.rds_threads.specs.Ends.{AreDrainedHosts, AreEnds};
 ghost use Rattle.rds_threads.specs.Reliable.{HasReceived};
-ghost use Rattle.rds_threads.specs.Settled.{AreAllCut, AreAllSent, AreKeptOf, AreLeftOf, HasSettled, HaveAllLooked, HaveDoneSpared, HaveSettled};
+ghost use Rattle.rds_threads.specs.Settled.{AreAllCut, AreAllSent, AreKeptOf, AreLeftOf, HasSettled, HaveAllGone, HaveAllLooked, HaveDoneSpared, HaveSettled};
 
 use crate::giving::end_row;
 use rds_callers::Caller;
@@ -96,6 +96,7 @@ fn host_end<W: Wire, R: Wait>(
     ensures sent { OnOk result (AreAllSent caller.places lines.items) }
     ensures looked { OnOk result (HaveAllLooked caller.places lines.items) }
     ensures cut { OnOk result (AreAllCut caller.places lines.items) }
+    ensures gone { IfOk result (λ end. HaveAllGone caller.places lines.items (map socket_view end.kept.items)) }
     ensures kept { IfOk result (λ end. AreKeptOf caller.places end.kept.items) }
 {
     tell_slots(&mut caller, &mut lines);

@@ -5,14 +5,14 @@ use Rattle.rds_gather.specs.Cuts.{AreCutsOfSlots}
 use Rattle.rds_gather.specs.Joined.{AreJoined, AreLooksOfJournals}
 use Rattle.rds_gather.specs.Owned.{AreOwned}
 use Rattle.rds_gather.specs.Sides.{line_side}
-use Rattle.rds_report.specs.Views.{host_view}
+use Rattle.rds_report.specs.Views.{host_view, socket_view}
 use Rattle.rds_report.specs.declared.final_state.HostEnd.{HostEnd}
 use Rattle.rds_settling.specs.Tied.{AreSlotsTold}
 use Rattle.rds_threads.specs.Reliable.{HasReceived}
-use Rattle.rds_threads.specs.Settled.{AreAllCut, AreAllSent, AreKeptOf, HaveAllLooked}
+use Rattle.rds_threads.specs.Settled.{AreAllCut, AreAllSent, AreKeptOf, HaveAllGone, HaveAllLooked}
 use Rattle.rds_threads.proofs.Outcome.{all_cut, all_looked, all_sent, kept_of, on_kept, on_ok}
-use Rattle.rds_threads.proofs.Owning.{went_to_sockets}
-use Rattle.rds_threads.proofs.Receiving.{on_both, on_gathered, received_of}
+use Rattle.rds_threads.proofs.Owning.{on_kept_joined, went_to_sockets}
+use Rattle.rds_threads.proofs.Receiving.{on_gathered, received_of}
 use Rattle.rds_threads.proofs.leaving.host_end.Goals as goal
 
 pub gather-requires-clause-host : goal.gather-requires-clause-host
@@ -26,18 +26,22 @@ gather-requires-clause-passes g c =
 pub returns-clause-received : goal.returns-clause-received
 returns-clause-received g c =
     let same = c.tell_slots.ensures.lines in
-    let closed = c.in-Ok.closed.items in
-    on_gathered c.gather.result _ _ (λ (end : HostEnd). HasReceived (host_view end)) _ c.gather.ensures.journals c.gather.ensures.kept
-    (on_both c.gather.result _ _ c.gather.ensures.joined c.gather.ensures.owned)
-    (λ end sides kept known.
-    received_of c.tell_slots.new.caller.places closed c.args.lines.items
-    (subst (λ (l : List (LineView g.row.W-End.Denot WriterView)). AreJoined closed l) same known.0) c.requires.some
-    (subst (λ (l : List (LineView g.row.W-End.Denot WriterView)). AreSlotsTold closed l) same
-    (c.tied_ends.ensures.told c.tell_slots.new.caller.places closed c.tell_slots.new.lines.items c.tell_slots.ensures.told c.in-Ok.ensures.slots))
-    end c.in-Ok.kept (sides ∙ ap (map line_side) same) kept c.in-Ok.ensures.kept.each
-    (went_to_sockets c.tell_slots.new.caller.places closed c.args.lines.items c.in-Ok.kept.items c.tell_slots.ensures.tied.passes.places
-    c.in-Ok.ensures.slots.count (subst (λ (l : List (LineView g.row.W-End.Denot WriterView)). AreOwned closed l) same known.1)
-    c.in-Ok.ensures.claims c.in-Ok.ensures.kept.names))
+    on_gathered c.gather.result _ _ (λ (end : HostEnd). HasReceived (host_view end)) _ c.gather.ensures.journals c.gather.ensures.kept c.gather.ensures.joined
+    (λ end sides kept joined.
+    received_of c.tell_slots.new.caller.places c.in-Ok.closed.items c.args.lines.items
+    (subst (λ (l : List (LineView g.row.W-End.Denot WriterView)). AreJoined c.in-Ok.closed.items l) same joined) c.requires.some
+    (subst (λ (l : List (LineView g.row.W-End.Denot WriterView)). AreSlotsTold c.in-Ok.closed.items l) same
+    (c.tied_ends.ensures.told c.tell_slots.new.caller.places c.in-Ok.closed.items c.tell_slots.new.lines.items c.tell_slots.ensures.told c.in-Ok.ensures.slots))
+    end c.in-Ok.kept (sides ∙ ap (map line_side) same) kept c.in-Ok.ensures.kept.each)
+
+pub returns-clause-gone : goal.returns-clause-gone
+returns-clause-gone g c =
+    on_kept_joined c.gather.result c.in-Ok.kept _ (λ list. HaveAllGone c.args.caller.places c.args.lines.items (map socket_view list)) c.gather.ensures.owned
+    (λ owned.
+    went_to_sockets c.args.caller.places c.tell_slots.new.caller.places c.in-Ok.closed.items c.args.lines.items c.in-Ok.kept.items c.tell_slots.ensures.places
+    c.tell_slots.ensures.tied.passes.places c.in-Ok.ensures.slots.count
+    (subst (λ (l : List (LineView g.row.W-End.Denot WriterView)). AreOwned c.in-Ok.closed.items l) c.tell_slots.ensures.lines owned)
+    c.in-Ok.ensures.claims c.in-Ok.ensures.kept.names) c.gather.ensures.kept
 
 pub returns-clause-sent : goal.returns-clause-sent
 returns-clause-sent g c =
