@@ -9,6 +9,8 @@ use std::thread::Threads;
 
 const BINDS: &str = "hosts 2\nbind A 4000 65536 65536\nbind B 4001 65536 65536\n";
 
+const READ_FAULT: &str = "read fault\n";
+
 const USAGE: &str = "usage: rds play | rds run [--wire memory|tcp] | rds gen N SEED\n";
 
 // The program's answer for these words, source and sink.
@@ -105,24 +107,19 @@ fn no_words_are_answered_by_the_usage_line(rt: HostRuntime) -> Result<(), Fail> 
 fn a_failing_source(rt: HostRuntime) -> Result<(), Fail> {
     let alloc = rt.alloc();
     let fail = vec![in alloc; 1]?;
-    let mut source = MemSource::new(BINDS.as_bytes().to_vec(alloc)?, fail);
+    let text = BINDS.as_bytes().to_vec(alloc)?;
+    let mut source = MemSource::new(text, fail);
     let mut sink = MemSink::new(alloc, Vec::new(alloc));
-    assert_held(
-        &rt,
-        alloc,
-        &["play"],
-        &mut source,
-        &mut sink,
-        3,
-        "read fault\n",
-    )
+    assert_held(&rt, alloc, &["play"], &mut source, &mut sink, 3, READ_FAULT)
 }
 
 #[test]
 fn a_failing_sink(rt: HostRuntime) -> Result<(), Fail> {
     let alloc = rt.alloc();
-    let mut sink = MemSink::new(alloc, vec![in alloc; 1]?);
-    let mut source = MemSource::new(BINDS.as_bytes().to_vec(alloc)?, Vec::new(alloc));
+    let fail = vec![in alloc; 1]?;
+    let text = BINDS.as_bytes().to_vec(alloc)?;
+    let mut source = MemSource::new(text, Vec::new(alloc));
+    let mut sink = MemSink::new(alloc, fail);
     assert_held(&rt, alloc, &["play"], &mut source, &mut sink, 4, "")
 }
 
