@@ -1,5 +1,5 @@
 -- What a turn answers, for what its steps did.
-use Rattle.std.proofs.Common.{◌≡◌, ◌⊎◌, inl, inr, ℕ, ◌<◌, ◌≤◌, ◌&&◌, ◌||◌, not, nat_lt, if◌then◌else◌, Bool, true, false, length, refl, subst}
+use Rattle.std.proofs.Common.{◌≡◌, ◌⊎◌, inl, inr, ℕ, ◌<◌, ◌≤◌, ◌&&◌, ◌||◌, not, nat_lt, if◌then◌else◌, Bool, true, false, length, refl, subst, arith}
 use Rattle.std.proofs.lemmas.Bool.{ltb-true, ltb-false}
 use Rattle.rds_link.specs.Ends.{Means}
 use Rattle.rds_model.specs.Past.{Moment}
@@ -12,7 +12,7 @@ use Rattle.rds_line.specs.declared.outcome.Turn.{Turn}
 use Rattle.rds_line.specs.declared.outcome.Turn.TheVariants as turn
 use Rattle.rds_line.specs.Doing.{Did}
 use Rattle.rds_line.specs.Line.{LineView, line_past}
-use Rattle.rds_line.specs.Turns.{HasMoved, IsIdleTurn, is_bytes_heard, is_bytes_sent}
+use Rattle.rds_line.specs.Turns.{HasMoved, IsIdleTurn, IsOverTurn, TakesOrder, is_bytes_heard, is_bytes_sent}
 use Rattle.rds_line.proofs.Stepping.{moment_back}
 
 -- what isn't false, negated, is true
@@ -136,3 +136,22 @@ module _ {E M : Type 0} (m : Means E) (old new : LineView E M) (done : Done) (co
   idle_of past cases =
       let small = subst (λ (n : ℕ). length (line_past new) ≤ n) is (ltb-false count (length (line_past new)) cases.3) in
       did.idle cases.0 cases.1 cases.2 (moment_back past small) (still_open new.channel.streams.is_open cases.4)
+
+  pub over_of : new.channel.streams.opened ≤ length new.channel.streams.list →
+      (done.took ≡ false) × (new.channel.streams.is_open ≡ false)
+      × (nat_lt new.channel.streams.opened (length new.channel.streams.list) ≡ false) → IsOverTurn old new
+  over_of within cases =
+      let all = ltb-false new.channel.streams.opened (length new.channel.streams.list) cases.2 in
+      record {
+        orders = (did.none cases.0).0;
+        all_got = (did.none cases.0).1;
+        closed = cases.1;
+        last = omega (arith, within, all);
+      }
+
+  pub goes_on_of : (done.took ≡ true)
+      ⊎ ((new.channel.streams.is_open ≡ true) ⊎ (nat_lt new.channel.streams.opened (length new.channel.streams.list) ≡ true)) →
+      TakesOrder old.orders new.orders
+      ⊎ ((new.channel.streams.is_open ≡ true) ⊎ (new.channel.streams.opened < length new.channel.streams.list))
+  goes_on_of (inl took) = inl (did.took took)
+  goes_on_of (inr left) = inr (still_open new.channel.streams.is_open left)

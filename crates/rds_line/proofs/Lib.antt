@@ -16,4 +16,5 @@ mod StaysPassed
 mod Stepping
 mod Storing
 mod Taking
+mod Unlogged
 mod Written

@@ -23,21 +23,21 @@ use Rattle.rds_line.specs.Seats.{AreLooksFor, StoresNothing}
 use Rattle.rds_line.proofs.PortLooks.{looks_none}
 use Rattle.rds_line.proofs.Storing.{stores_none}
 
-module _ {E M : Type 0} (published : M → List (List ℕ)) (me peer limit : ℕ) (streams : List (ℕ × E)) (v : LineView E M) (is : v.channel ≡ new_channel me peer MAX_SLOTS limit streams) where
+module _ {E M : Type 0} (published : M → List (List ℕ)) (me peer slots limit : ℕ) (streams : List (ℕ × E)) (v : LineView E M) (is : v.channel ≡ new_channel me peer slots limit streams) where
   nothing_put : All (λ (box : Putter Datagram). box.put ≡ []) v.boxes → (slot : ℕ) (box : Putter Datagram) → Some box ≡ Some box → slot < length v.boxes → get_or v.boxes slot box ≡ box → box.put ≡ []
   nothing_put all slot box at small there = subst (λ (b : Putter Datagram). b.put ≡ []) there (all slot box small)
 
   freed_at_first : v.words.view.steps ≡ [] → IsFreedFor v.channel.conn v.words.view
   freed_at_first steps slot small =
-      let inside : slot < MAX_SLOTS = subst (λ (c : ChannelView E). slot < c.conn.slots) is small in
-      let held : freed_bytes_of slot v.channel.conn ≡ 0 = ap (λ (c : ChannelView E). freed_bytes_of slot c.conn) is ∙ get_or-replicate MAX_SLOTS slot 0 0 inside in
+      let inside : slot < slots = subst (λ (c : ChannelView E). slot < c.conn.slots) is small in
+      let held : freed_bytes_of slot v.channel.conn ≡ 0 = ap (λ (c : ChannelView E). freed_bytes_of slot c.conn) is ∙ get_or-replicate slots slot 0 0 inside in
       let none : part (freed_word slot) v.words.view.steps ≡ 0 = ap (part (freed_word slot)) steps in
       let released : released_bytes slot v.channel.conn.log.past ≡ 0 = ap (λ (c : ChannelView E). released_bytes slot c.conn.log.past) is in
       omega arith
 
-  pub keeps_at_first : v.orders.got ≡ [] → All (λ (box : Putter Datagram). box.put ≡ []) v.boxes → length v.boxes ≡ v.ports.table.slots → v.ports.table.slots ≤ MAX_SLOTS
+  pub keeps_at_first : slots ≡ MAX_SLOTS → v.orders.got ≡ [] → All (λ (box : Putter Datagram). box.put ≡ []) v.boxes → length v.boxes ≡ v.ports.table.slots → v.ports.table.slots ≤ MAX_SLOTS
       → v.ports.view.steps ≡ [] → v.words.view.steps ≡ [] → v.words.view.checks ≡ [] → published v.map ≡ [] → v.own.change ≡ None → KeepsLine published v
-  keeps_at_first got put boxes few looks steps checks maps_none unread = record {
+  keeps_at_first all_slots got put boxes few looks steps checks maps_none unread = record {
     taken = ap (λ (l : List (Numbered Order)). uncut (bare_items l)) got ∙ sym (ap (λ (c : ChannelView E). orders c.conn.log.past) is);
     cuts = ap (λ (l : List (Numbered Order)). cuts_among (bare_items l)) got ∙ sym (ap (λ (c : ChannelView E). length c.cuts.numbers) is);
     put = λ slot box at.
@@ -52,7 +52,7 @@ module _ {E M : Type 0} (published : M → List (List ℕ)) (me peer limit : ℕ
     read = λ number change i small. absurd (none_some (sym unread ∙ change));
     boxes = boxes;
     few = few;
-    slots = ap (λ (c : ChannelView E). c.conn.slots) is;
+    slots = ap (λ (c : ChannelView E). c.conn.slots) is ∙ all_slots;
     ported =
         subst (λ (c : ChannelView E). AreLooksFor c.conn.log.past v.ports.view.steps) (sym is)
         (subst (AreLooksFor []) (sym looks) looks_none);

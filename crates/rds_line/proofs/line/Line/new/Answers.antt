@@ -17,7 +17,7 @@ invariant_of-result-4 g c =
     let boxes : v.boxes ≡ parts.inboxes = c.inboxes.view_is in
     let ports : v.ports ≡ parts.ports = c.ports.view_is in
     let words : v.words ≡ parts.words = c.words.view_is in (
-      keeps_at_first g.M.MapWriter.published parts.me parts.peer c.args.limit parts.streams.items v (c.in_ok-new.ensures {u = tt})
+      keeps_at_first g.M.MapWriter.published parts.me parts.peer MAX_SLOTS c.args.limit parts.streams.items v (c.in_ok-new.ensures {u = tt}) refl
           (ap (λ (h : Getter Order). h.got) c.orders.view_is ∙ c.requires.got)
           (subst (λ (l : List (Putter Datagram)). All (λ (box : Putter Datagram). box.put ≡ []) l) (sym boxes) c.requires.put)
           (ap (λ (l : List (Putter Datagram)). length l) boxes ∙ (c.requires.boxes ∙ sym (ap (λ (h : PortSeat). h.table.slots) ports)))

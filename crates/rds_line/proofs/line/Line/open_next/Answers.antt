@@ -8,6 +8,7 @@ use Rattle.rds_line.proofs.Keeping.{keeps_plain}
 use Rattle.rds_line.proofs.Quiet.{quiet_inside, quiet_of}
 use Rattle.rds_line.proofs.Staying.{channel_of, channel_same, channel_through, opening_stays}
 use Rattle.rds_line.proofs.Written.{made_room}
+use Rattle.rds_line.proofs.Unlogged.{keeps_alike}
 use Rattle.rds_line.proofs.line.Line.open_next.Goals as goal
 use Rattle.rds_line.proofs.line.Line.open_next.Goals.{else-not-is_open-via-then-not-is_open+else-open_next, else-not-is_open-via-else-not-is_open}
 
@@ -74,3 +75,8 @@ returns-then-open_next-clause-streams g c = λ same.
     let shown = ap (λ (l : LineView g.row.E.Denot g.row.M.Denot). length (line_past l)) c.self.view_is in
     let as_long = ap (λ (l : List Entry). length l) same in
     absurd (omega (arith, more, room, shown, as_long))
+
+pub invariant_of-self : goal.invariant_of-self
+invariant_of-self g c =
+    keeps_alike g.M.MapWriter.published c.self.inside.own_pulled (view_in c.self.inside) c.reserve.new.self (c.in_err-reserve.ensures {u = tt}).err
+    c.self.invariant

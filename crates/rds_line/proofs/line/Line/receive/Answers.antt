@@ -10,6 +10,7 @@ use Rattle.rds_line.proofs.Longer.{longer}
 use Rattle.rds_line.proofs.Quiet.{quiet_channel, quiet_inside, quiet_same, quiet_through}
 use Rattle.rds_line.proofs.Staying.{channel_of, channel_same}
 use Rattle.rds_line.proofs.Written.{the_one, heard_nothing, reads_line, over_stays, gets_bytes, gets_still, more_entries, keeps_over, streams_shown}
+use Rattle.rds_line.proofs.Unlogged.{keeps_alike, keeps_with_room}
 use Rattle.rds_line.proofs.line.Line.receive.Given as given
 use Rattle.rds_line.proofs.line.Line.receive.Goals as goal
 
@@ -171,3 +172,24 @@ returns-in_ok-pass_all-in-Bytes g c =
       ended = λ e. absurd (cc);
       spent = λ entries e. absurd (cc);
     }
+
+pub invariant_of-self : goal.invariant_of-self
+invariant_of-self g c =
+    keeps_alike g.M.MapWriter.published c.self-2.inside.own_pulled (view_in c.self-2.inside) c.reserve.new.self c.in_err-reserve.ensures.err
+    c.self-2.invariant
+
+pub invariant_of-self-in-Nothing : goal.invariant_of-self-in-Nothing
+invariant_of-self-in-Nothing g c =
+    keeps_with_room g.M.MapWriter.published c.self-2.inside.own_pulled (view_in c.self-2.inside) c.receive.new.self
+    (ap (λ (v : ChannelView g.row.E.Denot). v.conn) c.receive.ensures.rest
+    ∙ ap (λ (v : ChannelView g.row.E.Denot). v.conn) c.in_ok-reserve.ensures.ok)
+    (ap (λ (v : ChannelView g.row.E.Denot). v.cuts) c.receive.ensures.rest
+    ∙ ap (λ (v : ChannelView g.row.E.Denot). v.cuts) c.in_ok-reserve.ensures.ok) c.self-2.invariant
+
+pub invariant_of-self-in-Bytes : goal.invariant_of-self-in-Bytes
+invariant_of-self-in-Bytes g c =
+    keeps_with_room g.M.MapWriter.published c.self-2.inside.own_pulled (view_in c.self-2.inside) c.receive.new.self
+    (ap (λ (v : ChannelView g.row.E.Denot). v.conn) c.receive.ensures.rest
+    ∙ ap (λ (v : ChannelView g.row.E.Denot). v.conn) c.in_ok-reserve.ensures.ok)
+    (ap (λ (v : ChannelView g.row.E.Denot). v.cuts) c.receive.ensures.rest
+    ∙ ap (λ (v : ChannelView g.row.E.Denot). v.cuts) c.in_ok-reserve.ensures.ok) c.self-2.invariant

@@ -10,6 +10,7 @@ use Rattle.rds_line.proofs.Looking.{LeavesOwn, leaves_same, loads_wider, pulls_w
 use Rattle.rds_line.proofs.Quiet.{leaves_quiet}
 use Rattle.rds_line.proofs.Staying.{channel_of, channel_same, line_inside, line_same, line_through}
 use Rattle.rds_line.proofs.Written.{made_room}
+use Rattle.rds_line.proofs.Unlogged.{keeps_alike}
 use Rattle.rds_line.proofs.line.Line.send.Given as given
 use Rattle.rds_line.proofs.line.Line.send.Goals as goal
 use Rattle.rds_line.proofs.line.Line.send.Goals.{else-unwritten-eq0-via-then-unwritten-eq0+in_ok-pull+else-not-branch, else-unwritten-eq0-via-else-unwritten-eq0}
@@ -173,3 +174,8 @@ returns-clause-pulls g c =
           (subst (λ (v : LineView g.row.E.Denot g.row.M.Denot). LeavesOwn v new) w.self-is last)
           (inl refl)
     ]
+
+pub invariant_of-self : goal.invariant_of-self
+invariant_of-self g c =
+    keeps_alike g.M.MapWriter.published c.self.inside.own_pulled (view_in c.self.inside) c.reserve.new.self c.in_err-reserve.ensures.err
+    c.self.invariant

@@ -7,6 +7,7 @@ use Rattle.rds_line.proofs.Quiet.{quiet_inside}
 use Rattle.rds_line.proofs.Staying.{channel_of, channel_same, channel_through}
 use Rattle.rds_line.proofs.StaysPassed.{taken_pulls, taken_stays}
 use Rattle.rds_line.proofs.Written.{made_room}
+use Rattle.rds_line.proofs.Unlogged.{keeps_alike}
 use Rattle.rds_line.proofs.line.Line.take.Goals as goal
 
 pub returns-in_err-reserve-clause-quiet : goal.returns-in_err-reserve-clause-quiet
@@ -35,3 +36,8 @@ returns-clause-quiet g c =
     (taken_stays c.take.result did.frame did.part did.refused did.err))
     (taken_pulls {m = m} c.take.result did.frame did.part did.refused did.err
     ∙ ap (λ (k : ChannelView g.row.E.Denot). pulls_in k.conn.log.past) room)
+
+pub invariant_of-self : goal.invariant_of-self
+invariant_of-self g c =
+    keeps_alike g.M.MapWriter.published c.self.inside.own_pulled (view_in c.self.inside) c.reserve.new.self c.in_err-reserve.ensures.err
+    c.self.invariant

@@ -7,6 +7,7 @@ use Rattle.rds_line.specs.Line.{LineView, line_past, pulls_in}
 use Rattle.rds_line.proofs.Fields.{view_in}
 use Rattle.rds_line.proofs.Taking.{Obeys, asked_allowed, cut_room, keeps_obeyed, keeps_roomy, obeyed_pulls, obeyed_stays, pulled_roomy, roomy_past, roomy_stays, roomy_streams, stays_taken}
 use Rattle.rds_line.proofs.Staying.{channel_of, channel_same, line_inside, line_of, line_shown, line_stays, line_through}
+use Rattle.rds_line.proofs.Unlogged.{keeps_alike}
 use Rattle.rds_line.proofs.line.Line.take_order.Given as given
 use Rattle.rds_line.proofs.line.Line.take_order.Goals as goal
 
@@ -144,3 +145,18 @@ returns g c =
       err = tt;
       spent = λ entries e. absurd (cc);
     }
+
+pub invariant_of-self : goal.invariant_of-self
+invariant_of-self g c =
+    keeps_alike g.M.MapWriter.published c.self.inside.own_pulled (view_in c.self.inside) c.reserve.new.self (c.in_err-reserve.ensures {u = tt}).err
+    c.self.invariant
+
+pub invariant_of-self-then-is_err : goal.invariant_of-self-then-is_err
+invariant_of-self-then-is_err g c =
+    let v = view_in c.self.inside in
+    let new = c.reserve_cut.new.self in
+    let first = (c.in_ok-reserve.ensures {u = tt}).ok in
+    let made = cut_room c.reserve.new.self new c.reserve_cut.result c.reserve_cut.ensures.ok c.reserve_cut.ensures.err in (
+      keeps_roomy v c.reserve.new.self new first made g.M.MapWriter.published c.self.invariant.0,
+      pulled_roomy v c.reserve.new.self new first made c.self.inside.own_pulled c.self.invariant.1,
+    )

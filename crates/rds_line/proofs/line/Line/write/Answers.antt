@@ -9,6 +9,7 @@ use Rattle.rds_line.proofs.Fields.{view_in}
 use Rattle.rds_line.proofs.Quiet.{quiet_inside}
 use Rattle.rds_line.proofs.Staying.{channel_of, channel_same, channel_through}
 use Rattle.rds_line.proofs.Written.{the_one, over_stays, sends_bytes, more_entries, keeps_over, leaves_written, found_full, streams_shown, written_pulls, wrote_on}
+use Rattle.rds_line.proofs.Unlogged.{keeps_alike, keeps_with_room}
 use Rattle.rds_line.proofs.line.Line.write.Given as given
 use Rattle.rds_line.proofs.line.Line.write.Goals as goal
 
@@ -116,3 +117,24 @@ returns-in-Over g c =
           (more_entries m (view_in c.self.inside) middle new (one g c).0 shuts (conn g c));
       spent = λ entries e. absurd (cc);
     }
+
+pub invariant_of-self : goal.invariant_of-self
+invariant_of-self g c =
+    keeps_alike g.M.MapWriter.published c.self.inside.own_pulled (view_in c.self.inside) c.reserve.new.self c.in_err-reserve.ensures.err
+    c.self.invariant
+
+pub invariant_of-self-in-Took : goal.invariant_of-self-in-Took
+invariant_of-self-in-Took g c =
+    keeps_with_room g.M.MapWriter.published c.self.inside.own_pulled (view_in c.self.inside) c.write.new.self
+    (ap (λ (v : ChannelView g.row.E.Denot). v.conn) c.write.ensures.rest
+    ∙ ap (λ (v : ChannelView g.row.E.Denot). v.conn) c.in_ok-reserve.ensures.ok)
+    (ap (λ (v : ChannelView g.row.E.Denot). v.cuts) c.write.ensures.rest
+    ∙ ap (λ (v : ChannelView g.row.E.Denot). v.cuts) c.in_ok-reserve.ensures.ok) c.self.invariant
+
+pub invariant_of-self-in-Full : goal.invariant_of-self-in-Full
+invariant_of-self-in-Full g c =
+    keeps_with_room g.M.MapWriter.published c.self.inside.own_pulled (view_in c.self.inside) c.write.new.self
+    (ap (λ (v : ChannelView g.row.E.Denot). v.conn) c.write.ensures.rest
+    ∙ ap (λ (v : ChannelView g.row.E.Denot). v.conn) c.in_ok-reserve.ensures.ok)
+    (ap (λ (v : ChannelView g.row.E.Denot). v.cuts) c.write.ensures.rest
+    ∙ ap (λ (v : ChannelView g.row.E.Denot). v.cuts) c.in_ok-reserve.ensures.ok) c.self.invariant
