@@ -16,7 +16,7 @@ use Rattle.rds_callers.specs.declared.state.State.{State}
 pub claims_same : (port : Option ℕ) (old new : Holding ReaderView) → new.ports ≡ old.ports → HasClaimedOnly port old.ports.view → HasClaimedOnly port new.ports.view
 claims_same port old new same claimed = subst (λ (p : PortSeat). HasClaimedOnly port p.view) (sym same) claimed
 
--- so is what is held, and the port is called otherwise
+-- all that is held is the same, and so is the port, which has another name
 pub claims_of : (port other : ℕ) (old new : Holding ReaderView) → new ≡ old → other ≡ port → HasClaimedOnly (Some other) old.ports.view → HasClaimedOnly (Some port) new.ports.view
 claims_of port other old new same called claimed =
     claims_same (Some port) old new (ap (λ (h : Holding ReaderView). h.ports) same) (subst (λ (q : ℕ). HasClaimedOnly (Some q) old.ports.view) called claimed)
