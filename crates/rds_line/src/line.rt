@@ -23,7 +23,6 @@ use std::sync::Wait;
 /// A line: all that a host has for one peer. It takes the orders that sockets gave, drives the connection over its streams, puts
 /// what comes into mailboxes, and publishes the peer's congestion map. Contracts see each of these, and what the line keeps
 /// between them.
-#[derive(Drop)]
 pub struct Line<E: End, M: MapWriter> {
     pub(crate) channel: Channel<E>,
     orders: LineOrders,
@@ -36,6 +35,23 @@ pub struct Line<E: End, M: MapWriter> {
     // The peer's map that came last, and who publishes it.
     peer_map: PortMap,
     map: M,
+}
+
+// By hand, so that one call drops it wherever it is let go, and no function that owns one drops each field.
+impl<E: End, M: MapWriter> Drop for Line<E, M> {
+    fn drop(self) {
+        let Self {
+            channel: _channel,
+            orders: _orders,
+            boxes: _boxes,
+            ports: _ports,
+            words: _words,
+            own: _own,
+            own_pulled: _,
+            peer_map: _peer_map,
+            map: _map,
+        } = self;
+    }
 }
 
 impl<E: End, M: MapWriter> Model for Line<E, M> {

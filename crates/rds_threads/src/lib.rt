@@ -1,4 +1,4 @@
-//! Scripts of up to eight hosts, run by threads: a caller for each host beside a worker that turns its lines.
+//! Scripts of up to eight hosts, run by threads: a caller for each host beside a worker for each line.
 #![tactic(auto)]
 
 mod answers;

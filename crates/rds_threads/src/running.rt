@@ -29,7 +29,7 @@ use std::net::Net;
 use std::sync::Wait;
 use std::thread::Threads;
 
-/// Runs a script over the wire: a caller for each host does its commands beside a worker that turns its lines. Then all lines turn
+/// Runs a script over the wire: a caller for each host does its commands beside a worker for each of its lines. Then all lines turn
 /// until nothing moves any more, all that waits at open sockets is received, every end is given back to the wire, and the text of
 /// this form is written to the sink. Before each command its caller asks the gate. No journal gets more than `limit`
 /// entries. Over ends that don't tell their bytes, the last rounds stop after `budget` quiet ones.
