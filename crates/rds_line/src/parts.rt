@@ -3,6 +3,7 @@ use rds_line_parts::{Boxes, LineOrders, LinePorts, LineWords};
 use rds_link::End;
 
 /// What a line is made of, and what it gives back.
+#[derive(Drop)]
 pub struct LineParts<E: End, M: MapWriter> {
     /// The IPv4 address of this host.
     pub me: u32,
@@ -20,20 +21,4 @@ pub struct LineParts<E: End, M: MapWriter> {
     pub words: LineWords,
     /// Who publishes the peer's congestion map.
     pub map: M,
-}
-
-// By hand, as that of a line.
-impl<E: End, M: MapWriter> Drop for LineParts<E, M> {
-    fn drop(self) {
-        let Self {
-            me: _,
-            peer: _,
-            streams: _streams,
-            orders: _orders,
-            inboxes: _inboxes,
-            ports: _ports,
-            words: _words,
-            map: _map,
-        } = self;
-    }
 }
