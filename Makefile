@@ -5,7 +5,7 @@ BELOW := rds_wire rds_views rds_frame rds_model rds_cong rds_script rds_link rds
 	rds_report rds_history rds_pair rds_joint rds_mesh rds_hosts rds_world rds_play \
 	rds_bindtab rds_meter rds_mail rds_fmap rds_parts rds_socket rds_joins rds_line_parts rds_line_streams \
 	rds_line_channel rds_line rds_host rds_gather rds_callers rds_rounds rds_settling rds_parties rds_threads \
-	rds_words rds_generator rds_run
+	rds_words rds_generator rds_run rds_tcp
 
 .PHONY: hello test below $(BELOW)
 
@@ -25,6 +25,7 @@ $(BELOW):
 rds_frame rds_model rds_cong rds_script rds_words: rds_wire
 rds_generator: rds_script
 rds_link: rds_wire rds_views
+rds_tcp: rds_link
 rds_msgs rds_text: rds_model
 rds_conn: rds_frame rds_msgs rds_cong
 rds_report: rds_text
