@@ -129,20 +129,20 @@ unmapped verdict.Map other payload earlier = absurd (other refl)
 unmapped verdict.OddMap other payload earlier = refl
 
 -- no look is made for a frame that goes to no port
-pub unasked_looks : (v : Verdict) → ((port : ℕ) → v ≢ verdict.Deliver port) → (s : ℕ) (f : Frame) (past : List Entry) (steps : List Step) →
-    AreLooksFor past steps → AreLooksFor (Read s f (outcome_of v found.Unasked) ∷ past) steps
-unasked_looks (verdict.Deliver port) other s f past steps was = absurd (other port refl)
-unasked_looks verdict.Old other s f past steps was =
+pub unasked_looks : {size : ℕ} (v : Verdict) → ((port : ℕ) → v ≢ verdict.Deliver port) → (s : ℕ) (f : Frame) (past : List Entry) (steps : List Step) →
+    AreLooksFor size past steps → AreLooksFor size (Read s f (outcome_of v found.Unasked) ∷ past) steps
+unasked_looks {size} (verdict.Deliver port) other s f past steps was = absurd (other port refl)
+unasked_looks {size} verdict.Old other s f past steps was =
     looks_beside past steps (Read s f outcome.Old) (λ stream slot frame is. absurd (cc)) (λ stream frame is. absurd (cc)) was
-unasked_looks verdict.Ping other s f past steps was =
+unasked_looks {size} verdict.Ping other s f past steps was =
     looks_beside past steps (Read s f outcome.Ping) (λ stream slot frame is. absurd (cc)) (λ stream frame is. absurd (cc)) was
-unasked_looks verdict.Void other s f past steps was =
+unasked_looks {size} verdict.Void other s f past steps was =
     looks_beside past steps (Read s f outcome.Void) (λ stream slot frame is. absurd (cc)) (λ stream frame is. absurd (cc)) was
-unasked_looks verdict.AckOnly other s f past steps was =
+unasked_looks {size} verdict.AckOnly other s f past steps was =
     looks_beside past steps (Read s f outcome.AckOnly) (λ stream slot frame is. absurd (cc)) (λ stream frame is. absurd (cc)) was
-unasked_looks verdict.Map other s f past steps was =
+unasked_looks {size} verdict.Map other s f past steps was =
     looks_beside past steps (Read s f outcome.Map) (λ stream slot frame is. absurd (cc)) (λ stream frame is. absurd (cc)) was
-unasked_looks verdict.OddMap other s f past steps was =
+unasked_looks {size} verdict.OddMap other s f past steps was =
     looks_beside past steps (Read s f outcome.OddMap) (λ stream slot frame is. absurd (cc)) (λ stream frame is. absurd (cc)) was
 
 -- a look was made at the port that the header names, and it found this
@@ -153,34 +153,34 @@ looked_there seat port dport found is =
     (looked_last seat.view.steps port found seat.view.told)
 
 -- it found nobody
-pub nobody_looks : (seat after : PortSeat) (port s : ℕ) (f : Frame) (past : List Entry) → after ≡ knowing seat (after_look seat.view port None) →
-    f.header.dport ≡ port → AreLooksFor past seat.view.steps → AreLooksFor (Read s f outcome.NoSocket ∷ past) after.view.steps
-nobody_looks seat after port s f past is there was =
-    subst (λ (h : PortSeat). AreLooksFor (Read s f outcome.NoSocket ∷ past) h.view.steps) (sym is)
+pub nobody_looks : {size : ℕ} (seat after : PortSeat) (port s : ℕ) (f : Frame) (past : List Entry) → after ≡ knowing seat (after_look seat.view port None) →
+    f.header.dport ≡ port → AreLooksFor size past seat.view.steps → AreLooksFor size (Read s f outcome.NoSocket ∷ past) after.view.steps
+nobody_looks {size} seat after port s f past is there was =
+    subst (λ (h : PortSeat). AreLooksFor size (Read s f outcome.NoSocket ∷ past) h.view.steps) (sym is)
     (looks_nobody past (after_look seat.view port None).steps s f (looked_there seat port f.header.dport None there)
     (looks_again past seat.view.steps port None seat.view.told was))
 
 -- it found a slot, and the delivery to that slot makes at most one look more
-slot_looks : {slot port n : ℕ} {old new : MeterSeat} {ports after : PortSeat} (seat : PortSeat) (s : ℕ) (f : Frame) (past : List Entry) →
+slot_looks : {size slot port n : ℕ} {old new : MeterSeat} {ports after : PortSeat} (seat : PortSeat) (s : ℕ) (f : Frame) (past : List Entry) →
     ports ≡ knowing seat (after_look seat.view port (Some slot)) → f.header.dport ≡ port → IsDelivery slot port n old new ports after →
-    AreLooksFor past seat.view.steps → AreLooksFor (Read s f (outcome.Slot slot) ∷ past) after.view.steps
-slot_looks {slot} {port} {n} {old} {new} {ports} {after} seat s f past is there d was = go d.mark.set refl
+    slot < size → AreLooksFor size past seat.view.steps → AreLooksFor size (Read s f (outcome.Slot slot) ∷ past) after.view.steps
+slot_looks {size} {slot} {port} {n} {old} {new} {ports} {after} seat s f past is there d small was = go d.mark.set refl
   where
     next : List Entry
     next = Read s f (outcome.Slot slot) ∷ past
 
-    first : AreLooksFor next ports.view.steps
+    first : AreLooksFor size next ports.view.steps
     first =
-        subst (λ (h : PortSeat). AreLooksFor next h.view.steps) (sym is)
-        (looks_slot past (after_look seat.view port (Some slot)).steps s slot f (looked_there seat port f.header.dport (Some slot) there)
+        subst (λ (h : PortSeat). AreLooksFor size next h.view.steps) (sym is)
+        (looks_slot past (after_look seat.view port (Some slot)).steps s slot f small (looked_there seat port f.header.dport (Some slot) there)
         (looks_again past seat.view.steps port (Some slot) seat.view.told was))
 
-    go : (b : Bool) → d.mark.set ≡ b → AreLooksFor next after.view.steps
+    go : (b : Bool) → d.mark.set ≡ b → AreLooksFor size next after.view.steps
     go true set =
         let second = d.raised set in
-        subst (λ (h : PortSeat). AreLooksFor next h.view.steps) (sym second.ports)
+        subst (λ (h : PortSeat). AreLooksFor size next h.view.steps) (sym second.ports)
         (looks_again next ports.view.steps d.mark.port second.holder ports.view.told first)
-    go false unset = subst (λ (h : PortSeat). AreLooksFor next h.view.steps) (sym (d.other unset).1) first
+    go false unset = subst (λ (h : PortSeat). AreLooksFor size next h.view.steps) (sym (d.other unset).1) first
 
 -- the bytes of a datagram that is delivered may be counted
 pub delivery_fits : {slot : ℕ} {old new : Connection} {v : View} (p : Passes (found.Slot slot) old new) (port : ℕ) →
@@ -205,7 +205,7 @@ module _ {E M : Type 0} (published : M → List (List ℕ)) where
       outcome_of (verdict_of (line_past old) p.frame.header) came ≡ o →
       is_delivery o ≡ false → ((payload : List ℕ) (earlier : List (List ℕ)) → with_map o payload earlier ≡ earlier) →
       new.channel ≡ with_conn old.channel new.channel.conn → new.ports.table ≡ old.ports.table →
-      (AreLooksFor (line_past old) old.ports.view.steps → AreLooksFor (Read p.stream p.frame o ∷ line_past old) new.ports.view.steps) →
+      (AreLooksFor old.ports.table.slots (line_past old) old.ports.view.steps → AreLooksFor old.ports.table.slots (Read p.stream p.frame o ∷ line_past old) new.ports.view.steps) →
       new ≡ record old { channel = new.channel; ports = new.ports } →
       PassesWith published (pong_for o p.frame.header.sport) p.stream p.frame o old new
   passes_quietly came old new p o is kept unread rest ports looks same =
@@ -262,7 +262,7 @@ module _ {E M : Type 0} (published : M → List (List ℕ)) where
         boxes = ap length boxes;
         ports = ap (λ (v : LineView E M). v.ports.table) same;
         looks = λ was.
-            subst (λ (h : PortSeat). AreLooksFor (Read p.stream p.frame outcome.Map ∷ past) h.view.steps)
+            subst (λ (h : PortSeat). AreLooksFor old.ports.table.slots (Read p.stream p.frame outcome.Map ∷ past) h.view.steps)
             (sym (ap (λ (v : LineView E M). v.ports) same))
             (looks_beside past old.ports.view.steps (Read p.stream p.frame outcome.Map) (λ stream slot frame is. absurd (cc))
             (λ stream frame is. absurd (cc)) was);
@@ -272,14 +272,14 @@ module _ {E M : Type 0} (published : M → List (List ℕ)) where
   -- its datagram was put into the box of a slot, and counted
   pub passes_delivery : (slot port : ℕ) (old new : LineView E M) →
       (p : Passes (found.Slot slot) old.channel.conn new.channel.conn) →
-      verdict_of (line_past old) p.frame.header ≡ verdict.Deliver port → slot < MAX_SLOTS →
+      verdict_of (line_past old) p.frame.header ≡ verdict.Deliver port → slot < MAX_SLOTS → slot < old.ports.table.slots →
       IsPutInto slot (datagram_from old.channel.conn.peer p.frame) old.boxes new.boxes →
       (ports : PortSeat) → ports ≡ knowing old.ports (after_look old.ports.view port (Some slot)) → new.ports.table ≡ old.ports.table →
       IsDelivery slot port (length p.frame.payload) old.words new.words ports new.ports →
       new.channel ≡ with_conn old.channel new.channel.conn →
       new ≡ record old { channel = new.channel; boxes = new.boxes; ports = new.ports; words = new.words } →
       PassesWith published None p.stream p.frame (outcome.Slot slot) old new
-  passes_delivery slot port old new p is small put ports look table delivery rest same =
+  passes_delivery slot port old new p is small below put ports look table delivery rest same =
       let past = line_past old in
       let named : IsDelivery slot p.frame.header.dport (length p.frame.payload) old.words new.words ports new.ports =
       subst (λ (k : ℕ). IsDelivery slot k (length p.frame.payload) old.words new.words ports new.ports)
@@ -293,7 +293,7 @@ module _ {E M : Type 0} (published : M → List (List ℕ)) where
         orders = ap (λ (v : LineView E M). v.orders) same;
         put = put_for_more p.stream slot p.frame past old.channel.conn.peer old.boxes new.boxes put;
         counted = counted_for_more p.stream slot p.frame past old.words new.words ports new.ports named;
-        freed = λ s below.
+        freed = λ s within.
             let n = length p.frame.payload in
             let before_it = part (freed_word s) old.words.view.steps in
             let more = delivery_part slot port n old.words new.words ports new.ports delivery (freed_word s) in
@@ -305,6 +305,6 @@ module _ {E M : Type 0} (published : M → List (List ℕ)) where
         read = read_after_delivery old.own slot small port (length p.frame.payload) old.words new.words ports new.ports delivery;
         boxes = ap length put.2 ∙ length-set old.boxes slot (after_put put.0 (datagram_from old.channel.conn.peer p.frame));
         ports = table;
-        looks = slot_looks old.ports p.stream p.frame past look (port_is past p.frame.header port is) delivery;
+        looks = slot_looks old.ports p.stream p.frame past look (port_is past p.frame.header port is) delivery below;
         stored = delivery_stores delivery;
       }

@@ -30,7 +30,7 @@ pub record HasSameSums (past later : List Entry) : Type 0 where
   pub delivered : (from slot : ℕ) → delivered_datagrams from slot later ≡ delivered_datagrams from slot past
   pub bytes : (slot : ℕ) → put_bytes slot later ≡ put_bytes slot past
   pub checks : (list : List Check) → AreChecksOf past list → AreChecksOf later list
-  pub looks : (steps : List Step) → AreLooksFor past steps → AreLooksFor later steps
+  pub looks : (size : ℕ) (steps : List Step) → AreLooksFor size past steps → AreLooksFor size later steps
 
 pub sums_same : (past : List Entry) → HasSameSums past past
 sums_same past = record {
@@ -38,7 +38,7 @@ sums_same past = record {
   delivered = λ from slot. refl;
   bytes = λ slot. refl;
   checks = λ list are. are;
-  looks = λ steps are. are;
+  looks = λ size steps are. are;
 }
 
 pub sums_of : (past later middle : List Entry) → later ≡ middle → HasSameSums past middle → HasSameSums past later
@@ -54,8 +54,8 @@ IsNoRead (entry.Read stream frame outcome) = ⊥
 IsNoRead (entry.Shut stream) = Unit {0}
 IsNoRead (entry.Bad stream header cause) = Unit {0}
 
-looks_unread : (e : Entry) (past : List Entry) (steps : List Step) → IsNoRead e → AreLooksFor past steps → AreLooksFor (e ∷ past) steps
-looks_unread e past steps no_read =
+looks_unread : {size : ℕ} (e : Entry) (past : List Entry) (steps : List Step) → IsNoRead e → AreLooksFor size past steps → AreLooksFor size (e ∷ past) steps
+looks_unread {size} e past steps no_read =
     looks_beside past steps e (λ stream slot frame is. subst IsNoRead is no_read) (λ stream frame is. subst IsNoRead is no_read)
 
 pub sums_more : (e : Entry) (past : List Entry) → IsNoRead e → HasSameSums past (e ∷ past)
@@ -64,28 +64,28 @@ sums_more (entry.Accept slot sport dport payload) past no_read = record {
   delivered = λ from slot. refl;
   bytes = λ slot. refl;
   checks = λ list are. are;
-  looks = λ steps. looks_unread (entry.Accept slot sport dport payload) past steps no_read;
+  looks = λ size steps. looks_unread (entry.Accept slot sport dport payload) past steps no_read;
 }
 sums_more (entry.Cancel slot target) past no_read = record {
   maps = refl;
   delivered = λ from slot. refl;
   bytes = λ slot. refl;
   checks = λ list are. are;
-  looks = λ steps. looks_unread (entry.Cancel slot target) past steps no_read;
+  looks = λ size steps. looks_unread (entry.Cancel slot target) past steps no_read;
 }
 sums_more (entry.Open stream) past no_read = record {
   maps = refl;
   delivered = λ from slot. refl;
   bytes = λ slot. refl;
   checks = λ list are. are;
-  looks = λ steps. looks_unread (entry.Open stream) past steps no_read;
+  looks = λ size steps. looks_unread (entry.Open stream) past steps no_read;
 }
 sums_more (entry.Pull stream frame) past no_read = record {
   maps = refl;
   delivered = λ from slot. refl;
   bytes = λ slot. refl;
   checks = λ list are. are;
-  looks = λ steps. looks_unread (entry.Pull stream frame) past steps no_read;
+  looks = λ size steps. looks_unread (entry.Pull stream frame) past steps no_read;
 }
 sums_more (entry.Read stream frame outcome) past no_read = absurd no_read
 sums_more (entry.Shut stream) past no_read = record {
@@ -93,14 +93,14 @@ sums_more (entry.Shut stream) past no_read = record {
   delivered = λ from slot. refl;
   bytes = λ slot. refl;
   checks = λ list are. are;
-  looks = λ steps. looks_unread (entry.Shut stream) past steps no_read;
+  looks = λ size steps. looks_unread (entry.Shut stream) past steps no_read;
 }
 sums_more (entry.Bad stream header cause) past no_read = record {
   maps = refl;
   delivered = λ from slot. refl;
   bytes = λ slot. refl;
   checks = λ list are. are;
-  looks = λ steps. looks_unread (entry.Bad stream header cause) past steps no_read;
+  looks = λ size steps. looks_unread (entry.Bad stream header cause) past steps no_read;
 }
 
 -- for each slot the freed bytes that are held grew as the bytes did that aren't alive any more
@@ -171,7 +171,7 @@ module _ {E M : Type 0} (published : M → List (List ℕ)) where
     boxes = k.boxes;
     few = k.few;
     slots = slots ∙ k.slots;
-    ported = sums.looks v.ports.view.steps k.ported;
+    ported = sums.looks v.ports.table.slots v.ports.view.steps k.ported;
     stored = k.stored;
   }
 
@@ -195,7 +195,7 @@ module _ {E M : Type 0} (published : M → List (List ℕ)) where
 
   -- the seat at the port table did what leaves its looks as the journal tells
   keeps_ports : (v : LineView E M) (ports : PortSeat) → ports.table ≡ v.ports.table →
-      (AreLooksFor (line_past v) v.ports.view.steps → AreLooksFor (line_past v) ports.view.steps) →
+      (AreLooksFor v.ports.table.slots (line_past v) v.ports.view.steps → AreLooksFor v.ports.table.slots (line_past v) ports.view.steps) →
       KeepsLine published v → KeepsLine published (record v { ports = ports })
   keeps_ports v ports table looks k = record {
     taken = k.taken;
@@ -208,14 +208,14 @@ module _ {E M : Type 0} (published : M → List (List ℕ)) where
     boxes = k.boxes ∙ sym (ap (λ (t : Table). t.slots) table);
     few = subst (λ (t : Table). t.slots ≤ MAX_SLOTS) (sym table) k.few;
     slots = k.slots;
-    ported = looks k.ported;
+    ported = subst (λ (t : Table). AreLooksFor t.slots (line_past v) ports.view.steps) (sym table) (looks k.ported);
     stored = k.stored;
   }
 
   -- it was told of no step
   pub keeps_heard : (v : LineView E M) (ports : PortSeat) → ports.table ≡ v.ports.table → ports.view.steps ≡ v.ports.view.steps →
       KeepsLine published v → KeepsLine published (record v { ports = ports })
-  keeps_heard v ports table steps k = keeps_ports v ports table (λ was. subst (AreLooksFor (line_past v)) (sym steps) was) k
+  keeps_heard v ports table steps k = keeps_ports v ports table (λ was. subst (AreLooksFor v.ports.table.slots (line_past v)) (sym steps) was) k
 
   -- it looked at a port
   pub keeps_looked : (v : LineView E M) (ports : PortSeat) (port : ℕ) (found : Option ℕ) →
@@ -224,7 +224,7 @@ module _ {E M : Type 0} (published : M → List (List ℕ)) where
   keeps_looked v ports port found is k =
       keeps_ports v ports (ap (λ (h : PortSeat). h.table) is)
       (λ was.
-      subst (λ (h : PortSeat). AreLooksFor (line_past v) h.view.steps) (sym is)
+      subst (λ (h : PortSeat). AreLooksFor v.ports.table.slots (line_past v) h.view.steps) (sym is)
       (looks_again (line_past v) v.ports.view.steps port found v.ports.view.told was))
       k
 

@@ -103,9 +103,9 @@ module _ (s : ℕ) (f : Frame) (o : Outcome) (past : List Entry) where
   counted_after None v was = was
   counted_after (Some port) v was = record { put = was.put; checks = was.checks }
 
-  looks_after : (port : Option ℕ) (steps : List Step) → AreLooksFor (Read s f o ∷ past) steps → AreLooksFor (read_past port s f o past) steps
-  looks_after None steps was = was
-  looks_after (Some port) steps was =
+  looks_after : {size : ℕ} (port : Option ℕ) (steps : List Step) → AreLooksFor size (Read s f o ∷ past) steps → AreLooksFor size (read_past port s f o past) steps
+  looks_after {size} None steps was = was
+  looks_after {size} (Some port) steps was =
       looks_beside (Read s f o ∷ past) steps (Accept NO_SLOT 0 port []) (λ stream slot frame is. absurd (cc)) (λ stream frame is. absurd (cc)) was
 
 -- the bytes that are freed or released are accounted for
@@ -131,7 +131,7 @@ module _ {E M : Type 0} (published : M → List (List ℕ)) where
     pub read : IsAsRead old.own old.words.view.steps → IsAsRead old.own new.words.view.steps
     pub boxes : length new.boxes ≡ length old.boxes
     pub ports : new.ports.table ≡ old.ports.table
-    pub looks : AreLooksFor (line_past old) old.ports.view.steps → AreLooksFor (Read s f o ∷ line_past old) new.ports.view.steps
+    pub looks : AreLooksFor old.ports.table.slots (line_past old) old.ports.view.steps → AreLooksFor old.ports.table.slots (Read s f o ∷ line_past old) new.ports.view.steps
     pub stored : StoresNothing old.words.view.steps → StoresNothing new.words.view.steps
 
   -- the line keeps all that it keeps
@@ -165,8 +165,9 @@ module _ {E M : Type 0} (published : M → List (List ℕ)) where
         few = subst (λ (t : Table). t.slots ≤ MAX_SLOTS) (sym p.ports) was.few;
         slots = r.slots ∙ was.slots;
         ported =
-            subst (λ (l : List Entry). AreLooksFor l new.ports.view.steps) (sym r.past)
-            (looks_after s f o past port new.ports.view.steps (p.looks was.ported));
+            subst (λ (t : Table). AreLooksFor t.slots (line_past new) new.ports.view.steps) (sym p.ports)
+            (subst (λ (l : List Entry). AreLooksFor old.ports.table.slots l new.ports.view.steps) (sym r.past)
+            (looks_after s f o past port new.ports.view.steps (p.looks was.ported)));
         stored = p.stored was.stored;
       }
 

@@ -163,6 +163,7 @@ module _ {E M : Type 0} where
     ports = refl;
     port_view = refl;
     looks = same_list v.ports.view.steps;
+    always = λ telling was. was;
     words = ap (λ (h : MeterSeat). h.table) r.steps;
     slot = ap (λ (h : MeterSeat). h.slot) r.steps;
     meter_view =

@@ -43,7 +43,7 @@ module _ {E M : Type 0} (v : LineView E M) (channel : ChannelView E) (words : Me
     boxes = k.boxes;
     few = k.few;
     slots = ap (λ (c : ChannelView E). c.conn.slots) rest ∙ k.slots;
-    ported = subst (λ (c : ChannelView E). AreLooksFor c.conn.log.past v.ports.view.steps) (sym rest) k.ported;
+    ported = subst (λ (c : ChannelView E). AreLooksFor v.ports.table.slots c.conn.log.past v.ports.view.steps) (sym rest) k.ported;
     stored = relief_stores relief k.stored;
   }
 
@@ -58,6 +58,7 @@ module _ {E M : Type 0} (v : LineView E M) (channel : ChannelView E) (words : Me
     ports = refl;
     port_view = refl;
     looks = same_list v.ports.view.steps;
+    always = λ telling was. was;
     words = ap (λ (h : MeterSeat). h.table) relief.seat;
     slot = ap (λ (h : MeterSeat). h.slot) relief.seat;
     meter_view = same_view v.words.view words.view v.words.view.checks (v.words.view.steps ++ relief.steps) (ap (λ (h : MeterSeat). h.view) relief.seat);

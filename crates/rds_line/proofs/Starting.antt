@@ -54,8 +54,8 @@ module _ {E M : Type 0} (published : M → List (List ℕ)) (me peer slots limit
     few = few;
     slots = ap (λ (c : ChannelView E). c.conn.slots) is ∙ all_slots;
     ported =
-        subst (λ (c : ChannelView E). AreLooksFor c.conn.log.past v.ports.view.steps) (sym is)
-        (subst (AreLooksFor []) (sym looks) looks_none);
+        subst (λ (c : ChannelView E). AreLooksFor v.ports.table.slots c.conn.log.past v.ports.view.steps) (sym is)
+        (subst (AreLooksFor v.ports.table.slots []) (sym looks) looks_none);
     stored = subst StoresNothing (sym steps) stores_none;
   }
     where

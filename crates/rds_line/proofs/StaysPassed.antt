@@ -6,6 +6,7 @@ use Rattle.std.proofs.lemmas.Bool.{cases_eq}
 use Rattle.std.proofs.lemmas.List.{length-set}
 use Rattle.std.proofs.lemmas.Option.{same_Some, slice_get_within}
 use Rattle.rds_link.specs.Ends.{Means}
+use Rattle.rds_bindtab.specs.declared.view.Telling.{Telling}
 use Rattle.rds_bindtab.specs.declared.view.View.{View as PortView}
 use Rattle.rds_bindtab.specs.declared.view.Step.TheVariants.{Looked}
 use Rattle.rds_bindtab.specs.Seats.{PortSeat, after_look, knowing}
@@ -37,9 +38,11 @@ use Rattle.rds_line_channel.specs.Changes.{EndsRefused, TakesBytes}
 use Rattle.rds_line_channel.specs.declared.channel.Taken.{Taken}
 use Rattle.rds_line_channel.specs.declared.channel.Taken.TheVariants as taken
 use Rattle.rds_line.specs.Line.{LineView, line_past, pulls_in}
+use Rattle.rds_line.specs.Seats.{WasAlwaysTold}
 use Rattle.rds_line.specs.Stays.{AreSameBoxes, ChannelStays}
 use Rattle.rds_line.specs.Steps.{PassesOne, StaysQuiet}
 use Rattle.rds_line.proofs.Passing.{moment_after, passes_reads, read_past}
+use Rattle.rds_line.proofs.PortLooks.{told_looked}
 use Rattle.rds_line.proofs.Staying.{begins_of, begins_through, boxes_same, channel_of, channel_same, conn_stays, ending_stays, same_port_view, same_view}
 
 -- what holds on success and what holds on failure, where the test says which it was
@@ -96,6 +99,7 @@ pub record SameSeats (old new : MeterSeat) (ports after : PortSeat) : Type 0 whe
   pub meter_steps : Begins old.view.steps new.view.steps
   pub port_view : after.view ≡ record ports.view { steps = after.view.steps }
   pub port_steps : Begins ports.view.steps after.view.steps
+  pub always : (t : Telling) → WasAlwaysTold t ports.view → WasAlwaysTold t after.view
 
 pub seats_same : (words : MeterSeat) (ports : PortSeat) → SameSeats words words ports ports
 seats_same words ports = record {
@@ -106,6 +110,7 @@ seats_same words ports = record {
   meter_steps = same_list words.view.steps;
   port_view = refl;
   port_steps = same_list ports.view.steps;
+  always = λ t was. was;
 }
 
 -- one look was made
@@ -120,6 +125,7 @@ seats_looked words ports after port found is = record {
   port_view =
       same_port_view ports.view after.view (after_look ports.view port found).steps (ap (λ (h : PortSeat). h.view) is);
   port_steps = (Looked port found ports.view.told ∷ [], ap (λ (h : PortSeat). h.view.steps) is);
+  always = λ t was. subst (λ (h : PortSeat). WasAlwaysTold t h.view) (sym is) (told_looked t ports.view port found was);
 }
 
 -- and then more was done
@@ -134,6 +140,7 @@ seats_through {words} {middle} {new} {ports} {between} {after} first second = re
   meter_steps = begins_through words.view.steps middle.view.steps new.view.steps first.meter_steps second.meter_steps;
   port_view = second.port_view ∙ ap (λ (v : PortView). record v { steps = after.view.steps }) first.port_view;
   port_steps = begins_through ports.view.steps between.view.steps after.view.steps first.port_steps second.port_steps;
+  always = λ t was. second.always t (first.always t was);
 }
 
 pub same_seats : {slot port n : ℕ} {old new : MeterSeat} {ports after : PortSeat} →
@@ -154,6 +161,7 @@ same_seats {slot} {port} {n} {old} {new} {ports} {after} d = go d.mark.set refl
       meter_steps = (counting, ap (λ (h : MeterSeat). h.view.steps) d.counts.seat);
       port_view = refl;
       port_steps = same_list ports.view.steps;
+      always = λ t was. was;
     }
 
     go : (b : Bool) → d.mark.set ≡ b → SameSeats old new ports after
@@ -172,6 +180,7 @@ same_seats {slot} {port} {n} {old} {new} {ports} {after} d = go d.mark.set refl
           meter_steps = (more, ap (λ (h : MeterSeat). h.view.steps) second.seat);
           port_view = looked.port_view;
           port_steps = looked.port_steps;
+          always = looked.always;
         })
     go false unset =
         let same = d.other unset in
@@ -273,6 +282,7 @@ module _ {E : Type 0} {m : Means E} where
             ports = seats.port_table;
             port_view = seats.port_view;
             looks = seats.port_steps;
+            always = seats.always;
             words = seats.meter;
             slot = seats.meter_slot;
             meter_view = seats.meter_view;

@@ -225,6 +225,7 @@ stays_taken m pair v channel getter number o is stays = record {
   ports = refl;
   port_view = refl;
   looks = same_list v.ports.view.steps;
+  always = λ telling was. was;
   words = refl;
   slot = refl;
   meter_view = refl;

@@ -45,7 +45,7 @@ module _ {E M : Type 0} where
     pub few : v.ports.table.slots ≤ MAX_SLOTS
     pub slots : v.channel.conn.slots ≡ MAX_SLOTS
     -- what became of each datagram is what a look of its seat at the port table had found, and that seat has claimed no port
-    pub ported : AreLooksFor (line_past v) v.ports.view.steps
+    pub ported : AreLooksFor v.ports.table.slots (line_past v) v.ports.view.steps
     -- its seat at the meter has stored no receive limit
     pub stored : StoresNothing v.words.view.steps
 

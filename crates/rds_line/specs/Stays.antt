@@ -5,11 +5,13 @@ use Rattle.rds_model.specs.Honest.{Begins}
 use Rattle.rds_model.specs.Past.{Moment}
 use Rattle.rds_model.specs.declared.order.Datagram.{Datagram}
 use Rattle.rds_mail.specs.Passes.{Putter}
+use Rattle.rds_bindtab.specs.declared.view.Telling.{Telling}
 use Rattle.rds_line_parts.specs.Boxes.{IsBoxOf}
 use Rattle.rds_line_streams.specs.Meeting.{AtEach, StayPaired}
 use Rattle.rds_line_streams.specs.Streams.{StreamsView, numbers}
 use Rattle.rds_line_channel.specs.Channel.{ChannelView}
 use Rattle.rds_line.specs.Line.{LineView}
+use Rattle.rds_line.specs.Seats.{WasAlwaysTold}
 
 -- the same putters, of the same mailboxes
 pub record AreSameBoxes (old new : List (Putter Datagram)) : Type 0 where
@@ -51,6 +53,8 @@ module _ {E : Type 0} (m : Means E) where
       pub ports : new.ports.table ≡ old.ports.table
       pub port_view : new.ports.view ≡ record old.ports.view { steps = new.ports.view.steps }
       pub looks : Begins old.ports.view.steps new.ports.view.steps
+      -- what the one had been told before each of its looks it is told before each later one too
+      pub always : (telling : Telling) → WasAlwaysTold telling old.ports.view → WasAlwaysTold telling new.ports.view
       pub words : new.words.table ≡ old.words.table
       pub slot : new.words.slot ≡ old.words.slot
       pub meter_view : new.words.view ≡ record old.words.view { checks = new.words.view.checks; steps = new.words.view.steps }

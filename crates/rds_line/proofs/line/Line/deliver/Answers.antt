@@ -126,7 +126,7 @@ invariant_of-self-2 g c =
     let seats = same_seats c.deliver.ensures.delivery in
     let table = ap (λ (h : PortSeat). h.table) c.look.ensures.seat in
     keeps_passed g.M.MapWriter.published i.own_pulled
-    (passes_delivery g.M.MapWriter.published c.in-Some.slot c.args.port _ _ p (verdict_here waits p) small put ports
+    (passes_delivery g.M.MapWriter.published c.in-Some.slot c.args.port _ _ p (verdict_here waits p) small below put ports
     (c.look.ensures.seat ∙ ap (λ (o : Option ℕ). knowing i.ports (after_look i.ports.view c.args.port o)) c.in-Some.is)
     (seats.port_table ∙ table) delivery c.pass-2.ensures.rest refl)
     c.self.invariant
