@@ -1,5 +1,5 @@
 -- Which port a slot has claimed, through the calls on it.
-use Rattle.std.proofs.Common.{◌≡◌, ℕ, Option, Some, sym, ap, subst, ◌∙◌}
+use Rattle.std.proofs.Common.{◌≡◌, ℕ, List, Option, Some, sym, ap, subst, ◌∙◌}
 use Rattle.std.proofs.lemmas.Option.{same_Some}
 use Rattle.rds_bindtab.specs.Seats.{PortSeat}
 use Rattle.rds_fmap.specs.Readers.{ReaderView}
@@ -7,8 +7,9 @@ use Rattle.rds_parts.specs.Ports.{HasClaimedOnly}
 use Rattle.rds_socket.specs.Holding.{Holding, Open}
 use Rattle.rds_socket.specs.Calls.{IsClosed}
 use Rattle.rds_socket.proofs.Claims.{claims_released}
-use Rattle.rds_callers.specs.Places.{Place}
-use Rattle.rds_callers.specs.Ends.{claimed_port}
+use Rattle.rds_model.specs.declared.order.Datagram.{Datagram}
+use Rattle.rds_callers.specs.Places.{Bound, Place}
+use Rattle.rds_callers.specs.Ends.{HasItsPort, claimed_port, open_port}
 use Rattle.rds_callers.specs.States.{shown}
 use Rattle.rds_callers.specs.declared.state.State.{State}
 
@@ -26,7 +27,14 @@ pub claims_closed : (o : Open ReaderView) (h : Holding ReaderView) → IsClosed 
 claims_closed o h closed claimed =
     subst (λ (k : Holding ReaderView). HasClaimedOnly (Some o.port) k.ports.view) (sym closed.1.1) (claims_released o.own.ports.view (Some o.port) claimed)
 
+-- no port is held where no socket is open
+pub unheld : (p : Place) (h : Holding ReaderView) → ((port : ℕ) → open_port p ≡ Some port → ⊥) → HasClaimedOnly (claimed_port p) h.ports.view → HasItsPort p h
+unheld p h none claimed = record { claimed = claimed; holds = λ port is. absurd (none port is) }
+
+pub open_with : (o : Open ReaderView) (got : List Datagram) (h : Holding ReaderView) → HasClaimedOnly (Some o.port) h.ports.view → h.ports.view.port ≡ Some o.port →
+    HasItsPort (Bound o got) h
+open_with o got h claimed holds = record { claimed = claimed; holds = λ port is. holds ∙ is }
+
 -- a slot shows one place
-pub claims_shown : (x : State) (q : Place) (h : Holding ReaderView) → shown x ≡ Some q → HasClaimedOnly (claimed_port q) h.ports.view
-    → (p : Place) → shown x ≡ Some p → HasClaimedOnly (claimed_port p) h.ports.view
-claims_shown x q h shows claimed p at = subst (λ (r : Place). HasClaimedOnly (claimed_port r) h.ports.view) (same_Some q p (sym shows ∙ at)) claimed
+pub port_shown : (x : State) (q : Place) (h : Holding ReaderView) → shown x ≡ Some q → HasItsPort q h → (p : Place) → shown x ≡ Some p → HasItsPort p h
+port_shown x q h shows has p at = subst (λ (r : Place). HasItsPort r h) (same_Some q p (sym shows ∙ at)) has

@@ -40,10 +40,10 @@ keeps_then a b c x y = record {
 }
 
 pub ends_same : (h : Holding ReaderView) → IsEndOf h h
-ends_same h = record { keeps = keeps_same h; routes = refl }
+ends_same h = record { keeps = keeps_same h; routes = refl; ports = refl }
 
 pub ends_then : (a b c : Holding ReaderView) → IsEndOf a b → IsEndOf b c → IsEndOf a c
-ends_then a b c x y = record { keeps = keeps_then a b c x.keeps y.keeps; routes = y.routes ∙ x.routes }
+ends_then a b c x y = record { keeps = keeps_then a b c x.keeps y.keeps; routes = y.routes ∙ x.routes; ports = y.ports ∙ x.ports }
 
 -- one more was taken out and listed
 pub taken_more : (base list new : List Datagram) (get after : Getter Datagram) (number : Number) (item : Datagram)
@@ -57,4 +57,5 @@ pub taken_end : (old new : Holding ReaderView) (number : Number) (item : Datagra
 taken_end old new number item stays is = record {
   keeps = record { stays = stays; joined = ap (λ (h : Holding ReaderView). h.inbox.get.joined) is; told = ap (λ (h : Holding ReaderView). h.inbox.get.told) is };
   routes = ap (λ (h : Holding ReaderView). h.routes) is;
+  ports = ap (λ (h : Holding ReaderView). h.ports) is;
 }

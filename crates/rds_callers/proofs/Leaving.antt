@@ -7,12 +7,11 @@ use Rattle.std.proofs.Math.Seq.{take-length}
 use Rattle.std.proofs.lemmas.List.Elements.{All-push}
 use Rattle.rds_fmap.specs.Readers.{ReaderView}
 use Rattle.rds_parts.specs.Lanes.{Ascend}
-use Rattle.rds_parts.specs.Ports.{HasClaimedOnly}
 use Rattle.rds_parts.specs.PlaceLaws.{there}
 use Rattle.rds_report.specs.declared.final_state.Kept.{Kept}
 use Rattle.rds_socket.specs.Holding.{Holding}
 use Rattle.rds_callers.specs.Places.{Place, Vacant, Bound, Ended, Spare, holding_of, somes}
-use Rattle.rds_callers.specs.Ends.{IsEndOf, AreEndsOf, AreLeft, IsLeft, HasLeft, HaveClaimedOnly, claimed_port, used_name, kept_name}
+use Rattle.rds_callers.specs.Ends.{IsEndOf, AreEndsOf, AreLeft, IsLeft, HasLeft, HasItsPort, HaveTheirPorts, used_name, kept_name}
 use Rattle.rds_callers.specs.States.{shown_all, AreSlots}
 use Rattle.rds_callers.specs.declared.state.State.{State}
 use Rattle.rds_callers.proofs.Seen.{count_seen}
@@ -27,7 +26,7 @@ pub record Leaves (states now : List State) (slot : ℕ) (kept : List Kept) (clo
   pub ascend : Ascend (map (λ k. k.slot) kept)
   pub below : All (λ s. s < slot) (map (λ k. k.slot) kept)
   pub each : All (IsLeft (shown_all states) closed) kept
-  pub claims : HaveClaimedOnly (shown_all states) closed
+  pub ports : HaveTheirPorts (shown_all states) closed
 
 pub leaves_none : (states : List State) → Leaves states states 0 [] []
 leaves_none states = record {
@@ -39,7 +38,7 @@ leaves_none states = record {
   ascend = tt;
   below = λ k d small. absurd (omega arith);
   each = λ k d small. absurd (omega arith);
-  claims = λ other p h stood at. absurd (let small = slice_get_within [] other h at in omega arith);
+  ports = λ other p h stood at. absurd (let small = slice_get_within [] other h at in omega arith);
 }
 
 module _ {A : Type 0} where
@@ -96,7 +95,7 @@ still_left : (places : List Place) (closed : List (Holding ReaderView)) (h : Hol
 still_left places closed h k l = (l.0, l.1, l.2, kept_place closed h l.1 k.slot l.3, l.4)
 
 pub leaves_more : (states now : List State) (slot : ℕ) (x y : State) (kept : List Kept) (closed : List (Holding ReaderView)) (h : Holding ReaderView) (o : Option Kept) → AreSlots states
-    → Leaves states now slot kept closed → (p : Place) → slice_get (shown_all states) slot ≡ Some p → IsEndOf (holding_of p) h → HasLeft p h o → HasClaimedOnly (claimed_port p) h.ports.view
+    → Leaves states now slot kept closed → (p : Place) → slice_get (shown_all states) slot ≡ Some p → IsEndOf (holding_of p) h → HasLeft p h o → HasItsPort p h
     → Leaves states (set now slot y) (slot + 1) (kept ++ option_to_list o) (closed ++ h ∷ [])
 leaves_more states now slot x y kept closed h o sound l p at end left claimed = record {
   rest = λ other z le stood. there now slot other y (λ e. absurd (omega arith)) ∙ l.rest other z (omega arith) stood;
@@ -113,11 +112,11 @@ leaves_more states now slot x y kept closed h o sound l p at end left claimed = 
   ascend = rising o left;
   below = lower o left;
   each = every o left;
-  claims = λ other q k stood found. ⊎_elim
-      (λ (t : slice_get closed other ≡ Some k). l.claims other q k stood t)
+  ports = λ other q k stood found. ⊎_elim
+      (λ (t : slice_get closed other ≡ Some k). l.ports other q k stood t)
       (λ (t : (other ≡ length closed) × (h ≡ k)).
       let same : p ≡ q = same_Some p q (sym at ∙ (ap (λ i. slice_get (shown_all states) i) (sym l.count ∙ sym t.0) ∙ stood)) in
-      subst (λ (z : Holding ReaderView). HasClaimedOnly (claimed_port q) z.ports.view) t.1 (subst (λ (z : Place). HasClaimedOnly (claimed_port z) h.ports.view) same claimed))
+      subst (λ (z : Holding ReaderView). HasItsPort q z) t.1 (subst (λ (z : Place). HasItsPort z h) same claimed))
       (split_place closed h k other found);
 }
   where

@@ -9,10 +9,11 @@ use Rattle.rds_report.specs.declared.final_state.Kept.{Kept}
 use Rattle.rds_socket.specs.Holding.{Holding}
 use Rattle.rds_callers.specs.Places.{Place, Vacant, Bound, Ended, Spare, PlaceKeeps, holding_of, somes}
 
--- the end of a slot: it is the same slot, and no order was put since
+-- the end of a slot: it is the same slot, no order was put since, and no step was made at the port table
 pub record IsEndOf (old new : Holding ReaderView) : Type 0 where
   pub keeps : PlaceKeeps old new
   pub routes : new.routes ≡ old.routes
+  pub ports : new.ports ≡ old.ports
 
 -- one end of each slot, in order
 pub record AreEndsOf (places : List Place) (closed : List (Holding ReaderView)) : Type 0 where
@@ -26,9 +27,21 @@ claimed_port (Bound o got) = Some o.port
 claimed_port (Ended port h got) = Some port
 claimed_port (Spare h) = None
 
--- the seat of each slot has claimed no port but that of its socket
-abbrev pub HaveClaimedOnly : List Place → List (Holding ReaderView) → Type 0
-HaveClaimedOnly places closed = (slot : ℕ) (p : Place) (h : Holding ReaderView) → slice_get places slot ≡ Some p → slice_get closed slot ≡ Some h → HasClaimedOnly (claimed_port p) h.ports.view
+-- the port that the socket of a slot has, where it is open
+abbrev pub open_port : Place → Option ℕ
+open_port (Vacant h) = None
+open_port (Bound o got) = Some o.port
+open_port (Ended port h got) = None
+open_port (Spare h) = None
+
+-- the seat of a slot has claimed no port but that of its socket, and it holds it still where the socket is open
+pub record HasItsPort (p : Place) (h : Holding ReaderView) : Type 0 where
+  pub claimed : HasClaimedOnly (claimed_port p) h.ports.view
+  pub holds : (port : ℕ) → open_port p ≡ Some port → h.ports.view.port ≡ Some port
+
+-- so it is of the seat of each slot
+abbrev pub HaveTheirPorts : List Place → List (Holding ReaderView) → Type 0
+HaveTheirPorts places closed = (slot : ℕ) (p : Place) (h : Holding ReaderView) → slice_get places slot ≡ Some p → slice_get closed slot ≡ Some h → HasItsPort p h
 
 -- the slot and the port of a place that had a socket
 abbrev pub used_name : Place → Option (ℕ × ℕ)

@@ -1,7 +1,7 @@
 //! What is left of a caller.
 ghost use Rattle.std.specs.Prelude.{◌≡◌, ◌++◌, IfOk, OnOk};
 ghost use Rattle.std.specs.Option.{option_to_list};
-ghost use Rattle.rds_callers.specs.Ends.{AreEndsOf, AreLeft, HaveClaimedOnly};
+ghost use Rattle.rds_callers.specs.Ends.{AreEndsOf, AreLeft, HaveTheirPorts};
 ghost use Rattle.rds_callers.specs.States.{AreSlots, shown_all};
 
 use crate::caller::Caller;
@@ -31,7 +31,7 @@ impl Caller {
     ) -> Result<(Vec<Kept>, Vec<Closed<Reader>>), Memory>
         ensures slots { IfOk result (λ r. AreEndsOf self.places r.1.items) }
         ensures kept { IfOk result (λ r. AreLeft self.places r.1.items r.0.items) }
-        ensures claims { IfOk result (λ r. HaveClaimedOnly self.places r.1.items) }
+        ensures ports { IfOk result (λ r. HaveTheirPorts self.places r.1.items) }
     {
         end_all(rt, alloc, self.into_states())
     }
@@ -42,7 +42,7 @@ fn end_all<R: Wait>(rt: &R, alloc: Global, mut states: Vec<State>) -> Result<Lef
     requires { AreSlots states.items }
     ensures slots { IfOk result (λ r. AreEndsOf (shown_all states.items) r.1.items) }
     ensures kept { IfOk result (λ r. AreLeft (shown_all states.items) r.1.items r.0.items) }
-    ensures claims { IfOk result (λ r. HaveClaimedOnly (shown_all states.items) r.1.items) }
+    ensures ports { IfOk result (λ r. HaveTheirPorts (shown_all states.items) r.1.items) }
 {
     let mut all_kept = Vec::new(alloc);
     let mut all_closed = Vec::with_capacity(alloc, states.len())?;

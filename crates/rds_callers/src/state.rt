@@ -3,11 +3,10 @@ ghost use Rattle.std.specs.Prelude.{◌≡◌, ◌<◌, ℕ, length, Some, IfOk,
 ghost use Rattle.std.specs.Option.{option_map};
 ghost use Rattle.rds_bindtab.specs.Seats.{knowing, note_of};
 ghost use Rattle.rds_parts.specs.Lanes.{IsLaneAt, Lane};
-ghost use Rattle.rds_parts.specs.Ports.{HasClaimedOnly};
 ghost use Rattle.rds_fmap.specs.Readers.{ReaderView};
 ghost use Rattle.rds_callers.specs.Places.{Place, PlaceKeeps, holding_of, told_by, bind_note, spared, IsUsed};
 ghost use Rattle.rds_callers.specs.Tenants.{Cuts};
-ghost use Rattle.rds_callers.specs.Ends.{IsEndOf, HasLeft, claimed_port};
+ghost use Rattle.rds_callers.specs.Ends.{HasItsPort, HasLeft, IsEndOf};
 ghost use Rattle.rds_callers.specs.States.{shown, is_vacant, holds_port};
 
 use crate::former::FormerTenant;
@@ -128,7 +127,7 @@ impl State {
         requires here { (p : Place) × (shown self ≡ Some p) }
         ensures ends { IfOk result (λ r. (p : Place) → shown self ≡ Some p → IsEndOf (holding_of p) r.1) }
         ensures kept { IfOk result (λ r. (p : Place) → shown self ≡ Some p → HasLeft p r.1 r.0) }
-        ensures claims { IfOk result (λ r. (p : Place) → shown self ≡ Some p → HasClaimedOnly (claimed_port p) r.1.ports.view) }
+        ensures ports { IfOk result (λ r. (p : Place) → shown self ≡ Some p → HasItsPort p r.1) }
     {
         match self {
             State::Vacant(vacant) => Ok((None, SpareSlot::new(vacant).end())),

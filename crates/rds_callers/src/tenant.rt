@@ -195,6 +195,7 @@ impl Tenant {
         ensures empty { IfOk result (λ r. AllGot r.1.inbox.get) }
         ensures ends { IfOk result (λ r. IsEndOf self.socket.own r.1) }
         ensures claimed { IfOk result (λ r. HasClaimedOnly (Some self.socket.port) r.1.ports.view) }
+        ensures holds { IfOk result (λ r. r.1.ports.view.port ≡ Some self.socket.port) }
     {
         self.receive_all(rt)?;
         let Tenant { socket, got } = self;

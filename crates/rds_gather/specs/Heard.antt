@@ -1,5 +1,5 @@
 -- What the seats at a host's port table hear of each other. Source: this project's own.
-use Rattle.std.specs.Prelude.{◌≡◌, ℕ, List, Some, All, Contains}
+use Rattle.std.specs.Prelude.{◌≡◌, ℕ, List, Option, Some, All, Contains}
 use Rattle.rds_bindtab.specs.Seats.{PortSeat}
 use Rattle.rds_bindtab.specs.declared.view.View.{View}
 use Rattle.rds_bindtab.specs.declared.view.Telling.{Telling}
@@ -25,3 +25,14 @@ pub record HasHeard (old : PortSeat) (lines : List PortSeat) (new : PortSeat) : 
 -- each port at which a look among these steps found the seat's slot was claimed by the seat
 abbrev pub HasClaimedAll : List Step → View → Type 0
 HasClaimedAll steps v = (port slot : ℕ) (told : List Telling) → v.slot ≡ Some slot → Contains steps (Looked port (Some slot) told) → HasClaimed port slot v
+
+-- each look among these steps at a port of which its seat had been told that this one holds it found the seat's slot, where the seat has
+-- released no port since
+abbrev pub HasBeenFound : List Step → View → Type 0
+HasBeenFound steps v = (port : ℕ) (found : Option ℕ) (told : List Telling) (telling : Telling) → v.slot ≡ Some telling.slot → telling.port ≡ port →
+    telling.releases ≡ v.releases → Contains steps (Looked port found told) → Contains told telling → found ≡ Some telling.slot
+
+-- what a slot's seat shows of these looks
+pub record FitsLooks (steps : List Step) (v : View) : Type 0 where
+  pub claimed : HasClaimedAll steps v
+  pub found : HasBeenFound steps v

@@ -4,7 +4,7 @@ ghost use Rattle.rds_host.specs.Passes.{AreAllPasses};
 ghost use Rattle.rds_host.specs.Ties.{AreOfHost};
 ghost use Rattle.rds_gather.specs.Cuts.{AreCutsOfSlots};
 ghost use Rattle.rds_gather.specs.Joined.{AreJoined, AreLooksOfJournals};
-ghost use Rattle.rds_gather.specs.Owned.{AreOwned};
+ghost use Rattle.rds_gather.specs.Owned.{AreFound, AreOwned};
 ghost use Rattle.rds_gather.specs.Sides.{line_side};
 
 use crate::lines::take_lines;
@@ -45,6 +45,7 @@ pub fn gather<W: Wire, R: Wait>(
     ensures joined { OnOk result (AreJoined closed.items lines.items) }
     ensures looks { OnOk result (AreLooksOfJournals closed.items lines.items) }
     ensures owned { OnOk result (AreOwned closed.items lines.items) }
+    ensures found { OnOk result (AreFound closed.items lines.items) }
     ensures cut { OnOk result (AreCutsOfSlots closed.items lines.items) }
 {
     let mut left = take_lines(rt, alloc, wire, lines)?;

@@ -1,7 +1,7 @@
-//! Which slots had claimed the ports that a host's lines looked up.
+//! Which slots had claimed the ports that a host's lines looked up, and which of them was found.
 ghost use Rattle.std.specs.Prelude.{◌≡◌, All};
 ghost use Rattle.rds_bindtab.specs.Seats.{joined, knowing, note_of_steps};
-ghost use Rattle.rds_gather.specs.Heard.{ClaimsNothing, HasClaimedAll, HasHeard};
+ghost use Rattle.rds_gather.specs.Heard.{ClaimsNothing, FitsLooks, HasHeard};
 
 use rds_bindtab::BindSeat;
 use rds_line_parts::LinePorts;
@@ -11,7 +11,7 @@ use rds_parts::Ports;
 pub(crate) fn find_owners(mut lines: Vec<LinePorts>, slots: Vec<Ports>)
     requires tables { All (λ slot. All (λ line. slot.table ≡ line.table) lines.items) slots.items }
     requires claims { All (λ line. ClaimsNothing line.view.steps) lines.items }
-    ensures { All (λ slot. All (λ line. HasClaimedAll line.view.steps slot.view) lines.items) slots.items }
+    ensures { All (λ slot. All (λ line. FitsLooks line.view.steps slot.view) lines.items) slots.items }
 {
     if slots.is_empty() {
         return;
@@ -48,7 +48,7 @@ fn hear_line(line: LinePorts, seen: &mut BindSeat)
 fn show_slots(slots: Vec<Ports>, seen: &mut BindSeat)
     requires tables { All (λ slot. slot.table ≡ seen.old.table) slots.items }
     requires claims { ClaimsNothing seen.old.view.steps }
-    ensures { All (λ slot. HasClaimedAll seen.old.view.steps slot.view) slots.items }
+    ensures { All (λ slot. FitsLooks seen.old.view.steps slot.view) slots.items }
 {
     for slot in slots {
         show_slot(slot, seen);
@@ -59,7 +59,7 @@ fn show_slots(slots: Vec<Ports>, seen: &mut BindSeat)
 fn show_slot(slot: Ports, seen: &mut BindSeat)
     requires table { slot.table ≡ seen.old.table }
     requires claims { ClaimsNothing seen.old.view.steps }
-    ensures claimed { HasClaimedAll seen.old.view.steps slot.view }
+    ensures fits { FitsLooks seen.old.view.steps slot.view }
     ensures same { seen.new ≡ seen.old }
 {
     let (table, mut seat) = slot.into_parts();

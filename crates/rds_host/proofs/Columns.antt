@@ -355,6 +355,7 @@ module _ {E : Type 0} where
     boxes = l.boxes;
     ports = l.ports ∙ first;
     words = l.words ∙ second;
+    looks = l.looks;
   }
 
   pub no_lines : (me limit : ℕ) (table meter : Table) (streams : List (List (ℕ × E))) → AreLinesOf me limit table meter [] streams []
@@ -372,8 +373,8 @@ module _ {E : Type 0} where
         let way = mapped_at (λ (w : Way). w.peer) (ways_of columns) peer place (ap (λ (l : List ℕ). slice_get l place) is ∙ at_peer) in
         let column = mapped_at (λ (c : ColumnView). c.way) columns way.0 place way.1 in
         let to : column.0.way.peer ≡ peer = ap (λ (w : Way). w.peer) column.2 ∙ way.2 in
-        (all.each place column.0 list line column.1 at_streams at_line).channel
-        ∙ ap (λ (p : ℕ). new_channel me p MAX_SLOTS limit list) to;
+        let is = all.each place column.0 list line column.1 at_streams at_line in
+        (is.channel ∙ ap (λ (p : ℕ). new_channel me p MAX_SLOTS limit list) to, is.looks);
   }
 
   module _ (me limit : ℕ) (table meter : Table) (columns : List ColumnView) (streams : List (List (ℕ × E))) (lines : List (LineView E WriterView)) (slots : ℕ) (vacants : List (Holding ReaderView))

@@ -116,6 +116,7 @@ module _ {E : Type 0} (m : Means E) where
       ports = refl;
       port_view = refl;
       looks = same_list old.ports.view.steps;
+      always = λ telling was. was;
       words = refl;
       slot = refl;
       meter_view = refl;
@@ -137,6 +138,7 @@ module _ {E : Type 0} (m : Means E) where
       ports = second.ports ∙ first.ports;
       port_view = second.port_view ∙ ap (λ (v : PortView). record v { steps = new.ports.view.steps }) first.port_view;
       looks = begins_through old.ports.view.steps middle.ports.view.steps new.ports.view.steps first.looks second.looks;
+      always = λ telling was. second.always telling (first.always telling was);
       words = second.words ∙ first.words;
       slot = second.slot ∙ first.slot;
       meter_view =

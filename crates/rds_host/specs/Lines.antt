@@ -1,5 +1,5 @@
 -- What becomes of the lines of a host. Source: this project's own.
-use Rattle.std.specs.Prelude.{◌≡◌, ℕ, List, Some, length, slice_get}
+use Rattle.std.specs.Prelude.{◌≡◌, ℕ, List, [], Some, length, slice_get}
 use Rattle.atomic_table.specs.Seated.{TableId}
 use Rattle.rds_fmap.specs.Readers.{WriterView}
 use Rattle.rds_link.specs.Ends.{Means}
@@ -13,9 +13,9 @@ abbrev pub pair_of : WriterView → TableId
 pair_of w = w.pair
 
 module _ {E M : Type 0} where
-  -- the line has this peer and these streams, and nothing was done on it
+  -- the line has this peer and these streams, nothing was done on it, and it has looked up no port
   abbrev pub IsNewLine : (me peer limit : ℕ) → List (ℕ × E) → LineView E M → Type 0
-  IsNewLine me peer limit streams line = line.channel ≡ new_channel me peer MAX_SLOTS limit streams
+  IsNewLine me peer limit streams line = (line.channel ≡ new_channel me peer MAX_SLOTS limit streams) × (line.ports.view.steps ≡ [])
 
   -- there is a new line to each peer, over the streams in the same place
   pub record AreNewLines (me limit : ℕ) (peers : List ℕ) (streams : List (List (ℕ × E))) (lines : List (LineView E M)) : Type 0 where

@@ -112,6 +112,7 @@ module _ {E : Type 0} where
     pub boxes : line.boxes ≡ column.boxes
     pub ports : line.ports.table ≡ table
     pub words : line.words.table ≡ meter
+    pub looks : line.ports.view.steps ≡ []
 
   -- one such line of each column, over the streams in the same place
   pub record AreLinesOf (me limit : ℕ) (table meter : Table) (columns : List ColumnView) (streams : List (List (ℕ × E))) (lines : List (LineView E WriterView)) : Type 0 where

@@ -63,7 +63,7 @@ callers_through a b c one two = record {
 }
 
 -- a vector whose items were lent out and came back, as many as before
-drop_end : {T : Type 0} (xs : List T) (k : ℕ) → length xs ≤ k → drop k xs ≡ []
+pub drop_end : {T : Type 0} (xs : List T) (k : ℕ) → length xs ≤ k → drop k xs ≡ []
 drop_end [] zero small = refl
 drop_end [] (suc k) small = refl
 drop_end (x ∷ xs) zero small = absurd (omega (arith, small))

@@ -7,3 +7,4 @@ pub mod Preparing
 pub mod Made
 pub mod Telling
 pub mod Jobs
+pub mod Led

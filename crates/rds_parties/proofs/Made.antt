@@ -20,7 +20,7 @@ use Rattle.rds_rounds.specs.Connection.{AreHosts, ArePaired}
 use Rattle.rds_rounds.specs.Grid.{AreRows, IsAt, OfEachPair, others, peer_at}
 use Rattle.rds_settling.specs.Tied.{AreTied}
 use Rattle.rds_parties.specs.Obeyed.{AreNewPlaces, slot_count}
-use Rattle.rds_parties.specs.Parties.{AreNewCallers, AreParties}
+use Rattle.rds_parties.specs.Parties.{AreNewCallers, AreParties, HaveNotLooked}
 use Rattle.rds_parties.specs.Preparing.{AreAllPrepared, ArePrepared}
 use Rattle.rds_parties.proofs.At.{at_snoc, length_map, map_at, some_at}
 
@@ -232,7 +232,7 @@ module _ {E : Type 0} (m : Means E) where
     -- the line at a place, and the streams over which it was made
     line_at : (host place : ℕ) (line : LineView E WriterView) → IsAt rows host place line →
         (list : StreamsOf) × IsAt streams host place list × (line.channel.streams.list ≡ list.items) × (line.channel.conn.log.limit ≡ limit)
-        × (line.channel.conn.peer ≡ address_of (peer_at host place))
+        × (line.channel.conn.peer ≡ address_of (peer_at host place)) × (line.ports.view.steps ≡ [])
     line_at host place line at =
         let lists = lists_at host (row_within host at.0 at.1) in
         let size = row_length host at.0 at.1 in
@@ -242,7 +242,10 @@ module _ {E : Type 0} (m : Means E) where
         let new = (made.lines host lists.0 at.0 lists.1 at.1).each place (address_of (peer_at host place)) list.0.items line
         (peer_there hosts host place (omega (arith, size, within)))
         (map_at (λ (l : StreamsOf). l.items) lists.0 place list.0 list.1) at.2 in
-        (list.0, (lists.0, lists.1, list.1), ap (λ c. c.streams.list) new, ap (λ c. c.conn.log.limit) new, ap (λ c. c.conn.peer) new)
+        (list.0, (lists.0, lists.1, list.1), ap (λ c. c.streams.list) new.0, ap (λ c. c.conn.log.limit) new.0, ap (λ c. c.conn.peer) new.0, new.1)
+
+    pub made_looks : HaveNotLooked rows
+    made_looks host place line at = (line_at host place line at).5
 
     pub made_hosts : hosts ≤ 8 → AreHosts m limit hosts rows
     made_hosts few = record {

@@ -1,11 +1,16 @@
 -- Private: it serves the contracts of the private functions that do the leading binds and run the callers. Source: this project's own.
-use Rattle.std.specs.Prelude.{◌≡◌, ℕ, List, Some, length, slice_get}
+use Rattle.std.specs.Prelude.{◌≡◌, ℕ, List, Some, drop, length, slice_get, take}
 use Rattle.rds_fmap.specs.Readers.{WriterView}
 use Rattle.rds_line.specs.Line.{LineView}
 use Rattle.rds_callers.specs.Places.{CallerView, PlacesKeep}
 use Rattle.rds_script.specs.declared.script.Placed.{Placed}
 use Rattle.rds_settling.specs.Tied.{ArePortsTold}
-use Rattle.rds_parties.specs.Obeyed.{HasObeyed}
+use Rattle.rds_parties.specs.Obeyed.{HasObeyed, after_binds, leading_binds}
+
+-- a script begins with so many binds, and what follows them begins with none
+pub record AreLeading (count : ℕ) (commands : List Placed) : Type 0 where
+  pub first : take count commands ≡ leading_binds commands
+  pub rest : drop count commands ≡ after_binds commands
 
 -- the callers of the same hosts, each of which has the same slots
 pub record CallersKeep (old new : List CallerView) : Type 0 where

@@ -21,6 +21,16 @@ abbrev pub HasObeyed : (host : ℕ) → List Placed → List Place → List Plac
 HasObeyed host [] first last = last ≡ first
 HasObeyed host (placed ∷ commands) first last = (middle : List Place) × DoesCommand host placed first middle × HasObeyed host commands middle last
 
+-- the binds that a script begins with
+abbrev pub leading_binds : List Placed → List Placed
+leading_binds [] = []
+leading_binds (placed ∷ commands) = if binds placed.command then placed ∷ leading_binds commands else []
+
+-- the commands after them
+abbrev pub after_binds : List Placed → List Placed
+after_binds [] = []
+after_binds (placed ∷ commands) = if binds placed.command then after_binds commands else placed ∷ commands
+
 -- The slot at this place of one of so many hosts, which no socket had: its number is its place, it has a route to each other host and no
 -- more, and it has put no order, got no datagram and sent no bytes.
 pub record IsNewSlot (hosts host place : ℕ) (p : Place) : Type 0 where

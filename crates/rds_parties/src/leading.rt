@@ -3,7 +3,7 @@ ghost use Rattle.std.specs.Prelude.{◌≡◌, ◌≤◌, ℕ, All, IfOk, OnErr,
 ghost use Rattle.rds_script.specs.Script.{IsCommand};
 ghost use Rattle.rds_rounds.specs.Grid.{EachRow, rows_of};
 ghost use Rattle.rds_parties.specs.Parties.{AreParties, HaveObeyed};
-ghost use Rattle.rds_parties.specs.Leading.{AllPortsTold, CallersKeep, SamePlaces};
+ghost use Rattle.rds_parties.specs.Leading.{AllPortsTold, AreLeading, CallersKeep, SamePlaces};
 ghost use Rattle.rds_settling.specs.Tied.{ArePortsTold, AreTied, LinesLearnPorts};
 
 use rds_callers::{Caller, host_of, is_bind};
@@ -29,6 +29,7 @@ pub(crate) fn lead<E: End, R: Wait>(
     requires commands { All (λ p. IsCommand (length callers.old.items) p.command) commands.now }
     requires parties { (hosts : ℕ) × AreParties hosts callers.old.items (rows_of lines.old.items) }
     ensures count { IfOk result (λ count. count ≤ length commands.now) }
+    ensures leading { IfOk result (λ count. AreLeading count commands.now) }
     ensures obeyed { IfOk result (λ count. HaveObeyed (take count commands.now) callers.old.items callers.new.items) }
     ensures parties { (hosts : ℕ) → AreParties hosts callers.old.items (rows_of lines.old.items) → OnOk result (AreParties hosts callers.new.items (rows_of lines.new.items)) }
     ensures told { OnOk result (AllPortsTold callers.new.items (rows_of lines.new.items)) }
@@ -74,6 +75,7 @@ fn bind_leading<R: Wait>(
 ) -> Result<usize, Memory>
     requires { All (λ p. IsCommand (length callers.old.items) p.command) commands.now }
     ensures count { IfOk result (λ count. count ≤ length commands.now) }
+    ensures leading { IfOk result (λ count. AreLeading count commands.now) }
     ensures obeyed { IfOk result (λ count. HaveObeyed (take count commands.now) callers.old.items callers.new.items) }
     ensures keeps { CallersKeep callers.old.items callers.new.items }
 {

@@ -9,7 +9,7 @@ ghost use Rattle.rds_host.specs.Lines.{AreNewLines};
 ghost use Rattle.rds_rounds.specs.Connection.{AreHosts};
 ghost use Rattle.rds_rounds.specs.Grid.{others, peer_at, rows_of};
 ghost use Rattle.rds_parties.specs.Obeyed.{AreNewPlaces, is_bind_of as is_bind_of_host, slot_count};
-ghost use Rattle.rds_parties.specs.Parties.{AreNewCallers, AreParties};
+ghost use Rattle.rds_parties.specs.Parties.{AreNewCallers, AreParties, HaveNotLooked};
 ghost use Rattle.rds_parties.specs.Preparing.{AreAllPrepared};
 ghost use Rattle.rds_settling.specs.Tied.{AreTied};
 
@@ -77,6 +77,7 @@ pub fn parties<E: End>(
     ensures parties { IfOk result (λ p. AreParties script.now.hosts p.0.items (rows_of p.1.items)) }
     ensures new { IfOk result (λ p. AreNewCallers script.now.hosts script.now.commands.items p.0.items) }
     ensures hosts { IfOk result (λ p. AreHosts E.means limit script.now.hosts (rows_of p.1.items)) }
+    ensures looks { IfOk result (λ p. HaveNotLooked (rows_of p.1.items)) }
 {
     let mut callers = Vec::new(alloc);
     let mut lines = Vec::new(alloc);

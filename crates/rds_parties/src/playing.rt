@@ -3,7 +3,7 @@ ghost use Rattle.std.specs.Prelude.{◌≡◌, ◌≤◌, ℕ, All, IfOk, OnOk, 
 ghost use Rattle.rds_callers.specs.Places.{PlacesKeep};
 ghost use Rattle.rds_parties.specs.Leading.{AreJobs, CallersKeep, HasCalled};
 ghost use Rattle.rds_parties.specs.Obeyed.{HasObeyed, DoesCommand};
-ghost use Rattle.rds_parties.specs.Parties.{AreParties, HaveObeyed};
+ghost use Rattle.rds_parties.specs.Parties.{AreParties, HaveLed, HaveNotLooked, HaveObeyed};
 ghost use Rattle.rds_script.specs.Script.{IsCommand, IsScript};
 ghost use Rattle.rds_host.specs.Lines.{AreTurned, pair_of};
 ghost use Rattle.rds_rounds.specs.Connection.{AreHosts};
@@ -160,7 +160,9 @@ pub fn play<E: End + Send, R: Threads + Wait + Sync, G: Gate + Sync>(
 ) -> (Result<Vec<Caller>, Memory>, Lines<E>)
     requires script { IsScript script.now }
     requires parties { AreParties script.now.hosts callers.items (rows_of lines.items) }
+    requires looks { HaveNotLooked (rows_of lines.items) }
     ensures obeyed { IfOk result.0 (λ after. HaveObeyed script.now.commands.items callers.items after.items) }
+    ensures led { IfOk result.0 (λ after. HaveLed script.now.commands.items callers.items after.items (rows_of result.1.items)) }
     ensures parties { IfOk result.0 (λ after. AreParties script.now.hosts after.items (rows_of result.1.items)) }
     ensures hosts { (limit hosts : ℕ) → AreHosts E.means limit hosts (rows_of lines.items) → AreHosts E.means limit hosts (rows_of result.1.items) }
 {

@@ -7,7 +7,7 @@ use Rattle.rds_script.specs.Grammar.{Meaning}
 use Rattle.rds_text.specs.Lines.{spent_line}
 use Rattle.rds_report.specs.FinalState.{FinalHost}
 use Rattle.rds_rounds.specs.Sound.{AreSoundJournals}
-use Rattle.rds_threads.specs.Ends.{AreDrainedHosts, AreEnds}
+use Rattle.rds_threads.specs.Ends.{AreDrainedHosts, AreEnds, NonePending}
 use Rattle.rds_threads.specs.Texts.{fault_line, text_of, unfinished_line}
 use Rattle.rds_threads.specs.declared.form.Form.{Form}
 use Rattle.rds_threads.specs.declared.form.Form.TheVariants as form
@@ -27,11 +27,12 @@ tells_over wire.Memory tcp = true
 tells_over wire.Tcp tcp = tcp
 
 -- A run of the script came to its end: its hosts did the script's commands, what they have then is sound, and the sink took exactly the
--- text of this form on it. Where ends tell their bytes, nothing is left on its way between any two of the hosts.
+-- text of this form on it. Where ends tell their bytes, nothing is left on its way between any two of the hosts, and no datagram is pending.
 pub record IsRan (tells : Bool) (form : Form) (s : Meaning) (held_before held_after : Option (List ℕ)) : Type 0 where
   pub ends : List FinalHost
   pub did : AreEnds tells s.hosts s.commands ends
   pub drained : tells ≡ true → AreDrainedHosts ends
+  pub none_pending : tells ≡ true → NonePending ends
   pub written : SinkGained held_before held_after (text_of form ends)
 
 -- a run filled the journal of a host with a peer: both journals are sound, and the sink took the line that says so

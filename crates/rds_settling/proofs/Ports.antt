@@ -2,6 +2,7 @@
 use Rattle.std.proofs.Common.{◌≡◌, inl, inr, ℕ, ◌+◌, ◌<◌, List, [], ◌∷◌, Some, None, length, slice_get, slice_set, refl, sym, ap, subst, ◌∙◌, arith}
 use Rattle.std.proofs.lemmas.Option.{same_Some}
 use Rattle.std.proofs.lemmas.Bool.{cases_eq}
+use Rattle.std.proofs.lemmas.List.{append-nil}
 use Rattle.rds_bindtab.specs.Seats.{PortSeat, joined, knowing, note_of, telling_of}
 use Rattle.rds_model.specs.declared.order.Datagram.{Datagram}
 use Rattle.rds_mail.specs.Passes.{Putter}
@@ -45,16 +46,16 @@ module _ {E : Type 0} where
   none_told_of places line slot o got below at = absurd (omega (arith, below))
 
   pub learns_none : (line : LineView E WriterView) → LineLearnsPorts line line
-  learns_none line = (refl, refl)
+  learns_none line = (refl, refl, refl)
 
   pub learns_through : (a b c : LineView E WriterView) → LineLearnsPorts a b → LineLearnsPorts b c → LineLearnsPorts a c
-  learns_through a b c one two = (two.0 ∙ ap (λ (l : LineView E WriterView). record l { ports = c.ports }) one.0, two.1 ∙ one.1)
+  learns_through a b c one two = (two.0 ∙ ap (λ (l : LineView E WriterView). record l { ports = c.ports }) one.0, two.1 ∙ one.1, two.2 ∙ one.2)
 
   learns_port : (p : Place) (line : LineView E WriterView) → LineLearnsPorts line (after_port p line)
-  learns_port (Vacant h) line = (refl, refl)
-  learns_port (Bound o got) line = (refl, refl)
-  learns_port (Ended port h got) line = (refl, refl)
-  learns_port (Spare h) line = (refl, refl)
+  learns_port (Vacant h) line = (refl, refl, refl)
+  learns_port (Bound o got) line = (refl, refl, append-nil line.ports.view.steps)
+  learns_port (Ended port h got) line = (refl, refl, refl)
+  learns_port (Spare h) line = (refl, refl, refl)
 
   pub learns_next : (p : Place) (first line : LineView E WriterView) → LineLearnsPorts first line → LineLearnsPorts first (after_port p line)
   learns_next p first line learns = learns_through first line (after_port p line) learns (learns_port p line)

@@ -53,9 +53,9 @@ module _ {E : Type 0} where
   abbrev pub AreSlotsTold : List (Holding ReaderView) → List (LineView E WriterView) → Type 0
   AreSlotsTold slots lines = (slot : ℕ) (h : Holding ReaderView) → slice_get slots slot ≡ Some h → AreBoxesTold h lines
 
-  -- nothing changed of a line but what its seat at the port table knows
+  -- nothing changed of a line but what its seat at the port table was told; the seat made no step
   abbrev pub LineLearnsPorts : LineView E WriterView → LineView E WriterView → Type 0
-  LineLearnsPorts old new = (new ≡ record old { ports = new.ports }) × (new.ports.table ≡ old.ports.table)
+  LineLearnsPorts old new = (new ≡ record old { ports = new.ports }) × (new.ports.table ≡ old.ports.table) × (new.ports.view.steps ≡ old.ports.view.steps)
 
   pub record LinesLearnPorts (old new : List (LineView E WriterView)) : Type 0 where
     pub count : length new ≡ length old

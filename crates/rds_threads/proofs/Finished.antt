@@ -4,16 +4,18 @@ use Rattle.rds_mail.specs.declared.view.Account.{Account}
 use Rattle.rds_model.specs.declared.order.Order.{Order}
 use Rattle.rds_fmap.specs.Readers.{ReaderView, WriterView}
 use Rattle.rds_socket.specs.Holding.{Holding}
+use Rattle.rds_bindtab.specs.Seats.{telling_of}
 use Rattle.rds_line.specs.Line.{LineView}
+use Rattle.rds_line.specs.Seats.{WasAlwaysTold}
 use Rattle.rds_host.specs.Keeping.{LinesKeep}
 use Rattle.rds_host.specs.Telling.{IsTold}
 use Rattle.rds_callers.specs.Places.{CallerView, IsUsed, Place, spared}
 use Rattle.rds_script.specs.declared.script.Placed.{Placed}
-use Rattle.rds_parties.specs.Parties.{AreNewCallers, HaveDone, HaveObeyed}
+use Rattle.rds_parties.specs.Parties.{AreNewCallers, HasLed, HaveLed, HaveObeyed}
 use Rattle.rds_rounds.specs.Grid.{AreRows, EachRow}
 use Rattle.rds_rounds.specs.Quiet.{AreQuiet, LinesGoOn}
-use Rattle.rds_settling.specs.Tied.{AreLinesTold, AreTied, holdings}
-use Rattle.rds_threads.specs.Settled.{AreToldBelow, HasSettled, HaveDoneSpared, HaveSettled}
+use Rattle.rds_settling.specs.Tied.{AreLinesTold, AreTied, LinesHear, holdings}
+use Rattle.rds_threads.specs.Settled.{AreToldBelow, HasSettled, HaveDoneLed, HaveDoneSpared, HaveSettled}
 use Rattle.rds_threads.proofs.At.{all_at, one_at, stood_at}
 use Rattle.rds_threads.proofs.Keeping.{told_at}
 use Rattle.rds_threads.proofs.Rows.{row_length}
@@ -68,25 +70,45 @@ module _ {E : Type 0} where
             (all_at AreQuiet after host row quiet at_row));
       }
 
--- the callers did their commands, and then gave up the slots that no socket had
-pub done_spared : {E : Type 0} (hosts : ℕ) (commands : List Placed) (old new : List CallerView) (rows told : List (List (LineView E WriterView))) →
-    length old ≡ length rows → AreToldBelow (length old) old new rows told → HaveDone hosts commands old → HaveDoneSpared hosts commands new
-done_spared hosts commands old new rows told same all did host later at =
-    let caller = stood_at old new host later all.caller_count at in
-    let row = stood_at rows old host caller.0 same caller.1 in
-    let heard = stood_at told rows host row.0 (sym all.row_count) row.1 in
-    let is = told_at old new rows told same all host row.0 heard.0 row.1 heard.1 in
-    let later_is : is.1 ≡ later = one_at new host is.1 later is.3 at in
-    record {
-      last = is.0.places;
-      done = did host is.0 is.2;
-      left = subst (λ (c : CallerView). c.places ≡ map spared is.0.places) later_is is.4.places;
-    }
+module _ {E : Type 0} where
+  -- what lines were always told they were told still, once they heard of orders and went on
+  led_later : {host : ℕ} {commands : List Placed} {first last : List Place} {lines heard after : List (LineView E WriterView)} →
+      HasLed host commands first last lines → LinesHear lines heard → LinesGoOn heard after → HasLed host commands first last after
+  led_later {host} {commands} {first} {last} {lines} {heard} {after} led hear goes = record {
+    led = led.led;
+    began = led.began;
+    rest = led.rest;
+    told = λ slot place o got line at_o at_line.
+        let told = stood_at heard after place line goes.count at_line in
+        let was = stood_at lines heard place told.0 hear.count told.1 in
+        let telling = telling_of o.own.ports.view in
+        (goes.each place told.0 line told.1 at_line).always telling
+        (subst (λ (l : LineView E WriterView). WasAlwaysTold telling l.ports.view) (sym (hear.each place was.0 told.0 was.1 told.1))
+        (led.told slot place o got was.0 at_o was.1));
+  }
 
--- from new slots they did them
-pub all_done : (hosts : ℕ) (commands : List Placed) (new after : List CallerView) → AreNewCallers hosts commands new → HaveObeyed commands new after →
-    HaveDone hosts commands after
-all_done hosts commands new after are obeyed host caller at =
-    let was = stood_at new after host caller obeyed.count at in
-    let is = are host was.0 was.1 in
-    record { first = was.0.places; count = is.0; new = is.1; obeyed = obeyed.each host was.0 caller was.1 at }
+  -- the callers did their commands, and then gave up the slots that no socket had
+  pub done_spared : (hosts : ℕ) (commands : List Placed) (old new : List CallerView) (rows told after : List (List (LineView E WriterView))) →
+      length old ≡ length rows → AreToldBelow (length old) old new rows told → EachRow LinesGoOn told after → HaveDoneLed hosts commands old rows →
+      HaveDoneSpared hosts commands new after
+  done_spared hosts commands old new rows told after same all goes did host later row at at_row =
+      let heard = stood_at told after host row goes.count at_row in
+      let was = stood_at rows told host heard.0 all.row_count heard.1 in
+      let is = told_at old new rows told same all host was.0 heard.0 was.1 heard.1 in
+      let later_is : is.1 ≡ later = one_at new host is.1 later is.3 at in
+      let it = did host is.0 was.0 is.2 was.1 in
+      record {
+        last = is.0.places;
+        did = record { done = it.done; led = led_later it.led is.4.hear (goes.each host heard.0 row heard.1 at_row) };
+        left = subst (λ (c : CallerView). c.places ≡ map spared is.0.places) later_is is.4.places;
+      }
+
+  -- from new slots they did them
+  pub all_done : (hosts : ℕ) (commands : List Placed) (new after : List CallerView) (rows : List (List (LineView E WriterView))) → AreNewCallers hosts commands new →
+      HaveObeyed commands new after → HaveLed commands new after rows → HaveDoneLed hosts commands after rows
+  all_done hosts commands new after rows are obeyed led host caller row at at_row =
+      let was = stood_at new after host caller obeyed.count at in
+      let is = are host was.0 was.1 in record {
+        done = record { first = was.0.places; count = is.0; new = is.1; obeyed = obeyed.each host was.0 caller was.1 at };
+        led = led host was.0 caller row was.1 at at_row;
+      }

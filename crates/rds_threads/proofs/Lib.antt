@@ -14,3 +14,6 @@ pub mod Finished
 pub mod Spent
 pub mod Left
 pub mod Partners
+pub mod Pending
+pub mod NonePending
+pub mod KeptPorts

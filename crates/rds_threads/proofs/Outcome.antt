@@ -1,7 +1,6 @@
 -- What a host that has ended did of a script's commands.
-use Rattle.std.proofs.Common.{◌≡◌, ◌<◌, ◌≤◌, ℕ, suc, arith, List, [], ◌∷◌, Some, Option, length, map, option_map, slice_get, Result, Ok, Err, IfOk, OnOk, Vec, refl, sym, ap, subst, ◌∙◌}
+use Rattle.std.proofs.Common.{◌≡◌, ◌<◌, ◌≤◌, ℕ, suc, arith, List, [], ◌∷◌, Some, Option, map, option_map, slice_get, Result, Ok, Err, IfOk, OnOk, Vec, refl, sym, ap, subst, ◌∙◌}
 use Rattle.std.specs.Global.{Global}
-use Rattle.std.proofs.lemmas.List.{length-map}
 use Rattle.std.proofs.lemmas.List.Elements.{All-map, All-weaker}
 use Rattle.std.proofs.lemmas.Option.{slice_get-map}
 use Rattle.rds_fmap.specs.Readers.{ReaderView, WriterView}
@@ -13,7 +12,11 @@ use Rattle.rds_report.specs.declared.final_state.Kept.{Kept}
 use Rattle.rds_wire.specs.declared.memory.Memory.{Memory}
 use Rattle.rds_script.specs.declared.script.Placed.{Placed}
 use Rattle.rds_socket.specs.Holding.{Holding}
+use Rattle.rds_bindtab.specs.Seats.{PortSeat, telling_of}
 use Rattle.rds_line.specs.Line.{LineView}
+use Rattle.rds_line.specs.Seats.{WasAlwaysTold}
+use Rattle.rds_parties.specs.Obeyed.{after_binds}
+use Rattle.rds_parties.specs.Parties.{HasLed}
 use Rattle.rds_report.specs.Hosts.{address_of}
 use Rattle.rds_rounds.specs.Grid.{peer_at}
 use Rattle.rds_gather.specs.Cuts.{AreCutsDone, AreCutsOfSlots}
@@ -24,13 +27,14 @@ use Rattle.rds_gather.specs.Shown.{HasLookedAt}
 use Rattle.rds_model.specs.Sums.{maps}
 use Rattle.rds_callers.specs.Ends.{AreEndsOf, AreLeft, IsLeft, UnreadFits, kept_name, used_name}
 use Rattle.rds_callers.specs.Places.{Bound, Ended, Place, Spare, Vacant, holding_of, somes, spared, with_holding}
-use Rattle.rds_threads.specs.Outcome.{HandedOutAt, IsOutcome, cuts_to, socket_name}
+use Rattle.rds_threads.specs.Outcome.{HandedOutAt, IsAlwaysFound, IsOutcome, cuts_to, socket_name}
 use Rattle.rds_threads.specs.Reliable.{AllWentToSockets}
 use Rattle.rds_rounds.specs.Quiet.{AreQuiet}
-use Rattle.rds_threads.specs.Settled.{AreAllCut, AreAllSent, AreKeptOf, HasDoneSpared, HaveAllGone, HaveAllLooked}
+use Rattle.rds_threads.specs.Settled.{AreAllCut, AreAllSent, AreKeptOf, HasDoneSpared, HaveAllFound, HaveAllGone, HaveAllLooked}
 use Rattle.rds_settling.specs.Tied.{AreLinesTold, PlacesHear, holdings}
 use Rattle.rds_threads.proofs.At.{all_from, at_map, held_at, spared_holds, stood_at}
 use Rattle.rds_threads.proofs.Cutting.{cuts_of_done, fewer_done}
+use Rattle.rds_threads.proofs.KeptPorts.{seat_kept}
 
 -- the names of slots stay where they are given up
 name_spared : (p : Place) → used_name (spared p) ≡ used_name p
@@ -147,12 +151,12 @@ hands_spared (Spare h) s is = absurd is
 module _ {E : Type 0} where
   pub outcome_of : (hosts host : ℕ) (commands : List Placed) (places : List Place) (lines : List (LineView E WriterView)) (kept : List Kept) →
       ((place : ℕ) (line : LineView E WriterView) → slice_get lines place ≡ Some line → (line.channel.conn.peer ≡ address_of (peer_at host place)) × (suc place < hosts)) →
-      HasDoneSpared hosts host commands places → AreAllSent places lines → HaveAllLooked places lines → AreAllCut places lines → HaveAllGone places lines (map socket_view kept) →
+      HasDoneSpared hosts host commands places lines → AreAllSent places lines → HaveAllLooked places lines → AreAllCut places lines → HaveAllGone lines (map socket_view kept) → HaveAllFound places lines →
       AreKeptOf places kept →
       IsOutcome hosts host commands (map line_side lines) (map socket_view kept)
-  outcome_of hosts host commands places lines kept peers did sent looked cut gone of_kept = record {
+  outcome_of hosts host commands places lines kept peers did sent looked cut gone found of_kept = record {
     last = did.last;
-    done = did.done;
+    done = did.did.done;
     sent = λ slot place p lane side at at_lane at_side.
         let line = at_map line_side lines place side at_side in
         ap (λ (s : FinalJournal). orders_of slot s.past) line.2
@@ -167,24 +171,38 @@ module _ {E : Type 0} where
         (λ place side at_side.
         let line = at_map line_side lines place side at_side in
         let to = peers place line.0 line.1 in
-        let way = cuts_of_done hosts host place commands did.last did.done to.1 in
+        let way = cuts_of_done hosts host place commands did.last did.did.done to.1 in
         let done = cut way.slot place (spared way.p) way.cut.lane line.0 (here way.slot way.p way.at)
         (subst (λ (h : Holding ReaderView). IsLaneAt h.routes place way.cut.lane) (sym (spared_holds way.p)) way.cut.at) line.1 in
         subst (λ (s : FinalJournal). AreCutsDone (cuts_to host s.peer commands) s.past) (sym line.2)
         (fewer_done (cuts_to host line.0.channel.conn.peer commands) (cuts_among way.cut.lane.pass.put) line.0.channel.conn.log.past
         (subst (λ (peer : ℕ). cuts_to host peer commands ≤ cuts_among way.cut.lane.pass.put) (sym to.0) way.cut.cuts) done));
-    gone = all_from (AllWentToSockets (length did.last) (map socket_view kept)) (map line_side lines)
+    gone = all_from (AllWentToSockets (map socket_view kept)) (map line_side lines)
         (λ place side at_side.
         let line = at_map line_side lines place side at_side in
-        let count : length places ≡ length did.last = ap length did.left ∙ length-map did.last spared in
-        subst (λ (s : FinalJournal). AllWentToSockets (length did.last) (map socket_view kept) s) (sym line.2)
-        (subst (λ (n : ℕ). AllWentToSockets n (map socket_view kept) (line_side line.0)) count (gone place line.0 line.1)));
+        subst (λ (s : FinalJournal). AllWentToSockets (map socket_view kept) s) (sym line.2) (gone place line.0 line.1));
+    found = record {
+      led = led.led;
+      began = led.began;
+      rest = led.rest;
+      found = λ slot o q got more at_o at_q.
+          let seat = seat_kept host (after_binds commands) led.led did.last led.rest slot o q got more at_o at_q in
+          all_from (IsAlwaysFound o.port) (map line_side lines)
+          (λ place side at_side.
+          let line = at_map line_side lines place side at_side in
+          let always = subst (λ (s : PortSeat). WasAlwaysTold (telling_of s.view) line.0.ports.view) (sym seat.0) (led.told slot place o got line.0 at_o line.1) in
+          subst (λ (s : FinalJournal). IsAlwaysFound o.port s) (sym line.2)
+          (subst (λ (p : ℕ). IsAlwaysFound p (line_side line.0)) seat.1 (found slot place q more line.0 (here slot (Bound q more) at_q) line.1 always)));
+    };
     names = names_of kept ∙ (of_kept.names ∙ (ap (λ (l : List Place). somes (map used_name l)) did.left ∙ names_spared did.last));
     handed = All-map (λ (s : FinalSocket). (p : Place) × (slice_get did.last s.slot ≡ Some p) × HandedOutAt p s) socket_view kept
         (All-weaker (λ (k : Kept). (p : Place) × (slice_get places k.slot ≡ Some p) × HandedOutAt p (socket_view k))
         (λ (k : Kept). (p : Place) × (slice_get did.last k.slot ≡ Some p) × HandedOutAt p (socket_view k)) back kept of_kept.handed);
   }
     where
+      led : HasLed host commands did.did.done.first did.last lines
+      led = did.did.led
+
       here : (slot : ℕ) (p : Place) → slice_get did.last slot ≡ Some p → slice_get places slot ≡ Some (spared p)
       here slot p at =
           subst (λ (l : List Place). slice_get l slot ≡ Some (spared p)) (sym did.left) (slice_get-map spared did.last slot ∙ ap (option_map spared) at)

@@ -1,7 +1,9 @@
 -- What was delivered to a slot went to a socket that had its port.
-use Rattle.std.proofs.Common.{◌≡◌, ℕ, zero, suc, List, [], ◌∷◌, Option, Some, None, length, map, option_map, slice_get, Result, Ok, Err, IfOk, OnOk, Vec, sym, ap, subst, ◌∙◌, arith}
+use Rattle.std.proofs.Common.{◌≡◌, ℕ, zero, suc, List, [], ◌∷◌, Option, Some, None, length, map, option_map, slice_get, Result, Ok, Err, IfOk, OnOk, Vec, refl, sym, ap, subst, ◌∙◌}
 use Rattle.std.specs.Global.{Global}
 use Rattle.std.proofs.lemmas.Option.{same_Some, slice_get-map}
+use Rattle.std.specs.Prelude.{unwrap_or}
+use Rattle.rds_bindtab.specs.Seats.{PortSeat, telling_of}
 use Rattle.rds_fmap.specs.Readers.{ReaderView, WriterView}
 use Rattle.rds_report.specs.Views.{socket_view}
 use Rattle.rds_report.specs.declared.final_state.HostEnd.{HostEnd}
@@ -9,13 +11,14 @@ use Rattle.rds_report.specs.declared.final_state.Kept.{Kept}
 use Rattle.rds_wire.specs.declared.memory.Memory.{Memory}
 use Rattle.rds_socket.specs.Holding.{Holding}
 use Rattle.rds_line.specs.Line.{LineView}
+use Rattle.rds_line.specs.Seats.{WasAlwaysTold}
 use Rattle.rds_host.specs.Slots.{AreInPlace}
-use Rattle.rds_gather.specs.Owned.{AreOwned}
-use Rattle.rds_callers.specs.Ends.{HaveClaimedOnly, claimed_port, kept_name, used_name}
-use Rattle.rds_callers.specs.Places.{Bound, Ended, Place, Spare, Vacant, holding_of, somes}
+use Rattle.rds_gather.specs.Owned.{AreFound, AreOwned}
+use Rattle.rds_callers.specs.Ends.{AreEndsOf, HasItsPort, HaveTheirPorts, claimed_port, kept_name, used_name}
+use Rattle.rds_callers.specs.Places.{Bound, Ended, Place, Spare, Vacant, holding_of, somes, with_holding}
 use Rattle.rds_settling.specs.Tied.{PlacesHear, holdings}
-use Rattle.rds_threads.specs.Settled.{HaveAllGone}
-use Rattle.rds_threads.proofs.At.{at_map, held_at, some_at, stood_at}
+use Rattle.rds_threads.specs.Settled.{HaveAllFound, HaveAllGone}
+use Rattle.rds_threads.proofs.At.{at_map, held_at, stood_at}
 
 name_first : (name : Option (ℕ × ℕ)) (rest : List (Option (ℕ × ℕ))) (n : ℕ × ℕ) → name ≡ Some n → slice_get (somes (name ∷ rest)) 0 ≡ Some n
 name_first None rest n is = absurd (cc)
@@ -41,14 +44,13 @@ name_of (Ended q h got) port is = ap (λ (x : Option ℕ). option_map (λ (n : �
 name_of (Spare h) port is = absurd (cc)
 
 module _ {E : Type 0} where
-  pub went_to_sockets : (places told : List Place) (closed : List (Holding ReaderView)) (lines : List (LineView E WriterView)) (kept : List Kept) →
-      PlacesHear places told → AreInPlace (holdings told) → length closed ≡ length told → AreOwned closed lines → HaveClaimedOnly told closed →
-      map kept_name kept ≡ somes (map used_name told) → HaveAllGone places lines (map socket_view kept)
-  went_to_sockets places told closed lines kept hear numbered count owned claims names place line at stream slot f within read =
-      let same = hear.count in
-      let p = some_at told slot (omega (arith, within, same)) in
-      let h = stood_at closed told slot p.0 (sym count) p.1 in
-      let port = claims slot p.0 h.0 p.1 h.1 f.header.dport slot (owned place line at stream slot f read h.0 h.1) in
+  pub went_to_sockets : (told : List Place) (closed : List (Holding ReaderView)) (lines : List (LineView E WriterView)) (kept : List Kept) →
+      AreInPlace (holdings told) → length closed ≡ length told → AreOwned closed lines → HaveTheirPorts told closed →
+      map kept_name kept ≡ somes (map used_name told) → HaveAllGone lines (map socket_view kept)
+  went_to_sockets told closed lines kept numbered count owned claims names place line at stream slot f read =
+      let h = owned place line at stream slot f read in
+      let p = stood_at told closed slot h.0 count h.1 in
+      let port = (claims slot p.0 h.0 p.1 h.1).claimed f.header.dport slot h.2 in
       let number = numbered slot (holding_of p.0) (held_at told slot p.0 p.1) in
       let name : ℕ × ℕ = ((holding_of p.0).words.slot, f.header.dport) in
       let found = named_at told slot p.0 name p.1 (name_of p.0 f.header.dport port) in
@@ -59,6 +61,19 @@ module _ {E : Type 0} where
         ap (λ (n : ℕ × ℕ). n.0) (sym k.2) ∙ number,
         ap (λ (n : ℕ × ℕ). n.1) (sym k.2),
       )
+
+  -- and a port that an open socket holds was found by the lines that were always told of it
+  pub found_sockets : (places told : List Place) (closed : List (Holding ReaderView)) (lines : List (LineView E WriterView)) → PlacesHear places told →
+      AreEndsOf told closed → HaveTheirPorts told closed → AreFound closed lines → HaveAllFound places lines
+  found_sockets places told closed lines hear ends ports found slot place o got line at at_line always stream f missed to =
+      let q = stood_at told places slot (Bound o got) (sym hear.count) at in
+      let heard = hear.each slot (Bound o got) q.0 at q.1 in
+      let h = stood_at closed told slot q.0 (sym ends.count) q.1 in
+      let has : HasItsPort (with_holding (Bound o got) (holding_of q.0)) h.0 = subst (λ (x : Place). HasItsPort x h.0) heard.0 (ports slot q.0 h.0 q.1 h.1) in
+      let holds : h.0.ports.view.port ≡ Some o.port = has.holds o.port refl in
+      let same : h.0.ports ≡ o.own.ports = (ends.each slot q.0 h.0 q.1 h.1).ports ∙ ap (λ (x : Holding ReaderView). x.ports) heard.1 in
+      found place slot line h.0 at_line h.1 (subst (λ (s : PortSeat). WasAlwaysTold (telling_of s.view) line.ports.view) (sym same) always) stream f missed
+      (to ∙ sym (ap (λ (p : Option ℕ). unwrap_or p 0) holds))
 
 -- what is known of a host end by what was kept and by what was joined
 pub on_kept_joined : (r : Result HostEnd Memory) (kept : Vec Kept Global) (J : Type 0) (P : List Kept → Type 0) → OnOk r J → (J → P kept.items) →

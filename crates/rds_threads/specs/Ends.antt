@@ -5,6 +5,7 @@ use Rattle.rds_model.specs.declared.entry.Entry.{Entry}
 use Rattle.rds_model.specs.Honest.{IsHonest}
 use Rattle.rds_report.specs.FinalState.{FinalHost, FinalJournal}
 use Rattle.rds_report.specs.Hosts.{address_of}
+use Rattle.rds_report.specs.Report.{Group, counts, groups, pending}
 use Rattle.rds_report.specs.Views.{host_views}
 use Rattle.rds_text.specs.Lines.{spent_line}
 use Rattle.rds_script.specs.declared.script.Placed.{Placed}
@@ -48,6 +49,15 @@ pub record AreEnds (tells : Bool) (hosts : ℕ) (commands : List Placed) (ends :
 abbrev pub AreDrainedHosts : List FinalHost → Type 0
 AreDrainedHosts ends = OfEachJournals (λ low high. AreDrained) ends
 
+-- No datagram is pending: for each port pair of the report as many were received, are unread, found no socket, were taken by port 0 or
+-- were taken back as were accepted.
+abbrev pub NonePending : List FinalHost → Type 0
+NonePending ends = All (λ (g : Group). pending (counts ends g) ≡ 0) (groups ends)
+
+-- between any two hosts nothing is left to do, and no datagram is pending
+abbrev pub AreSettledHosts : List FinalHost → Type 0
+AreSettledHosts ends = AreDrainedHosts ends × NonePending ends
+
 -- what a run does to its sink: the bytes that it holds, where it tells them, and how often it has failed
 pub record Written : Type 0 where
   pub held_before : Option (List ℕ)
@@ -64,7 +74,7 @@ Writes sink text end result =
 -- what a run that came to this end has to write: the text of its form on what its hosts have in the end, which is sound, or its line
 abbrev pub HasToWrite : (form : Form) (tells : Bool) (limit hosts : ℕ) (commands : List Placed) → RunEnd → List ℕ → Type 0
 HasToWrite form tells limit hosts commands (ended.Ok ends) text =
-    AreEnds tells hosts commands (host_views ends.items) × (tells ≡ true → AreDrainedHosts (host_views ends.items)) × (text ≡ text_of form (host_views ends.items))
+    AreEnds tells hosts commands (host_views ends.items) × (tells ≡ true → AreSettledHosts (host_views ends.items)) × (text ≡ text_of form (host_views ends.items))
 HasToWrite form tells limit hosts commands (ended.WireFault low high stream) text = text ≡ fault_line low high stream
 HasToWrite form tells limit hosts commands (ended.Spent host peer entries own other) text =
     (length own.past ≡ entries) × (limit < entries + 2) × AreSoundJournals tells own.past other.past × (text ≡ spent_line host peer entries)
@@ -77,7 +87,7 @@ HasToWrite form tells limit hosts commands ended.Memory text = ⊥
 -- took a beginning of what was to be written; or memory ran out, and nothing was written.
 abbrev pub IsEndOfRun : (form : Form) (tells : Bool) (limit hosts : ℕ) (commands : List Placed) → Written → RunEnd → Type 0
 IsEndOfRun form tells limit hosts commands sink (ended.Ok ends) =
-    AreEnds tells hosts commands (host_views ends.items) × (tells ≡ true → AreDrainedHosts (host_views ends.items))
+    AreEnds tells hosts commands (host_views ends.items) × (tells ≡ true → AreSettledHosts (host_views ends.items))
     × SinkGained sink.held_before sink.held_after (text_of form (host_views ends.items))
 IsEndOfRun form tells limit hosts commands sink (ended.WireFault low high stream) =
     SinkGained sink.held_before sink.held_after (fault_line low high stream)

@@ -1,5 +1,9 @@
 -- What came of what the callers of a run did. Source: this project's own.
-use Rattle.std.specs.Prelude.{◌≡◌, ℕ, ◌==◌, ◌&&◌, Bool, false, List, [], All, Some, filter, length, map, slice_get}
+use Rattle.std.specs.Prelude.{◌≡◌, ◌≢◌, ℕ, ◌==◌, ◌&&◌, Bool, false, List, [], All, Contains, Some, filter, length, map, slice_get}
+use Rattle.rds_wire.specs.declared.frame.Frame.{Frame}
+use Rattle.rds_model.specs.declared.entry.Entry.TheVariants.{Read}
+use Rattle.rds_model.specs.declared.entry.Outcome.TheVariants as outcome
+use Rattle.rds_model.specs.declared.order.Datagram.{Datagram}
 use Rattle.rds_fmap.specs.Readers.{ReaderView}
 use Rattle.rds_parts.specs.Lanes.{IsLaneAt, Lane}
 use Rattle.rds_report.specs.FinalState.{FinalJournal, FinalSocket}
@@ -12,9 +16,10 @@ use Rattle.rds_gather.specs.Cuts.{AreCutsDone}
 use Rattle.rds_gather.specs.Joined.{orders_of}
 use Rattle.rds_gather.specs.Shown.{HasLookedAt}
 use Rattle.rds_model.specs.Sums.{maps}
+use Rattle.rds_socket.specs.Holding.{Open}
 use Rattle.rds_callers.specs.Ends.{used_name}
 use Rattle.rds_callers.specs.Places.{Bound, Ended, Place, Spare, Vacant, holding_of, somes}
-use Rattle.rds_parties.specs.Obeyed.{HasDone}
+use Rattle.rds_parties.specs.Obeyed.{HasDone, HasObeyed, after_binds, leading_binds}
 use Rattle.rds_threads.specs.Reliable.{AllWentToSockets}
 
 -- A socket that was open when its host's commands were done handed out all that it got. One that was closed before had handed out what its
@@ -38,12 +43,26 @@ is_cut_to host peer _ = false
 abbrev pub cuts_to : (host peer : ℕ) → List Placed → ℕ
 cuts_to host peer commands = length (filter (λ (placed : Placed). is_cut_to host peer placed.command) commands)
 
+-- no datagram that was sent to the port reached the host, by this journal, when no socket had the port
+abbrev pub IsAlwaysFound : (port : ℕ) → FinalJournal → Type 0
+IsAlwaysFound port side = (stream : ℕ) (f : Frame) → Contains side.past (Read stream f outcome.NoSocket) → f.header.dport ≢ port
+
+-- The caller of a host did the binds that a script begins with, and then its other commands. The port of each socket that was bound by then and
+-- is open in the end was always found.
+pub record AreLeadingFound (host : ℕ) (commands : List Placed) (first last : List Place) (sides : List FinalJournal) : Type 0 where
+  pub led : List Place
+  pub began : HasObeyed host (leading_binds commands) first led
+  pub rest : HasObeyed host (after_binds commands) led last
+  pub found : (slot : ℕ) (o q : Open ReaderView) (got more : List Datagram) → slice_get led slot ≡ Some (Bound o got) → slice_get last slot ≡ Some (Bound q more) →
+      All (IsAlwaysFound o.port) sides
+
 -- What one of so many hosts, with these journals and these sockets, comes to did the script's commands: from slots that were new its caller
 -- did exactly its own commands. In the journal with each other host stand, for each slot, exactly the orders that its socket put on the route
 -- to that host, in order and each once. Each look of a socket at a peer's congestion map found what the map of its version has, among those
 -- that the journal with that peer read. Where a stream to a peer is open in the end, at least as many were shut as the commands have the host
--- cut. There is one socket of each slot that was bound, in order, with its port. Each datagram that a journal delivered to a slot of the host
--- went to the socket of that slot, which had its port.
+-- cut. There is one socket of each slot that was bound, in order, with its port. Each datagram that a journal delivered went to one of these
+-- sockets, that of the slot that it was delivered to, which had its port. No datagram found the port without a socket of one that a bind at
+-- the beginning of the script took, and that is open in the end.
 pub record IsOutcome (hosts host : ℕ) (commands : List Placed) (sides : List FinalJournal) (sockets : List FinalSocket) : Type 0 where
   pub last : List Place
   pub done : HasDone hosts host commands last
@@ -52,6 +71,7 @@ pub record IsOutcome (hosts host : ℕ) (commands : List Placed) (sides : List F
   pub looked : (slot place : ℕ) (p : Place) (lane : Lane ReaderView) (side : FinalJournal) → slice_get last slot ≡ Some p →
       IsLaneAt (holding_of p).routes place lane → slice_get sides place ≡ Some side → HasLookedAt (maps side.past) lane.reader
   pub cut : All (λ (side : FinalJournal). AreCutsDone (cuts_to host side.peer commands) side.past) sides
-  pub gone : All (AllWentToSockets (length last) sockets) sides
+  pub gone : All (AllWentToSockets sockets) sides
+  pub found : AreLeadingFound host commands done.first last sides
   pub names : map socket_name sockets ≡ somes (map used_name last)
   pub handed : All (λ (s : FinalSocket). (p : Place) × (slice_get last s.slot ≡ Some p) × HandedOutAt p s) sockets

@@ -1,6 +1,6 @@
 -- What the sockets of a host handed out in a run, beside what its journals delivered and what other hosts sent. The words are those of a
 -- script that is played (rds_history, Sound). Source: rds(7) for reliable and in order; the words are this project's own.
-use Rattle.std.specs.Prelude.{◌≡◌, ◌<◌, ℕ, ◌==◌, Option, Some, List, ◌++◌, All, Contains, filter, map, slice_get}
+use Rattle.std.specs.Prelude.{◌≡◌, ℕ, ◌==◌, Option, Some, List, ◌++◌, All, Contains, filter, map, slice_get}
 use Rattle.std.specs.Option.{option_map}
 use Rattle.rds_wire.specs.declared.frame.Frame.{Frame}
 use Rattle.rds_model.specs.declared.entry.Entry.{Entry}
@@ -33,10 +33,9 @@ IsWithPeer sides addr = (place : ℕ) × (side : FinalJournal) × (slice_get sid
 abbrev pub WentToSocket : List FinalSocket → (slot : ℕ) → Frame → Type 0
 WentToSocket sockets slot f = (place : ℕ) × (s : FinalSocket) × (slice_get sockets place ≡ Some s) × (s.slot ≡ slot) × (s.port ≡ f.header.dport)
 
--- so did each datagram that the journal delivered to one of so many slots
-abbrev pub AllWentToSockets : (slots : ℕ) → List FinalSocket → FinalJournal → Type 0
-AllWentToSockets slots sockets side = (stream slot : ℕ) (f : Frame) → slot < slots → Contains side.past (Read stream f (outcome.Slot slot)) →
-    WentToSocket sockets slot f
+-- so did each datagram that the journal delivered
+abbrev pub AllWentToSockets : List FinalSocket → FinalJournal → Type 0
+AllWentToSockets sockets side = (stream slot : ℕ) (f : Frame) → Contains side.past (Read stream f (outcome.Slot slot)) → WentToSocket sockets slot f
 
 -- each socket of the host handed out exactly what its journals delivered to it, and nothing from anyone else
 pub record HasReceived (host : FinalHost) : Type 0 where

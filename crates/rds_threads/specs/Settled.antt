@@ -1,6 +1,9 @@
 -- Private: it serves the contracts of the private functions that end a host of a run. Source: this project's own.
 use Rattle.std.specs.Prelude.{◌≡◌, ℕ, ◌<◌, ◌≤◌, All, List, Some, length, map, slice_get}
+use Rattle.rds_bindtab.specs.Seats.{telling_of}
 use Rattle.rds_fmap.specs.Readers.{ReaderView, WriterView}
+use Rattle.rds_model.specs.declared.order.Datagram.{Datagram}
+use Rattle.rds_socket.specs.Holding.{Open}
 use Rattle.rds_parts.specs.Lanes.{IsLaneAt, Lane}
 use Rattle.rds_report.specs.FinalState.{FinalSocket}
 use Rattle.rds_report.specs.Hosts.{address_of}
@@ -9,16 +12,18 @@ use Rattle.rds_report.specs.declared.final_state.HostEnd.{HostEnd}
 use Rattle.rds_report.specs.declared.final_state.Kept.{Kept}
 use Rattle.rds_line.specs.Keeps.{cuts_among, uncut}
 use Rattle.rds_line.specs.Line.{LineView, line_past}
+use Rattle.rds_line.specs.Seats.{WasAlwaysTold}
 use Rattle.rds_gather.specs.Cuts.{AreCutsDone}
 use Rattle.rds_gather.specs.Joined.{orders_of}
 use Rattle.rds_gather.specs.Shown.{HasLookedAt}
 use Rattle.rds_model.specs.Sums.{maps}
 use Rattle.rds_gather.specs.Sides.{line_side}
 use Rattle.rds_callers.specs.Ends.{kept_name, used_name}
-use Rattle.rds_callers.specs.Places.{CallerView, IsUsed, Place, holding_of, somes, spared}
+use Rattle.rds_callers.specs.Places.{Bound, CallerView, IsUsed, Place, holding_of, somes, spared}
 use Rattle.rds_script.specs.declared.script.Placed.{Placed}
 use Rattle.rds_parties.specs.Obeyed.{HasDone}
-use Rattle.rds_threads.specs.Outcome.{HandedOutAt}
+use Rattle.rds_parties.specs.Parties.{HasLed}
+use Rattle.rds_threads.specs.Outcome.{HandedOutAt, IsAlwaysFound}
 use Rattle.rds_threads.specs.Reliable.{AllWentToSockets, HasReceived}
 use Rattle.rds_rounds.specs.Quiet.{AreQuiet}
 use Rattle.rds_settling.specs.Tied.{AreLinesTold, AreTied, LinesHear, holdings}
@@ -38,20 +43,36 @@ abbrev pub AreAllCut : {E : Type 0} → List Place → List (LineView E WriterVi
 AreAllCut {E} places lines = (slot place : ℕ) (p : Place) (lane : Lane ReaderView) (line : LineView E WriterView) → slice_get places slot ≡ Some p →
     IsLaneAt (holding_of p).routes place lane → slice_get lines place ≡ Some line → AreCutsDone (cuts_among lane.pass.put) (line_past line)
 
--- each datagram that a line's journal delivered to one of these slots went to a socket that had its port
-abbrev pub HaveAllGone : {E : Type 0} → List Place → List (LineView E WriterView) → List FinalSocket → Type 0
-HaveAllGone {E} places lines sockets = (place : ℕ) (line : LineView E WriterView) → slice_get lines place ≡ Some line →
-    AllWentToSockets (length places) sockets (line_side line)
+-- each datagram that a line's journal delivered went to a socket that had its port
+abbrev pub HaveAllGone : {E : Type 0} → List (LineView E WriterView) → List FinalSocket → Type 0
+HaveAllGone {E} lines sockets = (place : ℕ) (line : LineView E WriterView) → slice_get lines place ≡ Some line → AllWentToSockets sockets (line_side line)
+
+-- no line found a datagram without a socket that was sent to a port which an open socket has, and of which the line was always told
+abbrev pub HaveAllFound : {E : Type 0} → List Place → List (LineView E WriterView) → Type 0
+HaveAllFound {E} places lines = (slot place : ℕ) (o : Open ReaderView) (got : List Datagram) (line : LineView E WriterView) →
+    slice_get places slot ≡ Some (Bound o got) → slice_get lines place ≡ Some line → WasAlwaysTold (telling_of o.own.ports.view) line.ports.view →
+    IsAlwaysFound o.port (line_side line)
+
+-- the caller of one of so many hosts did its commands, and the lines were told of the ports that the first binds took
+pub record HasDoneLed {E : Type 0} (hosts host : ℕ) (commands : List Placed) (places : List Place) (lines : List (LineView E WriterView)) : Type 0 where
+  pub done : HasDone hosts host commands places
+  pub led : HasLed host commands done.first places lines
+
+-- so it is of each host
+abbrev pub HaveDoneLed : {E : Type 0} → (hosts : ℕ) → List Placed → List CallerView → List (List (LineView E WriterView)) → Type 0
+HaveDoneLed {E} hosts commands callers rows = (host : ℕ) (caller : CallerView) (row : List (LineView E WriterView)) → slice_get callers host ≡ Some caller →
+    slice_get rows host ≡ Some row → HasDoneLed hosts host commands caller.places row
 
 -- so the caller did its commands, and then gave up the slots that no socket had
-pub record HasDoneSpared (hosts host : ℕ) (commands : List Placed) (places : List Place) : Type 0 where
+pub record HasDoneSpared {E : Type 0} (hosts host : ℕ) (commands : List Placed) (places : List Place) (lines : List (LineView E WriterView)) : Type 0 where
   pub last : List Place
-  pub done : HasDone hosts host commands last
+  pub did : HasDoneLed hosts host commands last lines
   pub left : places ≡ map spared last
 
 -- so it is of the caller of each of so many hosts
-abbrev pub HaveDoneSpared : (hosts : ℕ) → List Placed → List CallerView → Type 0
-HaveDoneSpared hosts commands callers = (host : ℕ) (caller : CallerView) → slice_get callers host ≡ Some caller → HasDoneSpared hosts host commands caller.places
+abbrev pub HaveDoneSpared : {E : Type 0} → (hosts : ℕ) → List Placed → List CallerView → List (List (LineView E WriterView)) → Type 0
+HaveDoneSpared {E} hosts commands callers rows = (host : ℕ) (caller : CallerView) (row : List (LineView E WriterView)) → slice_get callers host ≡ Some caller →
+    slice_get rows host ≡ Some row → HasDoneSpared hosts host commands caller.places row
 
 -- what is kept of a host has one for each slot that was bound, with its port, and what it handed out
 pub record AreKeptOf (places : List Place) (kept : List Kept) : Type 0 where
@@ -98,7 +119,8 @@ pub record IsLeftOf {E : Type 0} (host : ℕ) (places : List Place) (lines : Lis
   pub sent : AreAllSent places lines
   pub looked : HaveAllLooked places lines
   pub cut : AreAllCut places lines
-  pub gone : HaveAllGone places lines (map socket_view end.kept.items)
+  pub gone : HaveAllGone lines (map socket_view end.kept.items)
+  pub found : HaveAllFound places lines
   pub kept : AreKeptOf places end.kept.items
 
 -- so it is of each host

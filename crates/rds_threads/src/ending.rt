@@ -39,7 +39,7 @@ pub(crate) fn end_run<K: Sink, W: Wire, R: Wait>(
     requires fault { (low high : ℕ) → end ≡ rounds.Fault low high → (low < high) × (high < length lines.items) }
     requires spent { (host peer entries : ℕ) → end ≡ rounds.Spent host peer entries → IsFullHost host peer entries (rows_of lines.items) }
     ensures end { (limit hosts : ℕ) (commands : List Placed) → AreDone W.End.means limit hosts (rows_of lines.items) →
-        HaveDoneSpared hosts commands callers.items → IfOk result (IsEndOfRun form W.End.means.tells limit hosts commands
+        HaveDoneSpared hosts commands callers.items (rows_of lines.items) → IfOk result (IsEndOfRun form W.End.means.tells limit hosts commands
         record { held_before = K.held sink.old; held_after = K.held sink.new; faults_before = K.faults sink.old; faults_after = K.faults sink.new }) }
     ensures memory { OnErr result (K.held sink.new ≡ K.held sink.old) }
 {

@@ -1,5 +1,5 @@
 //! What is left of the hosts of a run.
-ghost use Rattle.std.specs.Prelude.{◌≡◌, ◌≤◌, ◌∷◌, ◌++◌, [], ℕ, List, IfOk, Ok, OnOk, Some, length, map, slice_get};
+ghost use Rattle.std.specs.Prelude.{◌≡◌, ◌≤◌, ◌∷◌, ◌++◌, [], ℕ, List, IfOk, Ok, OnOk, Some, length, map, slice_get, true};
 ghost use Rattle.rds_text.specs.declared.host.TheConstants.{MAX_HOSTS};
 ghost use Rattle.rds_gather.specs.Sides.{line_side};
 ghost use Rattle.rds_report.specs.declared.final_state.HostEnd.{HostEnd as EndView};
@@ -10,9 +10,9 @@ ghost use Rattle.rds_rounds.specs.Grid.{rows_of};
 ghost use Rattle.rds_callers.specs.Places.{IsUsed, Place};
 ghost use Rattle.rds_settling.specs.Tied.{AreSlotsTold, AreTied, PlacesHear, holdings};
 ghost use Rattle.rds_script.specs.declared.script.Placed.{Placed};
-ghost use Rattle.rds_threads.specs.Ends.{AreDrainedHosts, AreEnds};
+ghost use Rattle.rds_threads.specs.Ends.{AreEnds, AreSettledHosts};
 ghost use Rattle.rds_threads.specs.Reliable.{HasReceived};
-ghost use Rattle.rds_threads.specs.Settled.{AreAllCut, AreAllSent, AreKeptOf, AreLeftOf, HasSettled, HaveAllGone, HaveAllLooked, HaveDoneSpared, HaveSettled};
+ghost use Rattle.rds_threads.specs.Settled.{AreAllCut, AreAllSent, AreKeptOf, AreLeftOf, HasSettled, HaveAllFound, HaveAllGone, HaveAllLooked, HaveDoneSpared, HaveSettled};
 
 use crate::giving::end_row;
 use rds_callers::Caller;
@@ -40,9 +40,11 @@ pub(crate) fn host_ends<W: Wire, R: Wait>(
     requires done { (limit hosts : ℕ) × AreDone W.End.means limit hosts (rows_of lines.items) }
     requires settled { HaveSettled callers.items (rows_of lines.items) }
     ensures ends { (limit hosts : ℕ) (commands : List Placed) → AreDone W.End.means limit hosts (rows_of lines.items) →
-        HaveDoneSpared hosts commands callers.items → IfOk result (λ ends. AreEnds W.End.means.tells hosts commands (host_views ends.items)) }
+        HaveDoneSpared hosts commands callers.items (rows_of lines.items) → IfOk result (λ ends. AreEnds W.End.means.tells hosts commands (host_views ends.items)) }
     ensures hosts { IfOk result (λ ends. AreFinalHosts (host_views ends.items)) }
-    ensures drained { AreDrainedLines (rows_of lines.items) → IfOk result (λ ends. AreDrainedHosts (host_views ends.items)) }
+    ensures settled { (limit hosts : ℕ) (commands : List Placed) → AreDone W.End.means limit hosts (rows_of lines.items) →
+        HaveDoneSpared hosts commands callers.items (rows_of lines.items) → W.End.means.tells ≡ true → AreDrainedLines (rows_of lines.items) →
+        IfOk result (λ ends. AreSettledHosts (host_views ends.items)) }
 {
     fifo_of_all();
     all_ends(rt, alloc, wire, callers, lines)
@@ -96,7 +98,8 @@ fn host_end<W: Wire, R: Wait>(
     ensures sent { OnOk result (AreAllSent caller.places lines.items) }
     ensures looked { OnOk result (HaveAllLooked caller.places lines.items) }
     ensures cut { OnOk result (AreAllCut caller.places lines.items) }
-    ensures gone { IfOk result (λ end. HaveAllGone caller.places lines.items (map socket_view end.kept.items)) }
+    ensures gone { IfOk result (λ end. HaveAllGone lines.items (map socket_view end.kept.items)) }
+    ensures found { OnOk result (HaveAllFound caller.places lines.items) }
     ensures kept { IfOk result (λ end. AreKeptOf caller.places end.kept.items) }
 {
     tell_slots(&mut caller, &mut lines);

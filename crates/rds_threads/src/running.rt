@@ -6,8 +6,8 @@ ghost use Rattle.rds_rounds.specs.Connection.{AreHosts};
 ghost use Rattle.rds_rounds.specs.Grid.{rows_of};
 ghost use Rattle.rds_script.specs.declared.script.Placed.{Placed};
 ghost use Rattle.rds_threads.specs.Ends.{IsEndOfRun};
-ghost use Rattle.rds_threads.specs.Settled.{AreToldBelow, IsToldOf};
-ghost use Rattle.rds_parties.specs.Parties.{AreParties, HaveDone};
+ghost use Rattle.rds_threads.specs.Settled.{AreToldBelow, HaveDoneLed, IsToldOf};
+ghost use Rattle.rds_parties.specs.Parties.{AreParties};
 ghost use Rattle.rds_settling.specs.Tied.{AreTied};
 
 use crate::ending::end_run;
@@ -105,7 +105,7 @@ fn finish<K: Sink, W: Wire, R: Wait>(
 ) -> Result<RunEnd, Memory>
     requires hosts { (limit hosts : ℕ) × AreHosts W.End.means limit hosts (rows_of lines.items) }
     requires parties { (hosts : ℕ) × (2 ≤ hosts) × AreParties hosts callers.items (rows_of lines.items) }
-    ensures end { (limit hosts : ℕ) (commands : List Placed) → AreHosts W.End.means limit hosts (rows_of lines.items) → HaveDone hosts commands callers.items →
+    ensures end { (limit hosts : ℕ) (commands : List Placed) → AreHosts W.End.means limit hosts (rows_of lines.items) → HaveDoneLed hosts commands callers.items (rows_of lines.items) →
         IfOk result (IsEndOfRun form W.End.means.tells limit hosts commands
         record { held_before = K.held sink.old; held_after = K.held sink.new; faults_before = K.faults sink.old; faults_after = K.faults sink.new }) }
     ensures memory { OnErr result (K.held sink.new ≡ K.held sink.old) }

@@ -39,12 +39,12 @@ loop-slot-preserved g c =
     let is = same_Some c.index_mut.result.now (get_or states slot x) (sym now ∙ inv.0.rest slot (get_or states slot x) (omega arith) stood) in
     let p = here_seen states c.requires.whole slot x (stood ∙ ap Some (sym is ∙ sym c.replace-state.ensures.value)) in
     let more = leaves_more states c.loop-slot.states.items slot x c.replace-state.new.dest c.loop-slot.all_kept.items c.loop-slot.all_closed.items c.in_ok-kept.closed c.in_ok-kept.kept c.requires inv.0
-    p.0 p.2 (c.in_ok-kept.ensures.ends p.0 p.1) (c.in_ok-kept.ensures.kept p.0 p.1) (c.in_ok-kept.ensures.claims p.0 p.1) in (
+    p.0 p.2 (c.in_ok-kept.ensures.ends p.0 p.1) (c.in_ok-kept.ensures.kept p.0 p.1) (c.in_ok-kept.ensures.ports p.0 p.1) in (
       subst (λ k. Leaves states (set c.loop-slot.states.items slot c.replace-state.new.dest) (slot + 1) k c.push.new.self.items) (sym c.in_ok-keep.ensures)
           (subst (λ l. Leaves states (set c.loop-slot.states.items slot c.replace-state.new.dest) (slot + 1) (c.loop-slot.all_kept.items ++ option_to_list c.in_ok-kept.kept) l) (sym c.in_ok-push.ensures.items) more),
       inv.1,
       inv.2,
     )
 
-pub returns-clause-claims : goal.returns-clause-claims
-returns-clause-claims g c = c.loop-slot.invariant.0.claims
+pub returns-clause-ports : goal.returns-clause-ports
+returns-clause-ports g c = c.loop-slot.invariant.0.ports

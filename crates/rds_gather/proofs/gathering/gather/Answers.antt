@@ -7,12 +7,12 @@ use Rattle.rds_parts.specs.Lanes.{IsOf, Lane}
 use Rattle.rds_joins.specs.Joins.{IsFrom, sender_in, slot_of_order}
 use Rattle.rds_socket.specs.Holding.{Holding}
 use Rattle.rds_gather.specs.Columns.{passes_of, rows_left}
-use Rattle.rds_gather.specs.Heard.{ClaimsNothing, HasClaimedAll}
+use Rattle.rds_gather.specs.Heard.{ClaimsNothing, FitsLooks}
 use Rattle.rds_gather.specs.Shown.{ArePuttersOf, AreReadersOf, HaveLookedAt, ShowsAllPuts}
 use Rattle.rds_gather.proofs.Columns.{each_same}
 use Rattle.rds_gather.proofs.Cutting.{cuts_of_slots}
 use Rattle.rds_gather.proofs.Joining.{asked_of, beside_maps, box_rows, boxes_fit, joined, looked, orders_fit, readers_fit, route_rows, without_maps}
-use Rattle.rds_gather.proofs.Owning.{at_one_table, line_seat, lines_claim_nothing, owned, same_seats, slot_seat}
+use Rattle.rds_gather.proofs.Owning.{at_one_table, found, line_seat, lines_claim_nothing, owned, same_seats, slot_seat}
 use Rattle.rds_gather.proofs.gathering.gather.Goals as goal
 
 -- what a line's queue and map show of the routes to it
@@ -28,12 +28,12 @@ Shows two lanes = ShowsAllPuts slot_of_order IsOf two.0 (passes_of lanes)
 abbrev Looks : Getter Order × WriterView → List (Lane ReaderView) → Type 0
 Looks two lanes = HaveLookedAt two.1.published lanes
 
--- a slot's seat and a line's are at one table, and the slot has claimed what the line found
+-- a slot's seat and a line's are at one table, and the one shows the looks of the other
 abbrev AreAtOne : PortSeat → PortSeat → Type 0
 AreAtOne slot line = slot.table ≡ line.table
 
-abbrev Claims : PortSeat → PortSeat → Type 0
-Claims slot line = HasClaimedAll line.view.steps slot.view
+abbrev ShowsLooks : PortSeat → PortSeat → Type 0
+ShowsLooks slot line = FitsLooks line.view.steps slot.view
 
 pub find_owners-requires : goal.find_owners-requires
 find_owners-requires g c =
@@ -52,7 +52,15 @@ returns-clause-owned g c =
     let closed = c.args.closed.items in
     let lines = c.args.lines.items in
     owned closed lines c.requires.passes c.in_ok-slots.ensures.ended c.in_ok-left.ensures.kept
-    (same_seats Claims c.in_ok-slots.slots.ports.items (map slot_seat closed) c.in_ok-left.left.ports.items (map (line_seat closed lines) lines)
+    (same_seats ShowsLooks c.in_ok-slots.slots.ports.items (map slot_seat closed) c.in_ok-left.left.ports.items (map (line_seat closed lines) lines)
+    c.in_ok-slots.ensures.ports c.in_ok-left.ensures.ports c.find_owners.ensures)
+
+pub returns-clause-found : goal.returns-clause-found
+returns-clause-found g c =
+    let closed = c.args.closed.items in
+    let lines = c.args.lines.items in
+    found closed lines c.requires.passes c.in_ok-slots.ensures.ended c.in_ok-left.ensures.kept
+    (same_seats ShowsLooks c.in_ok-slots.slots.ports.items (map slot_seat closed) c.in_ok-left.left.ports.items (map (line_seat closed lines) lines)
     c.in_ok-slots.ensures.ports c.in_ok-left.ensures.ports c.find_owners.ensures)
 
 pub join_all_orders-requires : goal.join_all_orders-requires

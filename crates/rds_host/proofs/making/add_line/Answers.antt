@@ -15,5 +15,6 @@ returns-clause-line g c =
         boxes = made.boxes;
         ports = made.ports ∙ own.same_table;
         words = made.words ∙ own.same_meter;
+        looks = made.looked;
       },
     )

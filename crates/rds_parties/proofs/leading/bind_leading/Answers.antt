@@ -1,14 +1,15 @@
-use Rattle.std.proofs.Common.{◌+◌, [], ◌∷◌, List, ap, refl, subst, sym, take}
+use Rattle.std.proofs.Common.{◌+◌, [], ◌∷◌, List, ap, refl, subst, sym, take, ◌∙◌}
 use Rattle.rds_script.specs.Script.{IsCommand}
 use Rattle.rds_script.specs.declared.script.Placed.{Placed}
 use Rattle.rds_parties.specs.Parties.{HaveObeyed}
 use Rattle.rds_parties.proofs.Commands.{known_at, taken_next}
 use Rattle.rds_parties.proofs.Keeping.{callers_same, callers_through}
+use Rattle.rds_parties.proofs.Led.{none_bound, one_bound}
 use Rattle.rds_parties.proofs.Obeying.{all_obeyed_through, obeyed_nothing}
 use Rattle.rds_parties.proofs.leading.bind_leading.Goals as goal
 
 pub loop-placed-init : goal.loop-placed-init
-loop-placed-init g c = (refl, callers_same c.args.callers.now.items, obeyed_nothing c.args.callers.now.items)
+loop-placed-init g c = (refl, callers_same c.args.callers.now.items, obeyed_nothing c.args.callers.now.items, none_bound c.args.commands.now)
 
 pub bind-requires : goal.bind-requires
 bind-requires g c =
@@ -27,4 +28,6 @@ loop-placed-preserved g c =
       subst (λ (l : List Placed). HaveObeyed l c.args.callers.now.items c.bind.new.callers.items) (sym more)
           (all_obeyed_through (take c.loop-placed.placed-index c.args.commands.now) (c.placed-item.result ∷ []) c.args.callers.now.items
           c.loop-placed.callers.items c.bind.new.callers.items c.loop-placed.invariant.2 c.in_ok-bind.ensures.obeyed),
+      one_bound c.args.commands.now c.loop-placed.placed-index c.placed-item.result c.loop-placed-test.true c.placed-item.is (sym c.is_bind.ensures ∙ c.if-not-is_bind.false)
+          c.loop-placed.invariant.3,
     )

@@ -1,6 +1,7 @@
 use Rattle.std.proofs.Common.{◌≡◌, take}
 use Rattle.rds_parties.specs.Leading.{CallersKeep}
 use Rattle.rds_parties.specs.Parties.{HaveObeyed}
+use Rattle.rds_parties.proofs.Led.{AreBindsTo}
 use Rattle.rds_parties.proofs.leading.bind_leading.Given as goal
 
 abbrev pub invariant-loop-placed : goal.invariant-loop-placed
@@ -8,3 +9,4 @@ invariant-loop-placed g l =
     (l.count ≡ l.placed-index)
     × CallersKeep l.fn.callers.items l.callers.items
     × HaveObeyed (take l.placed-index l.fn.commands) l.fn.callers.items l.callers.items
+    × AreBindsTo l.placed-index l.fn.commands

@@ -3,9 +3,10 @@ use Rattle.rds_script.specs.declared.script.Placed.{Placed}
 use Rattle.rds_host.specs.Lines.{AreTurned, pair_of}
 use Rattle.rds_rounds.specs.Grid.{rows_of}
 use Rattle.rds_parties.specs.Leading.{CallersKeep}
-use Rattle.rds_parties.specs.Parties.{AreParties, HaveObeyed}
+use Rattle.rds_parties.specs.Parties.{AreParties, HaveLed, HaveObeyed}
 use Rattle.rds_parties.proofs.Jobs.{parties_called, parties_turned}
 use Rattle.rds_parties.proofs.Keeping.{on_ok}
+use Rattle.rds_parties.proofs.Led.{led_of}
 use Rattle.rds_parties.proofs.Obeying.{all_obeyed_of}
 use Rattle.rds_parties.proofs.Telling.{learned_same}
 use Rattle.rds_parties.proofs.playing.play.Goals as goal
@@ -19,6 +20,20 @@ returns-clause-obeyed g c =
     (all_obeyed_of c.as_slice-commands.result.now c.in-Ok.leading c.args.callers.items c.lead.new.callers.items after.items c.in-Ok.ensures.obeyed
     (subst (λ (l : List Placed). HaveObeyed l c.lead.new.callers.items after.items) c.commands_from.ensures.rest did)))
     c.play_beside.ensures.obeyed
+
+pub returns-clause-led : goal.returns-clause-led
+returns-clause-led g c =
+    let old = c.args.callers.items in
+    let bound = c.lead.new.callers.items in
+    let turned = rows_of c.play_beside.result.1.items in
+    on_ok (λ after. HaveObeyed c.commands_from.result.now bound after.items) (λ after. HaveLed c.args.script.now.commands.items old after.items turned)
+    c.play_beside.result.0
+    (λ after did.
+    subst (λ (l : List Placed). HaveLed l old after.items turned) c.as_slice-commands.ensures.value
+    (led_of g.E.End.means c.as_slice-commands.result.now c.in-Ok.leading old bound after.items (rows_of c.args.lines.items) (rows_of c.lead.new.lines.items) turned
+    c.in-Ok.ensures.leading c.in-Ok.ensures.obeyed
+    (subst (λ (l : List Placed). HaveObeyed l bound after.items) c.commands_from.ensures.rest did) c.requires.looks c.in-Ok.ensures.told c.in-Ok.ensures.lines
+    c.play_beside.ensures.turned)) c.play_beside.ensures.obeyed
 
 pub returns-clause-parties : goal.returns-clause-parties
 returns-clause-parties g c =

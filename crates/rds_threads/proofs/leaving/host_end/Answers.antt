@@ -3,15 +3,15 @@ use Rattle.rds_fmap.specs.Readers.{WriterView}
 use Rattle.rds_line.specs.Line.{LineView}
 use Rattle.rds_gather.specs.Cuts.{AreCutsOfSlots}
 use Rattle.rds_gather.specs.Joined.{AreJoined, AreLooksOfJournals}
-use Rattle.rds_gather.specs.Owned.{AreOwned}
+use Rattle.rds_gather.specs.Owned.{AreFound, AreOwned}
 use Rattle.rds_gather.specs.Sides.{line_side}
 use Rattle.rds_report.specs.Views.{host_view, socket_view}
 use Rattle.rds_report.specs.declared.final_state.HostEnd.{HostEnd}
 use Rattle.rds_settling.specs.Tied.{AreSlotsTold}
 use Rattle.rds_threads.specs.Reliable.{HasReceived}
-use Rattle.rds_threads.specs.Settled.{AreAllCut, AreAllSent, AreKeptOf, HaveAllGone, HaveAllLooked}
+use Rattle.rds_threads.specs.Settled.{AreAllCut, AreAllSent, AreKeptOf, HaveAllFound, HaveAllGone, HaveAllLooked}
 use Rattle.rds_threads.proofs.Outcome.{all_cut, all_looked, all_sent, kept_of, on_kept, on_ok}
-use Rattle.rds_threads.proofs.Owning.{on_kept_joined, went_to_sockets}
+use Rattle.rds_threads.proofs.Owning.{found_sockets, on_kept_joined, went_to_sockets}
 use Rattle.rds_threads.proofs.Receiving.{on_gathered, received_of}
 use Rattle.rds_threads.proofs.leaving.host_end.Goals as goal
 
@@ -36,12 +36,21 @@ returns-clause-received g c =
 
 pub returns-clause-gone : goal.returns-clause-gone
 returns-clause-gone g c =
-    on_kept_joined c.gather.result c.in-Ok.kept _ (λ list. HaveAllGone c.args.caller.places c.args.lines.items (map socket_view list)) c.gather.ensures.owned
+    on_kept_joined c.gather.result c.in-Ok.kept _ (λ list. HaveAllGone c.args.lines.items (map socket_view list)) c.gather.ensures.owned
     (λ owned.
-    went_to_sockets c.args.caller.places c.tell_slots.new.caller.places c.in-Ok.closed.items c.args.lines.items c.in-Ok.kept.items c.tell_slots.ensures.places
+    went_to_sockets c.tell_slots.new.caller.places c.in-Ok.closed.items c.args.lines.items c.in-Ok.kept.items
     c.tell_slots.ensures.tied.passes.places c.in-Ok.ensures.slots.count
     (subst (λ (l : List (LineView g.row.W-End.Denot WriterView)). AreOwned c.in-Ok.closed.items l) c.tell_slots.ensures.lines owned)
-    c.in-Ok.ensures.claims c.in-Ok.ensures.kept.names) c.gather.ensures.kept
+    c.in-Ok.ensures.ports c.in-Ok.ensures.kept.names) c.gather.ensures.kept
+
+-- refused where a slot's port isn't told to the lines before they turn
+pub returns-clause-found : goal.returns-clause-found
+returns-clause-found g c =
+    on_ok c.gather.result _ (HaveAllFound c.args.caller.places c.args.lines.items) c.gather.ensures.found
+    (λ found.
+    found_sockets c.args.caller.places c.tell_slots.new.caller.places c.in-Ok.closed.items c.args.lines.items c.tell_slots.ensures.places c.in-Ok.ensures.slots
+    c.in-Ok.ensures.ports
+    (subst (λ (l : List (LineView g.row.W-End.Denot WriterView)). AreFound c.in-Ok.closed.items l) c.tell_slots.ensures.lines found))
 
 pub returns-clause-sent : goal.returns-clause-sent
 returns-clause-sent g c =

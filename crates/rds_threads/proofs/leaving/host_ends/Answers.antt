@@ -4,8 +4,9 @@ use Rattle.std.proofs.lemmas.List.{length-map}
 use Rattle.rds_report.specs.Views.{AreFinalHosts, host_views}
 use Rattle.rds_report.specs.declared.final_state.HostEnd.{HostEnd}
 use Rattle.rds_rounds.specs.Grid.{rows_of}
-use Rattle.rds_threads.specs.Ends.{AreDrainedHosts, AreEnds}
+use Rattle.rds_threads.specs.Ends.{AreEnds, AreSettledHosts}
 use Rattle.rds_threads.specs.Settled.{AreLeftOf}
+use Rattle.rds_threads.proofs.NonePending.{none_pending}
 use Rattle.rds_threads.proofs.Sound.{drained_of, ends_of, final_of}
 use Rattle.rds_threads.proofs.Written.{on_ok}
 use Rattle.rds_threads.proofs.leaving.host_ends.Goals as goal
@@ -32,10 +33,12 @@ returns-clause-hosts g c =
     final_of g.W.End.End.means c.requires.done.0 c.requires.done.1 c.args.callers.items (rows_of c.args.lines.items) ends.items c.requires.done.2
     c.requires.settled.count left) c.all_ends.ensures
 
-pub returns-clause-drained : goal.returns-clause-drained
-returns-clause-drained g c = λ drained.
+pub returns-clause-settled : goal.returns-clause-settled
+returns-clause-settled g c = λ limit hosts commands done did tells drained.
     on_ok (λ (ends : Vec HostEnd Global). AreLeftOf c.args.callers.items (rows_of c.args.lines.items) ends.items)
-    (λ (ends : Vec HostEnd Global). AreDrainedHosts (host_views ends.items)) c.all_ends.result
+    (λ (ends : Vec HostEnd Global). AreSettledHosts (host_views ends.items)) c.all_ends.result
     (λ ends left.
-    drained_of g.W.End.End.means c.requires.done.0 c.requires.done.1 c.args.callers.items (rows_of c.args.lines.items) ends.items c.requires.done.2
-    c.requires.settled.count left drained) c.all_ends.ensures
+    let m = g.W.End.End.means in
+    let nothing = drained_of m limit hosts c.args.callers.items (rows_of c.args.lines.items) ends.items done c.requires.settled.count left drained in
+    let are = ends_of m limit hosts c.args.callers.items (rows_of c.args.lines.items) ends.items done c.requires.settled.count left c.fifo_of_all.ensures commands did in
+    (nothing, none_pending m.tells hosts commands (host_views ends.items) are c.fifo_of_all.ensures tells nothing)) c.all_ends.ensures

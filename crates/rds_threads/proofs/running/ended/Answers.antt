@@ -13,6 +13,7 @@ pub returns-clause-end : goal.returns-clause-end
 returns-clause-end g c =
     let hosts = c.args.script.now.hosts in
     let obeyed = rw c.in-Ok.is at c.play-callers.ensures.obeyed in
+    let led = rw c.in-Ok.is at c.play-callers.ensures.led in
     c.finish.ensures.end c.args.limit hosts c.args.script.now.commands.items
     (c.play-callers.ensures.hosts c.args.limit hosts c.in_ok-callers.ensures.hosts)
-    (all_done hosts c.args.script.now.commands.items _ _ c.in_ok-callers.ensures.new obeyed)
+    (all_done hosts c.args.script.now.commands.items _ _ _ c.in_ok-callers.ensures.new obeyed led)

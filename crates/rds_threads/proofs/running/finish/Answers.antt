@@ -63,4 +63,5 @@ returns-clause-end g c = λ limit hosts commands are did.
     (c.last_rounds-end.ensures.done limit hosts
     (c.connected_keeps.ensures.same limit hosts old told are
     (rows_same c.args.callers.items c.tell_all.new.callers.items old told same c.tell_all.ensures)))
-    (done_spared hosts commands c.args.callers.items c.tell_all.new.callers.items old told same c.tell_all.ensures did)
+    (done_spared hosts commands c.args.callers.items c.tell_all.new.callers.items old told (rows_of c.last_rounds-end.new.lines.items) same c.tell_all.ensures
+    c.last_rounds-end.ensures.rows did)

@@ -1,21 +1,29 @@
 use Rattle.std.proofs.Common.{ap}
 use Rattle.rds_callers.specs.Places.{Vacant, Bound, Ended, Spare}
 use Rattle.rds_callers.specs.States.{shown}
-use Rattle.rds_callers.proofs.Claiming.{claims_shown}
+use Rattle.rds_callers.proofs.Claiming.{open_with, port_shown, unheld}
 use Rattle.rds_callers.proofs.state.State.end.Goals as goal
 
-pub returns-in-Vacant-clause-claims : goal.returns-in-Vacant-clause-claims
-returns-in-Vacant-clause-claims g c = claims_shown c.args.self (Vacant c.in-Vacant.vacant) c.end.result (ap shown c.in-Vacant.is) c.end.ensures.claimed
+pub returns-in-Vacant-clause-ports : goal.returns-in-Vacant-clause-ports
+returns-in-Vacant-clause-ports g c =
+    let p = Vacant c.in-Vacant.vacant in
+    port_shown c.args.self p c.end.result (ap shown c.in-Vacant.is) (unheld p c.end.result (λ port is. cc) c.end.ensures.claimed)
 
-pub returns-in_ok-kept-in-Bound-clause-claims : goal.returns-in_ok-kept-in-Bound-clause-claims
-returns-in_ok-kept-in-Bound-clause-claims g c =
+pub returns-in_ok-kept-in-Bound-clause-ports : goal.returns-in_ok-kept-in-Bound-clause-ports
+returns-in_ok-kept-in-Bound-clause-ports g c =
     let tenant = c.in-Bound.tenant in
-    claims_shown c.args.self (Bound tenant.socket tenant.got.items) c.in_ok-kept-in-Bound.closed (ap shown c.in-Bound.is) c.in_ok-kept-in-Bound.ensures.claimed
+    let ended = c.in_ok-kept-in-Bound in
+    port_shown c.args.self (Bound tenant.socket tenant.got.items) ended.closed (ap shown c.in-Bound.is)
+    (open_with tenant.socket tenant.got.items ended.closed ended.ensures.claimed ended.ensures.holds)
 
-pub returns-in_ok-kept-in-Ended-clause-claims : goal.returns-in_ok-kept-in-Ended-clause-claims
-returns-in_ok-kept-in-Ended-clause-claims g c =
+pub returns-in_ok-kept-in-Ended-clause-ports : goal.returns-in_ok-kept-in-Ended-clause-ports
+returns-in_ok-kept-in-Ended-clause-ports g c =
     let former = c.in-Ended.former in
-    claims_shown c.args.self (Ended former.port former.closed former.got.items) c.in_ok-kept-in-Ended.closed (ap shown c.in-Ended.is) c.in_ok-kept-in-Ended.ensures.claimed
+    let p = Ended former.port former.closed former.got.items in
+    let ended = c.in_ok-kept-in-Ended in
+    port_shown c.args.self p ended.closed (ap shown c.in-Ended.is) (unheld p ended.closed (λ port is. cc) ended.ensures.claimed)
 
-pub returns-in-Spare-clause-claims : goal.returns-in-Spare-clause-claims
-returns-in-Spare-clause-claims g c = claims_shown c.args.self (Spare c.in-Spare.spare.closed) c.end-in-Spare.result (ap shown c.in-Spare.is) c.end-in-Spare.ensures.claimed
+pub returns-in-Spare-clause-ports : goal.returns-in-Spare-clause-ports
+returns-in-Spare-clause-ports g c =
+    let p = Spare c.in-Spare.spare.closed in
+    port_shown c.args.self p c.end-in-Spare.result (ap shown c.in-Spare.is) (unheld p c.end-in-Spare.result (λ port is. cc) c.end-in-Spare.ensures.claimed)
