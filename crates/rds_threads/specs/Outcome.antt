@@ -47,8 +47,8 @@ cuts_to host peer commands = length (filter (λ (placed : Placed). is_cut_to hos
 abbrev pub IsAlwaysFound : (port : ℕ) → FinalJournal → Type 0
 IsAlwaysFound port side = (stream : ℕ) (f : Frame) → Contains side.past (Read stream f outcome.NoSocket) → f.header.dport ≢ port
 
--- The caller of a host did the binds that a script begins with, and then its other commands. The port of each socket that was bound by then and
--- is open in the end was always found.
+-- The caller of a host did the binds that a script begins with, which left its slots so, and then its other commands. At the port of each socket
+-- that was bound by then, and is open in the end, no datagram found no socket. No slot is bound twice, so it is the socket of that bind.
 pub record AreLeadingFound (host : ℕ) (commands : List Placed) (first last : List Place) (sides : List FinalJournal) : Type 0 where
   pub led : List Place
   pub began : HasObeyed host (leading_binds commands) first led
@@ -61,8 +61,8 @@ pub record AreLeadingFound (host : ℕ) (commands : List Placed) (first last : L
 -- to that host, in order and each once. Each look of a socket at a peer's congestion map found what the map of its version has, among those
 -- that the journal with that peer read. Where a stream to a peer is open in the end, at least as many were shut as the commands have the host
 -- cut. There is one socket of each slot that was bound, in order, with its port. Each datagram that a journal delivered went to one of these
--- sockets, that of the slot that it was delivered to, which had its port. No datagram found the port without a socket of one that a bind at
--- the beginning of the script took, and that is open in the end.
+-- sockets, that of the slot that it was delivered to, which had its port. At a port that a bind at the beginning of the script took no datagram
+-- found no socket, where the socket of that bind is open in the end.
 pub record IsOutcome (hosts host : ℕ) (commands : List Placed) (sides : List FinalJournal) (sockets : List FinalSocket) : Type 0 where
   pub last : List Place
   pub done : HasDone hosts host commands last
