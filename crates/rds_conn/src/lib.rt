@@ -13,8 +13,3 @@ pub use conn::{Conn, ConnError, Fed, Found, Pulled};
 pub use freed::Freed;
 pub use out::Out;
 pub use rds_model::Verdict;
-
-#[cfg(test)]
-mod tests;
-#[cfg(test)]
-mod tests_upper;

@@ -14,6 +14,3 @@ pub use plain::frames_in;
 pub use splitter::Splitter;
 pub use stream::frames_of;
 pub use took::{FrameError, Took};
-
-#[cfg(test)]
-mod tests;

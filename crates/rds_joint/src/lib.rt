@@ -6,6 +6,3 @@ mod joint;
 
 pub use joint::Joint;
 pub use rds_pair::{PairEnd, PairError};
-
-#[cfg(test)]
-mod tests;

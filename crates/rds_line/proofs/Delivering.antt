@@ -47,6 +47,8 @@ use Rattle.rds_line.specs.Seats.{AreLooksFor, HasLooked, StoresNothing}
 use Rattle.rds_line.proofs.Passing.{PassesWith, passes_reads}
 use Rattle.rds_line.proofs.PortLooks.{looked_last, looks_again, looks_beside, looks_nobody, looks_slot}
 use Rattle.rds_line.proofs.Storing.{delivery_stores}
+use Rattle.rds_line.proofs.Staying.{begins_of}
+use Rattle.rds_line.proofs.StaysPassed.{same_seats}
 
 -- what a step asks of the view of a line is known of its parts
 pub ready_inside : {E M : Type 0} {inside old : LineView E M} → inside ≡ old →
@@ -231,6 +233,7 @@ module _ {E M : Type 0} (published : M → List (List ℕ)) where
         ports = ports;
         looks = looks;
         stored = λ was. subst (λ (v : View). StoresNothing v.steps) (sym words) was;
+        steps = begins_of old.words.view.steps new.words.view.steps (ap (λ (v : View). v.steps) words);
       }
 
   -- its map was published
@@ -267,6 +270,7 @@ module _ {E M : Type 0} (published : M → List (List ℕ)) where
             (looks_beside past old.ports.view.steps (Read p.stream p.frame outcome.Map) (λ stream slot frame is. absurd (cc))
             (λ stream frame is. absurd (cc)) was);
         stored = λ was. subst (λ (v : View). StoresNothing v.steps) (sym words) was;
+        steps = begins_of old.words.view.steps new.words.view.steps (ap (λ (v : View). v.steps) words);
       }
 
   -- its datagram was put into the box of a slot, and counted
@@ -307,4 +311,5 @@ module _ {E M : Type 0} (published : M → List (List ℕ)) where
         ports = table;
         looks = slot_looks old.ports p.stream p.frame past look (port_is past p.frame.header port is) delivery below;
         stored = delivery_stores delivery;
+        steps = (same_seats delivery).meter_steps;
       }

@@ -14,6 +14,7 @@ use Rattle.rds_views.specs.Views.{Table}
 use Rattle.rds_bindtab.specs.declared.view.Step.{Step}
 use Rattle.rds_bindtab.specs.Seats.{PortSeat, after_look, knowing}
 use Rattle.rds_meter.specs.declared.view.Check.{Check}
+use Rattle.rds_meter.specs.declared.view.Step.{Step as MeterStep}
 use Rattle.rds_conn.specs.Connection.{Connection, freed_bytes_of, stream_of}
 use Rattle.rds_conn.specs.Released.{released_bytes}
 use Rattle.rds_line_parts.specs.Counted.{AreChecksOf}
@@ -21,16 +22,18 @@ use Rattle.rds_line_parts.specs.CountedLaws.{freed_for_account}
 use Rattle.rds_line_channel.specs.Channel.{ChannelView}
 use Rattle.rds_line.specs.Keeps.{KeepsLine, IsPulled, uncut, cuts_among}
 use Rattle.rds_line.specs.Line.{LineView, line_past}
-use Rattle.rds_line.specs.Seats.{AreLooksFor}
+use Rattle.rds_line.specs.Seats.{AreFoundSet, AreLooksFor}
+use Rattle.rds_line.proofs.Grounding.{found_beside}
 use Rattle.rds_line.proofs.PortLooks.{looks_again, looks_beside}
 
--- nothing more was delivered, and no map was read
+-- nothing more was delivered, and no map was read or pulled
 pub record HasSameSums (past later : List Entry) : Type 0 where
   pub maps : maps later ≡ maps past
   pub delivered : (from slot : ℕ) → delivered_datagrams from slot later ≡ delivered_datagrams from slot past
   pub bytes : (slot : ℕ) → put_bytes slot later ≡ put_bytes slot past
   pub checks : (list : List Check) → AreChecksOf past list → AreChecksOf later list
   pub looks : (size : ℕ) (steps : List Step) → AreLooksFor size past steps → AreLooksFor size later steps
+  pub pulled : (steps : List MeterStep) → AreFoundSet past steps → AreFoundSet later steps
 
 pub sums_same : (past : List Entry) → HasSameSums past past
 sums_same past = record {
@@ -39,68 +42,71 @@ sums_same past = record {
   bytes = λ slot. refl;
   checks = λ list are. are;
   looks = λ size steps are. are;
+  pulled = λ steps are. are;
 }
 
 pub sums_of : (past later middle : List Entry) → later ≡ middle → HasSameSums past middle → HasSameSums past later
 sums_of past later middle is same = subst (λ (l : List Entry). HasSameSums past l) (sym is) same
 
--- the entry is no reading
-abbrev pub IsNoRead : Entry → Type 0
-IsNoRead (entry.Accept slot sport dport payload) = Unit {0}
-IsNoRead (entry.Cancel slot target) = Unit {0}
-IsNoRead (entry.Open stream) = Unit {0}
-IsNoRead (entry.Pull stream frame) = Unit {0}
-IsNoRead (entry.Read stream frame outcome) = ⊥
-IsNoRead (entry.Shut stream) = Unit {0}
-IsNoRead (entry.Bad stream header cause) = Unit {0}
+-- the entry is neither a reading nor a pull
+abbrev pub IsNoFrame : Entry → Type 0
+IsNoFrame (entry.Accept slot sport dport payload) = Unit {0}
+IsNoFrame (entry.Cancel slot target) = Unit {0}
+IsNoFrame (entry.Open stream) = Unit {0}
+IsNoFrame (entry.Pull stream frame) = ⊥
+IsNoFrame (entry.Read stream frame outcome) = ⊥
+IsNoFrame (entry.Shut stream) = Unit {0}
+IsNoFrame (entry.Bad stream header cause) = Unit {0}
 
-looks_unread : {size : ℕ} (e : Entry) (past : List Entry) (steps : List Step) → IsNoRead e → AreLooksFor size past steps → AreLooksFor size (e ∷ past) steps
-looks_unread {size} e past steps no_read =
-    looks_beside past steps e (λ stream slot frame is. subst IsNoRead is no_read) (λ stream frame is. subst IsNoRead is no_read)
+looks_unread : {size : ℕ} (e : Entry) (past : List Entry) (steps : List Step) → IsNoFrame e → AreLooksFor size past steps → AreLooksFor size (e ∷ past) steps
+looks_unread {size} e past steps no_frame =
+    looks_beside past steps e (λ stream slot frame is. subst IsNoFrame is no_frame) (λ stream frame is. subst IsNoFrame is no_frame)
 
-pub sums_more : (e : Entry) (past : List Entry) → IsNoRead e → HasSameSums past (e ∷ past)
-sums_more (entry.Accept slot sport dport payload) past no_read = record {
+unpulled : (e : Entry) (past : List Entry) (steps : List MeterStep) → IsNoFrame e → AreFoundSet past steps → AreFoundSet (e ∷ past) steps
+unpulled e past steps no_frame = found_beside past steps e (λ stream frame is. subst IsNoFrame is no_frame)
+
+pub sums_more : (e : Entry) (past : List Entry) → IsNoFrame e → HasSameSums past (e ∷ past)
+sums_more (entry.Accept slot sport dport payload) past no_frame = record {
   maps = refl;
   delivered = λ from slot. refl;
   bytes = λ slot. refl;
   checks = λ list are. are;
-  looks = λ size steps. looks_unread (entry.Accept slot sport dport payload) past steps no_read;
+  looks = λ size steps. looks_unread (entry.Accept slot sport dport payload) past steps no_frame;
+  pulled = λ steps. unpulled (entry.Accept slot sport dport payload) past steps no_frame;
 }
-sums_more (entry.Cancel slot target) past no_read = record {
+sums_more (entry.Cancel slot target) past no_frame = record {
   maps = refl;
   delivered = λ from slot. refl;
   bytes = λ slot. refl;
   checks = λ list are. are;
-  looks = λ size steps. looks_unread (entry.Cancel slot target) past steps no_read;
+  looks = λ size steps. looks_unread (entry.Cancel slot target) past steps no_frame;
+  pulled = λ steps. unpulled (entry.Cancel slot target) past steps no_frame;
 }
-sums_more (entry.Open stream) past no_read = record {
+sums_more (entry.Open stream) past no_frame = record {
   maps = refl;
   delivered = λ from slot. refl;
   bytes = λ slot. refl;
   checks = λ list are. are;
-  looks = λ size steps. looks_unread (entry.Open stream) past steps no_read;
+  looks = λ size steps. looks_unread (entry.Open stream) past steps no_frame;
+  pulled = λ steps. unpulled (entry.Open stream) past steps no_frame;
 }
-sums_more (entry.Pull stream frame) past no_read = record {
+sums_more (entry.Pull stream frame) past no_frame = absurd no_frame
+sums_more (entry.Read stream frame outcome) past no_frame = absurd no_frame
+sums_more (entry.Shut stream) past no_frame = record {
   maps = refl;
   delivered = λ from slot. refl;
   bytes = λ slot. refl;
   checks = λ list are. are;
-  looks = λ size steps. looks_unread (entry.Pull stream frame) past steps no_read;
+  looks = λ size steps. looks_unread (entry.Shut stream) past steps no_frame;
+  pulled = λ steps. unpulled (entry.Shut stream) past steps no_frame;
 }
-sums_more (entry.Read stream frame outcome) past no_read = absurd no_read
-sums_more (entry.Shut stream) past no_read = record {
+sums_more (entry.Bad stream header cause) past no_frame = record {
   maps = refl;
   delivered = λ from slot. refl;
   bytes = λ slot. refl;
   checks = λ list are. are;
-  looks = λ size steps. looks_unread (entry.Shut stream) past steps no_read;
-}
-sums_more (entry.Bad stream header cause) past no_read = record {
-  maps = refl;
-  delivered = λ from slot. refl;
-  bytes = λ slot. refl;
-  checks = λ list are. are;
-  looks = λ size steps. looks_unread (entry.Bad stream header cause) past steps no_read;
+  looks = λ size steps. looks_unread (entry.Bad stream header cause) past steps no_frame;
+  pulled = λ steps. unpulled (entry.Bad stream header cause) past steps no_frame;
 }
 
 -- for each slot the freed bytes that are held grew as the bytes did that aren't alive any more
@@ -113,21 +119,21 @@ pub held_same : (old new : Connection) → new.freed ≡ old.freed → ((slot : 
 held_same old new freed released slot small =
     ap (λ (f : List ℕ). slice_index f slot + released_bytes slot old.log.past) freed ∙ ap (λ (n : ℕ). freed_bytes_of slot old + n) (sym (released slot))
 
--- the entry neither frees nor takes an order
+-- the entry neither frees nor takes an order, and is of no frame
 abbrev pub IsPlain : Entry → Type 0
 IsPlain (entry.Accept slot sport dport payload) = ⊥
 IsPlain (entry.Cancel slot target) = ⊥
 IsPlain (entry.Open stream) = Unit {0}
-IsPlain (entry.Pull stream frame) = Unit {0}
+IsPlain (entry.Pull stream frame) = ⊥
 IsPlain (entry.Read stream frame outcome) = ⊥
 IsPlain (entry.Shut stream) = Unit {0}
 IsPlain (entry.Bad stream header cause) = Unit {0}
 
-plain_reads : (e : Entry) → IsPlain e → IsNoRead e
+plain_reads : (e : Entry) → IsPlain e → IsNoFrame e
 plain_reads (entry.Accept slot sport dport payload) plain = absurd plain
 plain_reads (entry.Cancel slot target) plain = absurd plain
 plain_reads (entry.Open stream) plain = tt
-plain_reads (entry.Pull stream frame) plain = tt
+plain_reads (entry.Pull stream frame) plain = absurd plain
 plain_reads (entry.Read stream frame outcome) plain = absurd plain
 plain_reads (entry.Shut stream) plain = tt
 plain_reads (entry.Bad stream header cause) plain = tt
@@ -136,7 +142,7 @@ pub plain_orders : (e : Entry) (past : List Entry) → IsPlain e → orders (e �
 plain_orders (entry.Accept slot sport dport payload) past plain = absurd plain
 plain_orders (entry.Cancel slot target) past plain = absurd plain
 plain_orders (entry.Open stream) past plain = refl
-plain_orders (entry.Pull stream frame) past plain = refl
+plain_orders (entry.Pull stream frame) past plain = absurd plain
 plain_orders (entry.Read stream frame outcome) past plain = absurd plain
 plain_orders (entry.Shut stream) past plain = refl
 plain_orders (entry.Bad stream header cause) past plain = refl
@@ -145,7 +151,7 @@ pub plain_released : (e : Entry) (past : List Entry) → IsPlain e → (slot : �
 plain_released (entry.Accept slot sport dport payload) past plain owner = absurd plain
 plain_released (entry.Cancel slot target) past plain owner = absurd plain
 plain_released (entry.Open stream) past plain owner = refl
-plain_released (entry.Pull stream frame) past plain owner = refl
+plain_released (entry.Pull stream frame) past plain owner = absurd plain
 plain_released (entry.Read stream frame outcome) past plain owner = absurd plain
 plain_released (entry.Shut stream) past plain owner = refl
 plain_released (entry.Bad stream header cause) past plain owner = refl
@@ -171,6 +177,7 @@ module _ {E M : Type 0} (published : M → List (List ℕ)) where
     boxes = k.boxes;
     few = k.few;
     slots = slots ∙ k.slots;
+    pulled = sums.pulled v.words.view.steps k.pulled;
     ported = sums.looks v.ports.table.slots v.ports.view.steps k.ported;
     stored = k.stored;
   }
@@ -189,6 +196,7 @@ module _ {E M : Type 0} (published : M → List (List ℕ)) where
     boxes = k.boxes;
     few = k.few;
     slots = k.slots;
+    pulled = k.pulled;
     ported = k.ported;
     stored = k.stored;
   }
@@ -208,6 +216,7 @@ module _ {E M : Type 0} (published : M → List (List ℕ)) where
     boxes = k.boxes ∙ sym (ap (λ (t : Table). t.slots) table);
     few = subst (λ (t : Table). t.slots ≤ MAX_SLOTS) (sym table) k.few;
     slots = k.slots;
+    pulled = k.pulled;
     ported = subst (λ (t : Table). AreLooksFor t.slots (line_past v) ports.view.steps) (sym table) (looks k.ported);
     stored = k.stored;
   }

@@ -1,6 +1,7 @@
 mod Delivering
 mod Feeding
 mod Fields
+mod Grounding
 mod Judging
 mod Keeping
 mod Longer

@@ -9,6 +9,7 @@ use Rattle.rds_model.specs.declared.entry.TheConstants.{MAX_SLOTS, NO_SLOT}
 use Rattle.rds_model.specs.declared.order.Datagram.{Datagram}
 use Rattle.rds_model.specs.declared.order.Order.{Order}
 use Rattle.rds_model.specs.declared.order.Order.TheVariants as order
+use Rattle.rds_model.specs.Honest.{Begins}
 use Rattle.rds_model.specs.Legal.{pong_for}
 use Rattle.rds_model.specs.Owed.{last_map}
 use Rattle.rds_model.specs.Past.{Moment, now, before, open_stream}
@@ -19,6 +20,7 @@ use Rattle.rds_mail.specs.Passes.{Getter, Putter}
 use Rattle.rds_views.specs.Views.{Table}
 use Rattle.rds_bindtab.specs.declared.view.Step.{Step}
 use Rattle.rds_meter.specs.declared.view.View.{View}
+use Rattle.rds_meter.specs.declared.view.Step.{Step as MeterStep}
 use Rattle.rds_meter.specs.Places.{part, freed_word}
 use Rattle.rds_conn.specs.declared.conn.Found.{Found}
 use Rattle.rds_conn.specs.Connection.{Connection, freed_bytes_of, with_entries}
@@ -30,7 +32,8 @@ use Rattle.rds_line_parts.specs.Own.{Own, IsAsRead}
 use Rattle.rds_line_channel.specs.Channel.{ChannelView, with_conn}
 use Rattle.rds_line.specs.Keeps.{KeepsLine, IsPulled, cuts_among, uncut}
 use Rattle.rds_line.specs.Line.{LineView, line_past}
-use Rattle.rds_line.specs.Seats.{AreLooksFor, StoresNothing}
+use Rattle.rds_line.specs.Seats.{AreFoundSet, AreLooksFor, StoresNothing}
+use Rattle.rds_line.proofs.Grounding.{found_beside, found_still}
 use Rattle.rds_line.proofs.PortLooks.{looks_beside}
 
 -- the acceptance of a pong, if one is owed to a port
@@ -108,6 +111,12 @@ module _ (s : ℕ) (f : Frame) (o : Outcome) (past : List Entry) where
   looks_after {size} (Some port) steps was =
       looks_beside (Read s f o ∷ past) steps (Accept NO_SLOT 0 port []) (λ stream slot frame is. absurd (cc)) (λ stream frame is. absurd (cc)) was
 
+  -- nor a pull
+  found_after : (port : Option ℕ) (steps : List MeterStep) → AreFoundSet past steps → AreFoundSet (read_past port s f o past) steps
+  found_after None steps was = found_beside past steps (Read s f o) (λ stream frame is. absurd (cc)) was
+  found_after (Some port) steps was =
+      found_beside (Read s f o ∷ past) steps (Accept NO_SLOT 0 port []) (λ stream frame is. absurd (cc)) (found_beside past steps (Read s f o) (λ stream frame is. absurd (cc)) was)
+
 -- the bytes that are freed or released are accounted for
 abbrev pub AccountsFreed : Connection → Connection → Type 0
 AccountsFreed old new = (slot : ℕ) → slot < old.slots →
@@ -133,6 +142,7 @@ module _ {E M : Type 0} (published : M → List (List ℕ)) where
     pub ports : new.ports.table ≡ old.ports.table
     pub looks : AreLooksFor old.ports.table.slots (line_past old) old.ports.view.steps → AreLooksFor old.ports.table.slots (Read s f o ∷ line_past old) new.ports.view.steps
     pub stored : StoresNothing old.words.view.steps → StoresNothing new.words.view.steps
+    pub steps : Begins old.words.view.steps new.words.view.steps
 
   -- the line keeps all that it keeps
   keeps_passed_line : {port : Option ℕ} {s : ℕ} {f : Frame} {o : Outcome} {old new : LineView E M} →
@@ -164,6 +174,9 @@ module _ {E M : Type 0} (published : M → List (List ℕ)) where
         boxes = p.boxes ∙ was.boxes ∙ sym (ap (λ (t : Table). t.slots) p.ports);
         few = subst (λ (t : Table). t.slots ≤ MAX_SLOTS) (sym p.ports) was.few;
         slots = r.slots ∙ was.slots;
+        pulled =
+            subst (λ (l : List Entry). AreFoundSet l new.words.view.steps) (sym r.past)
+            (found_after s f o past port new.words.view.steps (found_still past old.words.view.steps new.words.view.steps p.steps was.pulled));
         ported =
             subst (λ (t : Table). AreLooksFor t.slots (line_past new) new.ports.view.steps) (sym p.ports)
             (subst (λ (l : List Entry). AreLooksFor old.ports.table.slots l new.ports.view.steps) (sym r.past)
@@ -200,6 +213,7 @@ module _ {E M : Type 0} (published : M → List (List ℕ)) where
       boxes = was.0.boxes;
       few = was.0.few;
       slots = was.0.slots;
+      pulled = was.0.pulled;
       ported = was.0.ported;
       stored = was.0.stored;
     },

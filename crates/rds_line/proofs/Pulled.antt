@@ -1,5 +1,5 @@
 -- What a line keeps when it reads its host's own map and pulls the frame that is owed.
-use Rattle.std.proofs.Common.{◌≡◌, ◌≢◌, inl, inr, ℕ, suc, ◌+◌, Bool, true, false, Option, Some, None, IfSome, IsSome, IfOk, OnOk, Result, Ok, List, [], ◌∷◌, ◌++◌, refl, sym, ap, subst, ◌∙◌}
+use Rattle.std.proofs.Common.{◌≡◌, ◌≢◌, inl, inr, ℕ, suc, ◌+◌, ◌<◌, Bool, true, false, Option, Some, None, IfSome, IsSome, IfOk, OnOk, Result, Ok, List, [], ◌∷◌, ◌++◌, refl, sym, ap, subst, ◌∙◌}
 use Rattle.std.proofs.lemmas.Option.{same_Some}
 use Rattle.std.proofs.lemmas.Result.{IfOk-at_ok}
 use Rattle.rds_wire.specs.declared.frame.Frame.{Frame}
@@ -10,11 +10,13 @@ use Rattle.rds_wire.specs.Kinds.{kind_of}
 use Rattle.rds_link.specs.Ends.{Means}
 use Rattle.rds_model.specs.declared.entry.Entry.{Entry}
 use Rattle.rds_model.specs.declared.entry.Entry.TheVariants.{Pull}
-use Rattle.rds_model.specs.Owed.{last_map, owed_frame}
+use Rattle.rds_cong.specs.Map.{has_port}
+use Rattle.rds_model.specs.Owed.{is_map, last_map, owed_frame}
 use Rattle.rds_model.specs.Past.{Moment, now, before}
 use Rattle.rds_model.specs.SumLaws.{same_list}
 use Rattle.rds_meter.specs.declared.view.Step.TheVariants.{Loaded}
 use Rattle.rds_meter.specs.Places.{change_word, put_word, freed_word}
+use Rattle.rds_meter.specs.Grounds.{HasFoundSet}
 use Rattle.rds_meter.specs.Seats.{MeterSeat}
 use Rattle.rds_conn.specs.declared.conn.Pulled.{Pulled}
 use Rattle.rds_conn.specs.Connection.{Connection, freed_bytes_of, stream_of, with_entries}
@@ -29,6 +31,8 @@ use Rattle.rds_line.specs.Keeps.{IsPulled, KeepsLine}
 use Rattle.rds_line.specs.Line.{LineView, line_past, pulls_in}
 use Rattle.rds_line.specs.Stays.{LineStays}
 use Rattle.rds_line.specs.Turns.{LeavesNothing, LoadsOwn, FindsNothingOwed}
+use Rattle.rds_line.specs.Steps.{HasBits}
+use Rattle.rds_line.proofs.Grounding.{found_pulled, found_still, own_found, pulled_payload}
 use Rattle.rds_line.proofs.Looking.{PullsOrNone}
 use Rattle.rds_line.proofs.PortLooks.{looks_beside}
 use Rattle.rds_line.proofs.Staying.{begins_of, boxes_same, moment_of, same_view, streams_same}
@@ -85,13 +89,18 @@ module _ {E M : Type 0} where
     boxes = k.boxes;
     few = k.few;
     slots = k.slots;
+    pulled = k.pulled;
     ported = k.ported;
     stored = k.stored;
   }
 
-  keeps_entry : (published : M → List (List ℕ)) (v : LineView E M) (out : List ℕ) (s : ℕ) (f : Frame) → KeepsLine published v →
+  -- if the frame is a map, each port of it was found set
+  abbrev pub IsGrounded : LineView E M → Frame → Type 0
+  IsGrounded v f = is_map f ≡ true → (port : ℕ) → port < 65536 → has_port f.payload port ≡ true → HasFoundSet port v.words.view.steps
+
+  keeps_entry : (published : M → List (List ℕ)) (v : LineView E M) (out : List ℕ) (s : ℕ) (f : Frame) → IsGrounded v f → KeepsLine published v →
       KeepsLine published (with_pull v (with_entries (Pull s f ∷ []) v.channel.conn) out)
-  keeps_entry published v out s f k = record {
+  keeps_entry published v out s f ground k = record {
     taken = k.taken;
     cuts = k.cuts;
     put = k.put;
@@ -102,6 +111,7 @@ module _ {E M : Type 0} where
     boxes = k.boxes;
     few = k.few;
     slots = k.slots;
+    pulled = found_pulled (line_past v) v.words.view.steps s f ground k.pulled;
     ported = looks_beside (line_past v) v.ports.view.steps (Pull s f) (λ stream slot frame is. absurd (cc)) (λ stream frame is. absurd (cc)) k.ported;
     stored = k.stored;
   }
@@ -109,11 +119,14 @@ module _ {E M : Type 0} where
   -- a pull changes nothing of what a line keeps
   pub keeps_pull : (published : M → List (List ℕ)) (v : LineView E M) (s : ℕ) (owed : Option Frame) (conn : Connection)
       (out : List ℕ) (came : Pulled) →
-      Pulls s owed v.channel.conn conn v.channel.out out came → KeepsLine published v → KeepsLine published (with_pull v conn out)
-  keeps_pull published v s None conn out came did k =
+      Pulls s owed v.channel.conn conn v.channel.out out came →
+      ((f : Frame) → conn ≡ with_entries (Pull s f ∷ []) v.channel.conn → IsGrounded v f) → KeepsLine published v →
+      KeepsLine published (with_pull v conn out)
+  keeps_pull published v s None conn out came did ground k =
       subst (λ (c : Connection). KeepsLine published (with_pull v c out)) (sym did.same) (keeps_same published v out k)
-  keeps_pull published v s (Some f) conn out came did k =
-      subst (λ (c : Connection). KeepsLine published (with_pull v c out)) (sym did.entry) (keeps_entry published v out s f k)
+  keeps_pull published v s (Some f) conn out came did ground k =
+      subst (λ (c : Connection). KeepsLine published (with_pull v c out)) (sym did.entry)
+      (keeps_entry published v out s f (ground f did.entry) k)
 
   -- nor does a reading of the own map
   pub keeps_own : (published : M → List (List ℕ)) (v : LineView E M) (own : Own) (words : MeterSeat) (read : Bool) →
@@ -131,6 +144,8 @@ module _ {E M : Type 0} where
     boxes = k.boxes;
     few = k.few;
     slots = k.slots;
+    pulled =
+        found_still (line_past v) v.words.view.steps words.view.steps (_, ap (λ (h : MeterSeat). h.view.steps) r.steps) k.pulled;
     ported = k.ported;
     stored = refresh_stores r k.stored;
   }
@@ -179,12 +194,14 @@ module _ {E M : Type 0} where
     pub refresh : IsRefresh old.own new.own old.words new.words read
     pub is : new ≡ with_own old new.own new.words
     pub behind : IsPulled noted new
+    pub bits : HasBits new.own.map
 
   pub reads_of : (noted : Bool) (old middle new : LineView E M) → new ≡ middle → middle ≡ with_own old middle.own middle.words →
-      (read : Bool) × IsRefresh old.own middle.own old.words middle.words read → IsPulled noted new → ReadsOwn noted old new
-  reads_of noted old middle new same is r behind =
+      (read : Bool) × IsRefresh old.own middle.own old.words middle.words read → HasBits middle.own.map → IsPulled noted new →
+      ReadsOwn noted old new
+  reads_of noted old middle new same is r bits behind =
       subst (λ (v : LineView E M). IsPulled noted v → ReadsOwn noted old v) (sym same)
-      (λ known. record { read = r.0; refresh = r.1; is = is; behind = known }) behind
+      (λ known. record { read = r.0; refresh = r.1; is = is; behind = known; bits = bits }) behind
 
 module _ {E : Type 0} where
   -- the frame was pulled that is owed to the open stream where the own map is this, and it is then the one that was pulled last
@@ -316,11 +333,21 @@ module _ {E M : Type 0} (noted : Bool) (v w : LineView E M) (reads : ReadsOwn no
     same_own : u.own ≡ w.own
     same_own = ap (λ (l : LineView E M). l.own) is
 
+    -- the map is the own one, each port of which was found set
+    grounded : (published : M → List (List ℕ)) → KeepsLine published w → (f : Frame) →
+        u.channel.conn ≡ with_entries (Pull p.stream f ∷ []) w.channel.conn → IsGrounded w f
+    grounded published k f entry is_it port small has =
+        let last : last_map p.stream (Pull p.stream f ∷ line_past w) ≡ Some w.own.map =
+        sym (ap (λ (c : Connection). last_map p.stream c.log.past) entry) ∙ p.behind in
+        let same = pulled_payload p.stream f (line_past w) w.own.map is_it last in
+        own_found w.own w.words.view.steps reads.refresh.number k.read reads.refresh.change reads.bits port small
+        (sym (ap (λ (m : List ℕ). has_port m port) same) ∙ has)
+
     pub keeps_pulled : (published : M → List (List ℕ)) → KeepsLine published w → KeepsLine published u × IsPulled true u
     keeps_pulled published k = (
       subst (KeepsLine published) (sym is_pulled)
           (keeps_pull published w p.stream (owed_frame p.stream w.channel.conn.log.past w.own.map) u.channel.conn u.channel.out came
-          p.pulls k),
+          p.pulls (grounded published k) k),
       λ noted_it s on.
           let there = (owed_leaves w.own.map came w.channel u.channel p).stream in
           let same : p.stream ≡ s = same_Some p.stream s (sym p.on ∙ sym there ∙ on) in

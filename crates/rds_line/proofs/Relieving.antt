@@ -14,8 +14,9 @@ use Rattle.rds_line_channel.specs.Channel.{ChannelView, with_conn}
 use Rattle.rds_link.specs.Ends.{Means}
 use Rattle.rds_line.specs.Keeps.{KeepsLine}
 use Rattle.rds_line.specs.Line.{LineView, line_past}
-use Rattle.rds_line.specs.Seats.{AreLooksFor}
+use Rattle.rds_line.specs.Seats.{AreFoundSet, AreLooksFor}
 use Rattle.rds_line.specs.Stays.{LineStays}
+use Rattle.rds_line.proofs.Grounding.{found_still}
 use Rattle.rds_line.proofs.Staying.{boxes_same, relief_stays, same_view}
 use Rattle.rds_line.proofs.Storing.{relief_stores}
 
@@ -43,6 +44,9 @@ module _ {E M : Type 0} (v : LineView E M) (channel : ChannelView E) (words : Me
     boxes = k.boxes;
     few = k.few;
     slots = ap (λ (c : ChannelView E). c.conn.slots) rest ∙ k.slots;
+    pulled =
+        subst (λ (c : ChannelView E). AreFoundSet c.conn.log.past words.view.steps) (sym rest)
+        (found_still (line_past v) v.words.view.steps words.view.steps (relief.steps, ap (λ (h : MeterSeat). h.view.steps) relief.seat) k.pulled);
     ported = subst (λ (c : ChannelView E). AreLooksFor v.ports.table.slots c.conn.log.past v.ports.view.steps) (sym rest) k.ported;
     stored = relief_stores relief k.stored;
   }

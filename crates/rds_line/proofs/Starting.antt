@@ -19,7 +19,8 @@ use Rattle.rds_line_parts.specs.Own.{Own}
 use Rattle.rds_line_channel.specs.Channel.{ChannelView, new_channel}
 use Rattle.rds_line.specs.Keeps.{KeepsLine, uncut, cuts_among}
 use Rattle.rds_line.specs.Line.{LineView}
-use Rattle.rds_line.specs.Seats.{AreLooksFor, StoresNothing}
+use Rattle.rds_line.specs.Seats.{AreFoundSet, AreLooksFor, StoresNothing}
+use Rattle.rds_line.proofs.Grounding.{found_none}
 use Rattle.rds_line.proofs.PortLooks.{looks_none}
 use Rattle.rds_line.proofs.Storing.{stores_none}
 
@@ -53,6 +54,7 @@ module _ {E M : Type 0} (published : M → List (List ℕ)) (me peer slots limit
     boxes = boxes;
     few = few;
     slots = ap (λ (c : ChannelView E). c.conn.slots) is ∙ all_slots;
+    pulled = subst (λ (c : ChannelView E). AreFoundSet c.conn.log.past v.words.view.steps) (sym is) (found_none v.words.view.steps);
     ported =
         subst (λ (c : ChannelView E). AreLooksFor v.ports.table.slots c.conn.log.past v.ports.view.steps) (sym is)
         (subst (AreLooksFor v.ports.table.slots []) (sym looks) looks_none);

@@ -10,7 +10,7 @@ use Rattle.rds_conn.specs.Connection.{stream_of}
 use Rattle.rds_line_parts.specs.Counted.{IsCountedFor, IsFreedFor, IsPutFor}
 use Rattle.rds_line_parts.specs.Own.{IsAsRead}
 use Rattle.rds_line.specs.Line.{LineView, line_past}
-use Rattle.rds_line.specs.Seats.{AreLooksFor, StoresNothing}
+use Rattle.rds_line.specs.Seats.{AreFoundSet, AreLooksFor, StoresNothing}
 
 -- the orders that aren't cuts
 abbrev pub uncut : List Order → List Order
@@ -40,6 +40,8 @@ module _ {E M : Type 0} where
     pub maps : published v.map ≡ maps (line_past v)
     -- the host's own map has in each word what the last load of it found
     pub read : IsAsRead v.own v.words.view.steps
+    -- each port of the maps that were pulled was found set by a load
+    pub pulled : AreFoundSet (line_past v) v.words.view.steps
     -- there is a mailbox for each slot of the port table
     pub boxes : length v.boxes ≡ v.ports.table.slots
     pub few : v.ports.table.slots ≤ MAX_SLOTS

@@ -1,9 +1,11 @@
 -- Private: it serves the contracts of the private steps of a turn, and their proofs. What most of them leave as it was,
 -- and what they do with the frames that came. Source: this project's own.
-use Rattle.std.specs.Prelude.{◌≡◌, ℕ, ◌+◌, ◌*◌, if◌then◌else◌, Some, is_some, length}
+use Rattle.std.specs.Prelude.{◌≡◌, ℕ, ◌+◌, ◌*◌, ◌/◌, ◌%◌, ◌<◌, ◌==◌, if◌then◌else◌, List, Some, is_some, length}
+use Rattle.std.specs.Int.{bit_at}
 use Rattle.rds_wire.specs.declared.frame.Frame.{Frame}
 use Rattle.rds_model.specs.declared.entry.Verdict.{Verdict}
 use Rattle.rds_model.specs.Reading.{verdict_of}
+use Rattle.rds_cong.specs.Map.{has_port, word_at}
 use Rattle.rds_conn.specs.declared.conn.Found.{Found}
 use Rattle.rds_conn.specs.Connection.{Connection}
 use Rattle.rds_conn.specs.Passing.{Passes}
@@ -11,6 +13,10 @@ use Rattle.rds_line_channel.specs.Channel.{ChannelView, with_conn}
 use Rattle.rds_link.specs.Ends.{Means}
 use Rattle.rds_line.specs.Line.{LineView, line_past, pulls_in}
 use Rattle.rds_line.specs.Stays.{LineStays}
+
+-- a port is in the map where its bit is set in its word
+abbrev pub HasBits : List ℕ → Type 0
+HasBits map = (port : ℕ) → port < 65536 → has_port map port ≡ (bit_at (word_at map (port / 64)) (port % 64) == 1)
 
 -- a frame waits of which this has to become
 pub record IsWaiting (verdict : Verdict) (c : Connection) : Type 0 where

@@ -1,4 +1,9 @@
 ghost use Rattle.std.specs.Prelude.{◌≡◌, ◌≤◌, ◌<◌, ℕ, All, IfOk, IfSome, IsSome, [], None, Some, length};
+ghost use Rattle.rds_cong.specs.Map.{no_ports};
+ghost use Rattle.rds_line_channel.specs.Channel.{new_channel};
+ghost use Rattle.rds_line_streams.specs.Streams.{AreNumbered, IsUnused};
+ghost use Rattle.rds_model.specs.declared.entry.TheConstants.{MAX_SLOTS};
+ghost use Rattle.rds_model.specs.declared.journal.TheConstants.{MIN_ENTRIES, MAX_ENTRIES};
 
 mod opening;
 mod receiving;
@@ -122,15 +127,16 @@ impl<E: End, M: MapWriter> Line<E, M> {
             words,
             map,
         } = parts;
+        let (channel, own, peer_map) = tables(alloc, me, peer, streams, limit)?;
         Ok(Line {
-            channel: Channel::new(alloc, me, peer, MAX_SLOTS, limit, streams)?,
+            channel,
             orders,
             boxes: inboxes,
             ports,
             words,
-            own: OwnMap::new(alloc)?,
+            own,
             own_pulled: false,
-            peer_map: PortMap::new(alloc)?,
+            peer_map,
             map,
         })
     }
@@ -251,4 +257,25 @@ impl<E: End, M: MapWriter> Line<E, M> {
     {
         self.ports.hear(note);
     }
+}
+
+// A connection without a past over these streams, and the maps of both hosts, not read yet.
+fn tables<E: End>(
+    alloc: Global,
+    me: u32,
+    peer: u32,
+    streams: Vec<(u32, E)>,
+    limit: u32,
+) -> Result<(Channel<E>, OwnMap, PortMap), Memory>
+    requires least { MIN_ENTRIES ≤ limit }
+    requires most { limit ≤ MAX_ENTRIES }
+    requires numbered { AreNumbered streams.items }
+    requires unused { All (λ stream. IsUnused E.means stream.1) streams.items }
+    ensures channel { IfOk result (λ made. made.0 ≡ new_channel me peer MAX_SLOTS limit streams.items) }
+    ensures own { IfOk result (λ made. made.1 ≡ record { map = no_ports; change = None }) }
+{
+    let own = OwnMap::new(alloc)?;
+    let peer_map = PortMap::new(alloc)?;
+    let channel = Channel::new(alloc, me, peer, MAX_SLOTS, limit, streams)?;
+    Ok((channel, own, peer_map))
 }

@@ -8,6 +8,3 @@ mod piece;
 
 pub use channel::{Channel, Taken};
 pub use meeting::meet;
-
-#[cfg(test)]
-mod tests;

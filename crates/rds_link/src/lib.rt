@@ -38,8 +38,3 @@ impl fmt::Display for Failed {
 }
 
 impl std::error::Error for Failed {}
-
-#[cfg(test)]
-mod stream_tests;
-#[cfg(test)]
-mod tests;

@@ -8,6 +8,3 @@ mod steps;
 
 pub use mesh::Mesh;
 pub use rds_joint::PairError;
-
-#[cfg(test)]
-mod tests;

@@ -6,3 +6,4 @@ pub mod Loading
 pub mod Bits
 pub mod Joins
 pub mod Opening
+pub mod AllJoined

@@ -4,3 +4,5 @@ pub mod Shared
 pub mod Plays
 pub mod PartLaws
 pub mod CheckLaws
+pub mod Grounds
+pub mod Joining

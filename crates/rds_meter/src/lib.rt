@@ -2,6 +2,7 @@
 #![tactic(auto)]
 
 mod adds;
+mod gathering;
 mod loads;
 mod map;
 mod mark;

@@ -1,9 +1,9 @@
-ghost use Rattle.std.specs.Prelude.{◌≡◌, ◌≤◌, ◌<◌, ◌+◌, ◌-◌, ◌==◌, ℕ, max, [], ◌∷◌, length, reverse, slice_get, IfOk, OnOk, OnErr, option_copied};
+ghost use Rattle.std.specs.Prelude.{◌≡◌, ◌≤◌, ◌<◌, ◌+◌, ◌-◌, ◌==◌, ℕ, max, [], ◌∷◌, length, reverse, slice_get, vec_capacity, IfOk, OnOk, OnErr, option_copied};
 ghost use Rattle.rds_model.specs.declared.journal.JournalError.TheVariants as errors;
 
 use crate::Entry;
 use rds_wire::Memory;
-use std::alloc::Global;
+use std::alloc::{AllocError, Global};
 use std::marker::Model;
 
 /// The least limit of a journal.
@@ -76,7 +76,7 @@ impl Journal {
         if n > self.limit - entries {
             return Err(JournalError::Spent { entries });
         }
-        if self.entries.reserve(n as usize).is_err() {
+        if grow(&mut self.entries, n as usize).is_err() {
             return Err(JournalError::Memory);
         }
         self.spare = self.spare.max(n);
@@ -116,4 +116,24 @@ impl Journal {
     {
         self.entries.get(i as usize)
     }
+}
+
+// Makes room for `n` more entries. A list that has to grow gets room for four times as many, where there is memory for that: each
+// growth copies all entries, and memory that no entry has reached yet costs next to nothing.
+fn grow(entries: &mut Vec<Entry>, n: usize) -> Result<(), AllocError>
+    ensures items { entries.new.items ≡ entries.old.items }
+    ensures room { OnOk result (length entries.new.items + n ≤ vec_capacity entries.new) }
+    ensures capacity { vec_capacity entries.old ≤ vec_capacity entries.new }
+{
+    let len = entries.len();
+    if n <= entries.capacity() - len {
+        return Ok(());
+    }
+    if entries
+        .reserve(len.saturating_mul(3).saturating_add(n))
+        .is_ok()
+    {
+        return Ok(());
+    }
+    entries.reserve(n)
 }

@@ -14,6 +14,3 @@ mod step;
 pub use error::PairError;
 pub use pair::ConnPair;
 pub use step::{PairEnd, PairStep};
-
-#[cfg(test)]
-mod tests;

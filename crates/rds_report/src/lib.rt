@@ -21,6 +21,3 @@ pub use addresses::{FIRST_ADDRESS, address, host_of};
 pub use final_state::{HostEnd, Kept};
 pub use reporting::report;
 pub use summing::summary;
-
-#[cfg(test)]
-mod tests;

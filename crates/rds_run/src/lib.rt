@@ -12,6 +12,3 @@ mod streams;
 mod top_call;
 
 pub use top_call::rds_main;
-
-#[cfg(test)]
-mod tests;

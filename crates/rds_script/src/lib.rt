@@ -16,6 +16,3 @@ mod script;
 pub use cause::{Cause, ScriptError};
 pub use reading::read;
 pub use script::{Command, MAX_CUTS, MAX_LINES, MAX_PAYLOAD, MAX_TEXT, MAX_TOTAL, Placed, Script};
-
-#[cfg(test)]
-mod tests;

@@ -3,3 +3,5 @@
 
 #[cfg(test)]
 mod hello;
+#[cfg(test)]
+mod streams;

@@ -6,9 +6,9 @@
 #![tactic(auto)]
 
 mod command_lines;
+mod digits;
 mod entry_lines;
 mod entry_words;
-mod hex;
 mod host;
 mod list;
 mod ports;
@@ -18,12 +18,9 @@ pub use command_lines::{
     bind_line, close_line, cut_line, drained_line, mark_line, move_line, recv_line, recv_none_line,
     spent_line,
 };
+pub use digits::{Hex, HexByte};
 pub use entry_lines::{accept_line, cancel_line, open_line, pull_line, read_line, shut_line};
-pub use hex::{Hex, HexByte};
 pub use host::{HostName, MAX_HOSTS, SlotName};
 pub use list::Numbers;
 pub use ports::PortSet;
 pub use refusal::{Refusal, pair_refused_line, send_refused_line, socket_refused_line};
-
-#[cfg(test)]
-mod tests;

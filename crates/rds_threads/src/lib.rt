@@ -8,8 +8,6 @@ mod giving;
 mod leaving;
 mod running;
 mod taking;
-#[cfg(test)]
-mod tests;
 
 pub use form::{Form, RunEnd};
 pub use running::run;

@@ -17,3 +17,6 @@ mod written;
 pub use counting::{CountingEnd, CountingWire};
 pub use deaf::{DeafEnd, DeafWire};
 pub use meeting::{Meeting, MeetingEnd, MeetingWire};
+
+#[cfg(test)]
+mod texts;

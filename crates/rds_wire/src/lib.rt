@@ -22,6 +22,3 @@ pub use memory::Memory;
 pub use payload::Payload;
 pub use payloads::Payloads;
 pub use sum::{sealed, sum_ok};
-
-#[cfg(test)]
-mod tests;

@@ -5,7 +5,7 @@ ghost use Rattle.rds_line_parts.specs.Own.{IsRefresh};
 ghost use Rattle.rds_line_streams.specs.Streams.{newest_place};
 ghost use Rattle.rds_line.specs.Line.{IsFull, line_past, pulls_in};
 ghost use Rattle.rds_line.specs.Stays.{LineStays};
-ghost use Rattle.rds_line.specs.Steps.{StaysQuiet};
+ghost use Rattle.rds_line.specs.Steps.{HasBits, StaysQuiet};
 ghost use Rattle.rds_line.specs.Turns.{FindsNoRoom, LeavesNothing, LoadsOwn, FindsNothingOwed, PullsOwn, SendsBytes};
 ghost use Rattle.rds_line.specs.declared.outcome.Sent.TheVariants as sent;
 
@@ -77,8 +77,11 @@ impl<E: End, M: MapWriter> Line<E, M> {
     fn look(&mut self)
         ensures alone { self.new ≡ record self.old { own = self.new.own; words = self.new.words } }
         ensures refresh { (read : Bool) × IsRefresh self.old.own self.new.own self.old.words self.new.words read }
+        ensures bits { HasBits self.new.own.map }
     {
-        if self.own.refresh(&mut self.words) {
+        let read = self.own.refresh(&mut self.words);
+        self.own.map().known();
+        if read {
             self.own_pulled = false;
         }
     }

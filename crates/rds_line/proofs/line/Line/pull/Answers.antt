@@ -27,7 +27,7 @@ module _ (g : given.Over) (c : goal.After-ne g) where
 
   reads : ReadsOwn c.self.inside.own_pulled start middle
   reads =
-      reads_of c.self.inside.own_pulled start c.look.new.self middle c.self.view_is c.look.ensures.alone c.look.ensures.refresh
+      reads_of c.self.inside.own_pulled start c.look.new.self middle c.self.view_is c.look.ensures.alone c.look.ensures.refresh c.look.ensures.bits
       c.self.invariant.1
 
   has : IsSome (stream_of middle.channel.conn)
@@ -116,7 +116,7 @@ module _ (g : given.Over) (c : goal.In-Err g) where
 
   reads_too : ReadsOwn c.self.inside.own_pulled first second
   reads_too =
-      reads_of c.self.inside.own_pulled first c.look.new.self second c.self.view_is c.look.ensures.alone c.look.ensures.refresh
+      reads_of c.self.inside.own_pulled first c.look.new.self second c.self.view_is c.look.ensures.alone c.look.ensures.refresh c.look.ensures.bits
       c.self.invariant.1
 
   failed : (view_in c.if-self.self-inside ≡ second) × (c.if-self.self-inside.own_pulled ≡ c.self.inside.own_pulled)

@@ -3,6 +3,7 @@ use Rattle.rds_model.specs.declared.order.Order.{Order}
 use Rattle.rds_mail.specs.Learning.{AllGot}
 use Rattle.rds_mail.specs.Passes.{Getter, after_get}
 use Rattle.rds_line_channel.specs.Channel.{ChannelView}
+use Rattle.rds_line.specs.Keeps.{IsPulled, KeepsLine}
 use Rattle.rds_line.specs.Line.{LineView, line_past, pulls_in}
 use Rattle.rds_line.proofs.Fields.{view_in}
 use Rattle.rds_line.proofs.Taking.{Obeys, asked_allowed, cut_room, keeps_obeyed, keeps_roomy, obeyed_pulls, obeyed_stays, pulled_roomy, roomy_past, roomy_stays, roomy_streams, stays_taken}
@@ -159,4 +160,18 @@ invariant_of-self-then-is_err g c =
     let made = cut_room c.reserve.new.self new c.reserve_cut.result c.reserve_cut.ensures.ok c.reserve_cut.ensures.err in (
       keeps_roomy v c.reserve.new.self new first made g.M.MapWriter.published c.self.invariant.0,
       pulled_roomy v c.reserve.new.self new first made c.self.inside.own_pulled c.self.invariant.1,
+    )
+
+pub invariant_of-self-in_default : goal.invariant_of-self-in_default
+invariant_of-self-in_default g c =
+    let v = view_in c.self.inside in
+    let new = c.reserve_cut.new.self in
+    let first = (c.in_ok-reserve.ensures {u = tt}).ok in
+    let made = cut_room c.reserve.new.self new c.reserve_cut.result c.reserve_cut.ensures.ok c.reserve_cut.ensures.err in
+    let none = c.in_default.ensures {u = tt} in
+    let pulled = c.self.inside.own_pulled in
+    let with : Getter Order → LineView g.row.E.Denot g.row.M.Denot = λ (h : Getter Order). record v { channel = new; orders = h } in
+    subst (λ (h : Getter Order). KeepsLine g.M.MapWriter.published (with h) × IsPulled pulled (with h)) (sym none.same) (
+      keeps_roomy v c.reserve.new.self new first made g.M.MapWriter.published c.self.invariant.0,
+      pulled_roomy v c.reserve.new.self new first made pulled c.self.invariant.1,
     )

@@ -1,0 +1,8 @@
+#!/bin/sh
+# Leaves a stream over TCP open between every two of eight hosts for five seconds, and prints the processor time that this took.
+set -eu
+cd "$(dirname "$0")/../crates/rds_bench_link"
+[ -x out/rds_bench_link ] || rt run >/dev/null
+out/rds_bench_link idle
+# The second line has the times of the programs that the shell ran: for themselves and in the kernel.
+times | tail -n 1

@@ -1,3 +1,0 @@
-mod headers;
-mod steps;
-mod streams;

@@ -1,0 +1,5 @@
+//! Tests of the splitter of frames.
+#![tactic(auto)]
+
+#[cfg(test)]
+mod splitting;

@@ -1,0 +1,257 @@
+//! Two channels over a wire in memory.
+ghost use Rattle.std.specs.Prelude.{◌≡◌, ℕ, false, [], ◌∷◌, IfSome};
+ghost use Rattle.rds_conn.specs.Passing.{Matches};
+ghost use Rattle.rds_line_streams.specs.Meeting.{AtEach};
+ghost use Rattle.rds_line_streams.specs.Streams.{IsUnused, numbers};
+
+use rds_cong::PortMap;
+use rds_conn::{Found, Pulled};
+use rds_line_channel::*;
+use rds_link::{End, Got, MemWire, Put, Wire};
+use rds_model::{Order, Verdict};
+use rds_wire::Payload;
+use std::alloc::Global;
+use std::net::Net;
+use std::sync::Wait;
+use std::test::*;
+use std::thread::Threads;
+
+type Both<E> = (Channel<E>, Channel<E>);
+
+// What became of a frame: the sender, the ports and the number of bytes of its datagram, and its verdict.
+type Came = (Taken, (u32, u16, u16, u32), Verdict);
+
+type Carried = ((Pulled, Pulled, Put), [Came; 2], bool);
+
+// The stream 1, with this end.
+fn one<E: End>(alloc: Global, end: E) -> Option<Vec<(u32, E)>>
+    ensures { IfSome result (λ list. list.items ≡ (1, end) ∷ []) }
+{
+    let mut streams = Vec::new(alloc);
+    streams.push((1, end)).ok()?;
+    Some(streams)
+}
+
+// A channel of a host with one socket, over the stream 1.
+fn channel<E: End>(alloc: Global, me: u32, peer: u32, end: E) -> Option<Channel<E>>
+    requires { IsUnused E.means end }
+    ensures list { IfSome result (λ c. c.streams.list ≡ (1, end) ∷ []) }
+    ensures closed { IfSome result (λ c. c.streams.is_open ≡ false) }
+    ensures slots { IfSome result (λ c. c.conn.slots ≡ 1) }
+{
+    let streams = one(alloc, end)?;
+    match Channel::new(alloc, me, peer, 1, 20, streams) {
+        Ok(channel) => Some(channel),
+        Err(_) => None,
+    }
+}
+
+// The channels of two hosts to each other.
+fn prepared<W: Wire, R: Threads + Wait + Net>(
+    rt: &R,
+    alloc: Global,
+    wire: &mut W,
+) -> Option<Both<W::End>>
+    ensures numbers { IfSome result (λ both. numbers both.1.streams.list ≡ numbers both.0.streams.list) }
+    ensures pairs { IfSome result (λ both. AtEach W.End.means.meets both.0.streams.list both.1.streams.list) }
+    ensures closed { IfSome result (λ both. (both.0.streams.is_open ≡ false) × (both.1.streams.is_open ≡ false)) }
+    ensures slots { IfSome result (λ both. both.0.conn.slots ≡ 1) }
+{
+    let (a, b) = wire.open(rt, 1, 2, 1).ok()?;
+    Some((channel(alloc, 1, 2, a)?, channel(alloc, 2, 1, b)?))
+}
+
+// Opens the next stream.
+fn open<E: End>(c: &mut Channel<E>) -> Option<bool>
+    requires { c.old.streams.is_open ≡ false }
+    ensures list { c.new.streams.list ≡ c.old.streams.list }
+    ensures slots { c.new.conn.slots ≡ c.old.conn.slots }
+{
+    c.reserve().ok()?;
+    Some(c.open_next())
+}
+
+// Sends five bytes from port 4000 to port 4001.
+fn send<E: End>(c: &mut Channel<E>, alloc: Global) -> Option<()>
+    requires { c.old.conn.slots ≡ 1 }
+{
+    let payload = Payload::copy_of(alloc, b"hello").ok()?;
+    c.reserve().ok()?;
+    c.order(Order::Send {
+        slot: 0,
+        sport: 4000,
+        dport: 4001,
+        payload,
+    });
+    Some(())
+}
+
+fn pull<E: End>(c: &mut Channel<E>, map: &PortMap) -> Option<Pulled> {
+    if !c.is_open() {
+        return None;
+    }
+    c.reserve().ok()?;
+    c.pull(map).ok()
+}
+
+fn write<E: End>(c: &mut Channel<E>) -> Option<Put> {
+    if !c.is_open() || c.unwritten() == 0 {
+        return None;
+    }
+    Some(c.write())
+}
+
+// Pulls the map and the datagram, and writes both.
+fn sends<E: End>(c: &mut Channel<E>, map: &PortMap) -> Option<(Pulled, Pulled, Put)> {
+    Some((pull(c, map)?, pull(c, map)?, write(c)?))
+}
+
+fn receive<E: End>(c: &mut Channel<E>) -> Option<Got> {
+    if !c.is_open() || c.untaken() > 0 {
+        return None;
+    }
+    Some(c.receive())
+}
+
+fn take<E: End>(c: &mut Channel<E>) -> Option<Taken> {
+    if !c.is_open() {
+        return None;
+    }
+    c.reserve().ok()?;
+    c.take().ok()
+}
+
+fn found(verdict: Verdict) -> Found
+    ensures { (slots : ℕ) → Matches slots verdict result }
+{
+    match verdict {
+        Verdict::Deliver { .. } => Found::NoSocket,
+        _ => Found::Unasked,
+    }
+}
+
+// Passes the frame that waits, and answers its verdict.
+fn pass<E: End>(c: &mut Channel<E>) -> Option<Verdict> {
+    c.reserve().ok()?;
+    let verdict = c.verdict()?;
+    c.pass(found(verdict));
+    Some(verdict)
+}
+
+// The sender, the ports and the number of bytes of the datagram that waits.
+fn datagram<E: End>(c: &Channel<E>) -> Option<(u32, u16, u16, u32)> {
+    c.waiting()?;
+    let datagram = c.datagram().ok()?;
+    Some((
+        datagram.from,
+        datagram.sport,
+        datagram.dport,
+        datagram.payload.len(),
+    ))
+}
+
+// Takes a frame, and passes it.
+fn takes<E: End>(c: &mut Channel<E>) -> Option<Came> {
+    Some((take(c)?, datagram(c)?, pass(c)?))
+}
+
+// What comes of the two frames at the other channel.
+fn gets<E: End>(c: &mut Channel<E>) -> Option<[Came; 2]> {
+    receive(c)?;
+    Some([takes(c)?, takes(c)?])
+}
+
+fn cut<E: End>(c: &mut Channel<E>) -> Option<()> {
+    if !c.is_open() {
+        return None;
+    }
+    c.reserve().ok()?;
+    c.reserve_cut().ok()?;
+    c.cut();
+    Some(())
+}
+
+// Reads from a stream that the other host has shut, ends it, and answers whether it is still open.
+fn end<E: End>(c: &mut Channel<E>) -> Option<bool> {
+    if !c.is_open() || c.untaken() > 0 {
+        return None;
+    }
+    c.reserve().ok()?;
+    if let Got::Over = c.receive() {
+        c.end_over();
+    }
+    Some(c.is_open())
+}
+
+// Opens the stream at both channels, and has the first one send.
+fn starts<E: End>(a: &mut Channel<E>, b: &mut Channel<E>, alloc: Global) -> Option<()>
+    requires first { a.old.streams.is_open ≡ false }
+    requires second { b.old.streams.is_open ≡ false }
+    requires slots { a.old.conn.slots ≡ 1 }
+{
+    open(a)?;
+    open(b)?;
+    send(a, alloc)
+}
+
+// What went over, and whether the second channel's stream is open after a cut at the first one.
+fn carried<E: End>(a: &mut Channel<E>, b: &mut Channel<E>, map: &PortMap) -> Option<Carried> {
+    let sent = sends(a, map)?;
+    let came = gets(b)?;
+    cut(a)?;
+    Some((sent, came, end(b)?))
+}
+
+fn carry<W: Wire, R: Threads + Wait + Net>(rt: &R, alloc: Global, wire: &mut W) -> Option<Carried> {
+    let map = PortMap::new(alloc).ok()?;
+    let (mut a, mut b) = prepared(rt, alloc, wire)?;
+    starts(&mut a, &mut b, alloc)?;
+    carried(&mut a, &mut b, &map)
+}
+
+#[test]
+fn a_datagram_goes_over(rt: HostRuntime) -> Result<(), Fail> {
+    let alloc = rt.alloc();
+    let mut wire = MemWire::new(alloc, Vec::new(alloc), Vec::new(alloc));
+    let sent = (Pulled::Map, Pulled::Data, Put::Took(8293));
+    let map = (Taken::Frame, (1, 0, 0, 8192), Verdict::Map);
+    let to_socket = Verdict::Deliver { dport: 4001 };
+    let data = (Taken::Frame, (1, 4000, 4001, 5), to_socket);
+    assert_eq!(rt;
+        carry(&rt, alloc, &mut wire),
+        Some((sent, [map, data], false))
+    );
+    Ok(())
+}
+
+// What a channel that met another one reads before and after it cuts the stream.
+fn met<W: Wire>(a: &mut Channel<W::End>, b: &mut Channel<W::End>) -> Option<(Got, bool)>
+    requires first { a.old.streams.is_open ≡ false }
+    requires second { b.old.streams.is_open ≡ false }
+    requires numbers { numbers b.old.streams.list ≡ numbers a.old.streams.list }
+    requires pairs { AtEach W.End.means.meets a.old.streams.list b.old.streams.list }
+{
+    open(a)?;
+    open(b)?;
+    meet::<W>(a, b);
+    let came = receive(b)?;
+    cut(a)?;
+    Some((came, end(b)?))
+}
+
+fn meeting<W: Wire, R: Threads + Wait + Net>(
+    rt: &R,
+    alloc: Global,
+    wire: &mut W,
+) -> Option<(Got, bool)> {
+    let (mut a, mut b) = prepared(rt, alloc, wire)?;
+    met::<W>(&mut a, &mut b)
+}
+
+#[test]
+fn two_channels_meet(rt: HostRuntime) -> Result<(), Fail> {
+    let alloc = rt.alloc();
+    let mut wire = MemWire::new(alloc, Vec::new(alloc), Vec::new(alloc));
+    assert_eq!(rt; meeting(&rt, alloc, &mut wire), Some((Got::Nothing, false)));
+    Ok(())
+}

@@ -1,0 +1,233 @@
+//! Streams in memory, mostly from two threads.
+ghost use Rattle.std.specs.Prelude.{◌<◌};
+ghost use Rattle.rds_link.specs.Ends.{Remains};
+ghost use Rattle.rds_link.specs.Memory.{memory_means};
+
+use rds_link::*;
+use std::alloc::{AllocError, Global};
+use std::net::Net;
+use std::sync::Wait;
+use std::test::*;
+use std::thread;
+use std::thread::Threads;
+
+const MEGABYTE: usize = 1_048_576;
+
+// The next of a row of numbers that look random.
+fn next(state: &mut u32) -> usize {
+    *state = state.wrapping_mul(1_664_525).wrapping_add(1_013_904_223);
+    (*state >> 16) as usize
+}
+
+// Fills with bytes that look random.
+fn fill(bytes: &mut [u8]) {
+    let mut state = 1;
+    for byte in bytes.iter_mut() {
+        *byte = (next(&mut state) % 256) as u8;
+    }
+}
+
+// Writes the bytes in pieces of 1 to `most`, until they are taken or the stream is over.
+fn send_all<E: End, R: Wait>(rt: &R, end: &mut E, bytes: &[u8], most: usize)
+    requires { 0 < most }
+{
+    let mut state = 2;
+    let mut rest = bytes;
+    for _ in rt.forever() {
+        if rest.is_empty() {
+            return;
+        }
+        let count = (next(&mut state) % most + 1).min(rest.len());
+        match end.write(&rest[..count]) {
+            Put::Took(taken) => rest = &rest[taken..],
+            Put::Full => end.rest(rt),
+            Put::Over => return,
+        }
+    }
+}
+
+// Reads in pieces of 1 to 4,096, until so many bytes have come or the stream is over.
+fn get_all<E: End, R: Wait>(
+    rt: &R,
+    end: &mut E,
+    got: &mut Vec<u8>,
+    wanted: usize,
+) -> Result<(), AllocError> {
+    let mut state = 3;
+    let mut buf = [0u8; 4096];
+    for _ in rt.forever() {
+        if got.len() >= wanted {
+            return Ok(());
+        }
+        let count = next(&mut state) % 4096 + 1;
+        match end.read(&mut buf[..count]) {
+            Got::Bytes(came) => got.extend_from_slice(&buf[..came])?,
+            Got::Nothing => end.rest(rt),
+            Got::Over => return Ok(()),
+        }
+    }
+    Ok(())
+}
+
+// Sends the bytes from one thread to another, and cuts the stream behind them if asked to. Whether what came is a
+// beginning of them, and all of them where nothing was cut.
+fn carries<E: End + Send, R: Threads + Wait + Sync>(
+    rt: &R,
+    ends: &mut (E, E),
+    got: &mut Vec<u8>,
+    sent: &[u8],
+    cuts: bool,
+) -> bool {
+    let (a, b) = (&mut ends.0, &mut ends.1);
+    let came = &mut *got;
+    let (_, read) = thread::join(
+        rt,
+        move || {
+            send_all(rt, a, sent, 9000);
+            if cuts {
+                a.shut();
+            }
+        },
+        move || get_all(rt, b, came, MEGABYTE),
+    );
+    read.is_ok() && sent.starts_with(got) && (cuts || got.len() == sent.len())
+}
+
+#[test]
+fn a_megabyte_in_random_pieces_arrives_as_it_was_sent(rt: HostRuntime) -> Result<(), Fail> {
+    let alloc = rt.alloc();
+    let mut sent = vec![in alloc; 0u8; MEGABYTE]?;
+    fill(&mut sent);
+    assert!(rt; is_carried(&rt, alloc, &sent, false)?);
+    Ok(())
+}
+
+fn is_carried<R: Threads + Wait + Net + Sync>(
+    rt: &R,
+    alloc: Global,
+    sent: &[u8],
+    cuts: bool,
+) -> Result<bool, Fail> {
+    let mut wire = MemWire::new(alloc, Vec::new(alloc), Vec::new(alloc));
+    let mut ends = wire.open(rt, 1, 2, 1).map_err(|_| "no memory")?;
+    Ok(carries(rt, &mut ends, &mut Vec::new(alloc), sent, cuts))
+}
+
+#[test]
+fn cuts_at_every_byte_of_a_frame_leave_a_prefix(rt: HostRuntime) -> Result<(), Fail> {
+    let mut frame = [0u8; 60];
+    fill(&mut frame);
+    for count in 0..=60 {
+        assert!(rt; is_carried(&rt, rt.alloc(), &frame[..count], true)?);
+    }
+    Ok(())
+}
+
+fn shutting(mut end: MemEnd) -> MemEnd
+    ensures { Remains memory_means end result }
+{
+    end.shut();
+    end
+}
+
+// What the ends of a stream answer once both have been shut at once and have met.
+fn race<R: Threads + Sync>(rt: &R, a: MemEnd, b: MemEnd) -> (Got, Put)
+    requires { memory_means.meets a b }
+{
+    let (mut a, mut b) = thread::join(
+        rt,
+        move || -> MemEnd
+            ensures { Remains memory_means a result }
+        { shutting(a) },
+        move || -> MemEnd
+            ensures { Remains memory_means b result }
+        { shutting(b) },
+    );
+    MemWire::meet(&mut a, &mut b);
+    (a.read(&mut [0; 8]), b.write(&[1]))
+}
+
+fn raced<R: Threads + Wait + Net + Sync>(rt: &R, wire: &mut MemWire) -> Option<(Got, Put)> {
+    let Ok((a, b)) = wire.open(rt, 1, 2, 1) else {
+        return None;
+    };
+    Some(race(rt, a, b))
+}
+
+#[test]
+fn both_ends_shut_at_once(rt: HostRuntime) -> Result<(), Fail> {
+    let alloc = rt.alloc();
+    let mut wire = MemWire::new(alloc, Vec::new(alloc), Vec::new(alloc));
+    for _ in 0..20 {
+        assert_eq!(rt; raced(&rt, &mut wire), Some((Got::Over, Put::Over)));
+    }
+    Ok(())
+}
+
+// The answers to a write, a read of what came and a read of nothing.
+fn answers<E: End>(a: &mut E, b: &mut E) -> (Put, Got, Got) {
+    let mut buf = [0u8; 8];
+    let sent = b.write(b"hello");
+    a.write(b"hi");
+    let came = b.read(&mut buf);
+    (sent, came, b.read(&mut buf))
+}
+
+// These answers of an end whose call with this number fails, and how many faults it has had.
+fn failing<R: Threads + Wait + Net>(
+    rt: &R,
+    alloc: Global,
+    number: u32,
+) -> Result<((Put, Got, Got), u64), Fail> {
+    let mut wire = MemWire::new(alloc, Vec::new(alloc), vec![in alloc; number]?);
+    let (mut a, mut b) = wire.open(rt, 1, 2, 1).map_err(|_| "no memory")?;
+    let all = answers(&mut a, &mut b);
+    wire.give_back(rt, b);
+    Ok((all, wire.faults()))
+}
+
+#[test]
+fn every_call_of_an_end_fails_in_turn(rt: HostRuntime) -> Result<(), Fail> {
+    let alloc = rt.alloc();
+    let over = (Put::Over, Got::Over, Got::Over);
+    assert_eq!(rt; failing(&rt, alloc, 1)?, (over, 1));
+    let over = (Put::Took(5), Got::Over, Got::Over);
+    assert_eq!(rt; failing(&rt, alloc, 2)?, (over, 1));
+    let over = (Put::Took(5), Got::Bytes(2), Got::Over);
+    assert_eq!(rt; failing(&rt, alloc, 3)?, (over, 1));
+    let none = (Put::Took(5), Got::Bytes(2), Got::Nothing);
+    assert_eq!(rt; failing(&rt, alloc, 4)?, (none, 0));
+    Ok(())
+}
+
+fn refused<R: Threads + Wait + Net>(rt: &R, wire: &mut MemWire) -> bool {
+    matches!(wire.open(rt, 1, 2, 1), Err(WireError::Fault))
+}
+
+#[test]
+fn openings_fail_by_their_numbers(rt: HostRuntime) -> Result<(), Fail> {
+    let alloc = rt.alloc();
+    let mut wire = MemWire::new(alloc, vec![in alloc; 1, 2, 4]?, Vec::new(alloc));
+    assert!(rt; refused(&rt, &mut wire) && refused(&rt, &mut wire));
+    assert!(rt; !refused(&rt, &mut wire) && refused(&rt, &mut wire));
+    assert_eq!(rt; wire.faults(), 3);
+    assert!(rt; wire.tells() && OpenGate.at(0, 0));
+    Ok(())
+}
+
+fn overfilled<R: Threads + Wait + Net>(rt: &R, wire: &mut MemWire) -> Result<(Put, Put), Fail> {
+    let (mut a, _b) = wire.open(rt, 1, 2, 1).map_err(|_| "no memory")?;
+    let piece = [7; ROOM + 1];
+    let answers = (a.write(&piece), a.write(&piece));
+    wire.give_back(rt, a);
+    Ok(answers)
+}
+
+#[test]
+fn a_full_stream_takes_no_byte_more(rt: HostRuntime) -> Result<(), Fail> {
+    let alloc = rt.alloc();
+    let mut wire = MemWire::new(alloc, Vec::new(alloc), Vec::new(alloc));
+    assert_eq!(rt; overfilled(&rt, &mut wire)?, (Put::Took(ROOM), Put::Full));
+    assert_eq!(rt; wire.fulls(), 1);
+    Ok(())
+}

@@ -1,0 +1,5 @@
+//! Tests of the connections of several hosts.
+#![tactic(auto)]
+
+#[cfg(test)]
+mod meshing;

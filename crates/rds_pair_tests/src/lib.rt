@@ -1,0 +1,5 @@
+//! Tests of two connections.
+#![tactic(auto)]
+
+#[cfg(test)]
+mod running;

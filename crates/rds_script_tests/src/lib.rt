@@ -1,0 +1,5 @@
+//! Tests of the reader of scripts.
+#![tactic(auto)]
+
+#[cfg(test)]
+mod reading;

@@ -1,0 +1,5 @@
+//! Tests of printed lines.
+#![tactic(auto)]
+
+#[cfg(test)]
+mod lines;

@@ -1,0 +1,148 @@
+//! Tests by whole texts.
+use rds_link::{Gate, MemSink, MemWire, OpenGate};
+use rds_model::MAX_ENTRIES;
+use rds_script::read;
+use rds_threads::{Form, run};
+use std::alloc::Global;
+use std::net::Net;
+use std::sync::Wait;
+use std::sync::atomic::{AtomicBool, Ordering};
+use std::test::Fail;
+use std::thread;
+use std::thread::Threads;
+
+const HELLO: &[u8] =
+    b"hosts 2\nbind A 4000 65536 65536\nbind B 4001 65536 65536\nsend A 4000 B 4001 t:hello\ndrain\nrecv B 4001\n";
+
+const HELLO_TEXT: &[u8] =
+    b"A:4000>B:4001 accepted 1 received 1 unread 0 dropped 0 port0 0 cancelled 0 pending 0\n data=68656c6c6f\nend ok\n";
+
+// Three hosts, each of which sends to each other one. One of their streams is cut.
+const THREE: &[u8] = b"hosts 3\n\
+bind A 4000 65536 65536\nbind B 4001 65536 65536\nbind C 4002 65536 65536\n\
+send A 4000 B 4001 t:ab\nsend A 4000 C 4002 t:ac\ncut A B\n\
+send B 4001 A 4000 t:ba\nsend B 4001 C 4002 t:bc\n\
+send C 4002 A 4000 t:ca\nsend C 4002 B 4001 t:cb\n\
+drain\nrecv C 4002\n";
+
+const THREE_TEXT: &[u8] =
+    b"B:4001>A:4000 accepted 1 received 1 unread 0 dropped 0 port0 0 cancelled 0 pending 0\n data=6261\n\
+C:4002>A:4000 accepted 1 received 1 unread 0 dropped 0 port0 0 cancelled 0 pending 0\n data=6361\n\
+A:4000>B:4001 accepted 1 received 1 unread 0 dropped 0 port0 0 cancelled 0 pending 0\n data=6162\n\
+C:4002>B:4001 accepted 1 received 1 unread 0 dropped 0 port0 0 cancelled 0 pending 0\n data=6362\n\
+A:4000>C:4002 accepted 1 received 1 unread 0 dropped 0 port0 0 cancelled 0 pending 0\n data=6163\n\
+B:4001>C:4002 accepted 1 received 1 unread 0 dropped 0 port0 0 cancelled 0 pending 0\n data=6263\n\
+end ok\n";
+
+// What a run of the script writes over streams in memory, of which these openings and these calls of each end fail.
+fn written<G: Gate + Sync, R: Threads + Wait + Net + Sync>(
+    rt: &R,
+    alloc: Global,
+    script: &[u8],
+    fail_open: Vec<u32>,
+    fail_end: Vec<u32>,
+    gate: &G,
+) -> Option<MemSink> {
+    let script = read(alloc, script).ok()?;
+    let mut wire = MemWire::new(alloc, fail_open, fail_end);
+    let mut sink = MemSink::new(alloc, Vec::new(alloc));
+    run(
+        rt,
+        alloc,
+        &script,
+        &mut wire,
+        gate,
+        Form::Report,
+        MAX_ENTRIES,
+        20_000_000,
+        &mut sink,
+    );
+    Some(sink)
+}
+
+#[test]
+fn a_datagram_is_received(rt: HostRuntime) -> Result<(), Fail> {
+    let alloc = rt.alloc();
+    let none = Vec::new(alloc);
+    let sink = written(&rt, alloc, HELLO, none, Vec::new(alloc), &OpenGate);
+    assert_eq!(rt; sink.expect(&rt, "memory").held(), HELLO_TEXT);
+    Ok(())
+}
+
+#[test]
+fn three_hosts_send_to_each_other(rt: HostRuntime) -> Result<(), Fail> {
+    let alloc = rt.alloc();
+    let none = Vec::new(alloc);
+    let sink = written(&rt, alloc, THREE, none, Vec::new(alloc), &OpenGate);
+    assert_eq!(rt; sink.expect(&rt, "memory").held(), THREE_TEXT);
+    Ok(())
+}
+
+#[test]
+fn no_stream_can_be_opened(rt: HostRuntime) -> Result<(), Fail> {
+    let alloc = rt.alloc();
+    let all = vec![in alloc; 1, 2, 3]?;
+    let sink = written(&rt, alloc, HELLO, all, Vec::new(alloc), &OpenGate);
+    let line = b"wire fault A B after k=0\n".as_slice();
+    assert_eq!(rt; sink.expect(&rt, "memory").held(), line);
+    Ok(())
+}
+
+// Whether a run whose ends fail at their call number `call` writes the report, or that no stream is left after the last one.
+fn ends_well<R: Threads + Wait + Net + Sync>(rt: &R, alloc: Global, call: u32) -> Option<bool> {
+    let mut fail = Vec::new(alloc);
+    fail.push(call).ok()?;
+    let sink = written(rt, alloc, HELLO, Vec::new(alloc), fail, &OpenGate)?;
+    let line = b"wire fault A B after k=3\n".as_slice();
+    Some(sink.held() == HELLO_TEXT || sink.held() == line)
+}
+
+#[test]
+fn ends_that_fail_once(rt: HostRuntime) -> Result<(), Fail> {
+    for call in 1..=60 {
+        assert_eq!(rt; ends_well(&rt, rt.alloc(), call), Some(true));
+    }
+    Ok(())
+}
+
+// A gate that lets neither caller go on before the other has come, or a long time has passed.
+#[derive(Drop)]
+struct Meeting {
+    low: AtomicBool,
+    high: AtomicBool,
+    late: AtomicBool,
+}
+
+impl Gate for Meeting {
+    fn at(&self, point: u32, _turn: u32) -> bool {
+        let (own, other) = if point == 0 {
+            (&self.low, &self.high)
+        } else {
+            (&self.high, &self.low)
+        };
+        own.store(true, Ordering::SeqCst);
+        for _ in 0..50_000_000 {
+            if other.load(Ordering::SeqCst) {
+                return true;
+            }
+            thread::yield_now();
+        }
+        self.late.store(true, Ordering::SeqCst);
+        true
+    }
+}
+
+#[test]
+fn both_callers_wait_at_once(rt: HostRuntime) -> Result<(), Fail> {
+    let alloc = rt.alloc();
+    let gate = Meeting {
+        low: AtomicBool::new(false),
+        high: AtomicBool::new(false),
+        late: AtomicBool::new(false),
+    };
+    let none = Vec::new(alloc);
+    let sink = written(&rt, alloc, HELLO, none, Vec::new(alloc), &gate);
+    assert_eq!(rt; sink.expect(&rt, "memory").held(), HELLO_TEXT);
+    assert!(rt; !gate.late.load(Ordering::SeqCst));
+    Ok(())
+}
