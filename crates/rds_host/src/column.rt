@@ -135,6 +135,7 @@ impl Column {
         ensures boxes { IfOk result (λ line. line.boxes ≡ self.boxes) }
         ensures ports { IfOk result (λ line. line.ports.table ≡ arc_value seats.table) }
         ensures words { IfOk result (λ line. line.words.table ≡ arc_value seats.meter) }
+        ensures own { IfOk result (λ line. line.words ≡ seats.own) }
     {
         let Column {
             peer,
