@@ -11,6 +11,7 @@ use Rattle.rds_socket.specs.Calls.{with_inbox, after_taking_out}
 use Rattle.rds_socket.specs.Stays.{HoldingStays}
 use Rattle.rds_callers.specs.Places.{PlaceKeeps}
 use Rattle.rds_callers.specs.Ends.{IsEndOf}
+use Rattle.rds_callers.proofs.Storing.{stores_same, stores_then}
 
 -- one more was got and kept
 pub kept_more : (got new : List Datagram) (get after : Getter Datagram) (number : Number) (item : Datagram)
@@ -20,7 +21,7 @@ kept_more got new get after number item kept more taken =
 
 pub keeps_same : (h : Holding ReaderView) → PlaceKeeps h h
 keeps_same h = record {
-  stays = record { slot = refl; table = refl; meter = refl; bell = refl; mail = refl; routes = stay_same (λ (r : ReaderView). r.pair) HasSeen h.routes };
+  stays = record { slot = refl; table = refl; meter = refl; seats = refl; bell = refl; mail = refl; routes = stay_same (λ (r : ReaderView). r.pair) HasSeen h.routes };
   joined = refl;
   told = refl;
 }
@@ -31,6 +32,7 @@ keeps_then a b c x y = record {
     slot = y.stays.slot ∙ x.stays.slot;
     table = y.stays.table ∙ x.stays.table;
     meter = y.stays.meter ∙ x.stays.meter;
+    seats = y.stays.seats ∙ x.stays.seats;
     bell = y.stays.bell ∙ x.stays.bell;
     mail = y.stays.mail ∙ x.stays.mail;
     routes = stay_on (λ (r : ReaderView). r.pair) HasSeen a.routes b.routes c.routes x.stays.routes y.stays.routes;
@@ -40,10 +42,10 @@ keeps_then a b c x y = record {
 }
 
 pub ends_same : (h : Holding ReaderView) → IsEndOf h h
-ends_same h = record { keeps = keeps_same h; routes = refl; ports = refl }
+ends_same h = record { keeps = keeps_same h; routes = refl; ports = refl; stored = stores_same h h refl }
 
 pub ends_then : (a b c : Holding ReaderView) → IsEndOf a b → IsEndOf b c → IsEndOf a c
-ends_then a b c x y = record { keeps = keeps_then a b c x.keeps y.keeps; routes = y.routes ∙ x.routes; ports = y.ports ∙ x.ports }
+ends_then a b c x y = record { keeps = keeps_then a b c x.keeps y.keeps; routes = y.routes ∙ x.routes; ports = y.ports ∙ x.ports; stored = stores_then a b c x.stored y.stored }
 
 -- one more was taken out and listed
 pub taken_more : (base list new : List Datagram) (get after : Getter Datagram) (number : Number) (item : Datagram)
@@ -58,4 +60,5 @@ taken_end old new number item stays is = record {
   keeps = record { stays = stays; joined = ap (λ (h : Holding ReaderView). h.inbox.get.joined) is; told = ap (λ (h : Holding ReaderView). h.inbox.get.told) is };
   routes = ap (λ (h : Holding ReaderView). h.routes) is;
   ports = ap (λ (h : Holding ReaderView). h.ports) is;
+  stored = stores_same old new (ap (λ (h : Holding ReaderView). h.words) is);
 }

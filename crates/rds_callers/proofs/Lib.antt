@@ -1,4 +1,5 @@
 pub mod Asking
+pub mod Storing
 pub mod Keeping
 pub mod Claiming
 pub mod Putting

@@ -1,5 +1,6 @@
 -- What is left of the slots of a caller. This project's own.
 use Rattle.std.specs.Prelude.{◌≡◌, ℕ, List, [], ◌++◌, All, Option, Some, None, length, map, slice_get}
+use Rattle.rds_meter.specs.Shared.{HasStored}
 use Rattle.rds_fmap.specs.Readers.{ReaderView}
 use Rattle.rds_mail.specs.Learning.{AllGot}
 use Rattle.rds_mail.specs.Numbers.{bare_items}
@@ -9,11 +10,16 @@ use Rattle.rds_report.specs.declared.final_state.Kept.{Kept}
 use Rattle.rds_socket.specs.Holding.{Holding}
 use Rattle.rds_callers.specs.Places.{Place, Vacant, Bound, Ended, Spare, PlaceKeeps, holding_of, somes}
 
--- the end of a slot: it is the same slot, no order was put since, and no step was made at the port table
+-- each receive limit that the second has stored at the meter the first had stored
+abbrev pub StoresNoMore : Holding ReaderView → Holding ReaderView → Type 0
+StoresNoMore old new = (slot limit : ℕ) → HasStored slot limit new.words.seat.view → HasStored slot limit old.words.seat.view
+
+-- the end of a slot: it is the same slot, no order was put since, no step was made at the port table, and no receive limit was stored
 pub record IsEndOf (old new : Holding ReaderView) : Type 0 where
   pub keeps : PlaceKeeps old new
   pub routes : new.routes ≡ old.routes
   pub ports : new.ports ≡ old.ports
+  pub stored : StoresNoMore old new
 
 -- one end of each slot, in order
 pub record AreEndsOf (places : List Place) (closed : List (Holding ReaderView)) : Type 0 where

@@ -45,7 +45,7 @@ impl Tenant {
     ghost use Rattle.rds_socket.specs.Calls.{IsClosed, IsReceived, with_own, with_inbox};
     ghost use Rattle.rds_callers.specs.Places.{PlaceKeeps, bound_place};
     ghost use Rattle.rds_callers.specs.Tenants.{Asks, ReceivesNext, SendsOrNot};
-    ghost use Rattle.rds_callers.specs.Ends.{IsEndOf};
+    ghost use Rattle.rds_callers.specs.Ends.{IsEndOf, StoresNoMore};
 
     /// A socket that handed out nothing.
     pub(crate) fn new(alloc: Global, socket: Socket<Reader>) -> Tenant
@@ -95,6 +95,7 @@ impl Tenant {
         ensures port { self.new.socket.port ≡ self.old.socket.port }
         ensures keeps { PlaceKeeps self.old.socket.own self.new.socket.own }
         ensures routes { self.new.socket.own.routes ≡ self.old.socket.own.routes }
+        ensures stored { StoresNoMore self.old.socket.own self.new.socket.own }
     {
         if self.got.reserve(1).is_err() {
             return Err(Memory);

@@ -6,3 +6,4 @@ pub mod Joining
 pub mod Looking
 pub mod Owning
 pub mod Cutting
+pub mod Raising

@@ -128,7 +128,7 @@ same_seats P slots others lines rest one two all =
     subst (λ (l : List PortSeat). All (λ (slot : PortSeat). All (P slot) rest) l) one
     (subst (λ (l : List PortSeat). All (λ (slot : PortSeat). All (P slot) l) slots) two all)
 
-each_of : {X : Type 0} (P : X → Type 0) (xs : List X) → ((i : ℕ) (x : X) → slice_get xs i ≡ Some x → P x) → All P xs
+pub each_of : {X : Type 0} (P : X → Type 0) (xs : List X) → ((i : ℕ) (x : X) → slice_get xs i ≡ Some x → P x) → All P xs
 each_of P xs each k d small = each k (get_or xs k d) (slice_get-get_or xs k d small)
 
 abbrev pub slot_seat : Holding ReaderView → PortSeat

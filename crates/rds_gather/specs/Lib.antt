@@ -5,3 +5,4 @@ pub mod Joined
 pub mod Heard
 pub mod Owned
 pub mod Cuts
+pub mod Grounded

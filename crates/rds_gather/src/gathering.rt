@@ -3,10 +3,12 @@ ghost use Rattle.rds_report.specs.Views.{side_view};
 ghost use Rattle.rds_host.specs.Passes.{AreAllPasses};
 ghost use Rattle.rds_host.specs.Ties.{AreOfHost};
 ghost use Rattle.rds_gather.specs.Cuts.{AreCutsOfSlots};
+ghost use Rattle.rds_gather.specs.Grounded.{AreMapsGrounded};
 ghost use Rattle.rds_gather.specs.Joined.{AreJoined, AreLooksOfJournals};
 ghost use Rattle.rds_gather.specs.Owned.{AreFound, AreOwned};
 ghost use Rattle.rds_gather.specs.Sides.{line_side};
 
+use crate::grounds::find_grounds;
 use crate::lines::take_lines;
 use crate::orders::join_all_orders;
 use crate::owners::find_owners;
@@ -22,8 +24,8 @@ use std::alloc::Global;
 use std::sync::Wait;
 
 /// Takes the slots and the lines of a host apart, gives every end back to the wire, joins all putters of each order queue and of
-/// each mailbox into its getter and all readers of each map into its writer, tells the slots' seats at the port table what the
-/// lines looked up there, and answers the journals beside what was kept.
+/// each mailbox into its getter, all readers of each map into its writer and all seats at the meter into one, tells the slots' seats
+/// at the port table what the lines looked up there, and answers the journals beside what was kept.
 ///
 /// # Errors
 ///
@@ -46,11 +48,13 @@ pub fn gather<W: Wire, R: Wait>(
     ensures looks { OnOk result (AreLooksOfJournals closed.items lines.items) }
     ensures owned { OnOk result (AreOwned closed.items lines.items) }
     ensures found { OnOk result (AreFound closed.items lines.items) }
+    ensures grounded { OnOk result (AreMapsGrounded closed.items lines.items) }
     ensures cut { OnOk result (AreCutsOfSlots closed.items lines.items) }
 {
     let mut left = take_lines(rt, alloc, wire, lines)?;
     let mut slots = take_slots(alloc, closed)?;
     find_owners(left.ports, slots.ports);
+    find_grounds(slots.words, left.words)?;
     join_all_orders(rt, alloc, left.orders, &mut slots.routes)?;
     join_all_receipts(rt, alloc, slots.inboxes, &mut left.boxes)?;
     Ok(HostEnd {

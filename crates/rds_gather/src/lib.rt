@@ -2,6 +2,7 @@
 #![tactic(auto)]
 
 mod gathering;
+mod grounds;
 mod lines;
 mod orders;
 mod owners;

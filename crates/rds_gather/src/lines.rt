@@ -9,7 +9,7 @@ ghost use Rattle.rds_gather.specs.Sides.{line_side};
 
 use rds_fmap::Writer;
 use rds_line::{Line, LineParts};
-use rds_line_parts::{Boxes, LineOrders, LinePorts, SlotBox};
+use rds_line_parts::{Boxes, LineOrders, LinePorts, LineWords, SlotBox};
 use rds_link::Wire;
 use rds_model::Journal;
 use rds_wire::Memory;
@@ -18,13 +18,14 @@ use std::sync::Wait;
 use std::vec::IntoIter;
 
 /// What is left of the lines of a host: the journals, each beside the peer's address, the queues of their orders, each beside who
-/// published the peer's map, and of each line its putters at the mailboxes and its seat at the port table.
+/// published the peer's map, and of each line its putters at the mailboxes and its seats at the port table and the meter.
 #[derive(Drop)]
 pub(crate) struct LinesLeft {
     pub(crate) journals: Vec<(u32, Journal)>,
     pub(crate) orders: Vec<(LineOrders, Writer)>,
     pub(crate) boxes: Vec<IntoIter<SlotBox>>,
     pub(crate) ports: Vec<LinePorts>,
+    pub(crate) words: Vec<LineWords>,
 }
 
 // What is left of a line.
@@ -36,6 +37,7 @@ struct LineLeft {
     map: Writer,
     boxes: Boxes,
     ports: LinePorts,
+    words: LineWords,
 }
 
 impl LinesLeft {
@@ -45,6 +47,7 @@ impl LinesLeft {
         ensures orders { OnOk result (self.new.orders.items ≡ self.old.orders.items ++ (line.orders, line.map) ∷ []) }
         ensures boxes { OnOk result (rows_left self.new.boxes.items ≡ rows_left self.old.boxes.items ++ line.boxes ∷ []) }
         ensures ports { OnOk result (self.new.ports.items ≡ self.old.ports.items ++ line.ports ∷ []) }
+        ensures words { OnOk result (self.new.words.items ≡ self.old.words.items ++ line.words ∷ []) }
     {
         let LineLeft {
             peer,
@@ -53,11 +56,13 @@ impl LinesLeft {
             map,
             boxes,
             ports,
+            words,
         } = line;
         self.journals.push((peer, journal))?;
         self.orders.push((orders, map))?;
         self.boxes.push(boxes.into_vec().into_iter())?;
         self.ports.push(ports)?;
+        self.words.push(words)?;
         Ok(())
     }
 
@@ -67,12 +72,14 @@ impl LinesLeft {
         ensures orders { self.new.orders.items ≡ self.old.orders.items }
         ensures boxes { self.new.boxes.items ≡ self.old.boxes.items }
         ensures ports { self.new.ports.items ≡ self.old.ports.items }
+        ensures words { self.new.words.items ≡ self.old.words.items }
     {
         let journals = self.journals.reserve(lines);
         let orders = self.orders.reserve(lines);
         let boxes = self.boxes.reserve(lines);
         let ports = self.ports.reserve(lines);
-        journals.and(orders).and(boxes).and(ports)?;
+        let words = self.words.reserve(lines);
+        journals.and(orders).and(boxes).and(ports).and(words)?;
         Ok(())
     }
 }
@@ -88,6 +95,7 @@ pub(crate) fn take_lines<W: Wire, R: Wait>(
     ensures orders { IfOk result (λ left. left.orders.items ≡ map (λ line. (line.orders, line.map)) lines.items) }
     ensures boxes { IfOk result (λ left. rows_left left.boxes.items ≡ map (λ line. line.boxes) lines.items) }
     ensures ports { IfOk result (λ left. left.ports.items ≡ map (λ line. line.ports) lines.items) }
+    ensures words { IfOk result (λ left. left.words.items ≡ map (λ line. line.words) lines.items) }
     ensures kept { All (KeepsLine (λ w. w.published)) lines.items }
     ensures cut { All HasCut lines.items }
 {
@@ -96,6 +104,7 @@ pub(crate) fn take_lines<W: Wire, R: Wait>(
         orders: Vec::new(alloc),
         boxes: Vec::new(alloc),
         ports: Vec::new(alloc),
+        words: Vec::new(alloc),
     };
     let mut all = left.reserve(lines.len());
     for line in lines {
@@ -114,6 +123,7 @@ fn take_line<W: Wire, R: Wait>(rt: &R, wire: &mut W, line: Line<W::End, Writer>)
     ensures map { result.map ≡ line.map }
     ensures boxes { result.boxes ≡ line.boxes }
     ensures ports { result.ports ≡ line.ports }
+    ensures words { result.words ≡ line.words }
     ensures kept { KeepsLine (λ w. w.published) line }
     ensures cut { HasCut line }
 {
@@ -126,7 +136,7 @@ fn take_line<W: Wire, R: Wait>(rt: &R, wire: &mut W, line: Line<W::End, Writer>)
         orders,
         inboxes,
         ports,
-        words: _words,
+        words,
         map,
     } = parts;
     for (_, end) in streams {
@@ -139,6 +149,7 @@ fn take_line<W: Wire, R: Wait>(rt: &R, wire: &mut W, line: Line<W::End, Writer>)
         map,
         boxes: inboxes,
         ports,
+        words,
     }
 }
 
@@ -153,6 +164,7 @@ pub fn end_line<W: Wire, R: Wait>(rt: &R, wire: &mut W, line: Line<W::End, Write
         map: _map,
         boxes: _boxes,
         ports: _ports,
+        words: _words,
     } = take_line(rt, wire, line);
     journal
 }

@@ -17,7 +17,7 @@ use Rattle.rds_line.specs.Line.{LineView}
 use Rattle.rds_model.specs.declared.entry.TheConstants.{MAX_SLOTS}
 use Rattle.rds_line_channel.specs.Channel.{ChannelView, new_channel}
 use Rattle.rds_host.specs.Lines.{AreNewLines}
-use Rattle.rds_host.specs.Passes.{AreAllPasses, putter_number, splits_at}
+use Rattle.rds_host.specs.Passes.{line_seats, slot_seats, AreAllPasses, putter_number, splits_at}
 use Rattle.rds_host.specs.Slots.{AreInPlace}
 use Rattle.rds_host.specs.Ties.{Way, ColumnView, IsSlotOf, IsLineOf, AreLinesOf, AreOfHost, IsColumnFilled, AreColumnsFilled, IsFront, IsNextOf, AreNextOf, new_putter, putters_from, popped, inbox_of, with_box, with_boxes, ways_of, peers_to, lane_way}
 
@@ -316,6 +316,10 @@ in_place_push {R} vacants vacant all last place other stands =
     (λ (new : (place ≡ length vacants) × (vacant ≡ other)). ap (λ (h : Holding R). h.words.slot) (sym new.1) ∙ (last ∙ sym new.0))
     (pushed_at vacants vacant other place stands)
 
+pub pushed_here : {X : Type 0} (xs : List X) (x : X) → slice_get (xs ++ x ∷ []) (length xs) ≡ Some x
+pushed_here [] x = refl
+pushed_here (y ∷ xs) x = pushed_here xs x
+
 module _ {E : Type 0} where
   -- one more line
   pub lines_push : (me limit : ℕ) (table meter : Table) (columns : List ColumnView) (streams : List (List (ℕ × E))) (lines : List (LineView E WriterView))
@@ -342,6 +346,18 @@ module _ {E : Type 0} where
         (subst (λ (l : LineView E WriterView). IsLineOf me limit table meter column list l) newer.1 last)))
         (pushed_at lines line made place at_line))
         (pushed_at columns column col place at_column);
+  }
+
+  -- where there are more streams than columns
+  pub lines_among : (me limit : ℕ) (table meter : Table) (columns : List ColumnView) (streams : List (List (ℕ × E))) (more : List (ℕ × E)) (lines : List (LineView E WriterView)) →
+      length streams ≡ length columns → AreLinesOf me limit table meter columns streams lines → AreLinesOf me limit table meter columns (streams ++ more ∷ []) lines
+  lines_among me limit table meter columns streams more lines size all = record {
+    count = all.count;
+    each = λ place column list line at_column at_streams at_line.
+        ⊎_elim
+        (λ (there : slice_get streams place ≡ Some list). all.each place column list line at_column there at_line)
+        (λ (new : (place ≡ length streams) × (more ≡ list)). absurd (let small = slice_get_within columns place column at_column in let at = new.0 in omega arith))
+        (pushed_at streams more list place at_streams);
   }
 
   -- the same line at tables that are known under other names
@@ -426,8 +442,9 @@ module _ {E : Type 0} where
     }
 
     -- and no putter of theirs is missing
-    pub all_passes : length vacants ≡ slots → Ascend (peers_to (ways_of columns)) → AreAllPasses vacants lines
-    all_passes made ascend =
+    pub all_passes : length vacants ≡ slots → Ascend (peers_to (ways_of columns)) → slot_seats vacants + line_seats lines ≡ 4095 →
+        AreAllPasses vacants lines
+    all_passes made ascend stand =
         let size : length lines ≡ length columns = all.count in
         record {
           places = in_place;
@@ -451,6 +468,7 @@ module _ {E : Type 0} where
                 ap (λ (b : Putter Datagram). b.number) is,
                 ap (λ (b : Putter Datagram). b.splits) is ∙ ap (λ (n : ℕ). splits_at n place) (sym size),
               );
+          seats = stand;
           no_order_joined = λ place line at. (column_of place line at).2.1.joined;
           no_box_joined = λ slot h at. ap (λ (g : Getter Datagram). g.joined) (slot_is slot h at).get;
         }

@@ -66,6 +66,19 @@ module _ (table meter : Table) (seat : PortSeat) (own : MeterSeat) (free : AreFr
     few = free.few;
   })
 
+  -- a new seat at the port table, and the same at the meter
+  pub last_free : (new : PortSeat) → new ≡ knowing seat (newcomer seat.view) → AreFree table new meter own
+  last_free new is = subst (λ (h : PortSeat). AreFree table h meter own) (sym is) (record {
+    table_of = free.table_of;
+    slot = refl;
+    port = refl;
+    claimed = none_claimed (newcomer seat.view) refl;
+    idle = free.idle;
+    owner = free.owner;
+    slots = free.slots;
+    few = free.few;
+  })
+
   -- and after a slot was drawn, which went to another seat
   module _ (found : ℕ) (middle : PortSeat) (drew : middle ≡ knowing seat (after_draw seat.view found)) where
     pub draw_keeps : (after : PortSeat) (rest : MeterSeat) → after ≡ knowing middle (without_slot middle.view) → rest ≡ own_after own → AreFree table after meter rest

@@ -5,6 +5,7 @@ use Rattle.std.proofs.lemmas.List.{length-map, same_lists}
 use Rattle.std.proofs.lemmas.Option.{get_or_from_slice_get}
 use Rattle.atomic_table.specs.Seated.{TableId}
 use Rattle.rds_model.specs.declared.order.Datagram.{Datagram}
+use Rattle.rds_meter.specs.Grounds.{seats_of}
 use Rattle.rds_mail.specs.Passes.{Putter}
 use Rattle.rds_fmap.specs.Readers.{HasSeen, ReaderView, WriterView}
 use Rattle.rds_parts.specs.Lanes.{Ascend, Fixed, IsLaneAt, Lane, RoutesStay, fixed}
@@ -18,6 +19,7 @@ use Rattle.rds_host.specs.Lines.{AreTurned, pair_of}
 use Rattle.rds_host.specs.Passes.{AreAllPasses, splits_at}
 use Rattle.rds_host.specs.Ties.{AreOfHost}
 use Rattle.rds_host.proofs.Columns.{mapped_at, there_is}
+use Rattle.rds_host.proofs.Standing.{total_alike}
 use Rattle.rds_host.proofs.Staying.{boxes_same, boxes_through}
 
 -- what stands in one list where something stands in another of the same length
@@ -42,7 +44,7 @@ routes_count old new stay = sym (length-map new fixed_of) ∙ (ap length stay.fi
 
 pub slot_same : (h : Holding ReaderView) → SlotKeeps h h
 slot_same h = record {
-  stays = record { slot = refl; table = refl; meter = refl; bell = refl; mail = refl; routes = record { fixed_parts = refl; seen = λ place port seen was. was } };
+  stays = record { slot = refl; table = refl; meter = refl; seats = refl; bell = refl; mail = refl; routes = record { fixed_parts = refl; seen = λ place port seen was. was } };
   joined = refl;
 }
 
@@ -55,6 +57,7 @@ slot_through old middle new first second = record {
         slot = b.slot ∙ a.slot;
         table = b.table ∙ a.table;
         meter = b.meter ∙ a.meter;
+        seats = b.seats ∙ a.seats;
         bell = b.bell ∙ a.bell;
         mail = b.mail ∙ a.mail;
         routes = record { fixed_parts = b.routes.fixed_parts ∙ a.routes.fixed_parts; seen = λ place port seen was. b.routes.seen place port seen (a.routes.seen place port seen was) };
@@ -85,7 +88,7 @@ box_was old new slot after same at =
 
 module _ {E : Type 0} where
   line_same : (line : LineView E WriterView) → LineKeeps line line
-  line_same line = record { peer = refl; mail = refl; joined = refl; boxes = boxes_same line.boxes; ports = refl; words = refl; pair = refl }
+  line_same line = record { peer = refl; mail = refl; joined = refl; boxes = boxes_same line.boxes; ports = refl; words = refl; seats = refl; pair = refl }
 
   line_through : (old middle new : LineView E WriterView) → LineKeeps old middle → LineKeeps middle new → LineKeeps old new
   line_through old middle new a b = record {
@@ -95,6 +98,7 @@ module _ {E : Type 0} where
     boxes = boxes_through old.boxes middle.boxes new.boxes a.boxes b.boxes;
     ports = b.ports ∙ a.ports;
     words = b.words ∙ a.words;
+    seats = b.seats ∙ a.seats;
     pair = b.pair ∙ a.pair;
   }
 
@@ -117,7 +121,7 @@ module _ {E : Type 0} where
     count = turned.count;
     each = λ place line after stood stands.
         let t = turned.each place line after stood stands in
-        record { peer = t.channel.peer; mail = t.mail; joined = t.joined; boxes = t.boxes; ports = t.ports; words = t.words; pair = t.map };
+        record { peer = t.channel.peer; mail = t.mail; joined = t.joined; boxes = t.boxes; ports = t.ports; words = t.words; seats = ap seats_of t.meter_view; pair = t.map };
   }
 
   module _ (slots ended : List (Holding ReaderView)) (lines after : List (LineView E WriterView)) (kept : SlotsKeep slots ended) (stay : LinesKeep lines after) where
@@ -190,6 +194,11 @@ module _ {E : Type 0} where
             b.2.1 ∙ was.0,
             b.2.2 ∙ (was.1 ∙ ap (λ (n : ℕ). splits_at n place) (sym stay.count)),
           );
+      seats =
+          let one = total_alike (λ (h : Holding ReaderView). seats_of h.words.seat.view) slots ended kept.count (λ slot h after_it stood stands. (kept.each slot h after_it stood stands).stays.seats) in
+          let two = total_alike (λ (line : LineView E WriterView). seats_of line.words.view) lines after stay.count (λ place line after_it stood stands. (stay.each place line after_it stood stands).seats) in
+          let was = all.seats in
+          omega (arith, one, two, was);
       no_order_joined = λ place line at. let l = line_was place line at in l.2.joined ∙ all.no_order_joined place l.0 l.1;
       no_box_joined = λ slot h at. let s = slot_was slot h at in s.2.joined ∙ all.no_box_joined slot s.0 s.1;
     }

@@ -3,3 +3,4 @@ pub mod Drawn
 pub mod Kept
 pub mod Staying
 pub mod Told
+pub mod Standing

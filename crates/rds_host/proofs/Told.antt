@@ -10,6 +10,7 @@ use Rattle.rds_model.specs.SumLaws.{same_list}
 use Rattle.rds_model.specs.declared.order.Datagram.{Datagram}
 use Rattle.rds_model.specs.declared.order.Order.{Order}
 use Rattle.rds_mail.specs.declared.view.Account.{Account}
+use Rattle.rds_meter.specs.Grounds.{seats_of}
 use Rattle.rds_mail.specs.Passes.{Putter, account_of, after_note}
 use Rattle.rds_bindtab.specs.Seats.{PortSeat}
 use Rattle.rds_fmap.specs.Readers.{ReaderView, WriterView}
@@ -132,7 +133,7 @@ slot_keeps : (old new : Holding ReaderView) → IsToldMore old new → SlotKeeps
 slot_keeps old new more =
     subst (SlotKeeps old) (sym more.rest)
     (record {
-      stays = record { slot = refl; table = refl; meter = refl; bell = refl; mail = refl; routes = record { fixed_parts = refl; seen = λ place port seen was. was } };
+      stays = record { slot = refl; table = refl; meter = refl; seats = refl; bell = refl; mail = refl; routes = record { fixed_parts = refl; seen = λ place port seen was. was } };
       joined = refl;
     })
 
@@ -191,6 +192,7 @@ module _ {E : Type 0} where
     boxes = subst (AreSameBoxes old.boxes) (sym (ap (λ (l : LineView E WriterView). l.boxes) more.rest)) (boxes_same old.boxes);
     ports = more.table;
     words = ap (λ (l : LineView E WriterView). l.words.table) more.rest;
+    seats = ap (λ (l : LineView E WriterView). seats_of l.words.view) more.rest;
     pair = ap (λ (l : LineView E WriterView). l.map.pair) more.rest;
   }
 

@@ -1,6 +1,7 @@
 -- What nothing that is done with the slots and lines of a host changes. Source: this project's own.
 use Rattle.std.specs.Prelude.{◌≡◌, ℕ, List, Some, length, slice_get}
 use Rattle.rds_fmap.specs.Readers.{HasSeen, ReaderView, WriterView}
+use Rattle.rds_meter.specs.Grounds.{seats_of}
 use Rattle.rds_socket.specs.Holding.{Holding}
 use Rattle.rds_socket.specs.Stays.{HoldingStays}
 use Rattle.rds_line.specs.Line.{LineView}
@@ -17,7 +18,8 @@ pub record SlotsKeep (old new : List (Holding ReaderView)) : Type 0 where
   pub each : (slot : ℕ) (h after : Holding ReaderView) → slice_get old slot ≡ Some h → slice_get new slot ≡ Some after → SlotKeeps h after
 
 module _ {E : Type 0} where
-  -- a line is the same: its peer, its queue, its putters, its seats, and the pair of the peer's map
+  -- a line is the same: its peer, its queue, its putters, its seats and for how many that at the meter stands, and the pair of the
+  -- peer's map
   pub record LineKeeps (old new : LineView E WriterView) : Type 0 where
     pub peer : new.channel.conn.peer ≡ old.channel.conn.peer
     pub mail : new.orders.mail ≡ old.orders.mail
@@ -25,6 +27,7 @@ module _ {E : Type 0} where
     pub boxes : AreSameBoxes old.boxes new.boxes
     pub ports : new.ports.table ≡ old.ports.table
     pub words : new.words.table ≡ old.words.table
+    pub seats : seats_of new.words.view ≡ seats_of old.words.view
     pub pair : new.map.pair ≡ old.map.pair
 
   -- the same lines, place by place

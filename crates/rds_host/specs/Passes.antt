@@ -1,5 +1,8 @@
--- The putters of a host's queues: which slot and which line has which, and that none is missing. Source: this project's own.
-use Rattle.std.specs.Prelude.{◌≡◌, ℕ, zero, suc, ◌-◌, List, [], ◌∷◌, Some, length, map, slice_get}
+-- The putters of a host's queues: which slot and which line has which, and that none is missing, nor a seat at its meter.
+-- Source: this project's own.
+use Rattle.std.specs.Prelude.{◌≡◌, ℕ, zero, suc, ◌+◌, ◌-◌, List, [], ◌∷◌, Some, length, map, slice_get}
+use Rattle.rds_views.specs.Views.{total}
+use Rattle.rds_meter.specs.Grounds.{seats_of}
 use Rattle.rds_mail.specs.Numbers.{Number}
 use Rattle.rds_model.specs.declared.order.Datagram.{Datagram}
 use Rattle.rds_mail.specs.Passes.{Putter}
@@ -20,9 +23,17 @@ abbrev pub splits_at : (count place : ℕ) → ℕ
 splits_at count zero = count - 1
 splits_at count (suc k) = 0
 
+-- for how many seats at the meter those of slots stand, and those of lines
+abbrev pub slot_seats : {R : Type 0} → List (Holding R) → ℕ
+slot_seats slots = total (λ h. seats_of h.words.seat.view) slots
+
+abbrev pub line_seats : {E M : Type 0} → List (LineView E M) → ℕ
+line_seats lines = total (λ line. seats_of line.words.view) lines
+
 module _ {R E M : Type 0} where
   -- The slot at each place has that putter at the order queue of each line, and the line at each place that at the mailbox of
-  -- each slot. No putter of these queues stands elsewhere, and none was joined into a getter.
+  -- each slot. No putter of these queues stands elsewhere, and none was joined into a getter. Their seats at the meter are all: they
+  -- stand for its 4,095.
   pub record AreAllPasses (slots : List (Holding R)) (lines : List (LineView E M)) : Type 0 where
     pub places : AreInPlace slots
     pub peers : Ascend (map (λ line. line.channel.conn.peer) lines)
@@ -33,4 +44,5 @@ module _ {R E M : Type 0} where
     pub boxes : (slot place : ℕ) (line : LineView E M) (box : Putter Datagram) → slice_get lines place ≡ Some line → IsBoxOf line.boxes slot box →
         (box.number ≡ putter_number place) × (box.splits ≡ splits_at (length lines) place)
     pub no_order_joined : (place : ℕ) (line : LineView E M) → slice_get lines place ≡ Some line → line.orders.joined ≡ []
+    pub seats : slot_seats slots + line_seats lines ≡ 4095
     pub no_box_joined : (slot : ℕ) (h : Holding R) → slice_get slots slot ≡ Some h → h.inbox.get.joined ≡ []

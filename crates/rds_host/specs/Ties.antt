@@ -101,6 +101,7 @@ pub record IsSlotOf (slots : ℕ) (along : List Way) (table meter : Table) (h : 
   pub ports : h.ports.table ≡ table
   pub words : h.words.seat.table ≡ meter
   pub total : h.total ≡ 0
+  pub steps : h.words.seat.view.steps ≡ []
 
 module _ {E : Type 0} where
   -- a new line of the host `me`, made of what the host has for one peer, over these streams, at these tables

@@ -136,6 +136,7 @@ impl Column {
         ensures ports { IfOk result (λ line. line.ports.table ≡ arc_value seats.table) }
         ensures words { IfOk result (λ line. line.words.table ≡ arc_value seats.meter) }
         ensures looked { IfOk result (λ line. line.ports.view.steps ≡ []) }
+        ensures own { IfOk result (λ line. line.words ≡ seats.own) }
     {
         let Column {
             peer,

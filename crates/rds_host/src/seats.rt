@@ -3,6 +3,7 @@ ghost use Rattle.std.specs.Prelude.{◌≡◌, ◌<◌, ◌≤◌, ◌-◌, ◌+
 ghost use Rattle.std.specs.Arc.{arc_value};
 ghost use Rattle.rds_model.specs.declared.entry.TheConstants.{MAX_SLOTS};
 ghost use Rattle.rds_bindtab.specs.Shared.{IsAlone};
+ghost use Rattle.rds_meter.specs.Grounds.{seats_of};
 ghost use Rattle.rds_bindtab.specs.Seats.{slot_of};
 ghost use Rattle.rds_parts.specs.Lanes.{Ascend, peers_of};
 ghost use Rattle.rds_host.specs.Seats.{AreFree, AreOfSlot};
@@ -49,6 +50,7 @@ impl Seats {
         ensures draws { IfOk result (λ s. s.seat.view.draws ≡ 0) }
         ensures seats { IfOk result (λ s. s.seat.view.splits ≡ 4094) }
         ensures words { IfOk result (λ s. s.own.view.splits ≡ 4094) }
+        ensures stand { IfOk result (λ s. seats_of s.own.view ≡ 4095) }
     {
         let (table, seat) = BindTable::new(alloc, slots)?;
         let (meter, own) = Meter::new(alloc, slots)?;
@@ -71,6 +73,7 @@ impl Seats {
         ensures same_table { IfOk result (λ s. arc_value s.table ≡ arc_value self.old.table) }
         ensures same_meter { IfOk result (λ s. arc_value s.meter ≡ arc_value self.old.meter) }
         ensures looks { IfOk result (λ s. s.seat.view.steps ≡ []) }
+        ensures stand { IfOk result (λ s. seats_of self.new.own.view + seats_of s.own.view ≡ seats_of self.old.own.view) }
     {
         let (table, meter) = self.tables()?;
         let seat = self.table.split(&mut self.seat);
@@ -81,6 +84,29 @@ impl Seats {
             meter,
             own,
         })
+    }
+
+    /// A new seat at the port table, and the one at the meter itself, which stands for all that wasn't split off it.
+    pub(crate) fn last(self) -> Seats
+        requires seats { 1 ≤ self.seat.view.splits }
+        ensures table { arc_value result.table ≡ arc_value self.table }
+        ensures meter { arc_value result.meter ≡ arc_value self.meter }
+        ensures looks { result.seat.view.steps ≡ [] }
+        ensures own { result.own ≡ self.own }
+    {
+        let Seats {
+            table,
+            mut seat,
+            meter,
+            own,
+        } = self;
+        let new = table.split(&mut seat);
+        Seats {
+            table,
+            seat: new,
+            meter,
+            own,
+        }
     }
 
     /// The seats of the port table's next slot.
@@ -96,6 +122,7 @@ impl Seats {
         ensures draws { OnOk result (self.new.seat.view.draws ≡ self.old.seat.view.draws + 1) }
         ensures words { OnOk result (self.new.own.view.splits ≡ self.old.own.view.splits - 1) }
         ensures slot { IfOk result (λ s. s.seat.view.slot ≡ Some self.old.seat.view.draws) }
+        ensures stand { IfOk result (λ s. seats_of self.new.own.view + seats_of s.own.view ≡ seats_of self.old.own.view) }
         ensures same_table { IfOk result (λ s. arc_value s.table ≡ arc_value self.old.table) }
         ensures same_meter { IfOk result (λ s. arc_value s.meter ≡ arc_value self.old.meter) }
     {
@@ -130,6 +157,7 @@ impl Seats {
         ensures few { result.0.table.slots ≤ MAX_SLOTS }
         ensures looks { result.0.view.steps ≡ self.seat.view.steps }
         ensures steps { result.1.view.steps ≡ [] }
+        ensures own { result.1 ≡ self.own }
         ensures checks { result.1.view.checks ≡ [] }
     {
         let Seats {
@@ -179,6 +207,8 @@ impl SlotSeats {
         ensures get { result.inbox.get ≡ get }
         ensures table { result.ports.table ≡ arc_value self.table }
         ensures meter { result.words.seat.table ≡ arc_value self.meter }
+        ensures own { result.words.seat ≡ self.own }
+        ensures steps { result.words.seat.view.steps ≡ [] }
         ensures total { result.total ≡ 0 }
     {
         let SlotSeats {

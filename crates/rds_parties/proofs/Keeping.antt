@@ -11,7 +11,7 @@ use Rattle.rds_parties.proofs.At.{stood_at}
 
 place_same : (h : Holding ReaderView) → PlaceKeeps h h
 place_same h = record {
-  stays = record { slot = refl; table = refl; meter = refl; bell = refl; mail = refl; routes = record { fixed_parts = refl; seen = λ place port seen is. is } };
+  stays = record { slot = refl; table = refl; meter = refl; seats = refl; bell = refl; mail = refl; routes = record { fixed_parts = refl; seen = λ place port seen is. is } };
   joined = refl;
   told = refl;
 }
@@ -22,6 +22,7 @@ place_through a b c one two = record {
     slot = two.stays.slot ∙ one.stays.slot;
     table = two.stays.table ∙ one.stays.table;
     meter = two.stays.meter ∙ one.stays.meter;
+    seats = two.stays.seats ∙ one.stays.seats;
     bell = two.stays.bell ∙ one.stays.bell;
     mail = two.stays.mail ∙ one.stays.mail;
     routes = record {

@@ -116,6 +116,7 @@ new_places count hosts host slots new place p at =
       put = new.put place h.0 h.1;
       got = new.got place h.0 h.1;
       total = new.total place h.0 h.1;
+      steps = new.steps place h.0 h.1;
     }
 
 -- nothing was done to any slot since

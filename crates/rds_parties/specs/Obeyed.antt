@@ -32,7 +32,7 @@ after_binds [] = []
 after_binds (placed ∷ commands) = if binds placed.command then after_binds commands else placed ∷ commands
 
 -- The slot at this place of one of so many hosts, which no socket had: its number is its place, it has a route to each other host and no
--- more, and it has put no order, got no datagram and sent no bytes.
+-- more, and it has put no order, got no datagram, sent no bytes and made no step at the meter.
 pub record IsNewSlot (hosts host place : ℕ) (p : Place) : Type 0 where
   pub holding : Holding ReaderView
   pub vacant : p ≡ Vacant holding
@@ -41,6 +41,7 @@ pub record IsNewSlot (hosts host place : ℕ) (p : Place) : Type 0 where
   pub put : All (λ (lane : Lane ReaderView). lane.pass.put ≡ []) holding.routes
   pub got : holding.inbox.get.got ≡ []
   pub total : holding.total ≡ 0
+  pub steps : holding.words.seat.view.steps ≡ []
 
 -- each slot of one of so many hosts is new
 abbrev pub AreNewPlaces : (hosts host : ℕ) → List Place → Type 0

@@ -3,6 +3,7 @@ use Rattle.std.proofs.Common.{◌≡◌, ℕ, zero, suc, List, [], ◌∷◌, So
 use Rattle.std.proofs.lemmas.Option.{same_Some}
 use Rattle.rds_link.specs.Ends.{Means}
 use Rattle.rds_fmap.specs.Readers.{WriterView}
+use Rattle.rds_meter.specs.Grounds.{seats_of}
 use Rattle.rds_mail.specs.Passes.{Putter}
 use Rattle.rds_model.specs.declared.order.Datagram.{Datagram}
 use Rattle.rds_line.specs.Line.{LineView}
@@ -30,7 +31,7 @@ boxes_same boxes = record {
 
 module _ {E : Type 0} where
   pub line_keeps_same : (line : LineView E WriterView) → LineKeeps line line
-  line_keeps_same line = record { peer = refl; mail = refl; joined = refl; boxes = boxes_same line.boxes; ports = refl; words = refl; pair = refl }
+  line_keeps_same line = record { peer = refl; mail = refl; joined = refl; boxes = boxes_same line.boxes; ports = refl; words = refl; seats = refl; pair = refl }
 
 boxes_through : (old middle new : List (Putter Datagram)) → AreSameBoxes old middle → AreSameBoxes middle new → AreSameBoxes old new
 boxes_through old middle new first second = record {
@@ -55,6 +56,7 @@ module _ {E : Type 0} where
       boxes = boxes_through a.boxes b.boxes c.boxes one.keeps.boxes two.keeps.boxes;
       ports = two.keeps.ports ∙ one.keeps.ports;
       words = two.keeps.words ∙ one.keeps.words;
+      seats = two.keeps.seats ∙ one.keeps.seats;
       pair = two.keeps.pair ∙ one.keeps.pair;
     };
     told = two.told ∙ one.told;
@@ -71,6 +73,7 @@ module _ {E : Type 0} where
       boxes = stays.boxes;
       ports = stays.ports;
       words = stays.words;
+      seats = ap seats_of stays.meter_view;
       pair = stays.map;
     };
     told = stays.told;

@@ -5,6 +5,7 @@ use Rattle.std.proofs.lemmas.Bool.{cases_eq}
 use Rattle.std.proofs.lemmas.List.{append-nil}
 use Rattle.rds_bindtab.specs.Seats.{PortSeat, joined, knowing, note_of, telling_of}
 use Rattle.rds_model.specs.declared.order.Datagram.{Datagram}
+use Rattle.rds_meter.specs.Grounds.{seats_of}
 use Rattle.rds_mail.specs.Passes.{Putter}
 use Rattle.rds_fmap.specs.Readers.{ReaderView, WriterView}
 use Rattle.rds_socket.specs.Holding.{Open}
@@ -117,6 +118,7 @@ module _ {E : Type 0} where
     boxes = subst (λ (b : List (Putter Datagram)). AreSameBoxes line.boxes b) (sym (ap (λ (l : LineView E WriterView). l.boxes) learns.0)) (boxes_same line.boxes);
     ports = learns.1;
     words = ap (λ (l : LineView E WriterView). l.words.table) learns.0;
+    seats = ap (λ (l : LineView E WriterView). seats_of l.words.view) learns.0;
     pair = ap (λ (l : LineView E WriterView). l.map.pair) learns.0;
   }
 

@@ -76,7 +76,7 @@ slots_same slots = record {
   count = refl;
   each = λ slot h after stood stands.
       subst (SlotKeeps h) (same_Some h after (sym stood ∙ stands)) (record {
-        stays = record { slot = refl; table = refl; meter = refl; bell = refl; mail = refl; routes = routes_same h.routes };
+        stays = record { slot = refl; table = refl; meter = refl; seats = refl; bell = refl; mail = refl; routes = routes_same h.routes };
         joined = refl;
       });
 }
@@ -85,7 +85,7 @@ slots_same slots = record {
 slot_of_hearing : (h after : Holding ReaderView) → SlotHears h after → SlotKeeps h after
 slot_of_hearing h after hears =
     subst (SlotKeeps h) (sym hears) (record {
-      stays = record { slot = refl; table = refl; meter = refl; bell = refl; mail = refl; routes = routes_same h.routes };
+      stays = record { slot = refl; table = refl; meter = refl; seats = refl; bell = refl; mail = refl; routes = routes_same h.routes };
       joined = refl;
     })
 
@@ -120,12 +120,12 @@ boxes_same boxes = record {
 
 module _ {E : Type 0} where
   pub line_keeps_same : (line : LineView E WriterView) → LineKeeps line line
-  line_keeps_same line = record { peer = refl; mail = refl; joined = refl; boxes = boxes_same line.boxes; ports = refl; words = refl; pair = refl }
+  line_keeps_same line = record { peer = refl; mail = refl; joined = refl; boxes = boxes_same line.boxes; ports = refl; words = refl; seats = refl; pair = refl }
 
   -- a line that was told of orders is kept
   line_of_hearing : (line after : LineView E WriterView) → LineHears line after → LineKeeps line after
   line_of_hearing line after hears =
-      subst (LineKeeps line) (sym hears) (record { peer = refl; mail = refl; joined = refl; boxes = boxes_same line.boxes; ports = refl; words = refl; pair = refl })
+      subst (LineKeeps line) (sym hears) (record { peer = refl; mail = refl; joined = refl; boxes = boxes_same line.boxes; ports = refl; words = refl; seats = refl; pair = refl })
 
   pub lines_of_hearing : (old new : List (LineView E WriterView)) → LinesHear old new → LinesKeep old new
   lines_of_hearing old new hear = record {

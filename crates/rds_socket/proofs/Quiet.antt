@@ -6,6 +6,7 @@ use Rattle.rds_meter.specs.declared.view.View.{View}
 use Rattle.rds_meter.specs.declared.view.Stage.{Stage}
 use Rattle.rds_meter.specs.declared.view.Stage.TheVariants.{Put}
 use Rattle.rds_meter.specs.declared.view.Step.TheVariants.{Added}
+use Rattle.rds_meter.specs.Grounds.{seats_of}
 use Rattle.rds_meter.specs.Places.{part, put_word, taken_word, map_word}
 use Rattle.rds_meter.specs.Seats.{after_add, after_store, after_load, after_lower, after_bump, is_put_word, stage_after, completed, opening, closing}
 use Rattle.rds_meter.specs.PartLaws.{part-push, amount_there}
@@ -67,3 +68,20 @@ module _ (slot : ℕ) where
 
   pub quiet_receipt : (v : View) (port limit n taken put bits change : ℕ) → IsQuietSeat slot v → IsQuietSeat slot (after_receipt v slot port limit n taken put bits change)
   quiet_receipt v port limit n taken put bits change k = quiet_putting (after_taking v slot n taken) port limit taken put bits change (quiet_taking v n taken k)
+
+  -- the seat stands for as many
+  seats_relief : (v : View) (port bits change : ℕ) → seats_of (after_relief v port bits change) ≡ seats_of v
+  seats_relief v port bits change =
+      either_of (λ (w : View). seats_of w ≡ seats_of v) (bit_at bits (port % 64) == 1) (after_clearing (after_load v (map_word port) bits) port change) (after_load v (map_word port) bits) refl refl
+
+  seats_taking : (v : View) (n taken : ℕ) → seats_of (after_taking v slot n taken) ≡ seats_of v
+  seats_taking v n taken =
+      either_of (λ (w : View). seats_of w ≡ seats_of v) (nat_le (part (taken_word slot) v.steps + n) 4503599627370496) (after_add v (taken_word slot) n taken) (after_load v (taken_word slot) taken) refl refl
+
+  seats_putting : (v : View) (port limit taken put bits change : ℕ) → seats_of (after_putting v slot port limit taken put bits change) ≡ seats_of v
+  seats_putting v port limit taken put bits change =
+      either_of (λ (w : View). seats_of w ≡ seats_of v) (nat_lt put (taken + limit / 2)) (after_relief (after_load v (put_word slot) put) port bits change) (after_load v (put_word slot) put)
+      (seats_relief (after_load v (put_word slot) put) port bits change) refl
+
+  pub seats_receipt : (v : View) (port limit n taken put bits change : ℕ) → seats_of (after_receipt v slot port limit n taken put bits change) ≡ seats_of v
+  seats_receipt v port limit n taken put bits change = seats_putting (after_taking v slot n taken) port limit taken put bits change ∙ seats_taking v n taken

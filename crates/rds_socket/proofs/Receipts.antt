@@ -9,7 +9,7 @@ use Rattle.rds_fmap.specs.declared.seen.Seen.{Seen}
 use Rattle.rds_socket.specs.Holding.{Open, IsOpen}
 use Rattle.rds_socket.specs.Calls.{with_own, after_taking_out, IsReceived}
 use Rattle.rds_socket.specs.Stays.{Stays}
-use Rattle.rds_socket.proofs.Quiet.{quiet_receipt}
+use Rattle.rds_socket.proofs.Quiet.{quiet_receipt, seats_receipt}
 use Rattle.rds_socket.proofs.Kept.{moved, open_on}
 use Rattle.rds_socket.proofs.Staying.{stays_all}
 
@@ -27,4 +27,4 @@ module _ {R : Type 0} (v : Open R) (inbox : Box) (words : Purse) (n : ℕ) (rece
 
   pub received_stays : {P : Type 0} (pair : R → P) (looked : R → ℕ → Seen → Type 0) (z : Open R) (number : Number) (item : Datagram) → v ≡ z → inbox ≡ after_taking_out v.own.inbox number item → Stays pair looked z now
   received_stays pair looked z number item view_is is =
-      stays_all pair looked v z words _ inbox v.own.routes v.own.total view_is receipt.4 (ap (λ (b : Box). b.bell) is) (ap (λ (b : Box). b.get.mail) is) (stay_same pair looked v.own.routes)
+      stays_all pair looked v z words _ inbox v.own.routes v.own.total view_is receipt.4 (seats_receipt v.own.words.slot v.own.words.seat.view v.port v.rcvbuf n receipt.0 receipt.1 receipt.2 receipt.3) (ap (λ (b : Box). b.bell) is) (ap (λ (b : Box). b.get.mail) is) (stay_same pair looked v.own.routes)

@@ -1,7 +1,10 @@
-use Rattle.std.proofs.Common.{◌≡◌, List, All, map, sym, ap, subst, ◌∙◌, rules}
+use Rattle.std.proofs.Common.{◌≡◌, ℕ, ◌+◌, List, All, map, sym, ap, subst, ◌∙◌, rules}
 use Rattle.rds_mail.specs.Passes.{Getter}
 use Rattle.rds_model.specs.declared.order.Order.{Order}
 use Rattle.rds_bindtab.specs.Seats.{PortSeat}
+use Rattle.rds_views.specs.Views.{total}
+use Rattle.rds_meter.specs.Grounds.{seats_of}
+use Rattle.rds_meter.specs.Seats.{MeterSeat}
 use Rattle.rds_fmap.specs.Readers.{ReaderView, WriterView}
 use Rattle.rds_parts.specs.Lanes.{IsOf, Lane}
 use Rattle.rds_joins.specs.Joins.{IsFrom, sender_in, slot_of_order}
@@ -12,6 +15,7 @@ use Rattle.rds_gather.specs.Shown.{ArePuttersOf, AreReadersOf, HaveLookedAt, Sho
 use Rattle.rds_gather.proofs.Columns.{each_same}
 use Rattle.rds_gather.proofs.Cutting.{cuts_of_slots}
 use Rattle.rds_gather.proofs.Joining.{asked_of, beside_maps, box_rows, boxes_fit, joined, looked, orders_fit, readers_fit, route_rows, without_maps}
+use Rattle.rds_gather.proofs.Raising.{all_stand, at_one_meter, grounded, line_words, same_grounds, same_meters, slot_words}
 use Rattle.rds_gather.proofs.Owning.{at_one_table, found, line_seat, lines_claim_nothing, owned, same_seats, slot_seat}
 use Rattle.rds_gather.proofs.gathering.gather.Goals as goal
 
@@ -45,6 +49,31 @@ find_owners-requires g c =
       claims = subst (λ (l : List PortSeat). All (λ (line : PortSeat). ClaimsNothing line.view.steps) l) (sym c.in_ok-left.ensures.ports)
           (lines_claim_nothing closed lines c.in_ok-left.ensures.kept);
     }
+
+-- seats at the meter at one table
+abbrev AreAtOneMeter : MeterSeat → MeterSeat → Type 0
+AreAtOneMeter slot line = slot.table ≡ line.table
+
+pub find_grounds-requires : goal.find_grounds-requires
+find_grounds-requires g c =
+    let closed = c.args.closed.items in
+    let lines = c.args.lines.items in
+    let stand : List MeterSeat → ℕ = λ (l : List MeterSeat). total (λ (h : MeterSeat). seats_of h.view) l in
+    record {
+      tables = same_meters AreAtOneMeter (map slot_words closed) c.in_ok-slots.slots.words.items (map line_words lines) c.in_ok-left.left.words.items
+          (sym c.in_ok-slots.ensures.words) (sym c.in_ok-left.ensures.words) (at_one_meter closed lines c.requires.host);
+      all = ap (λ (l : List MeterSeat). stand l + stand c.in_ok-left.left.words.items) c.in_ok-slots.ensures.words
+          ∙ ap (λ (l : List MeterSeat). stand (map slot_words closed) + stand l) c.in_ok-left.ensures.words ∙ all_stand closed lines c.requires.passes;
+    }
+
+-- refused where the seats of the slots or of the lines aren't joined
+pub returns-clause-grounded : goal.returns-clause-grounded
+returns-clause-grounded g c =
+    let closed = c.args.closed.items in
+    let lines = c.args.lines.items in
+    grounded closed lines c.in_ok-slots.ensures.ended c.in_ok-left.ensures.kept
+    (same_grounds c.in_ok-slots.slots.words.items (map slot_words closed) c.in_ok-left.left.words.items (map line_words lines)
+    c.in_ok-slots.ensures.words c.in_ok-left.ensures.words c.in_ok-find_grounds.ensures)
 
 -- refused where the seats of the slots or of the lines are left out
 pub returns-clause-owned : goal.returns-clause-owned

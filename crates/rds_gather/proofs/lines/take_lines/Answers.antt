@@ -51,5 +51,6 @@ loop-line-preserved g c =
                 (same_asked own.result.orders line.orders own.result.map line.map own.ensures.orders own.ensures.map),
             pushed_map (λ (l : LineView g.row.W-End.Denot WriterView). l.boxes) (rows_left old.boxes.items) (rows_left new.boxes.items) seen own.result.boxes line (added c.add.result (rows_left old.boxes.items) (rows_left new.boxes.items) own.result.boxes c.add.ensures.boxes both.1) inv.2 own.ensures.boxes,
             pushed_map (λ (l : LineView g.row.W-End.Denot WriterView). l.ports) old.ports.items new.ports.items seen own.result.ports line (added c.add.result old.ports.items new.ports.items own.result.ports c.add.ensures.ports both.1) inv.3 own.ensures.ports,
+            pushed_map (λ (l : LineView g.row.W-End.Denot WriterView). l.words) old.words.items new.words.items seen own.result.words line (added c.add.result old.words.items new.words.items own.result.words c.add.ensures.words both.1) inv.4 own.ensures.words,
           ),
     )

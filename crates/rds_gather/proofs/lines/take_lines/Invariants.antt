@@ -14,4 +14,5 @@ invariant-loop-line g l =
     (map side_view l.left.journals.items ≡ map line_side l.yielded)
     × (l.left.orders.items ≡ map (λ line. (line.orders, line.map)) l.yielded)
     × (rows_left l.left.boxes.items ≡ map (λ line. line.boxes) l.yielded)
-    × (l.left.ports.items ≡ map (λ line. line.ports) l.yielded))
+    × (l.left.ports.items ≡ map (λ line. line.ports) l.yielded)
+    × (l.left.words.items ≡ map (λ line. line.words) l.yielded))

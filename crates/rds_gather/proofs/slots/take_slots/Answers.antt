@@ -21,5 +21,7 @@ loop-slot-preserved c =
           c.in_ok-push-2.ensures.items inv.1 took.ensures.routes,
       pushed_map (λ (h : Holding ReaderView). h.ports) c.loop-slot.ports.items c.push-in-loop-slot-2.new.self.items seen took.result.2 slot
           c.in_ok-push-3.ensures.items inv.2 took.ensures.ports,
-      All-push IsEnded seen slot inv.3 took.ensures.ended,
+      pushed_map (λ (h : Holding ReaderView). h.words.seat) c.loop-slot.words.items c.push-in-loop-slot-3.new.self.items seen took.result.3 slot
+          c.in_ok-push-4.ensures.items inv.3 took.ensures.words,
+      All-push IsEnded seen slot inv.4 took.ensures.ended,
     )

@@ -8,4 +8,5 @@ invariant-loop-slot l =
     (map (λ b. b.get) l.inboxes.items ≡ map (λ h. h.inbox.get) l.yielded)
     × (rows_left l.routes.items ≡ map (λ h. h.routes) l.yielded)
     × (l.ports.items ≡ map (λ h. h.ports) l.yielded)
+    × (l.words.items ≡ map (λ h. h.words.seat) l.yielded)
     × All IsEnded l.yielded

@@ -1,79 +1,64 @@
-use Rattle.std.proofs.Common.{◌≡◌, ℕ, ◌+◌, ◌-◌, ◌<◌, List, Vec, [], ◌∷◌, ◌++◌, All, length, map, drop, option_map, sym, ap, subst, ◌∙◌, arith}
+use Rattle.std.proofs.Common.{◌≡◌, ℕ, List, Vec, [], ◌∷◌, ◌++◌, All, Some, length, map, slice_get, sym, ap, subst, ◌∙◌, arith}
 use Rattle.std.specs.Arc.{arc_value}
 use Rattle.std.specs.Global.{Global}
-use Rattle.std.proofs.lemmas.List.{length_push}
-use Rattle.std.proofs.lemmas.List.Elements.{All-head, All-tail}
-use Rattle.std.proofs.lemmas.Option.{slice_get-map}
-use Rattle.std.proofs.lemmas.Iterator.Adapters.{YieldsList-from_vec}
-use Rattle.std.proofs.lemmas.Iterator.Consumers.{YieldsList-turn, YieldsList-end}
-use Rattle.std.proofs.lemmas.List.{map-id}
+use Rattle.std.proofs.lemmas.List.{length-map, length_push, map_push}
+use Rattle.std.proofs.lemmas.List.Elements.{All-pop}
 use Rattle.rds_views.specs.Views.{Table}
+use Rattle.rds_fmap.specs.Readers.{WriterView}
+use Rattle.rds_line.specs.Line.{LineView}
 use Rattle.rds_line_streams.specs.Streams.{AreNumbered, IsUnused}
 use Rattle.rds_host.specs.Ties.{ColumnView, AreLinesOf}
-use Rattle.rds_host.proofs.Columns.{counted_on, line_at, lines_push, next_of, one_left, push_one}
+use Rattle.rds_host.proofs.Columns.{line_at, lines_among, lines_push, pushed_here}
 use Rattle.rds_host.proofs.making.lines.Goals as goal
+
+pub first_lines-requires-clause-unused : goal.first_lines-requires-clause-unused
+first_lines-requires-clause-unused g c =
+    (All-pop (λ (v : Vec (ℕ × g.row.E.Denot) Global). All (λ stream. IsUnused g.E.End.means stream.1) v.items) c.args.streams.items c.pop-2.new.self.items (Some c.in-Some-pop.list)
+    c.in-Some-pop.ensures.items c.requires.unused).0
 
 pub add_line-requires-clause-boxes : goal.add_line-requires-clause-boxes
 add_line-requires-clause-boxes g c =
-    let turn = YieldsList-turn (YieldsList-from_vec c.args.columns.items c.into_iter-column-iterator.ensures.into_iter_gives.0 (c.into_iter-column-iterator.ensures.into_iter_gives.1 ∙ c.args.columns.ok.0)) c.loop-column.yielded c.loop-column.column-iterator c.loop-column.yielded_by c.next.result c.next.new.self c.in-Some.column c.in-Some.is c.next.ensures.steps in
-    let n = length c.loop-column.yielded in
-    ap (λ (x : ColumnView). length x.boxes) turn.1
-    ∙ (c.requires.boxes n c.in-Some.column turn.0
-    ∙ sym (ap (λ (t : Table). t.slots) c.loop-column.invariant.0))
-
-pub add_line-requires-clause-seats : goal.add_line-requires-clause-seats
-add_line-requires-clause-seats g c =
-    let turn = YieldsList-turn (YieldsList-from_vec c.args.columns.items c.into_iter-column-iterator.ensures.into_iter_gives.0 (c.into_iter-column-iterator.ensures.into_iter_gives.1 ∙ c.args.columns.ok.0)) c.loop-column.yielded c.loop-column.column-iterator c.loop-column.yielded_by c.next.result c.next.new.self c.in-Some.column c.in-Some.is c.next.ensures.steps in
-    one_left c.loop-column.seats.seat.view.splits (length c.loop-column.yielded) c.args.seats.seat.view.splits (length c.args.columns.items) c.loop-column.invariant.2 c.requires.seats turn.0
-
-pub add_line-requires-clause-words : goal.add_line-requires-clause-words
-add_line-requires-clause-words g c =
-    let turn = YieldsList-turn (YieldsList-from_vec c.args.columns.items c.into_iter-column-iterator.ensures.into_iter_gives.0 (c.into_iter-column-iterator.ensures.into_iter_gives.1 ∙ c.args.columns.ok.0)) c.loop-column.yielded c.loop-column.column-iterator c.loop-column.yielded_by c.next.result c.next.new.self c.in-Some.column c.in-Some.is c.next.ensures.steps in
-    one_left c.loop-column.seats.own.view.splits (length c.loop-column.yielded) c.args.seats.own.view.splits (length c.args.columns.items) c.loop-column.invariant.3 c.requires.words turn.0
+    (All-pop (λ (x : ColumnView). length x.boxes ≡ (arc_value c.args.seats.table).slots) c.args.columns.items c.pop.new.self.items (Some c.in-Some.column)
+    c.in-Some.ensures.items c.requires.boxes).1
+    ∙ sym (ap (λ (t : Table). t.slots) (c.last.ensures.table ∙ c.in_ok-lines.ensures.table))
 
 pub add_line-requires-clause-numbered : goal.add_line-requires-clause-numbered
 add_line-requires-clause-numbered g c =
-    All-head (λ (list : Vec (ℕ × g.row.E.Denot) Global). AreNumbered list.items) c.in-Some-next.list c.next-in-loop-column.new.self.rest.items
-    (subst (All (λ (list : Vec (ℕ × g.row.E.Denot) Global). AreNumbered list.items)) c.in-Some-next.ensures.items c.loop-column.invariant.5)
+    (All-pop (λ (v : Vec (ℕ × g.row.E.Denot) Global). AreNumbered v.items) c.args.streams.items c.pop-2.new.self.items (Some c.in-Some-pop.list)
+    c.in-Some-pop.ensures.items c.requires.numbered).1
 
 pub add_line-requires-clause-unused : goal.add_line-requires-clause-unused
 add_line-requires-clause-unused g c =
-    All-head (λ (list : Vec (ℕ × g.row.E.Denot) Global). All (λ stream. IsUnused g.E.End.means stream.1) list.items) c.in-Some-next.list c.next-in-loop-column.new.self.rest.items
-    (subst (All (λ (list : Vec (ℕ × g.row.E.Denot) Global). All (λ stream. IsUnused g.E.End.means stream.1) list.items)) c.in-Some-next.ensures.items c.loop-column.invariant.6)
+    (All-pop (λ (v : Vec (ℕ × g.row.E.Denot) Global). All (λ stream. IsUnused g.E.End.means stream.1) v.items) c.args.streams.items c.pop-2.new.self.items (Some c.in-Some-pop.list)
+    c.in-Some-pop.ensures.items c.requires.unused).1
 
-pub loop-column-preserved : goal.loop-column-preserved
-loop-column-preserved g c =
-    let turn = YieldsList-turn (YieldsList-from_vec c.args.columns.items c.into_iter-column-iterator.ensures.into_iter_gives.0 (c.into_iter-column-iterator.ensures.into_iter_gives.1 ∙ c.args.columns.ok.0)) c.loop-column.yielded c.loop-column.column-iterator c.loop-column.yielded_by c.next.result c.next.new.self c.in-Some.column c.in-Some.is c.next.ensures.steps in
-    let inv = c.loop-column.invariant in
-    let seen = c.loop-column.yielded in
+pub returns-clause-lines : goal.returns-clause-lines
+returns-clause-lines g c =
+    let me = c.args.addr in
+    let limit = c.args.limit in
+    let table = arc_value c.args.seats.table in
+    let meter = arc_value c.args.seats.meter in
+    let items : Vec (ℕ × g.row.E.Denot) Global → List (ℕ × g.row.E.Denot) = λ (v : Vec (ℕ × g.row.E.Denot) Global). v.items in
+    let front = c.pop.new.self.items in
     let column = c.in-Some.column in
-    let list = c.in-Some-next.list in
-    let all = c.args.streams.items in
-    let rest = c.next-in-loop-column.new.self.rest.items in
-    let own = c.in_ok-add_line.ensures in
-    let inside : length seen < length all = subst (λ (n : ℕ). length seen < n) (sym c.requires.streams) turn.0 in
-    let left : drop (length seen) all ≡ list ∷ rest = sym inv.4 ∙ c.in-Some-next.ensures.items in
-    let next = next_of all rest (length seen) list inside left in
-    let size = push_one seen column in
-    let line = own.line in
-    let items : Vec (ℕ × g.row.E.Denot) Global → List (ℕ × g.row.E.Denot) = λ (v : Vec (ℕ × g.row.E.Denot) Global). v.items in (
-      c.add_line.ensures.table ∙ inv.0,
-      c.add_line.ensures.meter ∙ inv.1,
-      counted_on c.add_line.new.seats.seat.view.splits c.loop-column.seats.seat.view.splits (length (seen ++ column ∷ [])) (length seen) c.args.seats.seat.view.splits (length c.args.columns.items) own.seats size inv.2 c.requires.seats turn.0,
-      counted_on c.add_line.new.seats.own.view.splits c.loop-column.seats.own.view.splits (length (seen ++ column ∷ [])) (length seen) c.args.seats.own.view.splits (length c.args.columns.items) own.words size inv.3 c.requires.words turn.0,
-      next.1 ∙ ap (λ (i : ℕ). drop i all) (sym size),
-      All-tail (λ (v : Vec (ℕ × g.row.E.Denot) Global). AreNumbered v.items) list rest
-          (subst (All (λ (v : Vec (ℕ × g.row.E.Denot) Global). AreNumbered v.items)) c.in-Some-next.ensures.items inv.5),
-      All-tail (λ (v : Vec (ℕ × g.row.E.Denot) Global). All (λ stream. IsUnused g.E.End.means stream.1) v.items) list rest
-          (subst (All (λ (v : Vec (ℕ × g.row.E.Denot) Global). All (λ stream. IsUnused g.E.End.means stream.1) v.items)) c.in-Some-next.ensures.items inv.6),
-      subst (AreLinesOf c.args.addr c.args.limit (arc_value c.args.seats.table) (arc_value c.args.seats.meter) (seen ++ column ∷ []) (map items all)) (sym line.1)
-          (lines_push c.args.addr c.args.limit (arc_value c.args.seats.table) (arc_value c.args.seats.meter) seen (map items all) c.loop-column.lines.items column list.items line.0 inv.7
-          (slice_get-map items all (length seen) ∙ ap (option_map items) next.0)
-          (line_at c.args.addr c.args.limit (arc_value c.loop-column.seats.table) (arc_value c.loop-column.seats.meter) (arc_value c.args.seats.table) (arc_value c.args.seats.meter) column list.items line.0 inv.0 inv.1 line.2)),
-    )
-
-pub returns : goal.returns
-returns g c =
-    let all = YieldsList-end (YieldsList-from_vec c.args.columns.items c.into_iter-column-iterator.ensures.into_iter_gives.0 (c.into_iter-column-iterator.ensures.into_iter_gives.1 ∙ c.args.columns.ok.0)) c.loop-column.yielded c.loop-column.column-iterator c.loop-column.yielded_by c.next.result c.next.new.self c.in-None.is c.next.ensures.steps in
-    subst (λ (l : List ColumnView). AreLinesOf c.args.addr c.args.limit (arc_value c.args.seats.table) (arc_value c.args.seats.meter) l (map (λ (v : Vec (ℕ × g.row.E.Denot) Global). v.items) c.args.streams.items) c.loop-column.lines.items)
-    (sym (map-id c.loop-column.yielded) ∙ all.0) c.loop-column.invariant.7
+    let first = c.pop-2.new.self.items in
+    let list = c.in-Some-pop.list in
+    let lines = c.in_ok-lines.lines.items in
+    let line = c.in_ok-add_line.ensures.line in
+    let streams = map items first ++ list.items ∷ [] in
+    let one = ap length c.in-Some.ensures.items in
+    let two = ap length c.in-Some-pop.ensures.items in
+    let three = length_push front column in
+    let four = length_push first list in
+    let five = length-map first items in
+    let all = c.requires.streams in
+    let size : length (map items first) ≡ length front = omega (arith, one, two, three, four, five, all) in
+    let among : AreLinesOf me limit table meter front streams lines = lines_among me limit table meter front (map items first) list.items lines size c.in_ok-lines.ensures.lines in
+    let next : slice_get streams (length front) ≡ Some list.items = ap (slice_get streams) (sym size) ∙ pushed_here (map items first) list.items in
+    let last = line_at me limit (arc_value c.last.result.table) (arc_value c.last.result.meter) table meter column list.items line.0
+    (c.last.ensures.table ∙ c.in_ok-lines.ensures.table) (c.last.ensures.meter ∙ c.in_ok-lines.ensures.meter) line.2 in
+    let pushed : AreLinesOf me limit table meter (front ++ column ∷ []) streams (lines ++ line.0 ∷ []) = lines_push me limit table meter front streams lines column list.items line.0 among next last in
+    let named : map items c.args.streams.items ≡ streams = ap (map items) c.in-Some-pop.ensures.items ∙ map_push items first list in
+    subst (λ (l : List (LineView g.row.E.Denot WriterView)). AreLinesOf me limit table meter c.args.columns.items (map items c.args.streams.items) l) (sym line.1)
+    (subst (λ (l : List (List (ℕ × g.row.E.Denot))). AreLinesOf me limit table meter c.args.columns.items l (lines ++ line.0 ∷ [])) (sym named)
+    (subst (λ (l : List ColumnView). AreLinesOf me limit table meter l streams (lines ++ line.0 ∷ [])) (sym c.in-Some.ensures.items) pushed))

@@ -1,4 +1,4 @@
-use Rattle.std.proofs.Common.{◌≡◌, ℕ, List, Vec, [], All, Some, length, map, slice_get, sym, ap, subst, ◌∙◌}
+use Rattle.std.proofs.Common.{◌≡◌, ℕ, List, Vec, [], All, Some, length, map, slice_get, sym, ap, subst, ◌∙◌, arith}
 use Rattle.std.specs.Arc.{arc_value}
 use Rattle.std.specs.Global.{Global}
 use Rattle.std.proofs.lemmas.List.{length-map}
@@ -28,6 +28,17 @@ lines-requires-clause-boxes g c =
     subst (All (λ (x : ColumnView). length x.boxes ≡ (arc_value c.vacants.new.seats.table).slots)) (sym back)
     (filled_boxes c.args.slots (map inbox_of c.in_ok-vacants.vacants.items) new (arc_value c.vacants.new.seats.table).slots count made.filled)
 
+pub lines-requires-clause-some : goal.lines-requires-clause-some
+lines-requires-clause-some g c =
+    let old = c.in_ok-columns.columns.items in
+    let new = c.vacants.new.columns in
+    let ways : ways_of new ≡ ways_of old = c.in_ok-vacants.ensures.ways ∙ ap ways_of c.deref_mut.ensures.value in
+    let back = written_back old new c.in_ok-columns.columns.len c.in_ok-columns.columns.ok.0 (same_count old new ways) in
+    let size = ap length back in
+    let peers : length new ≡ length c.args.peers.now = same_count old new ways ∙ (count_of old ∙ ap length c.in_ok-columns.ensures.peers) in
+    let some = c.requires.peers in
+    omega (arith, size, peers, some.0)
+
 pub returns-clause-slots : goal.returns-clause-slots
 returns-clause-slots g c =
     let old = c.in_ok-columns.columns.items in
@@ -45,6 +56,7 @@ returns-clause-slots g c =
       got = λ place vacant stands. ap (λ (g : Getter Datagram). g.got) (tied place vacant stands).get;
       put = λ place vacant stands k d small. ap (λ (p : Putter Order). p.put) ((tied place vacant stands).passes k d small);
       total = λ place vacant stands. (tied place vacant stands).total;
+      steps = λ place vacant stands. (tied place vacant stands).steps;
     }
 
 pub returns-clause-lines : goal.returns-clause-lines
@@ -53,7 +65,7 @@ returns-clause-lines g c =
     let new = c.vacants.new.columns in
     let ways : ways_of new ≡ ways_of old = c.in_ok-vacants.ensures.ways ∙ ap ways_of c.deref_mut.ensures.value in
     let back = written_back old new c.in_ok-columns.columns.len c.in_ok-columns.columns.ok.0 (same_count old new ways) in
-    new_lines _ _ _ _ _ _ _ _ c.in_ok-lines.ensures (ap (λ (l : List ColumnView). peers_to (ways_of l)) back ∙ (ap peers_to ways ∙ c.in_ok-columns.ensures.peers))
+    new_lines _ _ _ _ _ _ _ _ c.in_ok-lines.ensures.lines (ap (λ (l : List ColumnView). peers_to (ways_of l)) back ∙ (ap peers_to ways ∙ c.in_ok-columns.ensures.peers))
 
 pub returns-clause-host : goal.returns-clause-host
 returns-clause-host g c =
@@ -67,11 +79,11 @@ returns-clause-host g c =
     let back = written_back old new c.in_ok-columns.columns.len c.in_ok-columns.columns.ok.0 (same_count old new ways) in
     let streams : List (List (ℕ × g.row.E.Denot)) = map (λ (v : Vec (ℕ × g.row.E.Denot) Global). v.items) c.args.streams.items in
     let lines : AreLinesOf c.args.addr c.args.limit table meter new streams c.in_ok-lines.lines.items =
-    subst (λ (l : List ColumnView). AreLinesOf c.args.addr c.args.limit table meter l streams c.in_ok-lines.lines.items) back c.in_ok-lines.ensures in
+    subst (λ (l : List ColumnView). AreLinesOf c.args.addr c.args.limit table meter l streams c.in_ok-lines.lines.items) back c.in_ok-lines.ensures.lines in
     let slots : All (IsSlotOf c.args.slots (ways_of new) table meter) vacants =
     λ k d small.
     let tied = made.slot k d small in
-    record { ways = tied.ways ∙ sym made.ways; passes = tied.passes; get = tied.get; ports = tied.ports ∙ sym made.table; words = tied.words ∙ sym made.meter; total = tied.total } in
+    record { ways = tied.ways ∙ sym made.ways; passes = tied.passes; get = tied.get; ports = tied.ports ∙ sym made.table; words = tied.words ∙ sym made.meter; total = tied.total; steps = tied.steps } in
     let peers : length new ≡ length c.args.peers.now = same_count old new ways ∙ (count_of old ∙ ap length c.in_ok-columns.ensures.peers) in
     let streams_are = length-map c.args.streams.items (λ (v : Vec (ℕ × g.row.E.Denot) Global). v.items) ∙ (c.requires.streams ∙ sym peers) in
     of_host c.args.addr c.args.limit table meter new streams c.in_ok-lines.lines.items c.args.slots vacants lines streams_are slots made.number made.filled
@@ -88,12 +100,13 @@ returns-clause-passes g c =
     let back = written_back old new c.in_ok-columns.columns.len c.in_ok-columns.columns.ok.0 (same_count old new ways) in
     let streams : List (List (ℕ × g.row.E.Denot)) = map (λ (v : Vec (ℕ × g.row.E.Denot) Global). v.items) c.args.streams.items in
     let lines : AreLinesOf c.args.addr c.args.limit table meter new streams c.in_ok-lines.lines.items =
-    subst (λ (l : List ColumnView). AreLinesOf c.args.addr c.args.limit table meter l streams c.in_ok-lines.lines.items) back c.in_ok-lines.ensures in
+    subst (λ (l : List ColumnView). AreLinesOf c.args.addr c.args.limit table meter l streams c.in_ok-lines.lines.items) back c.in_ok-lines.ensures.lines in
     let slots : All (IsSlotOf c.args.slots (ways_of new) table meter) vacants =
     λ k d small.
     let tied = made.slot k d small in
-    record { ways = tied.ways ∙ sym made.ways; passes = tied.passes; get = tied.get; ports = tied.ports ∙ sym made.table; words = tied.words ∙ sym made.meter; total = tied.total } in
+    record { ways = tied.ways ∙ sym made.ways; passes = tied.passes; get = tied.get; ports = tied.ports ∙ sym made.table; words = tied.words ∙ sym made.meter; total = tied.total; steps = tied.steps } in
     let peers : length new ≡ length c.args.peers.now = same_count old new ways ∙ (count_of old ∙ ap length c.in_ok-columns.ensures.peers) in
     let streams_are = length-map c.args.streams.items (λ (v : Vec (ℕ × g.row.E.Denot) Global). v.items) ∙ (c.requires.streams ∙ sym peers) in
     all_passes c.args.addr c.args.limit table meter new streams c.in_ok-lines.lines.items c.args.slots vacants lines streams_are slots made.number made.filled
     made.count (subst Ascend (sym (ap peers_to ways ∙ c.in_ok-columns.ensures.peers)) c.requires.ascend)
+    (let one = made.stand in let two = c.in_ok-lines.ensures.stand in let all = c.in_ok-seats.ensures.stand in omega (arith, one, two, all))

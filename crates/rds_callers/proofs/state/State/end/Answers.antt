@@ -1,7 +1,10 @@
-use Rattle.std.proofs.Common.{ap}
-use Rattle.rds_callers.specs.Places.{Vacant, Bound, Ended, Spare}
+use Rattle.std.proofs.Common.{◌≡◌, ap, subst, sym, ◌∙◌}
+use Rattle.std.proofs.lemmas.Option.{same_Some}
+use Rattle.rds_callers.specs.Ends.{IsEndOf}
+use Rattle.rds_callers.specs.Places.{Place, Vacant, Bound, Ended, Spare, holding_of}
 use Rattle.rds_callers.specs.States.{shown}
 use Rattle.rds_callers.proofs.Claiming.{open_with, port_shown, unheld}
+use Rattle.rds_callers.proofs.Keeping.{ends_same}
 use Rattle.rds_callers.proofs.state.State.end.Goals as goal
 
 pub returns-in-Vacant-clause-ports : goal.returns-in-Vacant-clause-ports
@@ -27,3 +30,10 @@ pub returns-in-Spare-clause-ports : goal.returns-in-Spare-clause-ports
 returns-in-Spare-clause-ports g c =
     let p = Spare c.in-Spare.spare.closed in
     port_shown c.args.self p c.end-in-Spare.result (ap shown c.in-Spare.is) (unheld p c.end-in-Spare.result (λ port is. cc) c.end-in-Spare.ensures.claimed)
+
+pub returns-in-Vacant-clause-ends : goal.returns-in-Vacant-clause-ends
+returns-in-Vacant-clause-ends g c p is =
+    let vacant = c.in-Vacant.vacant in
+    let same : Vacant vacant ≡ p = same_Some (Vacant vacant) p (sym (ap shown c.in-Vacant.is) ∙ is) in
+    subst (λ (q : Place). IsEndOf (holding_of q) c.end.result) same
+    (subst (IsEndOf vacant) (sym (c.end.ensures.closed ∙ c.new.ensures)) (ends_same vacant))
