@@ -44,7 +44,7 @@ boxes_through old middle new first second = record {
 
 module _ {E : Type 0} where
   pub goes_same : (line : LineView E WriterView) → LineGoesOn line line
-  goes_same line = record { keeps = line_keeps_same line; told = refl }
+  goes_same line = record { keeps = line_keeps_same line; told = refl; numbers = refl }
 
   pub goes_through : (a b c : LineView E WriterView) → LineGoesOn a b → LineGoesOn b c → LineGoesOn a c
   goes_through a b c one two = record {
@@ -58,6 +58,7 @@ module _ {E : Type 0} where
       pair = two.keeps.pair ∙ one.keeps.pair;
     };
     told = two.told ∙ one.told;
+    numbers = two.numbers ∙ one.numbers;
   }
 
   -- a line that turned goes on
@@ -73,6 +74,7 @@ module _ {E : Type 0} where
       pair = stays.map;
     };
     told = stays.told;
+    numbers = stays.channel.streams.numbers;
   }
 
   pub lines_through : (a b c : List (LineView E WriterView)) → LinesGoOn a b → LinesGoOn b c → LinesGoOn a c

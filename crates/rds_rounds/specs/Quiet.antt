@@ -2,6 +2,7 @@
 use Rattle.std.specs.Prelude.{◌≡◌, ℕ, List, Some, length, slice_get}
 use Rattle.rds_fmap.specs.Readers.{WriterView}
 use Rattle.rds_mail.specs.Learning.{AllGot}
+use Rattle.rds_line_streams.specs.Streams.{numbers}
 use Rattle.rds_line.specs.Line.{LineView}
 use Rattle.rds_host.specs.Keeping.{LineKeeps}
 use Rattle.rds_rounds.specs.declared.rounds.Rounds.{Rounds}
@@ -16,10 +17,11 @@ IsQuietEnd (ended.Spent host peer entries) = ⊥
 IsQuietEnd ended.Memory = ⊥
 
 module _ {E : Type 0} where
-  -- the same line, which was told of no more orders
+  -- the same line, with streams of the same numbers, which was told of no more orders
   pub record LineGoesOn (old new : LineView E WriterView) : Type 0 where
     pub keeps : LineKeeps old new
     pub told : new.orders.told ≡ old.orders.told
+    pub numbers : numbers new.channel.streams.list ≡ numbers old.channel.streams.list
 
   pub record LinesGoOn (old new : List (LineView E WriterView)) : Type 0 where
     pub count : length new ≡ length old
