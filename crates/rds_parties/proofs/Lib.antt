@@ -7,3 +7,5 @@ pub mod Preparing
 pub mod Made
 pub mod Telling
 pub mod Jobs
+pub mod Cuts
+pub mod Counted
