@@ -14,3 +14,5 @@ pub mod Finished
 pub mod Spent
 pub mod Left
 pub mod Partners
+pub mod Alive
+pub mod Lacking

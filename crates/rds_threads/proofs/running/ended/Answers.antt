@@ -13,6 +13,10 @@ pub returns-clause-end : goal.returns-clause-end
 returns-clause-end g c =
     let hosts = c.args.script.now.hosts in
     let obeyed = rw c.in-Ok.is at c.play-callers.ensures.obeyed in
-    c.finish.ensures.end c.args.limit hosts c.args.script.now.commands.items
+    let commands = c.args.script.now.commands.items in
+    let before = g.W.Wire.faults c.args.wire.now in
+    let after = g.W.Wire.faults c.prepare.new.wire in
+    c.finish.ensures.end c.args.limit hosts commands before after
     (c.play-callers.ensures.hosts c.args.limit hosts c.in_ok-callers.ensures.hosts)
-    (all_done hosts c.args.script.now.commands.items _ _ c.in_ok-callers.ensures.new obeyed)
+    (all_done hosts commands _ _ c.in_ok-callers.ensures.new obeyed)
+    (c.play-callers.ensures.counted commands before after (c.in_ok-callers.ensures.counted commands before after c.in_ok-streams.ensures.counted))
