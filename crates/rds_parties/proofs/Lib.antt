@@ -8,3 +8,5 @@ pub mod Made
 pub mod Telling
 pub mod Jobs
 pub mod Led
+pub mod Cuts
+pub mod Counted

@@ -21,7 +21,7 @@ use Rattle.rds_rounds.specs.Grid.{AreRows, IsAt, OfEachPair, others, peer_at}
 use Rattle.rds_settling.specs.Tied.{AreTied}
 use Rattle.rds_parties.specs.Obeyed.{AreNewPlaces, slot_count}
 use Rattle.rds_parties.specs.Parties.{AreNewCallers, AreParties, HaveNotLooked}
-use Rattle.rds_parties.specs.Preparing.{AreAllPrepared, ArePrepared}
+use Rattle.rds_parties.specs.Preparing.{AreAllCounted, AreAllPrepared, ArePrepared, HaveCounted, HaveNumbered}
 use Rattle.rds_parties.proofs.At.{at_snoc, length_map, map_at, some_at}
 
 -- a host below a place's number stands at its own place, and one above one place earlier
@@ -269,3 +269,11 @@ module _ {E : Type 0} (m : Means E) where
                 (subst (λ (l : List (ℕ × E)). ArePaired m a.0.items l) (sym b.2) pair.1.paired);
           };
     }
+
+    -- the lines have the streams that were counted
+    pub made_counted : (cuts : List Placed) (before after : ℕ) → AreAllCounted cuts before after streams → HaveCounted cuts before after rows
+    made_counted cuts before after counted low place one other le at_one at_other =
+        let a = line_at low place one at_one in
+        let b = line_at (suc place) low other at_other in
+        subst (λ (l : List (ℕ × E)). HaveNumbered cuts before after low (suc place) l other.channel.streams.list) (sym a.2)
+        (subst (λ (l : List (ℕ × E)). HaveNumbered cuts before after low (suc place) a.0.items l) (sym b.2) (counted low place a.0 b.0 le a.1 b.1))

@@ -2,11 +2,13 @@
 use Rattle.std.specs.Prelude.{◌≡◌, ℕ, List, Vec, [], ◌∷◌, ◌++◌, Some, slice_get, slice_set}
 use Rattle.std.specs.Global.{Global}
 use Rattle.rds_link.specs.Ends.{Means}
+use Rattle.rds_line_streams.specs.Streams.{numbers}
 use Rattle.rds_parties.specs.Preparing.{ArePrepared}
+use Rattle.rds_parties.specs.Streams.{AreNumbersOf}
 
 -- The streams between a host and a later one were prepared: the ends of the host stand behind those that it had, and those of the later
--- one behind those in its own row.
-pub record GrowsBy {E : Type 0} (m : Means E) (host : ℕ) (rows after : List (List (Vec (ℕ × E) Global))) (row own : List (Vec (ℕ × E) Global)) : Type 0 where
+-- one behind those in its own row. So many were to be prepared, and the wire's count of faults was this before and that afterwards.
+pub record GrowsBy {E : Type 0} (m : Means E) (host count faults faults_after : ℕ) (rows after : List (List (Vec (ℕ × E) Global))) (row own : List (Vec (ℕ × E) Global)) : Type 0 where
   pub stood : List (Vec (ℕ × E) Global)
   pub one : Vec (ℕ × E) Global
   pub other : Vec (ℕ × E) Global
@@ -15,3 +17,4 @@ pub record GrowsBy {E : Type 0} (m : Means E) (host : ℕ) (rows after : List (L
   pub lower : after ≡ slice_set rows host (stood ++ one ∷ [])
   pub later : own ≡ row ++ other ∷ []
   pub prepared : ArePrepared m newest one.items other.items
+  pub counted : AreNumbersOf count faults faults_after (numbers one.items)

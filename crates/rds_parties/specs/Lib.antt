@@ -1,4 +1,5 @@
 pub mod Obeyed
+pub mod Streams
 pub mod Preparing
 pub mod Parties
 pub mod Growing

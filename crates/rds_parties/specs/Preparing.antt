@@ -1,10 +1,13 @@
--- The streams of a run before they are used. Source: this project's own.
+-- The streams of a run before they are used, and the lines that were given them. Source: this project's own.
 use Rattle.std.specs.Prelude.{ℕ, ◌≤◌, List, Vec, All}
 use Rattle.std.specs.Global.{Global}
 use Rattle.rds_link.specs.Ends.{Means}
-use Rattle.rds_line_streams.specs.Streams.{AreNumbered, IsUnused}
+use Rattle.rds_line.specs.Line.{LineView}
+use Rattle.rds_line_streams.specs.Streams.{AreNumbered, IsUnused, numbers}
+use Rattle.rds_script.specs.declared.script.Placed.{Placed}
 use Rattle.rds_rounds.specs.Connection.{ArePaired}
 use Rattle.rds_rounds.specs.Grid.{AreRows, OfEachPair}
+use Rattle.rds_parties.specs.Streams.{AreNumbersOf, streams_between}
 
 module _ {E : Type 0} (m : Means E) where
   -- the streams of two hosts that were opened so far, with numbers up to this one
@@ -21,3 +24,19 @@ module _ {E : Type 0} (m : Means E) where
   pub record AreAllPrepared (hosts : ℕ) (rows : List (List (Vec (ℕ × E) Global))) : Type 0 where
     pub shape : AreRows hosts rows
     pub pairs : OfEachPair (λ low high (one : Vec (ℕ × E) Global) (other : Vec (ℕ × E) Global). (newest : ℕ) × ArePrepared newest one.items other.items) rows
+
+module _ {E : Type 0} (commands : List Placed) (before after : ℕ) where
+  -- these two hosts have the streams that were prepared for these commands, where the wire's count of faults was this before and that
+  -- afterwards
+  abbrev pub HaveNumbered : (low high : ℕ) → (one other : List (ℕ × E)) → Type 0
+  HaveNumbered low high one other =
+      AreNumbersOf (streams_between low high commands) before after (numbers one) × AreNumbersOf (streams_between low high commands) before after (numbers other)
+
+  -- so have each two hosts
+  abbrev pub AreAllCounted : List (List (Vec (ℕ × E) Global)) → Type 0
+  AreAllCounted rows = OfEachPair (λ low high (one : Vec (ℕ × E) Global) (other : Vec (ℕ × E) Global). HaveNumbered low high one.items other.items) rows
+
+  -- and so have the lines of each two
+  abbrev pub HaveCounted : {M : Type 0} → List (List (LineView E M)) → Type 0
+  HaveCounted {M} rows =
+      OfEachPair (λ low high (one : LineView E M) (other : LineView E M). HaveNumbered low high one.channel.streams.list other.channel.streams.list) rows

@@ -1,5 +1,5 @@
 //! How the hosts of a run are made.
-ghost use Rattle.std.specs.Prelude.{◌≡◌, ◌≤◌, ◌<◌, suc, All, IfOk, filter, length, map};
+ghost use Rattle.std.specs.Prelude.{◌≡◌, ◌≤◌, ◌<◌, ℕ, suc, All, IfOk, List, filter, length, map};
 ghost use Rattle.rds_model.specs.declared.entry.TheConstants.{MAX_SLOTS};
 ghost use Rattle.rds_model.specs.declared.journal.TheConstants.{MAX_ENTRIES, MIN_ENTRIES};
 ghost use Rattle.rds_report.specs.Hosts.{address_of};
@@ -10,7 +10,8 @@ ghost use Rattle.rds_rounds.specs.Connection.{AreHosts};
 ghost use Rattle.rds_rounds.specs.Grid.{others, peer_at, rows_of};
 ghost use Rattle.rds_parties.specs.Obeyed.{AreNewPlaces, is_bind_of as is_bind_of_host, slot_count};
 ghost use Rattle.rds_parties.specs.Parties.{AreNewCallers, AreParties, HaveNotLooked};
-ghost use Rattle.rds_parties.specs.Preparing.{AreAllPrepared};
+ghost use Rattle.rds_parties.specs.Preparing.{AreAllCounted, AreAllPrepared, HaveCounted};
+ghost use Rattle.rds_script.specs.declared.script.Placed.{Placed as PlacedCommand};
 ghost use Rattle.rds_settling.specs.Tied.{AreTied};
 
 use crate::streams::Ends;
@@ -78,6 +79,8 @@ pub fn parties<E: End>(
     ensures new { IfOk result (λ p. AreNewCallers script.now.hosts script.now.commands.items p.0.items) }
     ensures hosts { IfOk result (λ p. AreHosts E.means limit script.now.hosts (rows_of p.1.items)) }
     ensures looks { IfOk result (λ p. HaveNotLooked (rows_of p.1.items)) }
+    ensures counted { (commands : List PlacedCommand) (before after : ℕ) → AreAllCounted commands before after (rows_of streams.items) →
+        IfOk result (λ p. HaveCounted commands before after (rows_of p.1.items)) }
 {
     let mut callers = Vec::new(alloc);
     let mut lines = Vec::new(alloc);

@@ -1,9 +1,11 @@
 //! The callers of a run, beside its workers.
-ghost use Rattle.std.specs.Prelude.{◌≡◌, ◌≤◌, ℕ, All, IfOk, OnOk, Ok, length, map};
+ghost use Rattle.std.specs.Prelude.{◌≡◌, ◌≤◌, ℕ, All, IfOk, List, OnOk, Ok, length, map};
 ghost use Rattle.rds_callers.specs.Places.{PlacesKeep};
 ghost use Rattle.rds_parties.specs.Leading.{AreJobs, CallersKeep, HasCalled};
 ghost use Rattle.rds_parties.specs.Obeyed.{HasObeyed, DoesCommand};
 ghost use Rattle.rds_parties.specs.Parties.{AreParties, HaveLed, HaveNotLooked, HaveObeyed};
+ghost use Rattle.rds_parties.specs.Preparing.{HaveCounted};
+ghost use Rattle.rds_script.specs.declared.script.Placed.{Placed as PlacedCommand};
 ghost use Rattle.rds_script.specs.Script.{IsCommand, IsScript};
 ghost use Rattle.rds_host.specs.Lines.{AreTurned, pair_of};
 ghost use Rattle.rds_rounds.specs.Connection.{AreHosts};
@@ -165,6 +167,8 @@ pub fn play<E: End + Send, R: Threads + Wait + Sync, G: Gate + Sync>(
     ensures led { IfOk result.0 (λ after. HaveLed script.now.commands.items callers.items after.items (rows_of result.1.items)) }
     ensures parties { IfOk result.0 (λ after. AreParties script.now.hosts after.items (rows_of result.1.items)) }
     ensures hosts { (limit hosts : ℕ) → AreHosts E.means limit hosts (rows_of lines.items) → AreHosts E.means limit hosts (rows_of result.1.items) }
+    ensures counted { (commands : List PlacedCommand) (before after : ℕ) → HaveCounted commands before after (rows_of lines.items) →
+        HaveCounted commands before after (rows_of result.1.items) }
 {
     let commands = script.commands.as_slice();
     let Ok(leading) = lead(rt, alloc, commands, &mut callers, &mut lines) else {

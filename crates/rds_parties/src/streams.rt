@@ -1,22 +1,22 @@
 //! The streams of a run.
-ghost use Rattle.std.specs.Prelude.{◌≡◌, ℕ, ◌+◌, ◌<◌, [], ◌∷◌, ◌++◌, IfOk, OnOk, length};
+ghost use Rattle.std.specs.Prelude.{◌≡◌, ℕ, ◌+◌, ◌≤◌, ◌<◌, [], ◌∷◌, ◌++◌, IfOk, OnOk, length};
+ghost use Rattle.rds_line_streams.specs.Streams.{numbers};
 ghost use Rattle.rds_rounds.specs.Grid.{rows_of};
 ghost use Rattle.rds_script.specs.Script.{IsScript};
 ghost use Rattle.rds_parties.specs.Growing.{GrowsBy};
-ghost use Rattle.rds_parties.specs.Preparing.{AreAllPrepared, ArePrepared};
+ghost use Rattle.rds_parties.specs.Preparing.{AreAllCounted, AreAllPrepared, ArePrepared};
+ghost use Rattle.rds_parties.specs.Streams.{AreAllUnlessRisen, AreNumbersOf, streams_between};
 
+use crate::counts::{MORE_STREAMS, cuts_between};
 use rds_link::{End, Wire, WireError};
 use rds_report::address;
 use rds_rounds::Wanted;
-use rds_script::{Command, Placed, Script};
+use rds_script::Script;
 use rds_wire::Memory;
 use std::alloc::Global;
 use std::net::Net;
 use std::sync::Wait;
 use std::thread::Threads;
-
-/// How many streams more are prepared between two hosts than the script has cuts between them.
-const MORE: u32 = 3;
 
 /// A host's ends of the streams to a peer, each with its number.
 pub type Ends<E> = Vec<(u32, E)>;
@@ -69,7 +69,9 @@ pub fn prepare<W: Wire, R: Threads + Wait + Net>(
     script: &Script,
 ) -> Result<Prepared<W::End>, Memory>
     requires { IsScript script.now }
-    ensures { IfOk result (λ p. AreAllPrepared W.End.means script.now.hosts (rows_of p.streams.items)) }
+    ensures prepared { IfOk result (λ p. AreAllPrepared W.End.means script.now.hosts (rows_of p.streams.items)) }
+    ensures counted { IfOk result (λ p. AreAllCounted script.now.commands.items (W.faults wire.old) (W.faults wire.new) (rows_of p.streams.items)) }
+    ensures grows { W.faults wire.old ≤ W.faults wire.new }
 {
     let mut prepared = Prepared {
         streams: Vec::new(alloc),
@@ -90,10 +92,15 @@ fn add_host<W: Wire, R: Threads + Wait + Net>(
     host: u8,
     prepared: &mut Prepared<W::End>,
 ) -> Result<(), Memory>
+    requires script { IsScript script.now }
     requires prepared { AreAllPrepared W.End.means host (rows_of prepared.old.streams.items) }
     requires wanted { length prepared.old.wanted.items ≡ host }
     ensures prepared { OnOk result (AreAllPrepared W.End.means (host + 1) (rows_of prepared.new.streams.items)) }
     ensures wanted { OnOk result (length prepared.new.wanted.items ≡ host + 1) }
+    ensures counted { (before : ℕ) → before ≤ W.faults wire.old →
+        AreAllCounted script.now.commands.items before (W.faults wire.old) (rows_of prepared.old.streams.items) →
+        OnOk result (AreAllCounted script.now.commands.items before (W.faults wire.new) (rows_of prepared.new.streams.items)) }
+    ensures grows { W.faults wire.old ≤ W.faults wire.new }
 {
     let mut row = Row {
         streams: Vec::new(alloc),
@@ -118,13 +125,15 @@ fn add_pair<W: Wire, R: Threads + Wait + Net>(
     prepared: &mut Prepared<W::End>,
     row: &mut Row<W::End>,
 ) -> Result<(), Memory>
+    requires script { IsScript script.now }
     requires streams { low < length prepared.old.streams.items }
     requires wanted { low < length prepared.old.wanted.items }
-    ensures grows { OnOk result (GrowsBy W.End.means low (rows_of prepared.old.streams.items) (rows_of prepared.new.streams.items) row.old.streams.items row.new.streams.items) }
+    ensures grows { OnOk result (GrowsBy W.End.means low (streams_between low high script.now.commands.items) (W.faults wire.old) (W.faults wire.new) (rows_of prepared.old.streams.items) (rows_of prepared.new.streams.items) row.old.streams.items row.new.streams.items) }
     ensures wanted { length prepared.new.wanted.items ≡ length prepared.old.wanted.items }
+    ensures faults { W.faults wire.old ≤ W.faults wire.new }
 {
-    let cuts = cuts_between(&script.commands, low, high);
-    let opened = open_all(rt, alloc, wire, low, high, cuts.saturating_add(MORE))?;
+    let cuts = cuts_between(script, low, high);
+    let opened = open_all(rt, alloc, wire, low, high, cuts + MORE_STREAMS)?;
     let lacks = opened.lacks;
     let low = usize::from(low);
     prepared.wanted[low].push(Wanted { lacks, cuts })?;
@@ -132,27 +141,6 @@ fn add_pair<W: Wire, R: Threads + Wait + Net>(
     prepared.streams[low].push(opened.low)?;
     row.streams.push(opened.high)?;
     Ok(())
-}
-
-// How many cuts there are between two hosts, whichever of them cuts.
-fn cuts_between(commands: &[Placed], low: u8, high: u8) -> u32 {
-    let mut cuts = 0u32;
-    for placed in commands {
-        if is_cut_between(&placed.command, low, high) {
-            cuts = cuts.saturating_add(1);
-        }
-    }
-    cuts
-}
-
-// Whether the command is a cut between two hosts.
-fn is_cut_between(command: &Command, low: u8, high: u8) -> bool {
-    match command {
-        Command::Cut { host, to } => {
-            (*host == low && *to == high) || (*host == high && *to == low)
-        }
-        _ => false,
-    }
 }
 
 // Opens so many streams between two hosts, numbered from 1. One that fails is left out.
@@ -164,7 +152,9 @@ fn open_all<W: Wire, R: Threads + Wait + Net>(
     high: u8,
     count: u32,
 ) -> Result<Opened<W::End>, Memory>
-    ensures { IfOk result (λ opened. (newest : ℕ) × ArePrepared W.End.means newest opened.low.items opened.high.items) }
+    ensures prepared { IfOk result (λ opened. (newest : ℕ) × ArePrepared W.End.means newest opened.low.items opened.high.items) }
+    ensures counted { IfOk result (λ opened. AreNumbersOf count (W.faults wire.old) (W.faults wire.new) (numbers opened.low.items)) }
+    ensures grows { W.faults wire.old ≤ W.faults wire.new }
 {
     let mut opened = Opened {
         low: Vec::new(alloc),
@@ -188,7 +178,10 @@ fn open_next<W: Wire, R: Threads + Wait + Net>(
 ) -> Result<(), Memory>
     requires room { before < 4294967295 }
     requires prepared { ArePrepared W.End.means before opened.old.low.items opened.old.high.items }
-    ensures { OnOk result (ArePrepared W.End.means (before + 1) opened.new.low.items opened.new.high.items) }
+    ensures prepared { OnOk result (ArePrepared W.End.means (before + 1) opened.new.low.items opened.new.high.items) }
+    ensures whole { (first : ℕ) → first ≤ W.faults wire.old → AreAllUnlessRisen before first (W.faults wire.old) (numbers opened.old.low.items) →
+        OnOk result (AreAllUnlessRisen (before + 1) first (W.faults wire.new) (numbers opened.new.low.items)) }
+    ensures grows { W.faults wire.old ≤ W.faults wire.new }
 {
     let number = before + 1;
     match wire.open(rt, address(low), address(high), number) {

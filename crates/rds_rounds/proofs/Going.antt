@@ -45,7 +45,7 @@ boxes_through old middle new first second = record {
 
 module _ {E : Type 0} where
   pub goes_same : (line : LineView E WriterView) → LineGoesOn line line
-  goes_same line = record { keeps = line_keeps_same line; told = refl; always = λ telling was. was }
+  goes_same line = record { keeps = line_keeps_same line; told = refl; numbers = refl; always = λ telling was. was }
 
   pub goes_through : (a b c : LineView E WriterView) → LineGoesOn a b → LineGoesOn b c → LineGoesOn a c
   goes_through a b c one two = record {
@@ -61,6 +61,7 @@ module _ {E : Type 0} where
     };
     told = two.told ∙ one.told;
     always = λ telling was. two.always telling (one.always telling was);
+    numbers = two.numbers ∙ one.numbers;
   }
 
   -- a line that turned goes on
@@ -78,6 +79,7 @@ module _ {E : Type 0} where
     };
     told = stays.told;
     always = stays.always;
+    numbers = stays.channel.streams.numbers;
   }
 
   pub lines_through : (a b c : List (LineView E WriterView)) → LinesGoOn a b → LinesGoOn b c → LinesGoOn a c

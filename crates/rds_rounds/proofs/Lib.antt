@@ -9,3 +9,5 @@ pub mod Whole
 pub mod Resting
 pub mod Drains
 pub mod Knowing
+pub mod Lacking
+pub mod Alive

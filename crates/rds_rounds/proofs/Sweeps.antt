@@ -8,7 +8,7 @@ use Rattle.rds_line.specs.Line.{LineView}
 use Rattle.rds_line_streams.specs.PlaceLaws.{beside_set}
 use Rattle.rds_rounds.specs.Connection.{IsFullAt}
 use Rattle.rds_rounds.specs.Grid.{EachRow, IsAt}
-use Rattle.rds_rounds.specs.Sweep.{AreSwept, GoOnTogether, HasAsMany, HaveHadRound, IsFullAmong, IsPair, IsPairBelow, IsPairOf, PairAfter, RowsHadRound}
+use Rattle.rds_rounds.specs.Sweep.{AreSwept, GoOnTogether, HasAsMany, HaveHadRound, IsAmong, IsPair, IsPairBelow, IsPairOf, LackStreamAt, PairAfter, RowsHadRound}
 use Rattle.rds_rounds.specs.declared.verdict.Round.{Round}
 use Rattle.rds_rounds.specs.declared.verdict.Round.TheVariants as verdict
 use Rattle.rds_rounds.proofs.Going.{goes_same, goes_through}
@@ -65,8 +65,9 @@ module _ {E : Type 0} (m : Means E) where
   swept_through In Too first second came a b c one two apart idle which = record {
     lengths = length_through a b c one.lengths two.lengths;
     pair = λ low place x y ordered x_at y_at. after low place x y ordered (one.pair low place x y ordered x_at y_at);
-    fault = λ low high is. faulty low high is which;
-    spent = λ host peer entries is. full host peer entries is which;
+    fault = λ low high is. found (LackStreamAt low high) (verdict.Fault low high) is (one.fault low high) (two.fault low high) which;
+    spent = λ host peer entries is.
+        found (IsFullAt host peer entries) (verdict.Spent host peer entries) is (one.spent host peer entries) (two.spent host peer entries) which;
   }
     where
       after : (low place : ℕ) (x y : LineView E WriterView) → low ≤ place → PairAfter m (In low place) (first ≡ verdict.Idle) low place x y b →
@@ -92,43 +93,38 @@ module _ {E : Type 0} (m : Means E) where
             other_same = λ out. is.other_same (λ later. out (inr later)) ∙ was.other_same (λ earlier. out (inl earlier));
           }
 
-      faulty : (low high : ℕ) → came ≡ verdict.Fault low high → (came ≡ first) ⊎ (came ≡ second) → (low < high) × (high < length c)
-      faulty low high is (inl same) =
-          let found = one.fault low high (sym same ∙ is) in
-          (found.0, omega (arith, found.1, two.lengths.count))
-      faulty low high is (inr same) = two.fault low high (sym same ∙ is)
-
-      full : (host peer entries : ℕ) → came ≡ verdict.Spent host peer entries → (came ≡ first) ⊎ (came ≡ second) →
-          IsFullAmong (λ low place. In low place ⊎ Too low place) host peer entries c
-      full host peer entries is (inl same) =
-          let found = one.spent host peer entries (sym same ∙ is) in
-          let stays = two.pair found.low found.place found.one found.other found.ordered found.one_at found.other_at in
-          let out = apart found.low found.place found.ordered found.among in
+      -- what holds of one of these pairs, or of one of those
+      found : (Holds : (low high : ℕ) → (x y : LineView E WriterView) → Type 0) (verdict : Round) → came ≡ verdict → (first ≡ verdict → IsAmong In Holds b) →
+          (second ≡ verdict → IsAmong Too Holds c) → (came ≡ first) ⊎ (came ≡ second) → IsAmong (λ low place. In low place ⊎ Too low place) Holds c
+      found Holds verdict is earlier later (inl same) =
+          let at = earlier (sym same ∙ is) in
+          let stays = two.pair at.low at.place at.one at.other at.ordered at.one_at at.other_at in
+          let out = apart at.low at.place at.ordered at.among in
           record {
-            low = found.low;
-            place = found.place;
+            low = at.low;
+            place = at.place;
             one = stays.one_after;
             other = stays.other_after;
-            ordered = found.ordered;
-            among = inl found.among;
+            ordered = at.ordered;
+            among = inl at.among;
             one_at = stays.one_at;
             other_at = stays.other_at;
-            full =
-                subst (λ (l : LineView E WriterView). IsFullAt host peer entries found.low (suc found.place) l stays.other_after) (sym (stays.one_same out))
-                (subst (λ (l : LineView E WriterView). IsFullAt host peer entries found.low (suc found.place) found.one l) (sym (stays.other_same out)) found.full);
+            holds =
+                subst (λ (l : LineView E WriterView). Holds at.low (suc at.place) l stays.other_after) (sym (stays.one_same out))
+                (subst (λ (l : LineView E WriterView). Holds at.low (suc at.place) at.one l) (sym (stays.other_same out)) at.holds);
           }
-      full host peer entries is (inr same) =
-          let found = two.spent host peer entries (sym same ∙ is) in
+      found Holds verdict is earlier later (inr same) =
+          let at = later (sym same ∙ is) in
           record {
-            low = found.low;
-            place = found.place;
-            one = found.one;
-            other = found.other;
-            ordered = found.ordered;
-            among = inr found.among;
-            one_at = found.one_at;
-            other_at = found.other_at;
-            full = found.full;
+            low = at.low;
+            place = at.place;
+            one = at.one;
+            other = at.other;
+            ordered = at.ordered;
+            among = inr at.among;
+            one_at = at.one_at;
+            other_at = at.other_at;
+            holds = at.holds;
           }
 
   -- the same pairs in other words
@@ -150,22 +146,24 @@ module _ {E : Type 0} (m : Means E) where
           one_same = λ out. after.one_same (λ among. out (forth low place ordered within among));
           other_same = λ out. after.other_same (λ among. out (forth low place ordered within among));
         };
-    fault = swept.fault;
-    spent = λ host peer entries is.
-        let found = swept.spent host peer entries is in
-        let within = slice_get_within new (suc found.place) found.other_at.0 found.other_at.1 in
-        record {
-          low = found.low;
-          place = found.place;
-          one = found.one;
-          other = found.other;
-          ordered = found.ordered;
-          among = forth found.low found.place found.ordered (omega (arith, within, swept.lengths.count)) found.among;
-          one_at = found.one_at;
-          other_at = found.other_at;
-          full = found.full;
-        };
+    fault = λ low high is. among (LackStreamAt low high) (swept.fault low high is);
+    spent = λ host peer entries is. among (IsFullAt host peer entries) (swept.spent host peer entries is);
   }
+    where
+      among : (Holds : (low high : ℕ) → (x y : LineView E WriterView) → Type 0) → IsAmong In Holds new → IsAmong Too Holds new
+      among Holds at =
+          let within = slice_get_within new (suc at.place) at.other_at.0 at.other_at.1 in
+          record {
+            low = at.low;
+            place = at.place;
+            one = at.one;
+            other = at.other;
+            ordered = at.ordered;
+            among = forth at.low at.place at.ordered (omega (arith, within, swept.lengths.count)) at.among;
+            one_at = at.one_at;
+            other_at = at.other_at;
+            holds = at.holds;
+          }
 
   module _ (first second came : Round) (a b c : List (List (LineView E WriterView))) (idle : came ≡ verdict.Idle → (first ≡ verdict.Idle) × (second ≡ verdict.Idle))
       (which : (came ≡ first) ⊎ (came ≡ second)) where
@@ -214,20 +212,8 @@ module _ {E : Type 0} (m : Means E) where
     swept_both lower_after higher_after had within = record {
       lengths = lengths;
       pair = λ host place one other ordered one_at other_at. by_pair host place one other ordered one_at other_at (cases_eq host low) (cases_eq (suc place) high);
-      fault = λ first second is.
-          let found = had.fault first second is in
-          (omega (arith, found.0, found.1, less), omega (arith, found.1, within, lengths.count));
-      spent = λ host peer entries is. record {
-        low = low;
-        place = high - 1;
-        one = had.one_after;
-        other = had.other_after;
-        ordered = omega (arith, less);
-        among = (refl, top);
-        one_at = one_here;
-        other_at = subst (λ (n : ℕ). IsAt (after_both had.one_after had.other_after) n low had.other_after) (sym top) other_here;
-        full = subst (λ (n : ℕ). IsFullAt host peer entries low n had.one_after had.other_after) (sym top) (had.spent host peer entries is);
-      };
+      fault = λ first second is. here (LackStreamAt first second) (had.fault first second is);
+      spent = λ host peer entries is. here (IsFullAt host peer entries) (had.spent host peer entries is);
     }
       where
         top : suc (high - 1) ≡ high
@@ -249,6 +235,20 @@ module _ {E : Type 0} (m : Means E) where
         other_here =
             at_there (set rows low (set lower (high - 1) had.one_after)) high higher (still had.one_after) low had.other_after
             (slice_get_within higher low had.other had.other_at)
+
+        here : (Holds : (first second : ℕ) → (x y : LineView E WriterView) → Type 0) → Holds low high had.one_after had.other_after →
+            IsAmong (IsPair low high) Holds (after_both had.one_after had.other_after)
+        here Holds holds = record {
+          low = low;
+          place = high - 1;
+          one = had.one_after;
+          other = had.other_after;
+          ordered = omega (arith, less);
+          among = (refl, top);
+          one_at = one_here;
+          other_at = subst (λ (n : ℕ). IsAt (after_both had.one_after had.other_after) n low had.other_after) (sym top) other_here;
+          holds = subst (λ (n : ℕ). Holds low n had.one_after had.other_after) (sym top) holds;
+        }
 
         inside : (host place : ℕ) (one other : LineView E WriterView) → IsAt rows host place one → IsAt rows (suc place) host other → host ≡ low → suc place ≡ high →
             PairAfter m (IsPair low high host place) (came ≡ verdict.Idle) host place one other (after_both had.one_after had.other_after)

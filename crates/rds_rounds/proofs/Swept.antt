@@ -6,12 +6,13 @@ use Rattle.rds_fmap.specs.Readers.{WriterView}
 use Rattle.rds_mail.specs.Learning.{AllGot}
 use Rattle.rds_link.specs.Ends.{Means}
 use Rattle.rds_line.specs.Line.{LineView}
+use Rattle.rds_rounds.specs.Causes.{HostsLackStream}
 use Rattle.rds_rounds.specs.Connection.{AreConnected, AreHosts, IsFullAt, IsFullHost}
 use Rattle.rds_rounds.specs.Done.{AreDone}
 use Rattle.rds_rounds.specs.Drained.{AreDrainedLines}
 use Rattle.rds_rounds.specs.Grid.{AreRows, EachRow, IsAt, peer_at}
 use Rattle.rds_rounds.specs.Quiet.{AreQuiet, LineGoesOn, LinesGoOn}
-use Rattle.rds_rounds.specs.Sweep.{AreConnectedRows, AreSwept, AreWritten, GoOnTogether, HaveHadRound, IsFullAmong, IsPairBelow}
+use Rattle.rds_rounds.specs.Sweep.{AreConnectedRows, AreSwept, AreWritten, GoOnTogether, HaveHadRound, IsAmong, IsPairBelow, LackStreamAt}
 use Rattle.rds_rounds.specs.declared.verdict.Round.{Round}
 use Rattle.rds_rounds.specs.declared.verdict.Round.TheVariants as verdict
 use Rattle.rds_rounds.proofs.Partners.{all_at, all_of, has_partner, is_there, rows_keep}
@@ -151,9 +152,9 @@ all_pairs m hosts came old new swept full low place ordered within =
     (omega (arith, ordered, within, swept.lengths.count, full), omega (arith, within, swept.lengths.count, full))
 
 -- the host with a full journal
-pub full_host : {E : Type 0} (In : ℕ → ℕ → Type 0) (host peer entries : ℕ) (rows : List (List (LineView E WriterView))) → IsFullAmong In host peer entries rows →
-    IsFullHost host peer entries rows
-full_host {E} In host peer entries rows found = by_line found.full
+pub full_host : {E : Type 0} (In : ℕ → ℕ → Type 0) (host peer entries : ℕ) (rows : List (List (LineView E WriterView))) →
+    IsAmong In (IsFullAt host peer entries) rows → IsFullHost host peer entries rows
+full_host {E} In host peer entries rows found = by_line found.holds
   where
     by_line : IsFullAt host peer entries found.low (suc found.place) found.one found.other → IsFullHost host peer entries rows
     by_line (inl low) = record {
@@ -176,3 +177,23 @@ full_host {E} In host peer entries rows found = by_line found.full
       where
         lower : peer_at (suc found.place) found.low ≡ found.low
         lower = grind (arith, found.ordered)
+
+-- the two hosts that lack a stream
+pub lacking_hosts : {E : Type 0} (In : ℕ → ℕ → Type 0) (low high : ℕ) (rows : List (List (LineView E WriterView))) → IsAmong In (LackStreamAt low high) rows →
+    HostsLackStream low high rows
+lacking_hosts {E} In low high rows found = record {
+  place = found.place;
+  one = found.one;
+  other = found.other;
+  ordered = omega (arith, found.ordered, found.holds.0);
+  next = found.holds.1;
+  one_at = subst (λ (n : ℕ). IsAt rows n found.place found.one) (sym found.holds.0) found.one_at;
+  other_at =
+      subst (λ (n : ℕ). IsAt rows n low found.other) (sym found.holds.1)
+      (subst (λ (n : ℕ). IsAt rows (suc found.place) n found.other) (sym found.holds.0) found.other_at);
+  lacks = found.holds.2;
+}
+
+-- they are two of the hosts
+pub lacking_within : {E : Type 0} (low high : ℕ) (rows : List (List (LineView E WriterView))) → HostsLackStream low high rows → (low < high) × (high < length rows)
+lacking_within low high rows lack = (omega (arith, lack.ordered, lack.next), slice_get_within rows high lack.other_at.0 lack.other_at.1)

@@ -4,5 +4,6 @@ pub mod Sound
 pub mod Drained
 pub mod Done
 pub mod Quiet
+pub mod Causes
 pub mod Rest
 pub mod Sweep

@@ -1,9 +1,10 @@
 -- Private: it serves the contracts of the private functions that turn the lines of a run for the last time. Source: this project's own.
-use Rattle.std.specs.Prelude.{◌≡◌, ◌≤◌, ◌<◌, ◌-◌, ℕ, suc, true, All, List, [], Some, length, slice_get, slice_set}
+use Rattle.std.specs.Prelude.{◌≡◌, ◌⊎◌, ◌≤◌, ◌<◌, ◌-◌, ℕ, suc, true, All, List, [], Some, length, slice_get, slice_set}
 use Rattle.rds_fmap.specs.Readers.{WriterView}
 use Rattle.rds_mail.specs.Learning.{AllGot}
 use Rattle.rds_link.specs.Ends.{Means}
 use Rattle.rds_line.specs.Line.{LineView, line_past}
+use Rattle.rds_rounds.specs.Causes.{LacksStream}
 use Rattle.rds_rounds.specs.Connection.{AreConnected, IsFullAt}
 use Rattle.rds_rounds.specs.Drained.{AreDrained}
 use Rattle.rds_rounds.specs.Grid.{EachRow, IsAt}
@@ -31,6 +32,10 @@ IsPairBelow low hosts host place = (host < low) × (suc place < hosts)
 -- no line of a host has bytes that are to be written
 abbrev pub AreWritten : {E M : Type 0} → List (LineView E M) → Type 0
 AreWritten {E} {M} row = All (λ (line : LineView E M). line.channel.out ≡ []) row
+
+-- these are the two hosts, and one of their two lines lacks a stream
+abbrev pub LackStreamAt : {E : Type 0} → (first second : ℕ) → (low high : ℕ) → (one other : LineView E WriterView) → Type 0
+LackStreamAt first second low high one other = (first ≡ low) × (second ≡ high) × (LacksStream one ⊎ LacksStream other)
 
 module _ {E : Type 0} (m : Means E) where
   -- The lines of two hosts after a round of theirs: what their journals have is sound. Where the round was idle, each got all orders that
@@ -66,7 +71,7 @@ module _ {E : Type 0} (m : Means E) where
     pub higher_is : higher_after ≡ slice_set higher low other_after
     pub together : GoOnTogether low high one other one_after other_after
     pub round : HaveHadRound (came ≡ verdict.Idle) one_after other_after
-    pub fault : (first second : ℕ) → came ≡ verdict.Fault first second → (first ≡ low) × (second ≡ high)
+    pub fault : (first second : ℕ) → came ≡ verdict.Fault first second → LackStreamAt first second low high one_after other_after
     pub spent : (host peer entries : ℕ) → came ≡ verdict.Spent host peer entries → IsFullAt host peer entries low high one_after other_after
 
   -- What became of the two lines of two hosts: they go on. They had a round where they are among those that had one, and are the same
@@ -81,8 +86,9 @@ module _ {E : Type 0} (m : Means E) where
     pub one_same : (In → ⊥) → one_after ≡ one
     pub other_same : (In → ⊥) → other_after ≡ other
 
--- one of these pairs has a line whose journal has so many entries, and two more would pass its limit
-pub record IsFullAmong {E : Type 0} (In : ℕ → ℕ → Type 0) (host peer entries : ℕ) (rows : List (List (LineView E WriterView))) : Type 0 where
+-- this holds of the two lines of one of these pairs
+pub record IsAmong {E : Type 0} (In : ℕ → ℕ → Type 0) (Holds : (low high : ℕ) → (one other : LineView E WriterView) → Type 0)
+    (rows : List (List (LineView E WriterView))) : Type 0 where
   pub low : ℕ
   pub place : ℕ
   pub one : LineView E WriterView
@@ -91,12 +97,12 @@ pub record IsFullAmong {E : Type 0} (In : ℕ → ℕ → Type 0) (host peer ent
   pub among : In low place
   pub one_at : IsAt rows low place one
   pub other_at : IsAt rows (suc place) low other
-  pub full : IsFullAt host peer entries low (suc place) one other
+  pub holds : Holds low (suc place) one other
 
 -- The two lines of each of these pairs had a round, and all other lines are the same. The rounds together came to this.
 pub record AreSwept {E : Type 0} (m : Means E) (In : ℕ → ℕ → Type 0) (came : Round) (old new : List (List (LineView E WriterView))) : Type 0 where
   pub lengths : EachRow HasAsMany old new
   pub pair : (low place : ℕ) (one other : LineView E WriterView) → low ≤ place → IsAt old low place one → IsAt old (suc place) low other →
       PairAfter m (In low place) (came ≡ verdict.Idle) low place one other new
-  pub fault : (low high : ℕ) → came ≡ verdict.Fault low high → (low < high) × (high < length new)
-  pub spent : (host peer entries : ℕ) → came ≡ verdict.Spent host peer entries → IsFullAmong In host peer entries new
+  pub fault : (low high : ℕ) → came ≡ verdict.Fault low high → IsAmong In (LackStreamAt low high) new
+  pub spent : (host peer entries : ℕ) → came ≡ verdict.Spent host peer entries → IsAmong In (IsFullAt host peer entries) new

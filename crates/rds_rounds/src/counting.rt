@@ -1,6 +1,7 @@
 //! What is left to do of the lines of a run.
-ghost use Rattle.std.specs.Prelude.{◌≡◌, All, [], true};
-ghost use Rattle.rds_rounds.specs.Grid.{rows_of};
+ghost use Rattle.std.specs.Prelude.{◌≡◌, ◌≤◌, ◌<◌, ◌*◌, ◌^◌, ℕ, All, [], true, length};
+ghost use Rattle.rds_rounds.specs.Causes.{alive_in_row, alive_in_rows};
+ghost use Rattle.rds_rounds.specs.Grid.{AreRows, rows_of};
 ghost use Rattle.rds_rounds.specs.Sweep.{AreWritten};
 
 use crate::rounds::Lines;
@@ -9,19 +10,26 @@ use rds_line::Line;
 use rds_link::End;
 
 /// How many datagrams aren't acknowledged.
-pub(crate) fn unacked<E: End>(lines: &Lines<E>) -> u64 {
+pub(crate) fn unacked<E: End>(lines: &Lines<E>) -> u64
+    requires { (hosts : ℕ) × (hosts ≤ 8) × AreRows hosts (rows_of lines.now.items) }
+    ensures { result ≡ alive_in_rows (rows_of lines.now.items) }
+{
     let mut count = 0u64;
     for host in 0..lines.len() {
-        count = count.saturating_add(unacked_of(&lines[host]));
+        count += unacked_of(&lines[host]);
     }
     count
 }
 
 // How many datagrams of one host aren't.
-fn unacked_of<E: End>(row: &Vec<Line<E, Writer>>) -> u64 {
+fn unacked_of<E: End>(row: &Vec<Line<E, Writer>>) -> u64
+    requires { length row.now.items < 8 }
+    ensures count { result ≡ alive_in_row row.now.items }
+    ensures most { result ≤ length row.now.items * 2 ^ 32 }
+{
     let mut count = 0u64;
     for place in 0..row.len() {
-        count = count.saturating_add(u64::from(row[place].unacked()));
+        count += u64::from(row[place].unacked());
     }
     count
 }

@@ -1,9 +1,10 @@
 //! The last rounds of a run, on one thread.
-ghost use Rattle.std.specs.Prelude.{◌≡◌, ◌≢◌, ◌<◌, ℕ, All, true, Some, length};
+ghost use Rattle.std.specs.Prelude.{◌≡◌, ◌≢◌, ◌≤◌, ◌<◌, ℕ, All, true, Some, length};
+ghost use Rattle.rds_rounds.specs.Causes.{AreUnacked, HostsLackStream};
 ghost use Rattle.rds_rounds.specs.Connection.{AreHosts, IsFullHost};
 ghost use Rattle.rds_rounds.specs.Done.{AreDone};
 ghost use Rattle.rds_rounds.specs.Drained.{AreDrainedLines};
-ghost use Rattle.rds_rounds.specs.Grid.{EachRow, rows_of};
+ghost use Rattle.rds_rounds.specs.Grid.{AreRows, EachRow, rows_of};
 ghost use Rattle.rds_rounds.specs.Quiet.{AreQuiet, IsQuietEnd, LinesGoOn};
 ghost use Rattle.rds_rounds.specs.Sweep.{AreWritten};
 ghost use Rattle.rds_rounds.specs.declared.rounds.Rounds.{Rounds as RoundsView};
@@ -54,6 +55,8 @@ pub fn last_rounds<W: Wire, R: Wait>(
     ensures quiet { IsQuietEnd result → All AreQuiet (rows_of lines.new.items) }
     ensures drained { W.End.means.tells ≡ true → result ≡ ended.Done → AreDrainedLines (rows_of lines.new.items) }
     ensures fault { (low high : ℕ) → result ≡ ended.Fault low high → (low < high) × (high < length lines.new.items) }
+    ensures lacks { (low high : ℕ) → result ≡ ended.Fault low high → HostsLackStream low high (rows_of lines.new.items) }
+    ensures unfinished { (count : ℕ) → result ≡ ended.Unfinished count → AreUnacked W.End.means.tells count (rows_of lines.new.items) }
     ensures spent { (host peer entries : ℕ) → result ≡ ended.Spent host peer entries → IsFullHost host peer entries (rows_of lines.new.items) }
 {
     let mut quiet = 0u64;
@@ -84,8 +87,10 @@ fn end_after<E: End>(
     budget: u64,
     lines: &Lines<E>,
 ) -> Option<Rounds>
+    requires { (hosts : ℕ) × (hosts ≤ 8) × AreRows hosts (rows_of lines.now.items) }
     ensures fault { (low high : ℕ) → result ≡ Some (ended.Fault low high) → came ≡ round.Fault low high }
     ensures spent { (host peer entries : ℕ) → result ≡ Some (ended.Spent host peer entries) → came ≡ round.Spent host peer entries }
+    ensures unfinished { (count : ℕ) → result ≡ Some (ended.Unfinished count) → AreUnacked tells count (rows_of lines.now.items) }
     ensures quiet { (end : RoundsView) → result ≡ Some end → IsQuietEnd end → came ≡ round.Idle }
     ensures written { tells ≡ true → result ≡ Some ended.Done → All AreWritten (rows_of lines.now.items) }
 {
@@ -108,6 +113,8 @@ fn end_after<E: End>(
 
 // Whether the rounds stop after so many quiet ones.
 fn after_idle<E: End>(tells: bool, quiet: u64, budget: u64, lines: &Lines<E>) -> Option<Rounds>
+    requires { (hosts : ℕ) × (hosts ≤ 8) × AreRows hosts (rows_of lines.now.items) }
+    ensures unfinished { (count : ℕ) → result ≡ Some (ended.Unfinished count) → AreUnacked tells count (rows_of lines.now.items) }
     ensures never_fault { (low high : ℕ) → result ≢ Some (ended.Fault low high) }
     ensures never_spent { (host peer entries : ℕ) → result ≢ Some (ended.Spent host peer entries) }
     ensures written { tells ≡ true → result ≡ Some ended.Done → All AreWritten (rows_of lines.now.items) }

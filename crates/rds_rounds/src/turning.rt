@@ -5,7 +5,7 @@ ghost use Rattle.rds_line.specs.Line.{line_past};
 ghost use Rattle.rds_rounds.specs.Connection.{AreConnected, IsFullAt};
 ghost use Rattle.rds_rounds.specs.Drained.{AreDrained};
 ghost use Rattle.rds_rounds.specs.Rest.{AreMetLines};
-ghost use Rattle.rds_rounds.specs.Sweep.{GoOnTogether, HaveHadRound};
+ghost use Rattle.rds_rounds.specs.Sweep.{GoOnTogether, HaveHadRound, LackStreamAt};
 ghost use Rattle.rds_rounds.specs.declared.verdict.Round.TheVariants as verdict;
 
 use crate::laws::rested_are_drained;
@@ -30,7 +30,7 @@ pub(crate) fn round<W: Wire, R: Wait>(
     requires connected { (limit : ℕ) × AreConnected W.End.means limit low high one.old other.old }
     ensures together { GoOnTogether W.End.means low high one.old other.old one.new other.new }
     ensures had { HaveHadRound W.End.means (result ≡ verdict.Idle) one.new other.new }
-    ensures fault { (first second : ℕ) → result ≡ verdict.Fault first second → (first ≡ low) × (second ≡ high) }
+    ensures fault { (first second : ℕ) → result ≡ verdict.Fault first second → LackStreamAt first second low high one.new other.new }
     ensures spent { (host peer entries : ℕ) → result ≡ verdict.Spent host peer entries → IsFullAt host peer entries low high one.new other.new }
 {
     meet_lines::<W>(one, other);
@@ -55,7 +55,7 @@ fn turn_both<E: End, R: Wait>(
     ensures idle { result ≡ verdict.Idle → AllGot one.new.orders × AllGot other.new.orders }
     ensures drained { E.means.tells ≡ true → AreMetLines E.means one.old other.old → result ≡ verdict.Idle → one.new.channel.out ≡ [] →
         other.new.channel.out ≡ [] → AreDrained (line_past one.new) (line_past other.new) }
-    ensures fault { (first second : ℕ) → result ≡ verdict.Fault first second → (first ≡ low) × (second ≡ high) }
+    ensures fault { (first second : ℕ) → result ≡ verdict.Fault first second → LackStreamAt first second low high one.new other.new }
     ensures spent { (host peer entries : ℕ) → result ≡ verdict.Spent host peer entries → IsFullAt host peer entries low high one.new other.new }
 {
     let first = turn(rt, low, high, tells, wanted, one, other);

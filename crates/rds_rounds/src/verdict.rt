@@ -1,10 +1,13 @@
 //! What the turns of a round come to.
-ghost use Rattle.std.specs.Prelude.{◌≡◌, ℕ, max, min, true};
+ghost use Rattle.std.specs.Prelude.{◌≡◌, ◌∷◌, ℕ, List, max, min, true};
 ghost use Rattle.rds_mail.specs.Learning.{AllGot};
+ghost use Rattle.rds_model.specs.declared.entry.Entry.{Entry as Event};
+ghost use Rattle.rds_model.specs.Past.{newest_stream};
 ghost use Rattle.rds_line.specs.Line.{IsFull};
 ghost use Rattle.rds_line.specs.Stays.{LineStays};
 ghost use Rattle.rds_line.specs.Turns.{IsIdleTurn};
 ghost use Rattle.rds_host.specs.Lines.{pair_of};
+ghost use Rattle.rds_rounds.specs.Causes.{LacksStream};
 ghost use Rattle.rds_rounds.specs.Rest.{KeepsStreams};
 ghost use Rattle.rds_rounds.specs.declared.verdict.Round.TheVariants as round;
 
@@ -90,6 +93,7 @@ pub(crate) fn turn<E: End, R: Wait>(
     ensures keeps { KeepsStreams E.means line.new }
     ensures nothing { tells ≡ true → result ≡ round.Idle → IsIdleTurn E.means line.old line.new }
     ensures fault { (low high : ℕ) → result ≡ round.Fault low high → (low ≡ min host peer) × (high ≡ max host peer) }
+    ensures lacks { (low high : ℕ) → result ≡ round.Fault low high → LacksStream line.new }
     ensures spent { (at to entries : ℕ) → result ≡ round.Spent at to entries → (at ≡ host) × (to ≡ peer) × IsFull entries line.new }
 {
     line.known();
@@ -113,12 +117,25 @@ pub(crate) fn turn<E: End, R: Wait>(
 }
 
 /// The stream that a journal opened last, or 0.
-pub fn last_stream(journal: &Journal) -> u32 {
+pub fn last_stream(journal: &Journal) -> u32
+    ensures { result ≡ newest_stream journal.now.past }
+{
     let mut last = 0;
     for i in 0..journal.len() {
-        if let Some(Entry::Open { stream }) = journal.at(i) {
-            last = *stream;
-        }
+        let Some(entry) = journal.at(i) else {
+            unreachable!()
+        };
+        last = opened_last(last, entry);
     }
     last
+}
+
+// The stream that was opened last after an entry.
+fn opened_last(last: u32, entry: &Entry) -> u32
+    ensures { (past : List Event) → last ≡ newest_stream past → result ≡ newest_stream (entry.now ∷ past) }
+{
+    match entry {
+        Entry::Open { stream } => *stream,
+        _ => last,
+    }
 }

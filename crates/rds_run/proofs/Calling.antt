@@ -8,7 +8,7 @@ use Rattle.rds_run.specs.declared.status.Status.TheVariants as ended
 use Rattle.rds_run.specs.ExitStatus.{SourceSeen, SinkSeen}
 use Rattle.rds_run.specs.Reading.{IsEndOfReading, IsReadAs}
 use Rattle.rds_run.specs.RunStatus.{IsEndOfRunOver, IsEndOfTooMany, IsTooMany, Ran, TooMany}
-use Rattle.rds_run.specs.Streams.{prepared_streams}
+use Rattle.rds_parties.specs.Streams.{prepared_streams}
 use Rattle.rds_run.specs.Texts.{too_many_line}
 
 -- a script with too many streams is answered so

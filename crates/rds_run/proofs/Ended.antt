@@ -1,5 +1,5 @@
 -- What the program's exit status says, by how it ends.
-use Rattle.std.proofs.Common.{◌≡◌, ◌⊎◌, inl, inr, ℕ, ◌<◌, ◌≤◌, ◌++◌, Bool, true, List, String, sym, ap, subst, ⊎_elim, ◌∙◌, refl, arith}
+use Rattle.std.proofs.Common.{◌≡◌, ◌⊎◌, inl, inr, ℕ, ◌<◌, ◌≤◌, ◌++◌, Bool, true, false, List, String, sym, ap, subst, ⊎_elim, ◌∙◌, refl, arith}
 use Rattle.std.specs.Global.{Global}
 use Rattle.rds_link.specs.Streaming.{HasRisen, SinkGained, SinkGainedFront}
 use Rattle.rds_script.specs.declared.cause.Cause.{Cause}
@@ -11,7 +11,7 @@ use Rattle.rds_run.specs.declared.status.Status.TheVariants as ended
 use Rattle.rds_run.specs.ExitStatus.{HasTaken, IsAnswer, code, IsEndOfCall, IsEndOfRefusal, IsPlayed, IsRefusal, IsSpelled, IsSpent, IsToldRefused, IsToldSpelled, SinkSeen, SourceSeen}
 use Rattle.rds_run.specs.Reading.{IsEndOfReading}
 use Rattle.rds_run.specs.RunStatus.{HasFilled, IsEndOfGenCall, IsEndOfRunCall, IsEndOfRunOver, IsEndOfScript, IsEndOfTooMany, IsRan, IsRunUnfinished, IsTooMany, IsWireFault, Ran, TooMany, tells_over}
-use Rattle.rds_run.specs.Streams.{prepared_streams}
+use Rattle.rds_parties.specs.Streams.{prepared_streams}
 use Rattle.rds_run.specs.Texts.{read_fault_line, too_many_line, usage_line}
 use Rattle.rds_run.specs.Ending.{IsEndOfProgram, IsEndOfRunning, IsEndOfUsage, OfGen, OfMemory, OfNone, OfPlay, OfRun}
 use Rattle.rds_generator.specs.Generator.{generated}
@@ -255,7 +255,7 @@ module _ (tells : Bool) (words : List (String Global)) (source : SourceSeen) (si
   full s n is end play e = full_at (ends_at s 7 end (sym is ∙ e)) play
 
   abbrev IsFilled : RunWire → Type 0
-  IsFilled over = (m : Meaning) × IsSpelled source.left m × HasFilled (tells_over over tells) sink.held_before sink.held_after
+  IsFilled over = (m : Meaning) × IsSpelled source.left m × HasFilled (tells_over over tells) m sink.held_before sink.held_after
 
   filled_at : (over : RunWire) → HasRun over ended.Spent → IsFilled over
   filled_at over (inl e) = by_run over _ _ (λ r. absurd r) (λ m read many r. absurd r) (λ m read few r. (m, read, r)) e.ends
@@ -299,30 +299,48 @@ module _ (tells : Bool) (words : List (String Global)) (source : SourceSeen) (si
       → (HasRisen sink.faults_before sink.faults_after → ⊥) → ArePlayCodes n
   plays s n is end play m told read wrote = subst ArePlayCodes (sym is) (play_code s end play m told read wrote)
 
-  wire_at : Ends ended.WireFault → (ArePlay words → ⊥) × IsWireFault sink.held_before sink.held_after
+  abbrev HasWireFault : Type 0
+  HasWireFault =
+      ((over : RunWire) × AreRun words over × ((m : Meaning) × IsSpelled source.left m
+      × IsWireFault (tells_over over tells) m sink.held_before sink.held_after))
+      ⊎ ((sends : ℕ) × (seed : ℕ) × AreGen words sends seed × IsWireFault true (generated sends seed) sink.held_before sink.held_after)
+
+  wire_at : Ends ended.WireFault → (ArePlay words → ⊥) × HasWireFault
   wire_at (OfPlay is e) = absurd e.ends
   wire_at (OfRun over is e) = (
     λ play. play_or_run words over play is,
-    by_run over _ _ (λ r. absurd r) (λ m read many r. absurd r) (λ m read few r. r) e.ends,
+    inl (over, is, by_run over _ _ (λ r. absurd r) (λ m read many r. absurd r) (λ m read few r. (m, read, r)) e.ends),
   )
-  wire_at (OfGen sends seed is e) = (λ play. play_or_gen words sends seed play is, e)
+  wire_at (OfGen sends seed is e) = (λ play. play_or_gen words sends seed play is, inr (sends, seed, is, e))
   wire_at (OfNone none e) = absurd e
   wire_at (OfMemory e same) = absurd (cc)
 
-  pub wire_fault : (s : Status) (n : ℕ) → n ≡ code s → Ends s → n ≡ 5 → (ArePlay words → ⊥) × IsWireFault sink.held_before sink.held_after
+  pub wire_fault : (s : Status) (n : ℕ) → n ≡ code s → Ends s → n ≡ 5 → (ArePlay words → ⊥) × HasWireFault
   wire_fault s n is end e = wire_at (ends_at s 5 end (sym is ∙ e))
 
-  unfinished_at : Ends ended.Unfinished → (ArePlay words → ⊥) × IsRunUnfinished sink.held_before sink.held_after
+  abbrev IsUnfinishedOver : RunWire → Type 0
+  IsUnfinishedOver over = (m : Meaning) × IsSpelled source.left m × IsRunUnfinished (tells_over over tells) m sink.held_before sink.held_after
+
+  abbrev HasUnfinished : Type 0
+  HasUnfinished =
+      AreRun words wire.Tcp × (tells ≡ false)
+      × ((m : Meaning) × IsSpelled source.left m × IsRunUnfinished tells m sink.held_before sink.held_after)
+
+  unfinished_over : (over : RunWire) → IsEndOfRunning (tells_over over tells) over source sink ended.Unfinished → IsUnfinishedOver over
+  unfinished_over over e = by_run over _ _ (λ r. absurd r) (λ m read many r. absurd r) (λ m read few r. (m, read, r)) e.ends
+
+  unfinished_run : (over : RunWire) → AreRun words over → IsUnfinishedOver over → HasUnfinished
+  unfinished_run wire.Memory is r = let told = r.2.unacknowledged.untold in absurd (cc)
+  unfinished_run wire.Tcp is r = (is, r.2.unacknowledged.untold, r)
+
+  unfinished_at : Ends ended.Unfinished → HasUnfinished
   unfinished_at (OfPlay is e) = absurd e.ends
-  unfinished_at (OfRun over is e) = (
-    λ play. play_or_run words over play is,
-    by_run over _ _ (λ r. absurd r) (λ m read many r. absurd r) (λ m read few r. r) e.ends,
-  )
-  unfinished_at (OfGen sends seed is e) = (λ play. play_or_gen words sends seed play is, e)
+  unfinished_at (OfRun over is e) = unfinished_run over is (unfinished_over over e)
+  unfinished_at (OfGen sends seed is e) = let told = e.unacknowledged.untold in absurd (cc)
   unfinished_at (OfNone none e) = absurd e
   unfinished_at (OfMemory e same) = absurd (cc)
 
-  pub unfinished : (s : Status) (n : ℕ) → n ≡ code s → Ends s → n ≡ 8 → (ArePlay words → ⊥) × IsRunUnfinished sink.held_before sink.held_after
+  pub unfinished : (s : Status) (n : ℕ) → n ≡ code s → Ends s → n ≡ 8 → HasUnfinished
   unfinished s n is end e = unfinished_at (ends_at s 8 end (sym is ∙ e))
 
   abbrev HasTooMany : Type 0

@@ -8,7 +8,7 @@ use Rattle.rds_run.specs.declared.status.Status.{Status}
 use Rattle.rds_run.specs.declared.status.Status.TheVariants as status
 use Rattle.rds_run.specs.ExitStatus.{HasFailedIn, HasTaken, HasTakenNothing, IsEndOfCall, IsEndOfRefusal, IsToldRefused, IsToldSpelled, SinkSeen, SourceSeen}
 use Rattle.rds_run.specs.RunStatus.{IsEndOfGenCall, IsEndOfRunCall, IsEndOfTooMany, IsTooMany, tells_over}
-use Rattle.rds_run.specs.Streams.{prepared_streams}
+use Rattle.rds_parties.specs.Streams.{prepared_streams}
 use Rattle.rds_run.specs.Texts.{usage_line}
 use Rattle.rds_words.specs.declared.wire.RunWire.{RunWire}
 use Rattle.rds_words.specs.Gen.{AreGen}

@@ -1,5 +1,4 @@
 pub mod Texts
-pub mod Streams
 pub mod ExitStatus
 pub mod Reading
 pub mod RunStatus

@@ -1,12 +1,13 @@
 -- What the exit status of a run says of its source and its sink. Source: this project's own; docs/COMMAND.md has the table.
-use Rattle.std.specs.Prelude.{◌≡◌, ◌⊎◌, ℕ, ◌+◌, ◌<◌, Bool, true, Option, List, length}
+use Rattle.std.specs.Prelude.{◌≡◌, ◌⊎◌, ℕ, ◌<◌, Bool, true, Option, List}
 use Rattle.rds_link.specs.Streaming.{HasRisen, SinkGained}
 use Rattle.rds_model.specs.declared.entry.Entry.{Entry}
 use Rattle.rds_model.specs.declared.journal.TheConstants.{MAX_ENTRIES}
 use Rattle.rds_script.specs.Grammar.{Meaning}
 use Rattle.rds_text.specs.Lines.{spent_line}
 use Rattle.rds_report.specs.FinalState.{FinalHost}
-use Rattle.rds_rounds.specs.Sound.{AreSoundJournals}
+use Rattle.rds_parties.specs.Streams.{prepared_streams}
+use Rattle.rds_threads.specs.Causes.{AreLackingStream, AreUnacknowledged, IsFullJournal}
 use Rattle.rds_threads.specs.Ends.{AreDrainedHosts, AreEnds, NonePending}
 use Rattle.rds_threads.specs.Texts.{fault_line, text_of, unfinished_line}
 use Rattle.rds_threads.specs.declared.form.Form.{Form}
@@ -18,7 +19,6 @@ use Rattle.rds_run.specs.declared.status.Status.{Status}
 use Rattle.rds_run.specs.declared.status.Status.TheVariants as status
 use Rattle.rds_run.specs.ExitStatus.{HasFailedIn, HasTaken, HasTakenNothing, IsSpelled, SinkSeen, SourceSeen}
 use Rattle.rds_run.specs.Reading.{IsEndOfReading}
-use Rattle.rds_run.specs.Streams.{prepared_streams}
 use Rattle.rds_run.specs.Texts.{too_many_line}
 
 -- whether the ends of a wire tell their bytes: those in memory do, and those over TCP as they say
@@ -35,25 +35,33 @@ pub record IsRan (tells : Bool) (form : Form) (s : Meaning) (held_before held_af
   pub none_pending : tells ≡ true → NonePending ends
   pub written : SinkGained held_before held_after (text_of form ends)
 
--- a run filled the journal of a host with a peer: both journals are sound, and the sink took the line that says so
-pub record HasFilled (tells : Bool) (held_before held_after : Option (List ℕ)) : Type 0 where
+-- A run of the script filled the journal of a host with a peer: both journals of the two are sound, neither opened more streams than were to
+-- be prepared, and the sink took the line that says so.
+pub record HasFilled (tells : Bool) (s : Meaning) (held_before held_after : Option (List ℕ)) : Type 0 where
   pub host : ℕ
   pub peer : ℕ
   pub entries : ℕ
   pub own : List Entry
   pub other : List Entry
-  pub count : length own ≡ entries
-  pub most : MAX_ENTRIES < entries + 2
-  pub sound : AreSoundJournals tells own other
+  pub full : IsFullJournal tells MAX_ENTRIES s.hosts s.commands host peer entries own other
   pub written : SinkGained held_before held_after (spent_line host peer entries)
 
--- a stream of two hosts couldn't be opened, and the sink took the line that says so
-abbrev pub IsWireFault : (held_before held_after : Option (List ℕ)) → Type 0
-IsWireFault held_before held_after = (low high stream : ℕ) × SinkGained held_before held_after (fault_line low high stream)
+-- two hosts of the script lack a stream, and the sink took the line that says so
+pub record IsWireFault (tells : Bool) (s : Meaning) (held_before held_after : Option (List ℕ)) : Type 0 where
+  pub low : ℕ
+  pub high : ℕ
+  pub stream : ℕ
+  pub lacking : AreLackingStream tells s.hosts s.commands low high stream
+  pub written : SinkGained held_before held_after (fault_line low high stream)
 
--- so many datagrams of the hosts aren't acknowledged, and the sink took the line that says so
-abbrev pub IsRunUnfinished : (held_before held_after : Option (List ℕ)) → Type 0
-IsRunUnfinished held_before held_after = (count : ℕ) × SinkGained held_before held_after (unfinished_line count)
+-- The hosts did the script's commands, and what they have then is sound. So many datagrams aren't acknowledged, and the sink took the line
+-- that says so.
+pub record IsRunUnfinished (tells : Bool) (s : Meaning) (held_before held_after : Option (List ℕ)) : Type 0 where
+  pub count : ℕ
+  pub ends : List FinalHost
+  pub did : AreEnds tells s.hosts s.commands ends
+  pub unacknowledged : AreUnacknowledged tells count ends
+  pub written : SinkGained held_before held_after (unfinished_line count)
 
 -- more streams would be prepared for a run of the script over TCP than may be
 abbrev pub IsTooMany : RunWire → Meaning → Type 0
@@ -72,9 +80,9 @@ IsEndOfTooMany count sink _ = ⊥
 -- the status after a script was run, whose text has this form
 abbrev pub IsEndOfScript : (tells : Bool) → Form → Meaning → SinkSeen → Status → Type 0
 IsEndOfScript tells form s sink status.Written = IsRan tells form s sink.held_before sink.held_after
-IsEndOfScript tells form s sink status.WireFault = IsWireFault sink.held_before sink.held_after
-IsEndOfScript tells form s sink status.Spent = HasFilled tells sink.held_before sink.held_after
-IsEndOfScript tells form s sink status.Unfinished = IsRunUnfinished sink.held_before sink.held_after
+IsEndOfScript tells form s sink status.WireFault = IsWireFault tells s sink.held_before sink.held_after
+IsEndOfScript tells form s sink status.Spent = HasFilled tells s sink.held_before sink.held_after
+IsEndOfScript tells form s sink status.Unfinished = IsRunUnfinished tells s sink.held_before sink.held_after
 IsEndOfScript tells form s sink status.WriteFault = HasRisen sink.faults_before sink.faults_after
 IsEndOfScript tells form s sink status.Memory = HasTakenNothing sink
 IsEndOfScript tells form s sink _ = ⊥

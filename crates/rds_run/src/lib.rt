@@ -8,7 +8,6 @@ mod reading;
 mod run_command;
 mod running;
 mod status;
-mod streams;
 mod top_call;
 
 pub use top_call::rds_main;

@@ -5,15 +5,15 @@ ghost use Rattle.rds_script.specs.Grammar.{Meaning, meaning};
 ghost use Rattle.rds_words.specs.declared.wire.RunWire.TheVariants as wires;
 ghost use Rattle.rds_run.specs.ExitStatus.{IsEndOfRefusal, IsToldRefused, IsToldSpelled};
 ghost use Rattle.rds_run.specs.RunStatus.{IsEndOfRunCall, IsEndOfRunOver, IsEndOfTooMany, IsTooMany, tells_over};
-ghost use Rattle.rds_run.specs.Streams.{prepared_streams as streams_of};
+ghost use Rattle.rds_parties.specs.Streams.{prepared_streams as streams_of};
 ghost use Rattle.rds_run.specs.declared.status.Status.TheVariants as ended;
 
 use crate::answer::say;
 use crate::reading::read_script;
 use crate::running::{run_in_memory, run_script};
 use crate::status::Status;
-use crate::streams::{MAX_STREAMS, prepared_streams};
 use rds_link::{Gate, Sink, Source, Wire};
+use rds_parties::prepared_streams;
 use rds_script::Script;
 use rds_threads::Form;
 use rds_words::RunWire;
@@ -21,6 +21,9 @@ use std::alloc::Global;
 use std::net::Net;
 use std::sync::Wait;
 use std::thread::Threads;
+
+/// The most streams that may be prepared for a run over TCP, between all its hosts together.
+const MAX_STREAMS: u64 = 96;
 
 /// The command `run`: reads a script from the source to its end, runs it with threads over the wire that is asked for, and writes
 /// its report to the sink. A script that is refused is answered by a text line, and so are a source that fails and a script that

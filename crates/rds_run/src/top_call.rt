@@ -1,4 +1,4 @@
-ghost use Rattle.std.specs.Prelude.{◌≡◌, ◌⊎◌, ◌≤◌, ◌<◌, ◌++◌, ℕ, true, List};
+ghost use Rattle.std.specs.Prelude.{◌≡◌, ◌⊎◌, ◌≤◌, ◌<◌, ◌++◌, ℕ, true, false, List};
 ghost use Rattle.rds_link.specs.Streaming.{HasRisen, SinkGained, SinkGainedFront};
 ghost use Rattle.rds_script.specs.Cause.{cause_text};
 ghost use Rattle.rds_script.specs.declared.cause.Cause.{Cause as Why};
@@ -14,7 +14,7 @@ ghost use Rattle.rds_words.specs.Play.{ArePlay};
 ghost use Rattle.rds_words.specs.Run.{AreRun};
 ghost use Rattle.rds_words.specs.Works.{AreNoCommand};
 ghost use Rattle.rds_run.specs.RunStatus.{HasFilled, IsRan, IsRunUnfinished, IsWireFault, tells_over};
-ghost use Rattle.rds_run.specs.Streams.{prepared_streams};
+ghost use Rattle.rds_parties.specs.Streams.{prepared_streams};
 ghost use Rattle.rds_run.specs.Ending.{IsEndOfProgram};
 ghost use Rattle.rds_run.specs.Texts.{usage_line, read_fault_line, bad_line, too_many_line};
 
@@ -108,7 +108,7 @@ where
     // The same of a run, whose journals are sound then.
     ensures filled { (over : RunWire) → AreRun words.now over → result ≡ 7 →
         (s : Meaning) × IsSpelled (S.left source.old) s
-        × HasFilled (tells_over over W.End.means.tells) (K.held sink.old) (K.held sink.new) }
+        × HasFilled (tells_over over W.End.means.tells) s (K.held sink.old) (K.held sink.new) }
     ensures spent { result ≡ 7 → (host : ℕ) × (peer : ℕ) × (entries : ℕ)
         × SinkGained (K.held sink.old) (K.held sink.new) (spent_line host peer entries) }
     // A text that spells a script is answered so by `play`, unless the source or the sink fails or memory runs out.
@@ -116,8 +116,15 @@ where
         (HasRisen (S.faults source.old) (S.faults source.new) → ⊥) → (HasRisen (K.faults sink.old) (K.faults sink.new) → ⊥) →
         (result ≡ 0) ⊎ ((result ≡ 6) ⊎ (result ≡ 7)) }
 
-    ensures wire_fault { result ≡ 5 → (ArePlay words.now → ⊥) × IsWireFault (K.held sink.old) (K.held sink.new) }
-    ensures unfinished { result ≡ 8 → (ArePlay words.now → ⊥) × IsRunUnfinished (K.held sink.old) (K.held sink.new) }
+    // Two hosts of the script that was run lack a stream, and exactly the line that says so was written.
+    ensures wire_fault { result ≡ 5 → (ArePlay words.now → ⊥)
+        × (((over : RunWire) × AreRun words.now over × ((s : Meaning) × IsSpelled (S.left source.old) s
+        × IsWireFault (tells_over over W.End.means.tells) s (K.held sink.old) (K.held sink.new)))
+        ⊎ ((sends : ℕ) × (seed : ℕ) × AreGen words.now sends seed × IsWireFault true (generated sends seed) (K.held sink.old) (K.held sink.new))) }
+    // Some datagrams of the hosts of the script aren't acknowledged, over TCP alone and where its ends don't tell their bytes, and exactly
+    // the line that says how many was written.
+    ensures unfinished { result ≡ 8 → AreRun words.now wires.Tcp × (W.End.means.tells ≡ false)
+        × ((s : Meaning) × IsSpelled (S.left source.old) s × IsRunUnfinished W.End.means.tells s (K.held sink.old) (K.held sink.new)) }
 
     // The source's bytes spell a script, which would need so many streams over TCP, and exactly the line that says so was written.
     ensures too_many { result ≡ 9 → AreRun words.now wires.Tcp × ((s : Meaning) × IsSpelled (S.left source.old) s

@@ -17,3 +17,5 @@ pub mod Partners
 pub mod Pending
 pub mod NonePending
 pub mod KeptPorts
+pub mod Alive
+pub mod Lacking

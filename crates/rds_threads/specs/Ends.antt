@@ -12,6 +12,7 @@ use Rattle.rds_script.specs.declared.script.Placed.{Placed}
 use Rattle.rds_rounds.specs.Drained.{AreDrained}
 use Rattle.rds_rounds.specs.Grid.{OfEachPair, others}
 use Rattle.rds_rounds.specs.Sound.{AreSoundJournals}
+use Rattle.rds_threads.specs.Causes.{AreLackingStream, AreUnacknowledged, IsFullJournal}
 use Rattle.rds_threads.specs.Outcome.{IsOutcome}
 use Rattle.rds_threads.specs.Reliable.{HasReceived, IsReliableTo}
 use Rattle.rds_threads.specs.Texts.{fault_line, text_of, unfinished_line}
@@ -75,11 +76,12 @@ Writes sink text end result =
 abbrev pub HasToWrite : (form : Form) (tells : Bool) (limit hosts : ℕ) (commands : List Placed) → RunEnd → List ℕ → Type 0
 HasToWrite form tells limit hosts commands (ended.Ok ends) text =
     AreEnds tells hosts commands (host_views ends.items) × (tells ≡ true → AreSettledHosts (host_views ends.items)) × (text ≡ text_of form (host_views ends.items))
-HasToWrite form tells limit hosts commands (ended.WireFault low high stream) text = text ≡ fault_line low high stream
+HasToWrite form tells limit hosts commands (ended.WireFault low high stream) text =
+    AreLackingStream tells hosts commands low high stream × (text ≡ fault_line low high stream)
 HasToWrite form tells limit hosts commands (ended.Spent host peer entries own other) text =
-    (length own.past ≡ entries) × (limit < entries + 2) × AreSoundJournals tells own.past other.past × (text ≡ spent_line host peer entries)
+    IsFullJournal tells limit hosts commands host peer entries own.past other.past × (text ≡ spent_line host peer entries)
 HasToWrite form tells limit hosts commands (ended.Unfinished count ends) text =
-    AreEnds tells hosts commands (host_views ends.items) × (text ≡ unfinished_line count)
+    AreEnds tells hosts commands (host_views ends.items) × AreUnacknowledged tells count (host_views ends.items) × (text ≡ unfinished_line count)
 HasToWrite form tells limit hosts commands ended.WriteFault text = ⊥
 HasToWrite form tells limit hosts commands ended.Memory text = ⊥
 
@@ -90,12 +92,13 @@ IsEndOfRun form tells limit hosts commands sink (ended.Ok ends) =
     AreEnds tells hosts commands (host_views ends.items) × (tells ≡ true → AreSettledHosts (host_views ends.items))
     × SinkGained sink.held_before sink.held_after (text_of form (host_views ends.items))
 IsEndOfRun form tells limit hosts commands sink (ended.WireFault low high stream) =
-    SinkGained sink.held_before sink.held_after (fault_line low high stream)
+    AreLackingStream tells hosts commands low high stream × SinkGained sink.held_before sink.held_after (fault_line low high stream)
 IsEndOfRun form tells limit hosts commands sink (ended.Spent host peer entries own other) =
-    (length own.past ≡ entries) × (limit < entries + 2) × AreSoundJournals tells own.past other.past
+    IsFullJournal tells limit hosts commands host peer entries own.past other.past
     × SinkGained sink.held_before sink.held_after (spent_line host peer entries)
 IsEndOfRun form tells limit hosts commands sink (ended.Unfinished count ends) =
-    AreEnds tells hosts commands (host_views ends.items) × SinkGained sink.held_before sink.held_after (unfinished_line count)
+    AreEnds tells hosts commands (host_views ends.items) × AreUnacknowledged tells count (host_views ends.items)
+    × SinkGained sink.held_before sink.held_after (unfinished_line count)
 IsEndOfRun form tells limit hosts commands sink ended.WriteFault =
     HasRisen sink.faults_before sink.faults_after
     × ((end : RunEnd) × (text : List ℕ) × HasToWrite form tells limit hosts commands end text × SinkGainedFront sink.held_before sink.held_after text)

@@ -1,5 +1,6 @@
 //! What a run writes at its end.
-ghost use Rattle.std.specs.Prelude.{◌≡◌, ◌<◌, ℕ, IfOk, OnErr, string_bytes};
+ghost use Rattle.std.specs.Prelude.{◌≡◌, ◌<◌, IfOk, OnErr, string_bytes};
+ghost use Rattle.rds_model.specs.Past.{newest_stream};
 ghost use Rattle.rds_report.specs.Views.{AreFinalHosts, host_views};
 ghost use Rattle.rds_text.specs.Lines.{spent_line as line_of_spent};
 ghost use Rattle.rds_threads.specs.Ends.{Writes};
@@ -71,9 +72,9 @@ pub(crate) fn end_by_fault<K: Sink>(
 ) -> Result<RunEnd, Memory>
     requires low { low < 26 }
     requires high { high < 26 }
-    ensures end { (stream : ℕ) × IfOk result (Writes
+    ensures end { IfOk result (Writes
         record { held_before = K.held sink.old; held_after = K.held sink.new; faults_before = K.faults sink.old; faults_after = K.faults sink.new }
-        (fault_line low high stream) (ended.WireFault low high stream)) }
+        (fault_line low high (newest_stream journal.now.past)) (ended.WireFault low high (newest_stream journal.now.past))) }
     ensures memory { OnErr result (K.held sink.new ≡ K.held sink.old) }
 {
     let stream = last_stream(journal);

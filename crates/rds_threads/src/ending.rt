@@ -1,5 +1,7 @@
 //! How a run ends, and what is written then.
 ghost use Rattle.std.specs.Prelude.{◌≡◌, ◌<◌, ℕ, List, IfOk, OnErr, length, true};
+ghost use Rattle.rds_parties.specs.Preparing.{HaveCounted};
+ghost use Rattle.rds_rounds.specs.Causes.{AreUnacked, HostsLackStream};
 ghost use Rattle.rds_rounds.specs.Connection.{IsFullHost};
 ghost use Rattle.rds_rounds.specs.Done.{AreDone};
 ghost use Rattle.rds_rounds.specs.Drained.{AreDrainedLines};
@@ -37,9 +39,11 @@ pub(crate) fn end_run<K: Sink, W: Wire, R: Wait>(
     requires settled { IsQuietEnd end → HaveSettled callers.items (rows_of lines.items) }
     requires drained { W.End.means.tells ≡ true → end ≡ rounds.Done → AreDrainedLines (rows_of lines.items) }
     requires fault { (low high : ℕ) → end ≡ rounds.Fault low high → (low < high) × (high < length lines.items) }
+    requires lacks { (low high : ℕ) → end ≡ rounds.Fault low high → HostsLackStream low high (rows_of lines.items) }
+    requires unacked { (count : ℕ) → end ≡ rounds.Unfinished count → AreUnacked W.End.means.tells count (rows_of lines.items) }
     requires spent { (host peer entries : ℕ) → end ≡ rounds.Spent host peer entries → IsFullHost host peer entries (rows_of lines.items) }
-    ensures end { (limit hosts : ℕ) (commands : List Placed) → AreDone W.End.means limit hosts (rows_of lines.items) →
-        HaveDoneSpared hosts commands callers.items (rows_of lines.items) → IfOk result (IsEndOfRun form W.End.means.tells limit hosts commands
+    ensures end { (limit hosts : ℕ) (commands : List Placed) (before after : ℕ) → AreDone W.End.means limit hosts (rows_of lines.items) →
+        HaveDoneSpared hosts commands callers.items (rows_of lines.items) → HaveCounted commands before after (rows_of lines.items) → IfOk result (IsEndOfRun form W.End.means.tells limit hosts commands
         record { held_before = K.held sink.old; held_after = K.held sink.new; faults_before = K.faults sink.old; faults_after = K.faults sink.new }) }
     ensures memory { OnErr result (K.held sink.new ≡ K.held sink.old) }
 {

@@ -8,6 +8,7 @@ ghost use Rattle.rds_script.specs.declared.script.Placed.{Placed};
 ghost use Rattle.rds_threads.specs.Ends.{IsEndOfRun};
 ghost use Rattle.rds_threads.specs.Settled.{AreToldBelow, HaveDoneLed, IsToldOf};
 ghost use Rattle.rds_parties.specs.Parties.{AreParties};
+ghost use Rattle.rds_parties.specs.Preparing.{HaveCounted};
 ghost use Rattle.rds_settling.specs.Tied.{AreTied};
 
 use crate::ending::end_run;
@@ -17,6 +18,7 @@ use rds_callers::Caller;
 use rds_fmap::Writer;
 use rds_line::Line;
 use rds_link::{End, Gate, Sink, Wire};
+use rds_parties::laws::counted_keeps;
 use rds_parties::{Prepared, parties, play, prepare};
 use rds_rounds::laws::connected_keeps;
 use rds_rounds::{Lines, Wanted, last_rounds};
@@ -105,13 +107,14 @@ fn finish<K: Sink, W: Wire, R: Wait>(
 ) -> Result<RunEnd, Memory>
     requires hosts { (limit hosts : ℕ) × AreHosts W.End.means limit hosts (rows_of lines.items) }
     requires parties { (hosts : ℕ) × (2 ≤ hosts) × AreParties hosts callers.items (rows_of lines.items) }
-    ensures end { (limit hosts : ℕ) (commands : List Placed) → AreHosts W.End.means limit hosts (rows_of lines.items) → HaveDoneLed hosts commands callers.items (rows_of lines.items) →
-        IfOk result (IsEndOfRun form W.End.means.tells limit hosts commands
+    ensures end { (limit hosts : ℕ) (commands : List Placed) (before after : ℕ) → AreHosts W.End.means limit hosts (rows_of lines.items) →
+        HaveDoneLed hosts commands callers.items (rows_of lines.items) → HaveCounted commands before after (rows_of lines.items) → IfOk result (IsEndOfRun form W.End.means.tells limit hosts commands
         record { held_before = K.held sink.old; held_after = K.held sink.new; faults_before = K.faults sink.old; faults_after = K.faults sink.new }) }
     ensures memory { OnErr result (K.held sink.new ≡ K.held sink.old) }
 {
     tell_all(&mut callers, &mut lines);
     connected_keeps::<W::End>();
+    counted_keeps::<W::End>();
     tied_keeps::<W::End>();
     let end = last_rounds(rt, wire, wanted, budget, &mut lines);
     end_run(rt, alloc, wire, form, end, callers, lines, sink)

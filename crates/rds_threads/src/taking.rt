@@ -1,10 +1,11 @@
 //! The two lines of two hosts to each other, taken out of those of all hosts.
 ghost use Rattle.std.specs.Prelude.{◌≡◌, ◌≢◌, ◌<◌, ℕ, Some, length, slice_get};
 ghost use Rattle.rds_fmap.specs.Readers.{WriterView};
-ghost use Rattle.rds_line.specs.Line.{LineView, line_past};
+ghost use Rattle.rds_line.specs.Line.{LineView};
 ghost use Rattle.rds_rounds.specs.Done.{AreDone};
-ghost use Rattle.rds_rounds.specs.Grid.{IsAt, peer_at, rows_of};
+ghost use Rattle.rds_rounds.specs.Grid.{peer_at, rows_of};
 ghost use Rattle.rds_rounds.specs.Sound.{AreSoundJournals};
+ghost use Rattle.rds_threads.specs.Taking.{IsJournalOf, IsJournalOfLine};
 
 use crate::giving::end_lines;
 use rds_fmap::Writer;
@@ -35,9 +36,10 @@ fn take_line<W: Wire, R: Wait>(
     place: usize,
 ) -> Journal
     requires { place < length row.old.items }
-    ensures { (line : LineView W.End WriterView) → slice_get row.old.items place ≡ Some line → result.past ≡ line_past line }
+    ensures { (line : LineView W.End WriterView) → slice_get row.old.items place ≡ Some line → IsJournalOfLine line result.past }
 {
     let line = row.swap_remove(place);
+    line.known();
     end_line(rt, wire, line)
 }
 
@@ -54,8 +56,8 @@ pub(crate) fn journals<W: Wire, R: Wait>(
     requires peer { peer < length lines.items }
     requires apart { peer ≢ host }
     ensures sound { AreSoundJournals W.End.means.tells result.0.past result.1.past }
-    ensures own { (place : ℕ) (line : LineView W.End WriterView) → peer_at host place ≡ peer → IsAt (rows_of lines.items) host place line →
-        result.0.past ≡ line_past line }
+    ensures own { IsJournalOf (rows_of lines.items) host peer result.0.past }
+    ensures other { IsJournalOf (rows_of lines.items) peer host result.1.past }
 {
     let place = place_of(host, peer);
     let own = take_line(rt, wire, &mut lines[usize::from(host)], place);

@@ -1,9 +1,14 @@
-use Rattle.std.proofs.Common.{List, subst}
+use Rattle.std.proofs.Common.{List, Vec, subst, sym}
+use Rattle.std.specs.Global.{Global}
+use Rattle.rds_fmap.specs.Readers.{WriterView}
+use Rattle.rds_line.specs.Line.{LineView}
 use Rattle.rds_script.specs.declared.script.Placed.{Placed}
 use Rattle.rds_host.specs.Lines.{AreTurned, pair_of}
 use Rattle.rds_rounds.specs.Grid.{rows_of}
 use Rattle.rds_parties.specs.Leading.{CallersKeep}
 use Rattle.rds_parties.specs.Parties.{AreParties, HaveLed, HaveObeyed}
+use Rattle.rds_parties.specs.Preparing.{HaveCounted}
+use Rattle.rds_parties.proofs.Counted.{counted_keep, counted_same, rows_were}
 use Rattle.rds_parties.proofs.Jobs.{parties_called, parties_turned}
 use Rattle.rds_parties.proofs.Keeping.{on_ok}
 use Rattle.rds_parties.proofs.Led.{led_of}
@@ -54,3 +59,18 @@ returns-clause-hosts g c = λ limit hosts are.
     (c.connected_keeps.ensures.same limit hosts (rows_of c.args.lines.items) (rows_of c.lead.new.lines.items) are
     (learned_same (rows_of c.args.lines.items) (rows_of c.lead.new.lines.items) c.in-Ok.ensures.lines))
     c.play_beside.ensures.turned
+
+pub returns-clause-counted : goal.returns-clause-counted
+returns-clause-counted g c = λ commands before after counted.
+    let first = rows_of c.args.lines.items in
+    let led = rows_of c.lead.new.lines.items in
+    let last = rows_of c.play_beside.result.1.items in
+    counted_same commands before after led last
+    (rows_were (AreTurned g.E.End.means pair_of) led last c.play_beside.ensures.turned
+    (λ old new turned. (turned.count, λ place line later at is. (turned.each place line later at is).channel.streams.numbers)))
+    (counted_keep commands before after first led (learned_same first led c.in-Ok.ensures.lines) counted)
+
+pub returns-in_default-clause-counted : goal.returns-in_default-clause-counted
+returns-in_default-clause-counted g c = λ commands before after counted.
+    subst (λ (l : Vec (Vec (LineView g.row.E.Denot WriterView) Global) Global). HaveCounted commands before after (rows_of l.items))
+    (sym c.in_default.ensures.memory) counted

@@ -1,8 +1,13 @@
-use Rattle.std.proofs.Common.{◌≡◌, ℕ, suc, ◌+◌, List, Vec, [], ◌∷◌, ◌++◌, set, ap, sym, ◌∙◌, subst, arith}
+use Rattle.std.proofs.Common.{◌≡◌, ◌≤◌, ◌<◌, ℕ, suc, ◌+◌, List, Vec, [], ◌∷◌, ◌++◌, set, ap, sym, ◌∙◌, subst, arith}
 use Rattle.std.specs.Global.{Global}
 use Rattle.std.proofs.lemmas.List.{map-append}
 use Rattle.rds_rounds.specs.Grid.{rows_of}
-use Rattle.rds_parties.specs.Preparing.{AreAllPrepared}
+use Rattle.rds_link.specs.Ends.{Means}
+use Rattle.rds_line_streams.specs.Streams.{numbers}
+use Rattle.rds_parties.specs.Growing.{GrowsBy}
+use Rattle.rds_parties.specs.Preparing.{AreAllCounted, AreAllPrepared}
+use Rattle.rds_parties.specs.Streams.{streams_between}
+use Rattle.rds_parties.proofs.Counted.{IsCounted, both_numbered, halfway_later, numbers_since}
 use Rattle.rds_parties.proofs.At.{length_map}
 use Rattle.rds_parties.proofs.Growing.{IsHalfway, halfway_more, halfway_pairs, halfway_rows, halfway_start}
 use Rattle.rds_parties.proofs.Made.{IsPair}
@@ -14,15 +19,32 @@ EndsOf E = Vec (ℕ × E) Global
 pub loop-low-init : goal.loop-low-init
 loop-low-init g c =
     let m = g.W.End.End.means in
-    let rows = rows_of c.args.prepared.now.streams.items in (
-      subst (λ (l : List (EndsOf g.row.W-End.Denot)). IsHalfway (IsPair m) c.args.host 0 rows l) (sym c.new.ensures.items)
-          (halfway_start (IsPair m) c.args.host rows c.requires.prepared.shape c.requires.prepared.pairs),
-      c.requires.wanted,
-    )
+    let rows = rows_of c.args.prepared.now.streams.items in record {
+      half =
+          subst (λ (l : List (EndsOf g.row.W-End.Denot)). IsHalfway (IsPair m) c.args.host 0 rows l) (sym c.new.ensures.items)
+          (halfway_start (IsPair m) c.args.host rows c.requires.prepared.shape c.requires.prepared.pairs);
+      wanted = c.requires.wanted;
+      counted = λ before least all.
+          let holds = IsCounted c.args.script.now.commands.items before (g.W.Wire.faults c.args.wire.now) in
+          subst (λ (l : List (EndsOf g.row.W-End.Denot)). IsHalfway holds c.args.host 0 rows l) (sym c.new.ensures.items)
+          (halfway_start holds c.args.host rows c.requires.prepared.shape all);
+      grows = omega arith;
+    }
+
+-- a pair more
+one_pair_more : {E : Type 0} (m : Means E) (Holds : ℕ → ℕ → EndsOf E → EndsOf E → Type 0) (host low count faults after : ℕ)
+    (rows new : List (List (EndsOf E))) (row own : List (EndsOf E)) → low < host → (grows : GrowsBy m low count faults after rows new row own) →
+    Holds low host grows.one grows.other → IsHalfway Holds host low rows row → IsHalfway Holds host (low + 1) new own
+one_pair_more {E} m Holds host low count faults after rows new row own below grows holds half =
+    let next : suc low ≡ low + 1 = omega arith in
+    subst (λ n. IsHalfway Holds host n new own) next
+    (subst (λ (l : List (List (EndsOf E))). IsHalfway Holds host (suc low) l own) (sym grows.lower)
+    (subst (λ (l : List (EndsOf E)). IsHalfway Holds host (suc low) (set rows low (grows.stood ++ grows.one ∷ [])) l) (sym grows.later)
+    (halfway_more Holds host low rows row grows.stood grows.one grows.other below grows.at holds half)))
 
 pub add_pair-requires-clause-streams : goal.add_pair-requires-clause-streams
 add_pair-requires-clause-streams g c =
-    let count = c.loop-low.invariant.0.count in
+    let count = c.loop-low.invariant.half.count in
     let size = length_map (λ (v : Vec (EndsOf g.row.W-End.Denot) Global). v.items) c.loop-low.prepared.streams.items in
     omega (arith, count, size, c.loop-low-test.true)
 
@@ -30,15 +52,35 @@ pub loop-low-preserved : goal.loop-low-preserved
 loop-low-preserved g c =
     let m = g.W.End.End.means in
     let grows = c.in_ok-add_pair.ensures.grows in
+    let host = c.args.host in
+    let low = c.loop-low.low in
+    let commands = c.args.script.now.commands.items in
+    let faults = g.W.Wire.faults c.loop-low.wire in
+    let after = g.W.Wire.faults c.add_pair.new.wire in
     let rows = rows_of c.loop-low.prepared.streams.items in
-    let next : suc c.loop-low.low ≡ c.loop-low.low + 1 = omega arith in (
-      subst (λ n. IsHalfway (IsPair m) c.args.host n (rows_of c.add_pair.new.prepared.streams.items) c.add_pair.new.row.streams.items) next
-          (subst (λ (l : List (List (EndsOf g.row.W-End.Denot))). IsHalfway (IsPair m) c.args.host (suc c.loop-low.low) l c.add_pair.new.row.streams.items) (sym grows.lower)
-          (subst (λ (l : List (EndsOf g.row.W-End.Denot)). IsHalfway (IsPair m) c.args.host (suc c.loop-low.low) (set rows c.loop-low.low (grows.stood ++ grows.one ∷ [])) l) (sym grows.later)
-          (halfway_more (IsPair m) c.args.host c.loop-low.low rows c.loop-low.row.streams.items grows.stood grows.one grows.other c.loop-low-test.true grows.at
-          (grows.newest, grows.prepared) c.loop-low.invariant.0))),
-      c.add_pair.ensures.wanted ∙ c.loop-low.invariant.1,
-    )
+    let new = rows_of c.add_pair.new.prepared.streams.items in
+    let row = c.loop-low.row.streams.items in
+    let own = c.add_pair.new.row.streams.items in
+    let more = c.add_pair.ensures.faults in
+    let so_far = c.loop-low.invariant.grows in record {
+      half =
+          one_pair_more m (IsPair m) host low (streams_between low host commands) faults after rows new row own c.loop-low-test.true grows
+          (grows.newest, grows.prepared) c.loop-low.invariant.half;
+      wanted = c.add_pair.ensures.wanted ∙ c.loop-low.invariant.wanted;
+      counted = λ before least all.
+          let lower : before ≤ faults = omega (arith, least, so_far) in
+          one_pair_more m (IsCounted commands before after) host low (streams_between low host commands) faults after rows new row own c.loop-low-test.true grows
+          (both_numbered m grows.newest (streams_between low host commands) before after grows.one.items grows.other.items grows.prepared
+          (numbers_since (streams_between low host commands) before faults after (numbers grows.one.items) lower grows.counted))
+          (halfway_later commands before faults after host low rows row lower more (c.loop-low.invariant.counted before least all));
+      grows = omega (arith, more, so_far);
+    }
+
+-- the rows with that of the host
+with_own : {E : Type 0} (lists : List (Vec (EndsOf E) Global)) (own : Vec (EndsOf E) Global) (new : List (Vec (EndsOf E) Global)) → new ≡ lists ++ own ∷ [] →
+    rows_of new ≡ rows_of lists ++ own.items ∷ []
+with_own {E} lists own new is =
+    ap (λ (l : List (Vec (EndsOf E) Global)). rows_of l) is ∙ map-append (λ (v : Vec (EndsOf E) Global). v.items) lists (own ∷ [])
 
 pub returns-clause-prepared : goal.returns-clause-prepared
 returns-clause-prepared g c =
@@ -47,11 +89,22 @@ returns-clause-prepared g c =
     let rows = rows_of c.loop-low.prepared.streams.items in
     let own = c.loop-low.row.streams.items in
     let end : c.loop-low.low ≡ host = (let t = c.loop-low-test.false in let a = c.loop-low.auto.low-end in omega (arith, t, a)) in
-    let half = subst (λ n. IsHalfway (IsPair m) host n rows own) end c.loop-low.invariant.0 in
+    let half = subst (λ n. IsHalfway (IsPair m) host n rows own) end c.loop-low.invariant.half in
     let next : suc host ≡ host + 1 = omega arith in
-    let all : rows_of c.push.new.self.items ≡ rows ++ own ∷ [] =
-    ap (λ (l : List (Vec (EndsOf g.row.W-End.Denot) Global)). rows_of l) c.in_ok-push.ensures.items
-    ∙ map-append (λ (v : Vec (EndsOf g.row.W-End.Denot) Global). v.items) c.loop-low.prepared.streams.items (c.loop-low.row.streams ∷ []) in
+    let all = with_own c.loop-low.prepared.streams.items c.loop-low.row.streams c.push.new.self.items c.in_ok-push.ensures.items in
     subst (λ n. AreAllPrepared m n (rows_of c.push.new.self.items)) next
     (subst (λ (l : List (List (EndsOf g.row.W-End.Denot))). AreAllPrepared m (suc host) l) (sym all)
     (record { shape = halfway_rows (IsPair m) host rows own half; pairs = halfway_pairs (IsPair m) host rows own half }))
+
+pub returns-clause-counted : goal.returns-clause-counted
+returns-clause-counted g c = λ before least counted.
+    let commands = c.args.script.now.commands.items in
+    let after = g.W.Wire.faults c.loop-low.wire in
+    let holds = IsCounted commands before after in
+    let host = c.args.host in
+    let rows = rows_of c.loop-low.prepared.streams.items in
+    let own = c.loop-low.row.streams.items in
+    let end : c.loop-low.low ≡ host = (let t = c.loop-low-test.false in let a = c.loop-low.auto.low-end in omega (arith, t, a)) in
+    let half = subst (λ n. IsHalfway holds host n rows own) end (c.loop-low.invariant.counted before least counted) in
+    let all = with_own c.loop-low.prepared.streams.items c.loop-low.row.streams c.push.new.self.items c.in_ok-push.ensures.items in
+    subst (λ (l : List (List (EndsOf g.row.W-End.Denot))). AreAllCounted commands before after l) (sym all) (halfway_pairs holds host rows own half)

@@ -1,10 +1,17 @@
-use Rattle.std.proofs.Common.{◌≡◌, length}
+use Rattle.std.proofs.Common.{◌≡◌, ◌≤◌, ℕ, length}
 use Rattle.rds_rounds.specs.Grid.{rows_of}
+use Rattle.rds_parties.specs.Preparing.{AreAllCounted}
+use Rattle.rds_parties.proofs.Counted.{IsCounted}
 use Rattle.rds_parties.proofs.Growing.{IsHalfway}
 use Rattle.rds_parties.proofs.Made.{IsPair}
 use Rattle.rds_parties.proofs.streams.add_host.Given as goal
 
 abbrev pub invariant-loop-low : goal.invariant-loop-low
-invariant-loop-low g l =
-    IsHalfway (IsPair g.W.End.End.means) l.fn.host l.low (rows_of l.prepared.streams.items) l.row.streams.items
-    × (length l.prepared.wanted.items ≡ l.fn.host)
+invariant-loop-low g l = record {
+  half : IsHalfway (IsPair g.W.End.End.means) l.fn.host l.low (rows_of l.prepared.streams.items) l.row.streams.items;
+  wanted : length l.prepared.wanted.items ≡ l.fn.host;
+  counted : (before : ℕ) → before ≤ g.W.Wire.faults l.fn.wire →
+      AreAllCounted l.fn.script.commands.items before (g.W.Wire.faults l.fn.wire) (rows_of l.fn.prepared.streams.items) →
+      IsHalfway (IsCounted l.fn.script.commands.items before (g.W.Wire.faults l.wire)) l.fn.host l.low (rows_of l.prepared.streams.items) l.row.streams.items;
+  grows : g.W.Wire.faults l.fn.wire ≤ g.W.Wire.faults l.wire;
+}

@@ -1,7 +1,9 @@
-use Rattle.std.proofs.Common.{◌≡◌, ℕ, Vec, Some, set, slice_get, ap, ◌∙◌, subst, arith}
+use Rattle.std.proofs.Common.{◌≡◌, ◌+◌, ℕ, Vec, Some, set, slice_get, ap, ◌∙◌, subst, arith}
 use Rattle.std.specs.Global.{Global}
 use Rattle.std.proofs.lemmas.List.{map-set}
 use Rattle.rds_rounds.specs.Grid.{rows_of}
+use Rattle.rds_line_streams.specs.Streams.{numbers}
+use Rattle.rds_parties.specs.Streams.{AreNumbersOf}
 use Rattle.rds_parties.proofs.At.{map_at, stands_at}
 use Rattle.rds_parties.proofs.streams.add_pair.Goals as goal
 
@@ -15,7 +17,7 @@ returns-clause-grows g c =
       stood = stood.items;
       one = c.in_ok-opened.opened.low;
       other = c.in_ok-opened.opened.high;
-      newest = c.in_ok-opened.ensures.0;
+      newest = c.in_ok-opened.ensures.prepared.0;
       at =
           map_at (λ (v : StreamsOf g.row.W-End.Denot). v.items) rows c.args.low stood
           (subst (λ n. slice_get rows n ≡ Some stood) c.from-low.ensures
@@ -25,5 +27,8 @@ returns-clause-grows g c =
           ∙ ap (λ n. set (rows_of rows) n c.push-3.new.self.items) c.from-low.ensures
           ∙ ap (set (rows_of rows) c.args.low) c.in_ok-push-3.ensures.items;
       later = c.in_ok-push-4.ensures.items;
-      prepared = c.in_ok-opened.ensures.1;
+      prepared = c.in_ok-opened.ensures.prepared.1;
+      counted =
+          subst (λ n. AreNumbersOf n (g.W.Wire.faults c.args.wire.now) (g.W.Wire.faults c.open_all.new.wire) (numbers c.in_ok-opened.opened.low.items))
+          (ap (λ n. n + 3) c.cuts_between-cuts.ensures.count) c.in_ok-opened.ensures.counted;
     }

@@ -1,5 +1,8 @@
-use Rattle.std.proofs.Common.{◌≡◌, ℕ, List, [], rules, sym, subst}
+use Rattle.std.proofs.Common.{◌≡◌, ℕ, List, [], refl, rules, sym, subst, arith}
+use Rattle.rds_line_streams.specs.Streams.{numbers}
 use Rattle.rds_parties.specs.Preparing.{ArePrepared}
+use Rattle.rds_parties.specs.Streams.{AreAllUnlessRisen, AreNumbersOf}
+use Rattle.rds_parties.proofs.Counted.{numbers_of}
 use Rattle.rds_parties.proofs.Preparing.{none_prepared}
 use Rattle.rds_parties.proofs.streams.open_all.Goals as goal
 
@@ -8,8 +11,31 @@ loop-before-init g c =
     let m = g.W.End.End.means in
     let low : c.new.result.items ≡ [] = search rules in
     let high : c.new-2.result.items ≡ [] = search rules in
-    subst (λ (l : List (ℕ × g.row.W-End.Denot)). ArePrepared m 0 l c.new-2.result.items) (sym low)
-    (subst (λ (h : List (ℕ × g.row.W-End.Denot)). ArePrepared m 0 [] h) (sym high) (none_prepared m))
+    record {
+      prepared =
+          subst (λ (l : List (ℕ × g.row.W-End.Denot)). ArePrepared m 0 l c.new-2.result.items) (sym low)
+          (subst (λ (h : List (ℕ × g.row.W-End.Denot)). ArePrepared m 0 [] h) (sym high) (none_prepared m));
+      whole =
+          subst (λ (l : List (ℕ × g.row.W-End.Denot)). AreAllUnlessRisen 0 (g.W.Wire.faults c.args.wire.now) (g.W.Wire.faults c.args.wire.now) (numbers l)) (sym low)
+          (λ calm. refl);
+      grows = omega arith;
+    }
 
-pub returns : goal.returns
-returns g c = (_, c.loop-before.invariant)
+pub loop-before-preserved : goal.loop-before-preserved
+loop-before-preserved g c = record {
+  prepared = c.in_ok-open_next.ensures.prepared;
+  whole = c.in_ok-open_next.ensures.whole (g.W.Wire.faults c.args.wire.now) c.loop-before.invariant.grows c.loop-before.invariant.whole;
+  grows = (let more = c.open_next.ensures.grows in let so_far = c.loop-before.invariant.grows in omega (arith, more, so_far));
+}
+
+pub returns-clause-prepared : goal.returns-clause-prepared
+returns-clause-prepared g c = (_, c.loop-before.invariant.prepared)
+
+pub returns-clause-counted : goal.returns-clause-counted
+returns-clause-counted g c =
+    let test = c.loop-before-test.false in
+    let most = c.loop-before.auto.before-end in
+    let end : c.loop-before.before ≡ c.args.count = omega (arith, test, most) in
+    subst (λ n. AreNumbersOf n (g.W.Wire.faults c.args.wire.now) (g.W.Wire.faults c.loop-before.wire) (numbers c.loop-before.opened.low.items)) end
+    (numbers_of g.W.End.End.means c.loop-before.before (g.W.Wire.faults c.args.wire.now) (g.W.Wire.faults c.loop-before.wire) c.loop-before.opened.low.items
+    c.loop-before.opened.high.items c.loop-before.invariant.prepared c.loop-before.invariant.whole)

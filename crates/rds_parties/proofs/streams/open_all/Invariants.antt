@@ -1,5 +1,12 @@
+use Rattle.std.proofs.Common.{◌≤◌}
+use Rattle.rds_line_streams.specs.Streams.{numbers}
 use Rattle.rds_parties.specs.Preparing.{ArePrepared}
+use Rattle.rds_parties.specs.Streams.{AreAllUnlessRisen}
 use Rattle.rds_parties.proofs.streams.open_all.Given as goal
 
 abbrev pub invariant-loop-before : goal.invariant-loop-before
-invariant-loop-before g l = ArePrepared g.W.End.End.means l.before l.opened.low.items l.opened.high.items
+invariant-loop-before g l = record {
+  prepared : ArePrepared g.W.End.End.means l.before l.opened.low.items l.opened.high.items;
+  whole : AreAllUnlessRisen l.before (g.W.Wire.faults l.fn.wire) (g.W.Wire.faults l.wire) (numbers l.opened.low.items);
+  grows : g.W.Wire.faults l.fn.wire ≤ g.W.Wire.faults l.wire;
+}

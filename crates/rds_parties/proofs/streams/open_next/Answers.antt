@@ -1,10 +1,14 @@
-use Rattle.std.proofs.Common.{ℕ, ◌+◌, List, [], ◌∷◌, ◌++◌, sym, subst}
+use Rattle.std.proofs.Common.{rules, ℕ, ◌+◌, List, [], ◌∷◌, ◌++◌, sym, subst}
 use Rattle.rds_parties.specs.Preparing.{ArePrepared}
+use Rattle.rds_link.specs.Streaming.{HasRisen}
+use Rattle.rds_line_streams.specs.Streams.{numbers}
+use Rattle.rds_parties.specs.Streams.{AreAllUnlessRisen}
+use Rattle.rds_parties.proofs.Counted.{all_more, all_refused}
 use Rattle.rds_parties.proofs.Preparing.{prepared_less, prepared_more}
 use Rattle.rds_parties.proofs.streams.open_next.Goals as goal
 
-pub returns-in_ok-add-in-Ok : goal.returns-in_ok-add-in-Ok
-returns-in_ok-add-in-Ok g c =
+pub returns-in_ok-add-in-Ok-clause-prepared : goal.returns-in_ok-add-in-Ok-clause-prepared
+returns-in_ok-add-in-Ok-clause-prepared g c =
     let m = g.W.End.End.means in
     let old = c.args.opened.now in
     let n = c.args.before + 1 in
@@ -12,5 +16,19 @@ returns-in_ok-add-in-Ok g c =
     (subst (λ (h : List (ℕ × g.row.W-End.Denot)). ArePrepared m n (old.low.items ++ (n, c.in-Ok.first) ∷ []) h) (sym c.in_ok-add-in-Ok.ensures.high)
     (prepared_more m c.args.before old.low.items old.high.items c.in-Ok.first c.in-Ok.second c.requires.prepared c.in-Ok.ensures.fresh.0 c.in-Ok.ensures.fresh.1 c.in-Ok.ensures.pair))
 
-pub returns-in-Err-Fault : goal.returns-in-Err-Fault
-returns-in-Err-Fault g c = prepared_less g.W.End.End.means c.args.before c.args.opened.now.low.items c.args.opened.now.high.items c.requires.prepared
+pub returns-in-Err-Fault-clause-prepared : goal.returns-in-Err-Fault-clause-prepared
+returns-in-Err-Fault-clause-prepared g c = prepared_less g.W.End.End.means c.args.before c.args.opened.now.low.items c.args.opened.now.high.items c.requires.prepared
+
+pub returns-in_ok-add-in-Ok-clause-whole : goal.returns-in_ok-add-in-Ok-clause-whole
+returns-in_ok-add-in-Ok-clause-whole g c = λ first least whole.
+    let n = c.args.before + 1 in
+    subst (λ (l : List (ℕ × g.row.W-End.Denot)). AreAllUnlessRisen n first (g.W.Wire.faults c.open.new.self) (numbers l)) (sym c.in_ok-add-in-Ok.ensures.low)
+    (all_more c.args.before first (g.W.Wire.faults c.args.wire.now) (g.W.Wire.faults c.open.new.self) c.args.opened.now.low.items c.in-Ok.first least
+    c.open.ensures.faults whole)
+
+pub returns-in-Err-Fault-clause-whole : goal.returns-in-Err-Fault-clause-whole
+returns-in-Err-Fault-clause-whole g c = λ first least whole.
+    let before = g.W.Wire.faults c.args.wire.now in
+    let after = g.W.Wire.faults c.open.new.self in
+    let risen : HasRisen before after = search rules in
+    all_refused c.args.before first before after (numbers c.args.opened.now.low.items) least risen

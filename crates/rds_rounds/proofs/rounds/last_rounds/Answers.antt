@@ -1,10 +1,11 @@
-use Rattle.std.proofs.Common.{Some, ap, length, ◌∙◌}
+use Rattle.std.proofs.Common.{Some, ap, length, subst, ◌∙◌, arith}
+use Rattle.rds_rounds.specs.Causes.{AreUnacked}
 use Rattle.rds_rounds.specs.Grid.{rows_of}
 use Rattle.rds_rounds.specs.Sweep.{IsPairBelow}
 use Rattle.rds_rounds.specs.declared.rounds.Rounds.TheVariants as ended
 use Rattle.rds_rounds.proofs.Going.{rows_same, rows_through}
 use Rattle.rds_rounds.proofs.Halves.{rows_count}
-use Rattle.rds_rounds.proofs.Swept.{all_pairs, done_swept, drained_swept, full_host, goes_swept, hosts_swept, quiet_swept}
+use Rattle.rds_rounds.proofs.Swept.{all_pairs, done_swept, drained_swept, full_host, goes_swept, hosts_swept, lacking_hosts, lacking_within, quiet_swept}
 use Rattle.rds_rounds.proofs.rounds.last_rounds.Goals as goal
 
 pub loop-init : goal.loop-init
@@ -78,3 +79,34 @@ returns-in-Some-end_after-clause-spent g c = λ host peer entries spent.
     let is = c.in-Some-end_after.is ∙ ap Some spent in
     full_host (IsPairBelow n n) host peer entries (rows_of c.round_of_all-came.new.lines.items)
     (c.round_of_all-came.ensures.spent host peer entries (c.end_after.ensures.spent host peer entries is))
+
+pub returns-in-Some-end_after-clause-fault : goal.returns-in-Some-end_after-clause-fault
+returns-in-Some-end_after-clause-fault g c = λ low high fault.
+    let n = length c.loop.lines.items in
+    let new = c.round_of_all-came.new.lines.items in
+    let is = c.in-Some-end_after.is ∙ ap Some fault in
+    let within =
+    lacking_within low high (rows_of new)
+    (lacking_hosts (IsPairBelow n n) low high (rows_of new) (c.round_of_all-came.ensures.fault low high (c.end_after.ensures.fault low high is))) in
+    (within.0, (let count = rows_count new in let below = within.1 in omega (arith, count, below)))
+
+pub returns-in-Some-end_after-clause-lacks : goal.returns-in-Some-end_after-clause-lacks
+returns-in-Some-end_after-clause-lacks g c = λ low high fault.
+    let n = length c.loop.lines.items in
+    let is = c.in-Some-end_after.is ∙ ap Some fault in
+    lacking_hosts (IsPairBelow n n) low high (rows_of c.round_of_all-came.new.lines.items)
+    (c.round_of_all-came.ensures.fault low high (c.end_after.ensures.fault low high is))
+
+pub end_after-requires : goal.end_after-requires
+end_after-requires g c =
+    let n = length c.loop.lines.items in
+    let hosts = c.requires.1 in
+    let are =
+    hosts_swept g.W.End.End.means (IsPairBelow n n) c.round_of_all-came.result (rows_of c.loop.lines.items) (rows_of c.round_of_all-came.new.lines.items)
+    c.round_of_all-came.ensures c.requires.0 hosts (c.loop.invariant.0 c.requires.0 hosts c.requires.2) in
+    (hosts, are.few, are.shape)
+
+pub returns-in-Some-end_after-clause-unfinished : goal.returns-in-Some-end_after-clause-unfinished
+returns-in-Some-end_after-clause-unfinished g c = λ count unfinished.
+    let is = c.in-Some-end_after.is ∙ ap Some unfinished in
+    subst (λ b. AreUnacked b count (rows_of c.round_of_all-came.new.lines.items)) c.tells.ensures (c.end_after.ensures.unfinished count is)

@@ -1,4 +1,6 @@
+use Rattle.std.proofs.Common.{⊎_elim, inl, inr}
 use Rattle.rds_rounds.proofs.Going.{goes_through}
+use Rattle.rds_rounds.proofs.Lacking.{lacks_met}
 use Rattle.rds_rounds.proofs.turning.round.Goals as goal
 
 pub meet_lines-requires-2 : goal.meet_lines-requires-2
@@ -24,3 +26,12 @@ returns-clause-together g c = record {
       c.meet_lines-2.ensures.connected limit c.args.low c.args.high
       (c.turn_both-came.ensures.together.connected limit (c.meet_lines.ensures.connected limit c.args.low c.args.high connected));
 }
+
+pub returns-clause-fault : goal.returns-clause-fault
+returns-clause-fault g c = λ first second fault.
+    let found = c.turn_both-came.ensures.fault first second fault in (
+      found.0,
+      found.1,
+      ⊎_elim (λ lacks. inl (lacks_met c.turn_both-came.new.one c.meet_lines-2.new.one c.meet_lines-2.ensures.one lacks))
+          (λ lacks. inr (lacks_met c.turn_both-came.new.other c.meet_lines-2.new.other c.meet_lines-2.ensures.other lacks)) found.2,
+    )

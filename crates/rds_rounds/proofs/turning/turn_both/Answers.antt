@@ -1,7 +1,9 @@
-use Rattle.std.proofs.Common.{◌∙◌}
+use Rattle.std.proofs.Common.{⊎_elim, inl, inr, sym, ◌∙◌}
 use Rattle.rds_host.specs.Lines.{pair_of}
+use Rattle.rds_rounds.specs.Sweep.{LackStreamAt}
 use Rattle.rds_rounds.proofs.Connected.{connected_stays}
 use Rattle.rds_rounds.proofs.Going.{goes_of_stays}
+use Rattle.rds_rounds.proofs.Lacking.{named_high, named_high_too, named_low, named_low_too}
 use Rattle.rds_rounds.proofs.turning.turn_both.Goals as goal
 
 pub returns-clause-together : goal.returns-clause-together
@@ -30,3 +32,21 @@ returns-clause-drained g c = λ tells met idle one_out other_out.
       idle = c.turn-second.ensures.nothing told both.1;
       written = other_out;
     })
+
+pub returns-clause-fault : goal.returns-clause-fault
+returns-clause-fault g c = λ first second fault.
+    let less = c.requires.less in
+    let Lacks = LackStreamAt first second c.args.low c.args.high c.turn-first.new.line c.turn-second.new.line in
+    ⊎_elim {C = Lacks}
+    (λ same.
+    let is = sym same ∙ fault in
+    let named = c.turn-first.ensures.fault first second is in
+    (named_low c.args.low c.args.high first less named.0, named_high c.args.low c.args.high second less named.1, inl (c.turn-first.ensures.lacks first second is)))
+    (λ same.
+    let is = sym same ∙ fault in
+    let named = c.turn-second.ensures.fault first second is in (
+      named_low_too c.args.low c.args.high first less named.0,
+      named_high_too c.args.low c.args.high second less named.1,
+      inr (c.turn-second.ensures.lacks first second is),
+    ))
+    c.either.ensures.one

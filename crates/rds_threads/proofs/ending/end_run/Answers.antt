@@ -1,9 +1,12 @@
-use Rattle.std.proofs.Common.{refl, arith}
+use Rattle.std.proofs.Common.{refl, sym, ◌∙◌, arith}
+use Rattle.rds_model.specs.Past.{newest_stream}
 use Rattle.rds_report.specs.Views.{host_views}
 use Rattle.rds_rounds.specs.Grid.{rows_of}
+use Rattle.rds_threads.specs.Causes.{AreUnacknowledged}
 use Rattle.rds_threads.specs.Ends.{IsEndOfRun, Writes, Written}
 use Rattle.rds_threads.specs.Texts.{fault_line, text_of, unfinished_line}
 use Rattle.rds_threads.specs.declared.form.RunEnd.TheVariants as ended
+use Rattle.rds_threads.proofs.Lacking.{lacking_of}
 use Rattle.rds_threads.proofs.Rows.{rows_count}
 use Rattle.rds_threads.proofs.Spent.{full_two, spent_end}
 use Rattle.rds_threads.proofs.Written.{end_written, on_ok}
@@ -49,7 +52,7 @@ end_by_spent-requires-clause-peer g c =
     two.few_peers
 
 pub returns-in-Spent-clause-end : goal.returns-in-Spent-clause-end
-returns-in-Spent-clause-end g c = λ limit hosts commands done did.
+returns-in-Spent-clause-end g c = λ limit hosts commands before after done did counted.
     let host = c.in-Spent.host in
     let peer = c.in-Spent.peer in
     let entries = c.in-Spent.entries in
@@ -60,11 +63,11 @@ returns-in-Spent-clause-end g c = λ limit hosts commands done did.
       faults_after = g.K.Sink.faults c.end_by_spent.new.sink;
     } in
     spent_end g.W.End.End.means limit hosts (rows_of c.args.lines.items) done c.args.form host peer entries (c.requires.spent host peer entries c.in-Spent.is)
-    c.journals-own.result.0 c.journals-own.result.1 c.journals-own.ensures.own c.journals-own.ensures.sound commands sink c.end_by_spent.result
-    c.end_by_spent.ensures.end
+    c.journals-own.result.0 c.journals-own.result.1 c.journals-own.ensures.own c.journals-own.ensures.other c.journals-own.ensures.sound commands before after
+    counted sink c.end_by_spent.result c.end_by_spent.ensures.end
 
 pub returns-in_ok-ends-in-Done-clause-end : goal.returns-in_ok-ends-in-Done-clause-end
-returns-in_ok-ends-in-Done-clause-end g c = λ limit hosts commands done did.
+returns-in_ok-ends-in-Done-clause-end g c = λ limit hosts commands before after done did counted.
     let ends = c.in_ok-ends-in-Done.ends in
     let text = text_of c.args.form (host_views ends.items) in
     let sink : Written = record {
@@ -81,9 +84,12 @@ returns-in_ok-ends-in-Done-clause-end g c = λ limit hosts commands done did.
     )) c.end_by_report.ensures.end
 
 pub returns-in_ok-ends-in-Unfinished-clause-end : goal.returns-in_ok-ends-in-Unfinished-clause-end
-returns-in_ok-ends-in-Unfinished-clause-end g c = λ limit hosts commands done did.
+returns-in_ok-ends-in-Unfinished-clause-end g c = λ limit hosts commands before after done did counted.
     let ends = c.in_ok-ends-in-Unfinished.ends in
     let count = c.in-Unfinished.count in
+    let alive = c.requires.unacked count c.in-Unfinished.is in
+    let unacked : AreUnacknowledged g.W.End.End.means.tells count (host_views ends.items) =
+    record { untold = alive.untold; some = alive.some; all = alive.all ∙ sym c.in_ok-ends-in-Unfinished.ensures.alive } in
     let sink : Written = record {
       held_before = g.K.Sink.held c.args.sink.now;
       held_after = g.K.Sink.held c.end_unfinished.new.sink;
@@ -93,19 +99,25 @@ returns-in_ok-ends-in-Unfinished-clause-end g c = λ limit hosts commands done d
     on_ok (Writes sink (unfinished_line count) (ended.Unfinished count ends)) (IsEndOfRun c.args.form g.W.End.End.means.tells limit hosts commands sink)
     c.end_unfinished.result
     (end_written c.args.form g.W.End.End.means.tells limit hosts commands sink (unfinished_line count) (ended.Unfinished count ends)
-    (c.in_ok-ends-in-Unfinished.ensures.ends limit hosts commands done did, refl)) c.end_unfinished.ensures.end
+    (c.in_ok-ends-in-Unfinished.ensures.ends limit hosts commands done did, unacked, refl)) c.end_unfinished.ensures.end
 
 pub returns-in-Fault-clause-end : goal.returns-in-Fault-clause-end
-returns-in-Fault-clause-end g c = λ limit hosts commands done did.
+returns-in-Fault-clause-end g c = λ limit hosts commands before after done did counted.
     let low = c.in-Fault.low in
     let high = c.in-Fault.high in
-    let fault = c.end_by_fault.ensures.end in
+    let own = c.journals-journal.result.0.past in
+    let other = c.journals-journal.result.1.past in
+    let stream = newest_stream own in
+    let lacking =
+    lacking_of g.W.End.End.means limit hosts (rows_of c.args.lines.items) done low high (c.requires.lacks low high c.in-Fault.is) commands before after counted
+    own other c.journals-journal.ensures.own c.journals-journal.ensures.other c.journals-journal.ensures.sound in
     let sink : Written = record {
       held_before = g.K.Sink.held c.args.sink.now;
       held_after = g.K.Sink.held c.end_by_fault.new.sink;
       faults_before = g.K.Sink.faults c.args.sink.now;
       faults_after = g.K.Sink.faults c.end_by_fault.new.sink;
     } in
-    on_ok (Writes sink (fault_line low high fault.0) (ended.WireFault low high fault.0))
+    on_ok (Writes sink (fault_line low high stream) (ended.WireFault low high stream))
     (IsEndOfRun c.args.form g.W.End.End.means.tells limit hosts commands sink) c.end_by_fault.result
-    (end_written c.args.form g.W.End.End.means.tells limit hosts commands sink (fault_line low high fault.0) (ended.WireFault low high fault.0) refl) fault.1
+    (end_written c.args.form g.W.End.End.means.tells limit hosts commands sink (fault_line low high stream) (ended.WireFault low high stream) (lacking, refl))
+    c.end_by_fault.ensures.end

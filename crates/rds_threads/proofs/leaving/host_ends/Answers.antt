@@ -1,12 +1,15 @@
-use Rattle.std.proofs.Common.{Vec, arith}
+use Rattle.std.proofs.Common.{◌≡◌, Vec, arith}
 use Rattle.std.specs.Global.{Global}
 use Rattle.std.proofs.lemmas.List.{length-map}
 use Rattle.rds_report.specs.Views.{AreFinalHosts, host_views}
 use Rattle.rds_report.specs.declared.final_state.HostEnd.{HostEnd}
+use Rattle.rds_rounds.specs.Causes.{alive_in_rows}
 use Rattle.rds_rounds.specs.Grid.{rows_of}
+use Rattle.rds_threads.specs.Causes.{alive_in_ends}
 use Rattle.rds_threads.specs.Ends.{AreEnds, AreSettledHosts}
 use Rattle.rds_threads.specs.Settled.{AreLeftOf}
 use Rattle.rds_threads.proofs.NonePending.{none_pending}
+use Rattle.rds_threads.proofs.Alive.{alive_left}
 use Rattle.rds_threads.proofs.Sound.{drained_of, ends_of, final_of}
 use Rattle.rds_threads.proofs.Written.{on_ok}
 use Rattle.rds_threads.proofs.leaving.host_ends.Goals as goal
@@ -42,3 +45,9 @@ returns-clause-settled g c = λ limit hosts commands done did tells drained.
     let nothing = drained_of m limit hosts c.args.callers.items (rows_of c.args.lines.items) ends.items done c.requires.settled.count left drained in
     let are = ends_of m limit hosts c.args.callers.items (rows_of c.args.lines.items) ends.items done c.requires.settled.count left c.fifo_of_all.ensures commands did in
     (nothing, none_pending m.tells hosts commands (host_views ends.items) are c.fifo_of_all.ensures tells nothing)) c.all_ends.ensures
+
+pub returns-clause-alive : goal.returns-clause-alive
+returns-clause-alive g c =
+    on_ok (λ (ends : Vec HostEnd Global). AreLeftOf c.args.callers.items (rows_of c.args.lines.items) ends.items)
+    (λ (ends : Vec HostEnd Global). alive_in_ends (host_views ends.items) ≡ alive_in_rows (rows_of c.args.lines.items)) c.all_ends.result
+    (λ ends left. alive_left c.args.callers.items (rows_of c.args.lines.items) ends.items c.requires.settled.count left) c.all_ends.ensures

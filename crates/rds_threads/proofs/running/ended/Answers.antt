@@ -14,6 +14,10 @@ returns-clause-end g c =
     let hosts = c.args.script.now.hosts in
     let obeyed = rw c.in-Ok.is at c.play-callers.ensures.obeyed in
     let led = rw c.in-Ok.is at c.play-callers.ensures.led in
-    c.finish.ensures.end c.args.limit hosts c.args.script.now.commands.items
+    let commands = c.args.script.now.commands.items in
+    let before = g.W.Wire.faults c.args.wire.now in
+    let after = g.W.Wire.faults c.prepare.new.wire in
+    c.finish.ensures.end c.args.limit hosts commands before after
     (c.play-callers.ensures.hosts c.args.limit hosts c.in_ok-callers.ensures.hosts)
-    (all_done hosts c.args.script.now.commands.items _ _ _ c.in_ok-callers.ensures.new obeyed led)
+    (all_done hosts commands _ _ _ c.in_ok-callers.ensures.new obeyed led)
+    (c.play-callers.ensures.counted commands before after (c.in_ok-callers.ensures.counted commands before after c.in_ok-streams.ensures.counted))

@@ -46,7 +46,8 @@ returns-clause-sound g c =
     sound_two g.W.End.End.means c.requires.done.0 c.requires.done.1 (rows_of lines) c.requires.done.2 host peer c.place_of-place.result c.place_of-place-2.result
     c.index_mut.result.now.items c.index_mut-2.result.now.items c.take_line-own.result.past c.take_line-other.result.past
     (row_at lines host c.index_mut.result.now at) (row_at lines peer c.index_mut-2.result.now at_other) c.place_of-place.ensures.place
-    c.place_of-place-2.ensures.place (omega (arith, count, known_peer)) (omega (arith, count, known)) c.take_line-own.ensures c.take_line-other.ensures
+    c.place_of-place-2.ensures.place (omega (arith, count, known_peer)) (omega (arith, count, known))
+    (λ line is. (c.take_line-own.ensures line is).is) (λ line is. (c.take_line-other.ensures line is).is)
 
 pub returns-clause-own : goal.returns-clause-own
 returns-clause-own g c = λ place line to is.
@@ -57,3 +58,17 @@ returns-clause-own g c = λ place line to is.
     let place_is = c.place_of-place.ensures.only place to in
     c.take_line-own.ensures line
     (subst (λ (n : ℕ). slice_get c.index_mut.result.now.items n ≡ Some line) place_is (ap (λ l. slice_get l place) (sym row_is) ∙ is.2))
+
+pub returns-clause-other : goal.returns-clause-other
+returns-clause-other g c = λ place line to is.
+    let lines = c.args.lines.items in
+    let host = c.args.host in
+    let peer = c.args.peer in
+    let from = c.from.ensures in
+    let apart : peer ≢ c.from.result = λ same. c.requires.apart (omega (arith, same, from)) in
+    let at = read_beside lines c.from.result c.from-2.result peer c.take_line-own.new.row c.index_mut-2.result.now (omega (arith, c.from-2.ensures))
+    c.requires.peer apart c.index_mut-2.ensures.value in
+    let row_is = one_at (rows_of lines) peer is.0 c.index_mut-2.result.now.items is.1 (row_at lines peer c.index_mut-2.result.now at) in
+    let place_is = c.place_of-place-2.ensures.only place to in
+    c.take_line-other.ensures line
+    (subst (λ (n : ℕ). slice_get c.index_mut-2.result.now.items n ≡ Some line) place_is (ap (λ l. slice_get l place) (sym row_is) ∙ is.2))

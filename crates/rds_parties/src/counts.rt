@@ -1,0 +1,77 @@
+//! How many streams are prepared for a run.
+ghost use Rattle.std.specs.Prelude.{◌≡◌, ◌≤◌, ◌*◌, ◌+◌, filter, length};
+ghost use Rattle.rds_script.specs.Grammar.{meaning};
+ghost use Rattle.rds_script.specs.Script.{IsScript};
+ghost use Rattle.rds_parties.specs.Streams.{cuts_between as cuts_of, is_cut_between as is_cut_of, prepared_streams as streams_of, streams_below as streams_of_host, streams_between as streams_of_pair};
+
+use rds_script::{Command, Placed, Script};
+
+/// How many streams more are prepared between two hosts than the script has cuts between them.
+pub(crate) const MORE_STREAMS: u32 = 3;
+
+/// How many streams are prepared for a run of the script, between all its hosts together.
+#[tactic(auto, unfolding(crate::specs::Streams::prepared_streams))]
+pub fn prepared_streams(script: &Script) -> u64
+    requires { IsScript script.now }
+    ensures { result ≡ streams_of (meaning script.now) }
+{
+    let mut streams = 0u64;
+    for host in 0..script.hosts {
+        streams += streams_below(script, host);
+    }
+    streams
+}
+
+// How many between a host and all those below it.
+fn streams_below(script: &Script, host: u8) -> u64
+    requires script { IsScript script.now }
+    requires few { host ≤ 8 }
+    ensures count { result ≡ streams_of_host host script.now.commands.items }
+    ensures most { result ≤ host * 1027 }
+{
+    let mut streams = 0u64;
+    for low in 0..host {
+        streams += u64::from(streams_between(script, low, host));
+    }
+    streams
+}
+
+// How many between two hosts.
+fn streams_between(script: &Script, low: u8, high: u8) -> u32
+    requires { IsScript script.now }
+    ensures count { result ≡ streams_of_pair low high script.now.commands.items }
+    ensures most { result ≤ 1027 }
+{
+    cuts_between(script, low, high) + MORE_STREAMS
+}
+
+/// How many cuts there are between two hosts, whichever of them cuts.
+pub(crate) fn cuts_between(script: &Script, low: u8, high: u8) -> u32
+    requires { IsScript script.now }
+    ensures count { result ≡ cuts_of low high script.now.commands.items }
+    ensures most { result ≤ 1024 }
+{
+    cuts_among(script.commands.as_slice(), low, high) as u32
+}
+
+// How many of the commands are cuts between two hosts.
+fn cuts_among(commands: &[Placed], low: u8, high: u8) -> usize
+    ensures { result ≡ cuts_of low high commands.now }
+{
+    commands
+        .iter()
+        .filter(|placed| is_cut_between(&placed.command, low, high))
+        .count()
+}
+
+// Whether the command is a cut between two hosts.
+fn is_cut_between(command: &Command, low: u8, high: u8) -> bool
+    ensures { result ≡ is_cut_of low high command.now }
+{
+    match command {
+        Command::Cut { host, to } => {
+            (*host == low && *to == high) || (*host == high && *to == low)
+        }
+        _ => false,
+    }
+}

@@ -1,0 +1,63 @@
+-- A line that has no stream left, and the stream that was opened last.
+use Rattle.std.proofs.Common.{◌≡◌, ◌<◌, ◌+◌, ◌-◌, ℕ, suc, Bool, false, List, ◌∷◌, None, Some, if◌then◌else◌, drop, drop-cons, get_or, length, max, min, reverse, slice_get, sym, ap, ◌∙◌, arith}
+use Rattle.std.proofs.lemmas.List.{get_or-reverse, length-map, length-reverse, take_all}
+use Rattle.std.proofs.lemmas.Option.{get_or_from_slice_get, slice_get_within}
+use Rattle.rds_link.specs.Ends.{Means}
+use Rattle.rds_fmap.specs.Readers.{WriterView}
+use Rattle.rds_model.specs.declared.entry.Entry.{Entry}
+use Rattle.rds_model.specs.Past.{open_stream}
+use Rattle.rds_model.specs.Sums.{opens}
+use Rattle.rds_line_streams.specs.Streams.{newest_place, numbers}
+use Rattle.rds_line.specs.Line.{LineView}
+use Rattle.rds_rounds.specs.Causes.{LacksStream}
+use Rattle.rds_rounds.specs.Rest.{HasMet, KeepsStreams}
+
+-- of two hosts the lower and the higher one, whichever is named first
+pub named_low : (low high n : ℕ) → low < high → n ≡ min low high → n ≡ low
+named_low low high n less is = grind (arith, less, is)
+
+pub named_high : (low high n : ℕ) → low < high → n ≡ max low high → n ≡ high
+named_high low high n less is = grind (arith, less, is)
+
+pub named_low_too : (low high n : ℕ) → low < high → n ≡ min high low → n ≡ low
+named_low_too low high n less is = grind (arith, less, is)
+
+pub named_high_too : (low high n : ℕ) → low < high → n ≡ max high low → n ≡ high
+named_high_too low high n less is = grind (arith, less, is)
+
+module _ {E : Type 0} where
+  -- where no stream is open and all were opened
+  pub no_stream : {M : Type 0} (m : Means E) (line : LineView E M) → KeepsStreams m line → line.channel.streams.is_open ≡ false →
+      line.channel.streams.opened ≡ length line.channel.streams.list → LacksStream line
+  no_stream m line keeps closed last =
+      let list = line.channel.streams.list in
+      let count = length-map list (λ (stream : ℕ × E). stream.0) in record {
+        closed =
+            sym keeps.carried.current
+            ∙ ap (λ (b : Bool). if b then slice_get (numbers list) (newest_place line.channel.streams) else None) closed;
+        all = sym keeps.carried.opened ∙ take_all line.channel.streams.opened (numbers list) (omega (arith, count, last));
+      }
+
+  -- a line that has met another lacks what it lacked
+  pub lacks_met : (old new : LineView E WriterView) → HasMet old new → LacksStream old → LacksStream new
+  lacks_met old new met lacks = record {
+    closed = ap open_stream met.past ∙ lacks.closed;
+    all = ap opens met.past ∙ lacks.all ∙ sym met.goes.numbers;
+  }
+
+-- the oldest entries of a journal
+abbrev pub oldest : ℕ → List Entry → List Entry
+oldest i past = drop (length past - i) past
+
+-- the next entry comes on top of them
+pub oldest_more : (past : List Entry) (i : ℕ) (e : Entry) → slice_get (reverse past) i ≡ Some e → oldest (i + 1) past ≡ e ∷ oldest i past
+oldest_more past i e is =
+    let n = length-reverse past in
+    let within : i < length (reverse past) = slice_get_within (reverse past) i e is in
+    let j = length past - (i + 1) in
+    let there : get_or past (length past - 1 - i) e ≡ e =
+    sym (get_or-reverse past i e (omega (arith, within, n))) ∙ get_or_from_slice_get (reverse past) i e e is in
+    let same : length past - 1 - i ≡ j = omega (arith, within, n) in
+    let next : suc j ≡ length past - i = omega (arith, within, n) in
+    let cut : drop j past ≡ get_or past j e ∷ drop (suc j) past = drop-cons past j e (omega (arith, within, n)) in
+    cut ∙ ap (λ (x : Entry). x ∷ drop (suc j) past) (ap (λ (k : ℕ). get_or past k e) (sym same) ∙ there) ∙ ap (λ (k : ℕ). e ∷ drop k past) next

@@ -1,0 +1,41 @@
+-- Why the last rounds ended, where they ended otherwise than well. Source: this project's own.
+use Rattle.std.specs.Prelude.{◌≡◌, ◌⊎◌, ◌≤◌, ℕ, suc, Bool, false, List, None, length, sum_by}
+use Rattle.rds_model.specs.Alive.{alive_numbers}
+use Rattle.rds_model.specs.Past.{open_stream}
+use Rattle.rds_model.specs.Sums.{opens}
+use Rattle.rds_line_streams.specs.Streams.{numbers}
+use Rattle.rds_line.specs.Line.{LineView, line_past}
+use Rattle.rds_rounds.specs.Grid.{IsAt}
+
+module _ {E M : Type 0} where
+  -- no stream is open in the journal of a line, and it has opened all that were prepared for it
+  pub record LacksStream (line : LineView E M) : Type 0 where
+    pub closed : open_stream (line_past line) ≡ None
+    pub all : opens (line_past line) ≡ numbers line.channel.streams.list
+
+  -- two hosts, the lower one first, have lines to each other, and one of these lacks a stream
+  pub record HostsLackStream (low high : ℕ) (rows : List (List (LineView E M))) : Type 0 where
+    pub place : ℕ
+    pub one : LineView E M
+    pub other : LineView E M
+    pub ordered : low ≤ place
+    pub next : high ≡ suc place
+    pub one_at : IsAt rows low place one
+    pub other_at : IsAt rows high low other
+    pub lacks : LacksStream one ⊎ LacksStream other
+
+  -- how many numbers are alive in the journal of a line, in those of the lines of a host, and in those of all hosts
+  abbrev pub alive_in_line : LineView E M → ℕ
+  alive_in_line line = length (alive_numbers (line_past line))
+
+  abbrev pub alive_in_row : List (LineView E M) → ℕ
+  alive_in_row row = sum_by alive_in_line row
+
+  abbrev pub alive_in_rows : List (List (LineView E M)) → ℕ
+  alive_in_rows rows = sum_by alive_in_row rows
+
+  -- so many numbers are alive in the journals of all hosts, at least one, and the ends of streams don't tell their bytes
+  pub record AreUnacked (tells : Bool) (count : ℕ) (rows : List (List (LineView E M))) : Type 0 where
+    pub untold : tells ≡ false
+    pub some : 1 ≤ count
+    pub all : count ≡ alive_in_rows rows

@@ -1,0 +1,100 @@
+-- Two hosts that lack a stream, and the streams that journals opened.
+use Rattle.std.proofs.Common.{◌≡◌, ◌⊎◌, ◌<◌, ◌≤◌, ◌+◌, ◌-◌, ◌==◌, ◌&&◌, ◌||◌, ⊎_elim, inl, inr, ℕ, suc, Bool, true, false, List, None, filter, length, refl, sym, ap, subst, ◌∙◌, arith}
+use Rattle.std.proofs.lemmas.Bool.{cases_lt}
+use Rattle.std.proofs.lemmas.List.Elements.{All-same, All-take}
+use Rattle.rds_link.specs.Ends.{Means}
+use Rattle.rds_model.specs.declared.entry.Entry.{Entry}
+use Rattle.rds_model.specs.Past.{newest_stream, open_stream}
+use Rattle.rds_model.specs.Sums.{opens}
+use Rattle.rds_line_streams.specs.Streams.{numbers}
+use Rattle.rds_line.specs.Line.{LineView, line_past}
+use Rattle.rds_script.specs.declared.script.Command.{Command}
+use Rattle.rds_script.specs.declared.script.Command.TheVariants.{Bind, BindAny, Send, Recv, Cancel, Close, Open, Move, Cut, Drain}
+use Rattle.rds_script.specs.declared.script.Placed.{Placed}
+use Rattle.rds_parties.specs.Preparing.{HaveCounted, HaveNumbered}
+use Rattle.rds_parties.specs.Streams.{AreNumbersOf, is_cut_between, streams_between}
+use Rattle.rds_rounds.specs.Causes.{HostsLackStream}
+use Rattle.rds_rounds.specs.Done.{AreDone}
+use Rattle.rds_rounds.specs.Grid.{AreRows, IsAt, peer_at}
+use Rattle.rds_rounds.specs.Sound.{AreSoundJournals}
+use Rattle.rds_threads.specs.Causes.{AreLackingStream, OpenedAmong}
+use Rattle.rds_threads.specs.Taking.{IsJournalOf, IsJournalOfLine}
+use Rattle.rds_threads.proofs.Rows.{host_within, peer_after, peer_before, place_within, stands}
+
+either_way : (a b : Bool) → (a || b) ≡ (b || a)
+either_way true true = refl
+either_way true false = refl
+either_way false true = refl
+either_way false false = refl
+
+-- a cut between two hosts is one whichever of them is named first
+cut_either_way : (a b : ℕ) (command : Command) → is_cut_between a b command ≡ is_cut_between b a command
+cut_either_way a b (Bind host port sndbuf rcvbuf) = refl
+cut_either_way a b (BindAny host port sndbuf rcvbuf) = refl
+cut_either_way a b (Send host port to dport payload) = refl
+cut_either_way a b (Recv host port) = refl
+cut_either_way a b (Cancel host port to dport) = refl
+cut_either_way a b (Close host port) = refl
+cut_either_way a b (Open host to) = refl
+cut_either_way a b (Move host to bytes) = refl
+cut_either_way a b (Cut host to) = either_way (host == a && (to == b)) (host == b && (to == a))
+cut_either_way a b Drain = refl
+
+pub streams_either_way : (a b : ℕ) (commands : List Placed) → streams_between a b commands ≡ streams_between b a commands
+streams_either_way a b commands i = length (filter (λ (placed : Placed). cut_either_way a b placed.command i) commands) + 3
+
+module _ {E M : Type 0} where
+  -- a line's journal opened some of its streams
+  pub opened_among : (count before after : ℕ) (line : LineView E M) (past : List Entry) → AreNumbersOf count before after (numbers line.channel.streams.list) →
+      IsJournalOfLine line past → OpenedAmong count past
+  opened_among count before after line past of is =
+      All-same (λ (n : ℕ). n ≤ count) (opens past) _ is.opened.1
+      (All-take (λ (n : ℕ). n ≤ count) is.opened.0 (numbers line.channel.streams.list) of.most)
+
+  pub lacking_of : (m : Means E) (limit hosts : ℕ) (rows : List (List (LineView E M))) → AreDone m limit hosts rows → (low high : ℕ) →
+      HostsLackStream low high rows → (commands : List Placed) (before after : ℕ) → HaveCounted commands before after rows → (one other : List Entry) →
+      IsJournalOf rows low high one → IsJournalOf rows high low other → AreSoundJournals m.tells one other →
+      AreLackingStream m.tells hosts commands low high (newest_stream one)
+  lacking_of m limit hosts rows done low high lack commands before after counted one other is_one is_other sound =
+      let ordered = lack.ordered in
+      let next = lack.next in
+      let less : low < high = omega (arith, ordered, next) in
+      let of_one = is_one lack.place lack.one (peer_after low lack.place ordered ∙ sym next) lack.one_at in
+      let of_other = is_other low lack.other (peer_before high low less) lack.other_at in
+      let both =
+      subst (λ (n : ℕ). HaveNumbered commands before after low n lack.one.channel.streams.list lack.other.channel.streams.list) (sym next)
+      (counted low lack.place lack.one lack.other ordered lack.one_at (subst (λ (n : ℕ). IsAt rows n low lack.other) next lack.other_at)) in record {
+        ordered = less;
+        known = host_within hosts rows done.shape high lack.other_at.0 lack.other_at.1;
+        one = one;
+        other = other;
+        sound = sound;
+        one_opened = opened_among (streams_between low high commands) before after lack.one one both.0 of_one;
+        other_opened = opened_among (streams_between low high commands) before after lack.other other both.1 of_other;
+        closed =
+            ⊎_elim (λ lacks. inl (ap open_stream of_one.is ∙ lacks.closed)) (λ lacks. inr (ap open_stream of_other.is ∙ lacks.closed)) lack.lacks;
+        newest = refl;
+      }
+
+  -- the streams of a host and a peer, whichever of them is the lower one
+  pub counted_at : (hosts : ℕ) (rows : List (List (LineView E M))) → AreRows hosts rows → (commands : List Placed) (before after : ℕ) →
+      HaveCounted commands before after rows → (host place : ℕ) (line : LineView E M) → IsAt rows host place line →
+      AreNumbersOf (streams_between host (peer_at host place) commands) before after (numbers line.channel.streams.list)
+  counted_at hosts rows shape commands before after counted host place line at =
+      let known = host_within hosts rows shape host at.0 at.1 in
+      let within = place_within hosts rows shape host place line at in
+      elim (cases_lt place host) [
+        | inl lower ↦
+            let other = stands hosts rows shape place (host - 1) (omega (arith, known, lower)) (omega (arith, known, lower)) in
+            let is : suc (host - 1) ≡ host = omega (arith, lower) in
+            let to = peer_before host place lower in
+            let here = (counted place (host - 1) other.0 line (omega (arith, lower)) other.1 (subst (λ (h : ℕ). IsAt rows h place line) (sym is) at)).1 in
+            subst (λ (n : ℕ). AreNumbersOf n before after (numbers line.channel.streams.list))
+            (ap (λ (h : ℕ). streams_between place h commands) is ∙ streams_either_way place host commands
+            ∙ ap (λ (p : ℕ). streams_between host p commands) (sym to)) here
+        | inr higher ↦
+            let other = stands hosts rows shape (suc place) host within (omega (arith, higher, within)) in
+            let to = peer_after host place higher in
+            subst (λ (p : ℕ). AreNumbersOf (streams_between host p commands) before after (numbers line.channel.streams.list)) (sym to)
+            (counted host place line other.0 higher at other.1).0
+      ]
