@@ -1,5 +1,5 @@
 -- Two hosts that lack a stream, and the streams that journals opened.
-use Rattle.std.proofs.Common.{◌≡◌, ◌⊎◌, ◌<◌, ◌≤◌, ◌+◌, ◌-◌, ◌==◌, ◌&&◌, ◌||◌, ⊎_elim, inl, inr, ℕ, suc, Bool, true, false, List, None, filter, length, refl, sym, ap, subst, ◌∙◌, arith}
+use Rattle.std.proofs.Common.{◌≡◌, ◌<◌, ◌≤◌, ◌+◌, ◌-◌, ◌==◌, ◌&&◌, ◌||◌, ⊎_elim, inl, inr, ℕ, suc, Bool, true, false, List, filter, length, refl, sym, ap, subst, ◌∙◌, arith}
 use Rattle.std.proofs.lemmas.Bool.{cases_lt}
 use Rattle.std.proofs.lemmas.List.Elements.{All-same, All-take}
 use Rattle.rds_link.specs.Ends.{Means}
@@ -7,7 +7,7 @@ use Rattle.rds_model.specs.declared.entry.Entry.{Entry}
 use Rattle.rds_model.specs.Past.{newest_stream, open_stream}
 use Rattle.rds_model.specs.Sums.{opens}
 use Rattle.rds_line_streams.specs.Streams.{numbers}
-use Rattle.rds_line.specs.Line.{LineView, line_past}
+use Rattle.rds_line.specs.Line.{LineView}
 use Rattle.rds_script.specs.declared.script.Command.{Command}
 use Rattle.rds_script.specs.declared.script.Command.TheVariants.{Bind, BindAny, Send, Recv, Cancel, Close, Open, Move, Cut, Drain}
 use Rattle.rds_script.specs.declared.script.Placed.{Placed}

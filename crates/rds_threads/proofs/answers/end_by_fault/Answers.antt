@@ -1,5 +1,4 @@
-use Rattle.std.proofs.Common.{ℕ, List, ap, subst, ◌∙◌}
-use Rattle.rds_model.specs.Past.{newest_stream}
+use Rattle.std.proofs.Common.{ℕ, List, subst, ◌∙◌}
 use Rattle.rds_threads.specs.Ends.{Writes, Written}
 use Rattle.rds_threads.specs.Texts.{fault_line}
 use Rattle.rds_threads.specs.declared.form.RunEnd.TheVariants as ended
