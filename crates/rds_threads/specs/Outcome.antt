@@ -1,16 +1,20 @@
 -- What came of what the callers of a run did. Source: this project's own.
-use Rattle.std.specs.Prelude.{◌≡◌, ℕ, ◌==◌, ◌&&◌, Bool, false, List, [], All, Some, filter, length, map, slice_get}
+use Rattle.std.specs.Prelude.{◌≡◌, ◌<◌, ℕ, ◌==◌, ◌&&◌, Bool, false, List, [], All, Some, Contains, filter, length, map, slice_get}
+use Rattle.rds_views.specs.Views.{total}
 use Rattle.rds_fmap.specs.Readers.{ReaderView}
 use Rattle.rds_parts.specs.Lanes.{IsLaneAt, Lane}
 use Rattle.rds_report.specs.FinalState.{FinalJournal, FinalSocket}
 use Rattle.rds_report.specs.Hosts.{address_of}
 use Rattle.rds_script.specs.declared.script.Command.{Command}
-use Rattle.rds_script.specs.declared.script.Command.TheVariants.{Cut}
+use Rattle.rds_script.specs.declared.script.Command.TheVariants.{Bind, BindAny, Cut}
 use Rattle.rds_script.specs.declared.script.Placed.{Placed}
 use Rattle.rds_line.specs.Keeps.{uncut}
+use Rattle.rds_line.specs.Seats.{HasPulled}
 use Rattle.rds_gather.specs.Cuts.{AreCutsDone}
+use Rattle.rds_gather.specs.Grounded.{HasDelivered}
 use Rattle.rds_gather.specs.Joined.{orders_of}
 use Rattle.rds_gather.specs.Shown.{HasLookedAt}
+use Rattle.rds_model.specs.Deliveries.{put_bytes}
 use Rattle.rds_model.specs.Sums.{maps}
 use Rattle.rds_callers.specs.Ends.{used_name}
 use Rattle.rds_callers.specs.Places.{Bound, Ended, Place, Spare, Vacant, holding_of, somes}
@@ -38,12 +42,35 @@ is_cut_to host peer _ = false
 abbrev pub cuts_to : (host peer : ℕ) → List Placed → ℕ
 cuts_to host peer commands = length (filter (λ (placed : Placed). is_cut_to host peer placed.command) commands)
 
+-- the command has the host bind a socket with this receive buffer
+abbrev pub BindsWith : (host rcvbuf : ℕ) → Command → Type 0
+BindsWith host rcvbuf (Bind by port sndbuf size) = (by ≡ host) × (size ≡ rcvbuf)
+BindsWith host rcvbuf (BindAny by port sndbuf size) = (by ≡ host) × (size ≡ rcvbuf)
+BindsWith host rcvbuf _ = ⊥
+
+-- one of the commands does
+abbrev pub AskFor : (host rcvbuf : ℕ) → List Placed → Type 0
+AskFor host rcvbuf commands = (placed : Placed) × Contains commands placed × BindsWith host rcvbuf placed.command
+
+-- One of these journals of a host delivered a datagram at this port to some slot, and all of them together delivered more bytes to that
+-- slot than the receive buffer that one of the host's binds asks for.
+pub record IsFilled (host : ℕ) (commands : List Placed) (sides : List FinalJournal) (port : ℕ) : Type 0 where
+  pub slot : ℕ
+  pub place : ℕ
+  pub side : FinalJournal
+  pub stands : slice_get sides place ≡ Some side
+  pub delivered : HasDelivered port slot side.past
+  pub rcvbuf : ℕ
+  pub asked : AskFor host rcvbuf commands
+  pub above : rcvbuf < total (λ (s : FinalJournal). put_bytes slot s.past) sides
+
 -- What one of so many hosts, with these journals and these sockets, comes to did the script's commands: from slots that were new its caller
 -- did exactly its own commands. In the journal with each other host stand, for each slot, exactly the orders that its socket put on the route
 -- to that host, in order and each once. Each look of a socket at a peer's congestion map found what the map of its version has, among those
 -- that the journal with that peer read. Where a stream to a peer is open in the end, at least as many were shut as the commands have the host
 -- cut. There is one socket of each slot that was bound, in order, with its port. Each datagram that a journal delivered to a slot of the host
--- went to the socket of that slot, which had its port.
+-- went to the socket of that slot, which had its port. A map with a port was pulled only where more bytes were delivered to a slot, and a
+-- datagram at that port among them, than the receive buffer of one of the host's binds.
 pub record IsOutcome (hosts host : ℕ) (commands : List Placed) (sides : List FinalJournal) (sockets : List FinalSocket) : Type 0 where
   pub last : List Place
   pub done : HasDone hosts host commands last
@@ -52,6 +79,7 @@ pub record IsOutcome (hosts host : ℕ) (commands : List Placed) (sides : List F
   pub looked : (slot place : ℕ) (p : Place) (lane : Lane ReaderView) (side : FinalJournal) → slice_get last slot ≡ Some p →
       IsLaneAt (holding_of p).routes place lane → slice_get sides place ≡ Some side → HasLookedAt (maps side.past) lane.reader
   pub cut : All (λ (side : FinalJournal). AreCutsDone (cuts_to host side.peer commands) side.past) sides
+  pub filled : All (λ (side : FinalJournal). (port : ℕ) → port < 65536 → HasPulled port side.past → IsFilled host commands sides port) sides
   pub gone : All (AllWentToSockets (length last) sockets) sides
   pub names : map socket_name sockets ≡ somes (map used_name last)
   pub handed : All (λ (s : FinalSocket). (p : Place) × (slice_get last s.slot ≡ Some p) × HandedOutAt p s) sockets
