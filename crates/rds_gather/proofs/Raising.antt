@@ -1,29 +1,25 @@
 -- Why the lines of a host pulled maps with a port: what their seats at the meter, joined with those of the slots, show.
-use Rattle.std.proofs.Common.{◌≡◌, ◌≢◌, ◌⊎◌, inl, inr, ℕ, zero, suc, ◌+◌, ◌<◌, ◌≤◌, Bool, true, false, if◌then◌else◌, List, [], ◌∷◌, ◌++◌, All, Some, None, get_or, length, map, slice_get, option_map, refl, sym, ap, subst, ◌∙◌, append_assoc, arith}
+use Rattle.std.proofs.Common.{◌≡◌, ◌⊎◌, inl, inr, ℕ, suc, ◌+◌, ◌<◌, ◌≤◌, Bool, true, false, if◌then◌else◌, List, [], ◌∷◌, ◌++◌, All, Some, None, get_or, length, map, slice_get, option_map, refl, sym, ap, subst, ◌∙◌, append_assoc, arith}
 use Rattle.std.specs.Prelude.{Contains}
 use Rattle.std.proofs.lemmas.List.Elements.{All-contains, Contains-append_cases, Contains-append_right, Contains-get_or, Contains-push, Contains-push_cases}
 use Rattle.std.proofs.lemmas.List.{length-map}
 use Rattle.std.proofs.lemmas.Option.{same_Some, slice_get_within, slice_get-get_or, slice_get-map, get_or_from_slice_get}
 use Rattle.rds_views.specs.Views.{Table, total}
-use Rattle.rds_wire.specs.declared.frame.Frame.{Frame}
 use Rattle.rds_model.specs.declared.entry.Entry.{Entry}
 use Rattle.rds_model.specs.declared.entry.Entry.TheVariants as entry
-use Rattle.rds_model.specs.declared.entry.Outcome.{Outcome}
 use Rattle.rds_model.specs.declared.entry.Outcome.TheVariants as outcome
 use Rattle.rds_model.specs.Deliveries.{put_bytes}
 use Rattle.rds_meter.specs.declared.view.View.{View}
 use Rattle.rds_meter.specs.declared.view.Check.{Check}
-use Rattle.rds_meter.specs.declared.view.Step.TheVariants.{Stored}
-use Rattle.rds_meter.specs.Places.{limit_word, part, put_word, taken_word}
+use Rattle.rds_meter.specs.Places.{limit_word, part, put_word}
 use Rattle.rds_meter.specs.Seats.{MeterSeat, must_raise}
 use Rattle.rds_meter.specs.Shared.{HasStored}
-use Rattle.rds_meter.specs.Grounds.{AreRaisedAmong, HasFoundSet, IsRaisedAmong, SomeOf, seats_of}
+use Rattle.rds_meter.specs.Grounds.{AreRaisedAmong, IsRaisedAmong, SomeOf, seats_of}
 use Rattle.rds_fmap.specs.Readers.{ReaderView, WriterView}
 use Rattle.rds_socket.specs.Holding.{Holding, IsEnded}
 use Rattle.rds_line_parts.specs.Counted.{AreChecksOf, IsCheckOf}
 use Rattle.rds_line.specs.Keeps.{KeepsLine}
 use Rattle.rds_line.specs.Line.{LineView, line_past}
-use Rattle.rds_line.specs.Seats.{HasPulled}
 use Rattle.rds_host.specs.Passes.{AreAllPasses}
 use Rattle.rds_host.specs.Ties.{AreOfHost}
 use Rattle.rds_host.proofs.Columns.{all_at, mapped_at}

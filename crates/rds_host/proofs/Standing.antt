@@ -1,5 +1,5 @@
 -- For how many seats at the meter the slots and the lines of a host stand.
-use Rattle.std.proofs.Common.{◌≡◌, ℕ, zero, suc, ◌+◌, List, [], ◌∷◌, Some, length, slice_get, refl, arith}
+use Rattle.std.proofs.Common.{◌≡◌, ℕ, suc, List, [], ◌∷◌, Some, length, slice_get, refl, arith}
 use Rattle.rds_views.specs.Views.{total}
 
 -- a number of each value, added up, where each value in the same place has the same

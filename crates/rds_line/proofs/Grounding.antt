@@ -1,5 +1,5 @@
 -- Which loads stand behind the ports of the maps that were pulled, where the journal or the seat has more.
-use Rattle.std.proofs.Common.{◌≡◌, ◌≢◌, ◌⊎◌, inl, inr, ℕ, ◌+◌, ◌/◌, ◌%◌, ◌<◌, ◌==◌, ◌&&◌, if◌then◌else◌, Bool, true, false, Option, Some, None, List, [], ◌∷◌, ◌++◌, eq-eqb, refl, sym, ap, subst, ◌∙◌, arith}
+use Rattle.std.proofs.Common.{◌≡◌, ◌≢◌, ◌⊎◌, inl, inr, ℕ, ◌/◌, ◌<◌, ◌&&◌, if◌then◌else◌, Bool, true, Option, Some, None, List, [], ◌∷◌, eq-eqb, refl, sym, ap, subst, ◌∙◌, arith}
 use Rattle.std.specs.List.{Contains}
 use Rattle.std.proofs.lemmas.Bool.{cases_eq, eqb-true, ne_eqb}
 use Rattle.std.proofs.lemmas.List.Elements.{Contains-append_left, Contains-append_right}
@@ -14,7 +14,7 @@ use Rattle.rds_meter.specs.declared.view.Step.{Step}
 use Rattle.rds_meter.specs.declared.view.Step.TheVariants.{Added, Stored, Loaded, Raised, Lowered, Bumped}
 use Rattle.rds_meter.specs.Grounds.{HasFoundSet}
 use Rattle.rds_line_parts.specs.Own.{Own, IsAsRead, found_of, last_found, newer, own_word}
-use Rattle.rds_line.specs.Seats.{AreFoundSet, HasPulled}
+use Rattle.rds_line.specs.Seats.{AreFoundSet}
 use Rattle.rds_line.specs.Steps.{HasBits}
 use Rattle.rds_line.proofs.PortLooks.{first_or_later}
 

@@ -13,6 +13,8 @@ use Rattle.rds_report.specs.Hosts.{address_of}
 use Rattle.rds_report.specs.Views.{host_view, side_view, socket_view}
 use Rattle.rds_report.specs.declared.final_state.HostEnd.{HostEnd}
 use Rattle.rds_callers.specs.Places.{CallerView, Place}
+use Rattle.rds_gather.specs.Grounded.{AreMapsGrounded}
+use Rattle.rds_settling.specs.Tied.{holdings}
 use Rattle.rds_threads.specs.Reliable.{HasReceived}
 use Rattle.rds_threads.specs.Settled.{AreAllCut, AreAllSent, AreKeptOf, AreLeftOf, HaveAllFound, HaveAllGone, HaveAllLooked, IsLeftOf}
 use Rattle.rds_threads.proofs.At.{one_at}
@@ -33,11 +35,11 @@ module _ {E : Type 0} where
   pub left_of : (host : ℕ) (places : List Place) (lines : List (LineView E WriterView)) (result : Result HostEnd Memory) →
       IfOk result (λ end. end.addr ≡ address_of host) → IfOk result (λ end. map side_view end.journals.items ≡ map line_side lines) →
       IfOk result (λ end. HasReceived (host_view end)) → OnOk result (AreAllSent places lines) → OnOk result (HaveAllLooked places lines) →
-      OnOk result (AreAllCut places lines) → IfOk result (λ end. HaveAllGone lines (map socket_view end.kept.items)) → OnOk result (HaveAllFound places lines) → IfOk result (λ end. AreKeptOf places end.kept.items) →
-      IfOk result (IsLeftOf host places lines)
-  left_of host places lines (Ok end) addr journals received sent looked cut gone found kept =
-      record { addr = addr; journals = journals; received = received; sent = sent; looked = looked; cut = cut; gone = gone; found = found; kept = kept }
-  left_of host places lines (Err e) addr journals received sent looked cut gone found kept = tt
+      OnOk result (AreAllCut places lines) → OnOk result (AreMapsGrounded (holdings places) lines) → IfOk result (λ end. HaveAllGone lines (map socket_view end.kept.items)) → OnOk result (HaveAllFound places lines) →
+      IfOk result (λ end. AreKeptOf places end.kept.items) → IfOk result (IsLeftOf host places lines)
+  left_of host places lines (Ok end) addr journals received sent looked cut grounded gone found kept =
+      record { addr = addr; journals = journals; received = received; sent = sent; looked = looked; cut = cut; grounded = grounded; gone = gone; found = found; kept = kept }
+  left_of host places lines (Err e) addr journals received sent looked cut grounded gone found kept = tt
 
   -- and of one more
   pub one_left : (count : ℕ) (callers : List CallerView) (rows : List (List (LineView E WriterView))) (ends more : List HostEnd) (caller : CallerView)

@@ -5,6 +5,8 @@ pub mod HandedOut
 pub mod Receiving
 pub mod CutsPut
 pub mod Cutting
+pub mod Limits
+pub mod Filled
 pub mod Outcome
 pub mod Owning
 pub mod Sound

@@ -20,6 +20,7 @@ use Rattle.rds_parties.specs.Parties.{HasLed}
 use Rattle.rds_report.specs.Hosts.{address_of}
 use Rattle.rds_rounds.specs.Grid.{peer_at}
 use Rattle.rds_gather.specs.Cuts.{AreCutsDone, AreCutsOfSlots}
+use Rattle.rds_gather.specs.Grounded.{AreMapsGrounded}
 use Rattle.rds_gather.specs.Joined.{AreJoined, AreLooksOfJournals, orders_of}
 use Rattle.rds_gather.specs.Sides.{line_side}
 use Rattle.rds_line.specs.Keeps.{cuts_among}
@@ -35,6 +36,7 @@ use Rattle.rds_settling.specs.Tied.{AreLinesTold, PlacesHear, holdings}
 use Rattle.rds_threads.proofs.At.{all_from, at_map, held_at, spared_holds, stood_at}
 use Rattle.rds_threads.proofs.Cutting.{cuts_of_done, fewer_done}
 use Rattle.rds_threads.proofs.KeptPorts.{seat_kept}
+use Rattle.rds_threads.proofs.Filled.{all_filled}
 
 -- the names of slots stay where they are given up
 name_spared : (p : Place) → used_name (spared p) ≡ used_name p
@@ -151,10 +153,10 @@ hands_spared (Spare h) s is = absurd is
 module _ {E : Type 0} where
   pub outcome_of : (hosts host : ℕ) (commands : List Placed) (places : List Place) (lines : List (LineView E WriterView)) (kept : List Kept) →
       ((place : ℕ) (line : LineView E WriterView) → slice_get lines place ≡ Some line → (line.channel.conn.peer ≡ address_of (peer_at host place)) × (suc place < hosts)) →
-      HasDoneSpared hosts host commands places lines → AreAllSent places lines → HaveAllLooked places lines → AreAllCut places lines → HaveAllGone lines (map socket_view kept) → HaveAllFound places lines →
-      AreKeptOf places kept →
+      HasDoneSpared hosts host commands places lines → AreAllSent places lines → HaveAllLooked places lines → AreAllCut places lines →
+      AreMapsGrounded (holdings places) lines → HaveAllGone lines (map socket_view kept) → HaveAllFound places lines → AreKeptOf places kept →
       IsOutcome hosts host commands (map line_side lines) (map socket_view kept)
-  outcome_of hosts host commands places lines kept peers did sent looked cut gone found of_kept = record {
+  outcome_of hosts host commands places lines kept peers did sent looked cut grounded gone found of_kept = record {
     last = did.last;
     done = did.did.done;
     sent = λ slot place p lane side at at_lane at_side.
@@ -177,6 +179,7 @@ module _ {E : Type 0} where
         subst (λ (s : FinalJournal). AreCutsDone (cuts_to host s.peer commands) s.past) (sym line.2)
         (fewer_done (cuts_to host line.0.channel.conn.peer commands) (cuts_among way.cut.lane.pass.put) line.0.channel.conn.log.past
         (subst (λ (peer : ℕ). cuts_to host peer commands ≤ cuts_among way.cut.lane.pass.put) (sym to.0) way.cut.cuts) done));
+    filled = all_filled hosts host commands places lines peers did grounded;
     gone = all_from (AllWentToSockets (map socket_view kept)) (map line_side lines)
         (λ place side at_side.
         let line = at_map line_side lines place side at_side in

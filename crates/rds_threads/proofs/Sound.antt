@@ -182,7 +182,7 @@ module _ {E : Type 0} (m : Means E) (limit hosts : ℕ) (callers : List CallerVi
               (line_of m limit hosts rows done host place line (is.row, is.row_at, at_line)).peer_is,
               place_within hosts rows done.shape host place line (is.row, is.row_at, at_line),
             ))
-            (did host is.caller is.row is.caller_at is.row_at) is.rest.sent is.rest.looked is.rest.cut is.rest.gone is.rest.found is.rest.kept));
+            (did host is.caller is.row is.caller_at is.row_at) is.rest.sent is.rest.looked is.rest.cut is.rest.grounded is.rest.gone is.rest.found is.rest.kept));
         received = all_from HasReceived (host_views ends) (λ host final at. let is = host_at host final at in subst HasReceived (sym is.is) is.rest.received);
         reliable = reliable_all fifo;
       }

@@ -1,20 +1,24 @@
 -- What came of what the callers of a run did. Source: this project's own.
-use Rattle.std.specs.Prelude.{◌≡◌, ◌≢◌, ℕ, ◌==◌, ◌&&◌, Bool, false, List, [], All, Contains, Some, filter, length, map, slice_get}
+use Rattle.std.specs.Prelude.{◌≡◌, ◌≢◌, ◌<◌, ℕ, ◌==◌, ◌&&◌, Bool, false, List, [], All, Contains, Some, filter, length, map, slice_get}
 use Rattle.rds_wire.specs.declared.frame.Frame.{Frame}
 use Rattle.rds_model.specs.declared.entry.Entry.TheVariants.{Read}
 use Rattle.rds_model.specs.declared.entry.Outcome.TheVariants as outcome
 use Rattle.rds_model.specs.declared.order.Datagram.{Datagram}
+use Rattle.rds_views.specs.Views.{total}
 use Rattle.rds_fmap.specs.Readers.{ReaderView}
 use Rattle.rds_parts.specs.Lanes.{IsLaneAt, Lane}
 use Rattle.rds_report.specs.FinalState.{FinalJournal, FinalSocket}
 use Rattle.rds_report.specs.Hosts.{address_of}
 use Rattle.rds_script.specs.declared.script.Command.{Command}
-use Rattle.rds_script.specs.declared.script.Command.TheVariants.{Cut}
+use Rattle.rds_script.specs.declared.script.Command.TheVariants.{Bind, BindAny, Cut}
 use Rattle.rds_script.specs.declared.script.Placed.{Placed}
 use Rattle.rds_line.specs.Keeps.{uncut}
+use Rattle.rds_line.specs.Seats.{HasPulled}
 use Rattle.rds_gather.specs.Cuts.{AreCutsDone}
+use Rattle.rds_gather.specs.Grounded.{HasDelivered}
 use Rattle.rds_gather.specs.Joined.{orders_of}
 use Rattle.rds_gather.specs.Shown.{HasLookedAt}
+use Rattle.rds_model.specs.Deliveries.{put_bytes}
 use Rattle.rds_model.specs.Sums.{maps}
 use Rattle.rds_socket.specs.Holding.{Open}
 use Rattle.rds_callers.specs.Ends.{used_name}
@@ -56,13 +60,36 @@ pub record AreLeadingFound (host : ℕ) (commands : List Placed) (first last : L
   pub found : (slot : ℕ) (o q : Open ReaderView) (got more : List Datagram) → slice_get led slot ≡ Some (Bound o got) → slice_get last slot ≡ Some (Bound q more) →
       All (IsAlwaysFound o.port) sides
 
+-- the command has the host bind a socket with this receive buffer
+abbrev pub BindsWith : (host rcvbuf : ℕ) → Command → Type 0
+BindsWith host rcvbuf (Bind by port sndbuf size) = (by ≡ host) × (size ≡ rcvbuf)
+BindsWith host rcvbuf (BindAny by port sndbuf size) = (by ≡ host) × (size ≡ rcvbuf)
+BindsWith host rcvbuf _ = ⊥
+
+-- one of the commands does
+abbrev pub AskFor : (host rcvbuf : ℕ) → List Placed → Type 0
+AskFor host rcvbuf commands = (placed : Placed) × Contains commands placed × BindsWith host rcvbuf placed.command
+
+-- One of these journals of a host delivered a datagram at this port to some slot, and all of them together delivered more bytes to that
+-- slot than the receive buffer that one of the host's binds asks for.
+pub record IsFilled (host : ℕ) (commands : List Placed) (sides : List FinalJournal) (port : ℕ) : Type 0 where
+  pub slot : ℕ
+  pub place : ℕ
+  pub side : FinalJournal
+  pub stands : slice_get sides place ≡ Some side
+  pub delivered : HasDelivered port slot side.past
+  pub rcvbuf : ℕ
+  pub asked : AskFor host rcvbuf commands
+  pub above : rcvbuf < total (λ (s : FinalJournal). put_bytes slot s.past) sides
+
 -- What one of so many hosts, with these journals and these sockets, comes to did the script's commands: from slots that were new its caller
 -- did exactly its own commands. In the journal with each other host stand, for each slot, exactly the orders that its socket put on the route
 -- to that host, in order and each once. Each look of a socket at a peer's congestion map found what the map of its version has, among those
 -- that the journal with that peer read. Where a stream to a peer is open in the end, at least as many were shut as the commands have the host
 -- cut. There is one socket of each slot that was bound, in order, with its port. Each datagram that a journal delivered went to one of these
 -- sockets, that of the slot that it was delivered to, which had its port. At a port that a bind at the beginning of the script took no datagram
--- found no socket, where the socket of that bind is open in the end.
+-- found no socket, where the socket of that bind is open in the end. A map with a port was pulled only where more bytes were delivered to a
+-- slot, and a datagram at that port among them, than the receive buffer of one of the host's binds.
 pub record IsOutcome (hosts host : ℕ) (commands : List Placed) (sides : List FinalJournal) (sockets : List FinalSocket) : Type 0 where
   pub last : List Place
   pub done : HasDone hosts host commands last
@@ -71,6 +98,7 @@ pub record IsOutcome (hosts host : ℕ) (commands : List Placed) (sides : List F
   pub looked : (slot place : ℕ) (p : Place) (lane : Lane ReaderView) (side : FinalJournal) → slice_get last slot ≡ Some p →
       IsLaneAt (holding_of p).routes place lane → slice_get sides place ≡ Some side → HasLookedAt (maps side.past) lane.reader
   pub cut : All (λ (side : FinalJournal). AreCutsDone (cuts_to host side.peer commands) side.past) sides
+  pub filled : All (λ (side : FinalJournal). (port : ℕ) → port < 65536 → HasPulled port side.past → IsFilled host commands sides port) sides
   pub gone : All (AllWentToSockets sockets) sides
   pub found : AreLeadingFound host commands done.first last sides
   pub names : map socket_name sockets ≡ somes (map used_name last)

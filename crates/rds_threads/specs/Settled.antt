@@ -14,6 +14,7 @@ use Rattle.rds_line.specs.Keeps.{cuts_among, uncut}
 use Rattle.rds_line.specs.Line.{LineView, line_past}
 use Rattle.rds_line.specs.Seats.{WasAlwaysTold}
 use Rattle.rds_gather.specs.Cuts.{AreCutsDone}
+use Rattle.rds_gather.specs.Grounded.{AreMapsGrounded}
 use Rattle.rds_gather.specs.Joined.{orders_of}
 use Rattle.rds_gather.specs.Shown.{HasLookedAt}
 use Rattle.rds_model.specs.Sums.{maps}
@@ -119,6 +120,7 @@ pub record IsLeftOf {E : Type 0} (host : ℕ) (places : List Place) (lines : Lis
   pub sent : AreAllSent places lines
   pub looked : HaveAllLooked places lines
   pub cut : AreAllCut places lines
+  pub grounded : AreMapsGrounded (holdings places) lines
   pub gone : HaveAllGone lines (map socket_view end.kept.items)
   pub found : HaveAllFound places lines
   pub kept : AreKeptOf places end.kept.items

@@ -1,6 +1,7 @@
 //! What is left of the hosts of a run.
 ghost use Rattle.std.specs.Prelude.{◌≡◌, ◌≤◌, ◌∷◌, ◌++◌, [], ℕ, List, IfOk, Ok, OnOk, Some, length, map, slice_get, true};
 ghost use Rattle.rds_text.specs.declared.host.TheConstants.{MAX_HOSTS};
+ghost use Rattle.rds_gather.specs.Grounded.{AreMapsGrounded};
 ghost use Rattle.rds_gather.specs.Sides.{line_side};
 ghost use Rattle.rds_report.specs.declared.final_state.HostEnd.{HostEnd as EndView};
 ghost use Rattle.rds_report.specs.Views.{AreFinalHosts, host_view, host_views, side_view, socket_view};
@@ -101,6 +102,7 @@ fn host_end<W: Wire, R: Wait>(
     ensures sent { OnOk result (AreAllSent caller.places lines.items) }
     ensures looked { OnOk result (HaveAllLooked caller.places lines.items) }
     ensures cut { OnOk result (AreAllCut caller.places lines.items) }
+    ensures grounded { OnOk result (AreMapsGrounded (holdings caller.places) lines.items) }
     ensures gone { IfOk result (λ end. HaveAllGone lines.items (map socket_view end.kept.items)) }
     ensures found { OnOk result (HaveAllFound caller.places lines.items) }
     ensures kept { IfOk result (λ end. AreKeptOf caller.places end.kept.items) }

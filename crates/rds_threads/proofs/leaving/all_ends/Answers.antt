@@ -57,6 +57,6 @@ loop-caller-preserved g c =
       omega (arith, more, c.loop-caller.invariant.0),
       subst (λ (k : ℕ). OnOk c.and-all.result (AreLeftBelow k callers (rows_of lines) c.add.new.ends.items)) (omega (arith, more))
           (added n callers (rows_of lines) c.loop-caller.ends.items c.add.new.ends.items caller row.items end.result c.loop-caller.all c.add.result c.and-all.result
-          at.first (row_at lines n row at.second) c.loop-caller.invariant.1 (left_of n caller.places row.items end.result addr end.ensures.journals end.ensures.received end.ensures.sent end.ensures.looked end.ensures.cut end.ensures.gone end.ensures.found end.ensures.kept)
+          at.first (row_at lines n row at.second) c.loop-caller.invariant.1 (left_of n caller.places row.items end.result addr end.ensures.journals end.ensures.received end.ensures.sent end.ensures.looked end.ensures.cut end.ensures.grounded end.ensures.gone end.ensures.found end.ensures.kept)
           c.add.ensures c.and-all.ensures),
     )

@@ -2,14 +2,16 @@ use Rattle.std.proofs.Common.{◌∙◌, List, ap, map, subst}
 use Rattle.rds_fmap.specs.Readers.{WriterView}
 use Rattle.rds_line.specs.Line.{LineView}
 use Rattle.rds_gather.specs.Cuts.{AreCutsOfSlots}
+use Rattle.rds_gather.specs.Grounded.{AreMapsGrounded}
 use Rattle.rds_gather.specs.Joined.{AreJoined, AreLooksOfJournals}
 use Rattle.rds_gather.specs.Owned.{AreFound, AreOwned}
 use Rattle.rds_gather.specs.Sides.{line_side}
 use Rattle.rds_report.specs.Views.{host_view, socket_view}
 use Rattle.rds_report.specs.declared.final_state.HostEnd.{HostEnd}
-use Rattle.rds_settling.specs.Tied.{AreSlotsTold}
+use Rattle.rds_settling.specs.Tied.{AreSlotsTold, holdings}
 use Rattle.rds_threads.specs.Reliable.{HasReceived}
 use Rattle.rds_threads.specs.Settled.{AreAllCut, AreAllSent, AreKeptOf, HaveAllFound, HaveAllGone, HaveAllLooked}
+use Rattle.rds_threads.proofs.Filled.{all_grounded}
 use Rattle.rds_threads.proofs.Outcome.{all_cut, all_looked, all_sent, kept_of, on_kept, on_ok}
 use Rattle.rds_threads.proofs.Owning.{found_sockets, on_kept_joined, went_to_sockets}
 use Rattle.rds_threads.proofs.Receiving.{on_gathered, received_of}
@@ -72,6 +74,13 @@ returns-clause-cut g c =
     (λ cut.
     all_cut c.args.caller.places c.tell_slots.new.caller.places c.in-Ok.closed.items c.args.lines.items c.tell_slots.ensures.places c.in-Ok.ensures.slots
     (subst (λ (l : List (LineView g.row.W-End.Denot WriterView)). AreCutsOfSlots c.in-Ok.closed.items l) c.tell_slots.ensures.lines cut) c.requires.told c.requires.quiet)
+
+pub returns-clause-grounded : goal.returns-clause-grounded
+returns-clause-grounded g c =
+    on_ok c.gather.result _ (AreMapsGrounded (holdings c.args.caller.places) c.args.lines.items) c.gather.ensures.grounded
+    (λ grounded.
+    all_grounded c.args.caller.places c.tell_slots.new.caller.places c.in-Ok.closed.items c.args.lines.items c.tell_slots.ensures.places c.in-Ok.ensures.slots
+    (subst (λ (l : List (LineView g.row.W-End.Denot WriterView)). AreMapsGrounded c.in-Ok.closed.items l) c.tell_slots.ensures.lines grounded))
 
 pub returns-clause-kept : goal.returns-clause-kept
 returns-clause-kept g c =
