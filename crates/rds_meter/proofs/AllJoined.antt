@@ -1,5 +1,5 @@
 -- What a seat knows of the bits that loads found set, once all other seats were joined into it.
-use Rattle.std.proofs.Common.{◌≡◌, ◌⊎◌, inl, inr, ℕ, zero, suc, ◌+◌, ◌<◌, ◌≤◌, ◌&&◌, nat_lt, Bool, true, false, Option, Some, None, is_some, All, List, [], ◌∷◌, ◌++◌, refl, sym, ap, ◌∙◌, subst, arith}
+use Rattle.std.proofs.Common.{◌≡◌, ◌⊎◌, inl, inr, ℕ, zero, suc, ◌<◌, ◌≤◌, true, is_some, List, [], ◌∷◌, ◌++◌, refl, sym, ap, ◌∙◌, subst, arith}
 use Rattle.std.specs.Prelude.{Contains, slice_index}
 use Rattle.std.proofs.lemmas.Bool.Decides.{nat_tests}
 use Rattle.std.proofs.lemmas.List.Elements.{Contains-append_left, Contains-append_right, Contains-append_cases, Contains-push, Contains-push_cases}
@@ -13,8 +13,8 @@ use Rattle.rds_meter.specs.declared.view.Step.TheVariants.{Loaded}
 use Rattle.rds_meter.specs.Places.{map_word, put_word, part}
 use Rattle.rds_meter.specs.PartLaws.{part-append}
 use Rattle.rds_meter.specs.Seats.{MeterSeat, joined, knowing, must_raise}
-use Rattle.rds_meter.specs.Shared.{Alone, HasRaised, HasStored, IsLimit, Shared}
-use Rattle.rds_meter.specs.Grounds.{AreAllSeats, AreRaisedAmong, HasFoundSet, IsRaisedAmong, SomeOf, seats_of}
+use Rattle.rds_meter.specs.Shared.{Alone, HasRaised, HasStored, IsLimit}
+use Rattle.rds_meter.specs.Grounds.{AreAllSeats, AreRaisedAmong, SomeOf, seats_of}
 use Rattle.rds_meter.specs.Joining.{IsJoinOf, OneOf}
 
 -- what some of one view knows is what that one knows
