@@ -34,7 +34,7 @@ fn main(rt: HostRuntime) -> anyhow::Result<()> {
     words.next();
     match words.next() {
         None => show(&rt, rt.alloc()),
-        Some(word) if word == "idle" => idle::idle(&rt, rt.alloc(), 5),
+        Some(word) if word.as_str() == "idle" => idle::idle(&rt, rt.alloc(), 5),
         Some(word) => measure(&rt, rt.alloc(), word.parse()?),
     }
 }
