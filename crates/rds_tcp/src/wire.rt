@@ -47,10 +47,9 @@ impl TcpWire {
         }
     }
 
-    /// A wire without the thread that opens streams, as where its start was refused: each opening is a fault. It serves tests.
-    pub fn refused(alloc: Global) -> TcpWire
-        ensures { result ≡ record { faults = 0; nothings = 0; fulls = 0 } }
-    {
+    // A wire whose thread was refused.
+    #[cfg(test)]
+    pub(crate) fn refused(alloc: Global) -> TcpWire {
         TcpWire {
             alloc,
             crew: None,

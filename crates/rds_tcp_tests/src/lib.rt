@@ -1,7 +1,5 @@
-//! Whole runs of the program's top call over TCP: tests alone.
+//! Tests of streams over TCP, on real sockets.
 #![tactic(auto)]
 
-#[cfg(test)]
-mod hello;
 #[cfg(test)]
 mod streams;

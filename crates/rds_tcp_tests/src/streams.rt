@@ -1,5 +1,5 @@
 //! Streams over real sockets.
-use rds_link::{End, Got, Put, ROOM, Wire, WireError};
+use rds_link::{End, Got, Put, ROOM, Wire};
 use rds_tcp::*;
 use std::alloc::{AllocError, Global};
 use std::net::Net;
@@ -142,31 +142,6 @@ fn a_stream_that_ends_without_a_shut_is_one_fault(rt: HostRuntime) -> Result<(),
     Ok(())
 }
 
-// How many bytes come to an end whose peer finished behind them.
-fn waiting<R: Threads + Wait + Net>(
-    rt: &R,
-    wire: &mut TcpWire,
-    bytes: &[u8],
-    got: &mut Vec<u8>,
-) -> Option<usize> {
-    let Ok((mut a, mut b)) = wire.open(rt, 1, 2, 1) else {
-        return None;
-    };
-    send_all(rt, &mut a, bytes);
-    wire.give_back(rt, a);
-    get_all(rt, &mut b, got, bytes.len() + 1).ok()?;
-    Some(got.len())
-}
-
-#[test]
-fn what_waits_goes_out_before_an_end_is_finished(rt: HostRuntime) -> Result<(), Fail> {
-    let mut wire = TcpWire::new(&rt, rt.alloc());
-    let mut got = Vec::new(rt.alloc());
-    assert_eq!(rt; waiting(&rt, &mut wire, &[7; ROOM], &mut got), Some(ROOM));
-    wire.finish(&rt);
-    Ok(())
-}
-
 // Writes until there is no room, while nobody reads, and finishes.
 fn overfill<R: Threads + Wait + Net>(rt: &R, wire: &mut TcpWire) -> bool {
     let Ok((mut a, _b)) = wire.open(rt, 1, 2, 1) else {
@@ -191,16 +166,6 @@ fn overfill<R: Threads + Wait + Net>(rt: &R, wire: &mut TcpWire) -> bool {
 fn an_end_whose_peer_never_reads_can_be_finished(rt: HostRuntime) -> Result<(), Fail> {
     let mut wire = TcpWire::new(&rt, rt.alloc());
     assert!(rt; overfill(&rt, &mut wire));
-    wire.finish(&rt);
-    Ok(())
-}
-
-#[test]
-fn openings_without_a_thread_are_faults(rt: HostRuntime) -> Result<(), Fail> {
-    let mut wire = TcpWire::refused(rt.alloc());
-    assert!(rt; matches!(wire.open(&rt, 1, 2, 1), Err(WireError::Fault)));
-    assert!(rt; matches!(wire.open(&rt, 1, 2, 2), Err(WireError::Fault)));
-    assert_eq!(rt; wire.faults(), 2);
     wire.finish(&rt);
     Ok(())
 }
