@@ -4,5 +4,5 @@ set -eu
 cd "$(dirname "$0")/../crates/rds_bench_link"
 [ -x out/rds_bench_link ] || rt run >/dev/null
 out/rds_bench_link idle
-# The second line has the times of the programs that the shell ran: for themselves and in the kernel.
-times | tail -n 1
+# What the second line of this has is the program's processor time: its own, and the kernel's for it.
+times
