@@ -1,5 +1,5 @@
 -- What contracts see of an end of a stream in memory. This project's own.
-use Rattle.std.specs.Prelude.{◌≡◌, ℕ, List, true}
+use Rattle.std.specs.Prelude.{◌≡◌, ◌≢◌, ◌⊎◌, ℕ, List, [], true}
 use Rattle.rtrb.specs.Ring.{sent, received, known_items, known_free, IsPair}
 use Rattle.rds_link.specs.declared.memory_end.MemEnd.{MemEnd}
 use Rattle.rds_link.specs.Ends.{Means}
@@ -28,3 +28,7 @@ pub record WireView : Type 0 where
   pub faults : ℕ
   pub nothings : ℕ
   pub fulls : ℕ
+
+-- an opening of the wire, or a call of one of its ends, is to fail
+abbrev pub MayFail : WireView → Type 0
+MayFail w = (w.openings.fail ≢ []) ⊎ (w.fail_end ≢ [])

@@ -1,10 +1,14 @@
 -- What sources and sinks tell of the bytes that they hold, and how they count faults. Source: this project's own.
-use Rattle.std.specs.Prelude.{◌≡◌, ◌⊎◌, ℕ, ◌<◌, ◌^◌, ◌-◌, Option, Some, None, MatchOption, List, [], ◌++◌, take}
+use Rattle.std.specs.Prelude.{◌≡◌, ◌⊎◌, ℕ, ◌<◌, ◌≤◌, ◌+◌, ◌^◌, ◌-◌, Option, Some, None, MatchOption, List, [], ◌++◌, take}
 use Rattle.rds_link.specs.Failing.{CallsView}
 
 -- A count of faults rose. It stands still at the last value of a u64, and counts as risen there.
 abbrev pub HasRisen : ℕ → ℕ → Type 0
 HasRisen old new = (old < new) ⊎ (new ≡ 2 ^ 64 - 1)
+
+-- it rose by at least so many
+abbrev pub HasRisenBy : ℕ → ℕ → ℕ → Type 0
+HasRisenBy least old new = (old + least ≤ new) ⊎ (new ≡ 2 ^ 64 - 1)
 
 -- where a source tells what it has left, it handed out these bytes from the front
 abbrev pub SourceGave : Option (List ℕ) → Option (List ℕ) → List ℕ → Type 0

@@ -1,4 +1,4 @@
-ghost use Rattle.std.specs.Prelude.{◌≡◌, ◌↔◌, [], IsTrue};
+ghost use Rattle.std.specs.Prelude.{◌≡◌, ◌≢◌, ◌↔◌, [], IsTrue, true};
 ghost use Rattle.rds_link.specs.Failing.{next_call, NextFails};
 
 use std::alloc::AllocError;
@@ -24,6 +24,13 @@ impl Calls {
         ensures { result ≡ record { fail = fail.items; made = 0 } }
     {
         Calls { fail, made: 0 }
+    }
+
+    // Whether a call can fail.
+    pub(crate) fn can_fail(&self) -> bool
+        ensures { result ≡ true → self.now.fail ≢ [] }
+    {
+        !self.fail.is_empty()
     }
 
     // Whether the call that is made now fails.

@@ -24,7 +24,7 @@ pub use source::{ReadError, Source, read_all};
 pub use standard::{StdSink, StdSource};
 pub use standing::Standing;
 use std::fmt;
-pub use wire::{Wire, WireError};
+pub use wire::{Wire, WireCounts, WireError};
 pub use words::{EndSeat, View};
 
 /// A read or a write failed, and the count of faults has risen.

@@ -1,13 +1,13 @@
 //! The wire whose streams stay in memory.
-ghost use Rattle.std.specs.Prelude.{◌≡◌, ◌≤◌, ◌↔◌, [], IfOk, IsErrOf};
+ghost use Rattle.std.specs.Prelude.{◌≡◌, ◌≤◌, ◌↔◌, [], IfOk, IsErrOf, true};
 ghost use Rattle.rds_link.specs.declared.wire.WireError.TheVariants as errors;
 ghost use Rattle.rds_link.specs.Ends.{IsFresh};
 ghost use Rattle.rds_link.specs.Failing.{next_call, NextFails};
-ghost use Rattle.rds_link.specs.Memory.{memory_means};
+ghost use Rattle.rds_link.specs.Memory.{memory_means, MayFail};
 ghost use Rattle.rds_link.specs.Streaming.{HasRisen};
 
 use crate::calls::Calls;
-use crate::{End, MemEnd, Standing, Wire, WireError};
+use crate::{End, MemEnd, Standing, Wire, WireCounts, WireError};
 use rds_wire::Memory;
 use rtrb::RingBuffer;
 use std::alloc::Global;
@@ -99,8 +99,22 @@ impl Wire for MemWire {
 
     ghost fulls = { λ w. w.fulls };
 
+    ghost may_fail = { λ w. MayFail w };
+
     fn tells(&self) -> bool {
         true
+    }
+
+    fn can_fail(&self) -> bool {
+        self.calls.can_fail() || !self.fail_end.is_empty()
+    }
+
+    fn counts(&self) -> WireCounts {
+        WireCounts {
+            faults: self.faults,
+            nothings: self.nothings,
+            fulls: self.fulls,
+        }
     }
 
     fn open<R: Threads + Wait + Net>(

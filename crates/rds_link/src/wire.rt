@@ -1,4 +1,4 @@
-ghost use Rattle.std.specs.Prelude.{◌≡◌, ◌≤◌, ℕ, IfOk, IsErrOf};
+ghost use Rattle.std.specs.Prelude.{◌≡◌, ◌≤◌, ℕ, IfOk, IsErrOf, true};
 ghost use Rattle.rds_link.specs.Ends.{Remains, MovesNothing, CountsStay, IsFresh, HasAll, RisesBy};
 ghost use Rattle.rds_link.specs.Standing.{LearnsOther, HaveCause, HaveFirst};
 ghost use Rattle.rds_link.specs.Streaming.{HasRisen};
@@ -16,6 +16,17 @@ pub enum WireError {
     Memory,
 }
 
+/// What a wire has counted.
+#[derive(Clone, Copy, Debug, PartialEq, Eq)]
+pub struct WireCounts {
+    /// Faults, of openings and of ends that were given back.
+    pub faults: u64,
+    /// Answers `Nothing` of ends that were given back.
+    pub nothings: u64,
+    /// Answers `Full` of ends that were given back.
+    pub fulls: u64,
+}
+
 /// What opens streams between hosts.
 pub trait Wire {
     /// The ends of its streams.
@@ -29,9 +40,20 @@ pub trait Wire {
 
     ghost fulls: { Self → ℕ };
 
+    /// An opening of it or a call of one of its ends may fail.
+    ghost may_fail: { Self → Type 0 };
+
     /// Whether its ends tell their bytes.
     fn tells(&self) -> bool
         ensures { result ≡ Self.End.means.tells };
+
+    /// Whether an opening of it, or a call of one of its ends, can fail.
+    fn can_fail(&self) -> bool
+        ensures { result ≡ true → may_fail self.now };
+
+    /// What it has counted so far.
+    fn counts(&self) -> WireCounts
+        ensures { result ≡ record { faults = faults self.now; nothings = nothings self.now; fulls = fulls self.now } };
 
     /// Opens the stream with this number between two hosts, the lower of which gets the first end.
     fn open<R: Threads + Wait + Net>(

@@ -6,7 +6,7 @@ ghost use Rattle.rds_tcp.specs.Tcp.{tcp_means, HasMovedNothing};
 use crate::crew::Crew;
 use crate::end::TcpEnd;
 use crate::rings::rings;
-use rds_link::{End, Standing, Wire, WireError};
+use rds_link::{End, Standing, Wire, WireCounts, WireError};
 use rds_wire::Memory;
 use std::alloc::Global;
 use std::marker::Model;
@@ -127,8 +127,22 @@ impl Wire for TcpWire {
 
     ghost fulls = { λ w. w.fulls };
 
+    ghost may_fail = { λ w. Unit {0} };
+
     fn tells(&self) -> bool {
         false
+    }
+
+    fn can_fail(&self) -> bool {
+        true
+    }
+
+    fn counts(&self) -> WireCounts {
+        WireCounts {
+            faults: self.faults,
+            nothings: self.nothings,
+            fulls: self.fulls,
+        }
     }
 
     fn open<R: Threads + Wait + Net>(

@@ -1,5 +1,5 @@
 //! A wire in memory, of which the ends of the lower host count the bytes that they take.
-use rds_link::{End, Got, MemEnd, MemWire, Put, Wire, WireError};
+use rds_link::{End, Got, MemEnd, MemWire, Put, Wire, WireCounts, WireError};
 use std::alloc::Global;
 use std::marker::Model;
 use std::net::Net;
@@ -91,8 +91,18 @@ impl<'a> Wire for CountingWire<'a> {
 
     ghost fulls = { λ w. w.own.fulls };
 
+    ghost may_fail = { λ w. Unit {0} };
+
     fn tells(&self) -> bool {
         true
+    }
+
+    fn can_fail(&self) -> bool {
+        true
+    }
+
+    fn counts(&self) -> WireCounts {
+        self.own.counts()
     }
 
     fn open<R: Threads + Wait + Net>(

@@ -1,5 +1,5 @@
 //! A wire whose ends take all bytes, tell nothing, and never hear anything.
-use rds_link::{End, Got, MemEnd, MemWire, Put, Wire, WireError};
+use rds_link::{End, Got, MemEnd, MemWire, Put, Wire, WireCounts, WireError};
 use std::alloc::Global;
 use std::net::Net;
 use std::sync::Wait;
@@ -88,8 +88,21 @@ impl Wire for DeafWire {
 
     ghost fulls = { λ w. w.own.fulls };
 
+    ghost may_fail = { λ w. Unit {0} };
+
     fn tells(&self) -> bool {
         false
+    }
+
+    fn can_fail(&self) -> bool {
+        true
+    }
+
+    fn counts(&self) -> WireCounts {
+        WireCounts {
+            nothings: self.nothings,
+            ..self.own.counts()
+        }
     }
 
     fn open<R: Threads + Wait + Net>(

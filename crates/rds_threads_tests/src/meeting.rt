@@ -1,5 +1,5 @@
 //! A wire in memory on which host A's first write to one of its two peers waits for its first write to the other one.
-use rds_link::{End, Got, MemEnd, MemWire, Put, Wire, WireError};
+use rds_link::{End, Got, MemEnd, MemWire, Put, Wire, WireCounts, WireError};
 use rds_report::address;
 use std::alloc::Global;
 use std::marker::Model;
@@ -162,8 +162,18 @@ impl<'a> Wire for MeetingWire<'a> {
 
     ghost fulls = { λ w. w.own.fulls };
 
+    ghost may_fail = { λ w. Unit {0} };
+
     fn tells(&self) -> bool {
         true
+    }
+
+    fn can_fail(&self) -> bool {
+        true
+    }
+
+    fn counts(&self) -> WireCounts {
+        self.own.counts()
     }
 
     fn open<R: Threads + Wait + Net>(
