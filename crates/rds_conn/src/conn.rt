@@ -83,7 +83,6 @@ pub enum Found {
 /// time, over which frames go both ways. Each call appends its lawful entry to the journal, or does nothing. Contracts see
 /// the journal, what is ready for the next call, what was taken of the open stream and isn't passed, and for each slot
 /// the freed bytes that weren't handed out.
-#[derive(Drop)]
 pub struct Conn {
     alloc: Global,
     me: u32,
@@ -109,6 +108,34 @@ pub struct Conn {
     accepted: u64,
     highest: u64,
     last: u64,
+}
+
+// By hand, so that one call drops it wherever it is let go, and no function that owns one drops each field.
+impl Drop for Conn {
+    fn drop(self) {
+        let Self {
+            alloc: _,
+            me: _,
+            peer: _,
+            slots: _,
+            journal: _journal,
+            store: _store,
+            splitter: _splitter,
+            freed: _freed,
+            charges: _charges,
+            spare: _,
+            store_spare: _,
+            pong: _pong,
+            newest: _,
+            stream: _,
+            mapped: _,
+            map: _map,
+            asking: _,
+            accepted: _,
+            highest: _,
+            last: _,
+        } = self;
+    }
 }
 
 impl Model for Conn {
@@ -276,6 +303,28 @@ impl Conn {
         ensures past { result.past ≡ self.log.past }
         ensures limit { result.limit ≡ self.log.limit }
     {
-        self.journal
+        let Self {
+            alloc: _,
+            me: _,
+            peer: _,
+            slots: _,
+            journal,
+            store: _store,
+            splitter: _splitter,
+            freed: _freed,
+            charges: _charges,
+            spare: _,
+            store_spare: _,
+            pong: _pong,
+            newest: _,
+            stream: _,
+            mapped: _,
+            map: _map,
+            asking: _,
+            accepted: _,
+            highest: _,
+            last: _,
+        } = self;
+        journal
     }
 }

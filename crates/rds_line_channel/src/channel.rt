@@ -33,7 +33,6 @@ pub enum Taken {
 
 /// A connection and the streams that carry it: all that one host's line has of the way to its peer. At most one stream is open
 /// at a time, in the journal and at its end. Contracts see the connection, the bytes on their way, the streams and the cuts.
-#[derive(Drop)]
 pub struct Channel<E: End> {
     pub(crate) conn: Conn,
     // What was pulled and isn't written yet.
@@ -42,6 +41,19 @@ pub struct Channel<E: End> {
     pub(crate) piece: Piece,
     pub(crate) streams: Streams<E>,
     pub(crate) cuts: Cuts,
+}
+
+// By hand, so that one call drops it wherever it is let go, and no function that owns one drops each field.
+impl<E: End> Drop for Channel<E> {
+    fn drop(self) {
+        let Self {
+            conn: _conn,
+            out: _out,
+            piece: _piece,
+            streams: _streams,
+            cuts: _cuts,
+        } = self;
+    }
 }
 
 impl<E: End> Model for Channel<E> {
@@ -109,10 +121,10 @@ impl<E: End> Channel<E> {
     {
         let Channel {
             conn,
-            out: _,
-            piece: _,
+            out: _out,
+            piece: _piece,
             streams,
-            cuts: _,
+            cuts: _cuts,
         } = self;
         (conn.into_journal(), streams.into_streams())
     }
