@@ -29,17 +29,21 @@ impl Drop for Table {
 }
 
 // A socket of the first end sends `hello` to a port of the second.
-fn new_table(alloc: Global, dport: u16) -> Result<Table, Memory> {
-    Ok(Table {
-        joint: Joint::new(alloc, 1, 2, 4, 100)?,
-        map: PortMap::new(alloc)?,
-        order: Order::Send {
-            slot: 0,
-            sport: 4000,
-            dport,
-            payload: Payload::copy_of(alloc, b"hello")?,
-        },
+fn hello(alloc: Global, dport: u16) -> Result<Order, Memory> {
+    let payload = Payload::copy_of(alloc, b"hello")?;
+    Ok(Order::Send {
+        slot: 0,
+        sport: 4000,
+        dport,
+        payload,
     })
+}
+
+fn new_table(alloc: Global, dport: u16) -> Result<Table, Memory> {
+    let order = hello(alloc, dport)?;
+    let map = PortMap::new(alloc)?;
+    let joint = Joint::new(alloc, 1, 2, 4, 100)?;
+    Ok(Table { joint, map, order })
 }
 
 // What is played on a table.

@@ -16,7 +16,21 @@ use std::sync::Wait;
 use std::test::*;
 use std::thread::Threads;
 
-type Both<E> = (Channel<E>, Channel<E>);
+// The channels of two hosts to each other.
+struct Both<E: End> {
+    first: Channel<E>,
+    second: Channel<E>,
+}
+
+// By hand, so that one call drops both.
+impl<E: End> Drop for Both<E> {
+    fn drop(self) {
+        let Self {
+            first: _first,
+            second: _second,
+        } = self;
+    }
+}
 
 // What became of a frame: the sender, the ports and the number of bytes of its datagram, and its verdict.
 type Came = (Taken, (u32, u16, u16, u32), Verdict);
@@ -52,13 +66,16 @@ fn prepared<W: Wire, R: Threads + Wait + Net>(
     alloc: Global,
     wire: &mut W,
 ) -> Option<Both<W::End>>
-    ensures numbers { IfSome result (λ both. numbers both.1.streams.list ≡ numbers both.0.streams.list) }
-    ensures pairs { IfSome result (λ both. AtEach W.End.means.meets both.0.streams.list both.1.streams.list) }
-    ensures closed { IfSome result (λ both. (both.0.streams.is_open ≡ false) × (both.1.streams.is_open ≡ false)) }
-    ensures slots { IfSome result (λ both. both.0.conn.slots ≡ 1) }
+    ensures numbers { IfSome result (λ both. numbers both.second.streams.list ≡ numbers both.first.streams.list) }
+    ensures pairs { IfSome result (λ both. AtEach W.End.means.meets both.first.streams.list both.second.streams.list) }
+    ensures closed { IfSome result (λ both. (both.first.streams.is_open ≡ false) × (both.second.streams.is_open ≡ false)) }
+    ensures slots { IfSome result (λ both. both.first.conn.slots ≡ 1) }
 {
     let (a, b) = wire.open(rt, 1, 2, 1).ok()?;
-    Some((channel(alloc, 1, 2, a)?, channel(alloc, 2, 1, b)?))
+    Some(Both {
+        first: channel(alloc, 1, 2, a)?,
+        second: channel(alloc, 2, 1, b)?,
+    })
 }
 
 // Opens the next stream.
@@ -202,11 +219,20 @@ fn carried<E: End>(a: &mut Channel<E>, b: &mut Channel<E>, map: &PortMap) -> Opt
     Some((sent, came, end(b)?))
 }
 
-fn carry<W: Wire, R: Threads + Wait + Net>(rt: &R, alloc: Global, wire: &mut W) -> Option<Carried> {
+// What went over between two channels of which nothing has happened.
+fn carried_first<E: End>(a: &mut Channel<E>, b: &mut Channel<E>, alloc: Global) -> Option<Carried>
+    requires first { a.old.streams.is_open ≡ false }
+    requires second { b.old.streams.is_open ≡ false }
+    requires slots { a.old.conn.slots ≡ 1 }
+{
+    starts(a, b, alloc)?;
     let map = PortMap::new(alloc).ok()?;
-    let (mut a, mut b) = prepared(rt, alloc, wire)?;
-    starts(&mut a, &mut b, alloc)?;
-    carried(&mut a, &mut b, &map)
+    carried(a, b, &map)
+}
+
+fn carry<W: Wire, R: Threads + Wait + Net>(rt: &R, alloc: Global, wire: &mut W) -> Option<Carried> {
+    let mut both = prepared(rt, alloc, wire)?;
+    carried_first(&mut both.first, &mut both.second, alloc)
 }
 
 #[test]
@@ -244,8 +270,8 @@ fn meeting<W: Wire, R: Threads + Wait + Net>(
     alloc: Global,
     wire: &mut W,
 ) -> Option<(Got, bool)> {
-    let (mut a, mut b) = prepared(rt, alloc, wire)?;
-    met::<W>(&mut a, &mut b)
+    let mut both = prepared(rt, alloc, wire)?;
+    met::<W>(&mut both.first, &mut both.second)
 }
 
 #[test]

@@ -210,7 +210,8 @@ fn openings_fail_by_their_numbers(rt: HostRuntime) -> Result<(), Fail> {
     let mut wire = MemWire::new(alloc, vec![in alloc; 1, 2, 4]?, Vec::new(alloc));
     assert!(rt; refused(&rt, &mut wire) && refused(&rt, &mut wire));
     assert!(rt; !refused(&rt, &mut wire) && refused(&rt, &mut wire));
-    assert_eq!(rt; wire.faults(), 3);
+    assert_eq!(rt; wire.counts().faults, 3);
+    assert!(rt; wire.can_fail());
     assert!(rt; wire.tells() && OpenGate.at(0, 0));
     Ok(())
 }
@@ -228,6 +229,7 @@ fn a_full_stream_takes_no_byte_more(rt: HostRuntime) -> Result<(), Fail> {
     let alloc = rt.alloc();
     let mut wire = MemWire::new(alloc, Vec::new(alloc), Vec::new(alloc));
     assert_eq!(rt; overfilled(&rt, &mut wire)?, (Put::Took(ROOM), Put::Full));
-    assert_eq!(rt; wire.fulls(), 1);
+    assert_eq!(rt; wire.counts().fulls, 1);
+    assert!(rt; !wire.can_fail());
     Ok(())
 }

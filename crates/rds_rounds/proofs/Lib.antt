@@ -7,6 +7,7 @@ pub mod Sweeps
 pub mod Swept
 pub mod Whole
 pub mod Resting
+pub mod Owing
 pub mod Drains
 pub mod Knowing
 pub mod Lacking

@@ -24,7 +24,7 @@ use Rattle.rds_line.specs.Turns.{FindsNoRoom, FindsNothingOwed, IsIdleTurn, Load
 use Rattle.rds_rounds.specs.Rest.{HasRested, KeepsStreams}
 
 -- where nothing is owed for a map, that map was pulled last
-owes_nothing : (s : ℕ) (past : List Entry) (map : List ℕ) → owed_frame s past map ≡ None → OwesNothing s past
+pub owes_nothing : (s : ℕ) (past : List Entry) (map : List ℕ) → owed_frame s past map ≡ None → OwesNothing s past
 owes_nothing s past map none = record { map = map; pulled = by_last (last_map s past) none; nothing = none }
   where
     by_test : (last : List ℕ) (b : Bool) → is_last_map (Some last) map ≡ b →

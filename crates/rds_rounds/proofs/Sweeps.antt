@@ -44,6 +44,7 @@ module _ {E : Type 0} (m : Means E) where
   weaker Idle Idler one other so had = record {
     sound = had.sound;
     quiet = λ idle. had.quiet (so idle);
+    owes = λ idle. had.owes (so idle);
     drained = λ tells idle. had.drained tells (so idle);
   }
 

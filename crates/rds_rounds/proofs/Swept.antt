@@ -5,8 +5,8 @@ use Rattle.std.specs.List.{All}
 use Rattle.rds_fmap.specs.Readers.{WriterView}
 use Rattle.rds_mail.specs.Learning.{AllGot}
 use Rattle.rds_link.specs.Ends.{Means}
-use Rattle.rds_line.specs.Line.{LineView}
-use Rattle.rds_rounds.specs.Causes.{HostsLackStream}
+use Rattle.rds_line.specs.Line.{LineView, line_past}
+use Rattle.rds_rounds.specs.Causes.{HostsLackStream, OweNothing, OwesNothing}
 use Rattle.rds_rounds.specs.Connection.{AreConnected, AreHosts, IsFullAt, IsFullHost}
 use Rattle.rds_rounds.specs.Done.{AreDone}
 use Rattle.rds_rounds.specs.Drained.{AreDrainedLines}
@@ -136,14 +136,31 @@ module _ {E : Type 0} (m : Means E) where
       pub quiet_swept : came ≡ verdict.Idle → All AreQuiet new
       quiet_swept idle = all_of AreQuiet new (λ host row stands. λ place line at. line_quiet idle host place line (row, stands, at))
 
-      pub drained_swept : m.tells ≡ true → came ≡ verdict.Idle →
-          All AreWritten new → AreDrainedLines new
-      drained_swept tells idle written low place x y ordered x_at y_at =
-          (had_round low place x y ordered x_at y_at).drained tells idle (out low place x x_at) (out (suc place) low y y_at)
+      -- what a line has to write, where all of it is written
+      out_of : All AreWritten new → (host at : ℕ) (line : LineView E WriterView) → IsAt new host at line → line.channel.out ≡ []
+      out_of written host at line is =
+          all_at (λ (l : LineView E WriterView). l.channel.out ≡ []) is.0 at line (all_at AreWritten new host is.0 written is.1) is.2
+
+      line_owes : came ≡ verdict.Idle → (host place : ℕ) (x : LineView E WriterView) → IsAt new host place x → x.channel.out ≡ [] → OwesNothing (line_past x)
+      line_owes idle host place x at = by_partner (has_partner hosts new still_rows host place x at)
         where
-          out : (host at : ℕ) (line : LineView E WriterView) → IsAt new host at line → line.channel.out ≡ []
-          out host at line is =
-              all_at (λ (l : LineView E WriterView). l.channel.out ≡ []) is.0 at line (all_at AreWritten new host is.0 written is.1) is.2
+          by_partner :
+              ((y : LineView E WriterView) × (host ≤ place) × IsAt new (suc place) host y)
+              ⊎ ((p : ℕ) × (y : LineView E WriterView) × (host ≡ suc p) × (place ≤ p) × IsAt new place p y) → x.channel.out ≡ [] → OwesNothing (line_past x)
+          by_partner (inl found) = ((had_round host place x found.0 found.1 at found.2).owes idle).0
+          by_partner (inr found) =
+              ((had_round place found.0 found.1 x found.3 found.4 (subst (λ (n : ℕ). IsAt new n place x) found.2 at)).owes idle).1
+
+      pub owes_swept : came ≡ verdict.Idle → All AreWritten new → All OweNothing new
+      owes_swept idle written =
+          all_of OweNothing new
+          (λ host row stands.
+          all_of (λ (l : LineView E WriterView). OwesNothing (line_past l)) row
+          (λ place line at. line_owes idle host place line (row, stands, at) (out_of written host place line (row, stands, at))))
+
+      pub drained_swept : m.tells ≡ true → came ≡ verdict.Idle → All AreWritten new → AreDrainedLines new
+      drained_swept tells idle written low place x y ordered x_at y_at =
+          (had_round low place x y ordered x_at y_at).drained tells idle (out_of written low place x x_at) (out_of written (suc place) low y y_at)
 
 -- each pair is among those of a round of all hosts
 pub all_pairs : {E : Type 0} (m : Means E) (hosts : ℕ) (came : Round) (old new : List (List (LineView E WriterView))) → AreSwept m (IsPairBelow hosts hosts) came old new →

@@ -1,11 +1,17 @@
 -- Why the last rounds ended, where they ended otherwise than well. Source: this project's own.
-use Rattle.std.specs.Prelude.{◌≡◌, ◌⊎◌, ◌≤◌, ℕ, suc, Bool, false, List, None, length, sum_by}
+use Rattle.std.specs.Prelude.{◌≡◌, ◌⊎◌, ◌≤◌, ℕ, suc, Bool, false, All, List, None, Some, length, sum_by}
+use Rattle.rds_model.specs.declared.entry.Entry.{Entry}
 use Rattle.rds_model.specs.Alive.{alive_numbers}
+use Rattle.rds_model.specs.Owed.{last_map, owed_frame}
 use Rattle.rds_model.specs.Past.{open_stream}
 use Rattle.rds_model.specs.Sums.{opens}
 use Rattle.rds_line_streams.specs.Streams.{numbers}
 use Rattle.rds_line.specs.Line.{LineView, line_past}
 use Rattle.rds_rounds.specs.Grid.{IsAt}
+
+-- no frame is owed to the stream that is open in a journal, for the map that was pulled last on it
+abbrev pub OwesNothing : List Entry → Type 0
+OwesNothing past = (s : ℕ) (map : List ℕ) → open_stream past ≡ Some s → last_map s past ≡ Some map → owed_frame s past map ≡ None
 
 module _ {E M : Type 0} where
   -- no stream is open in the journal of a line, and it has opened all that were prepared for it
@@ -39,3 +45,11 @@ module _ {E M : Type 0} where
     pub untold : tells ≡ false
     pub some : 1 ≤ count
     pub all : count ≡ alive_in_rows rows
+
+  -- the lines of a host owe nothing in their journals
+  abbrev pub OweNothing : List (LineView E M) → Type 0
+  OweNothing row = All (λ (line : LineView E M). OwesNothing (line_past line)) row
+
+  -- no stream is open in the journals of the lines of a host
+  abbrev pub AreClosed : List (LineView E M) → Type 0
+  AreClosed row = All (λ (line : LineView E M). open_stream (line_past line) ≡ None) row

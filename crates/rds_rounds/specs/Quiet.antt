@@ -13,7 +13,7 @@ use Rattle.rds_rounds.specs.declared.rounds.Rounds.TheVariants as ended
 -- the rounds ended since they were quiet
 abbrev pub IsQuietEnd : Rounds → Type 0
 IsQuietEnd ended.Done = Unit {0}
-IsQuietEnd (ended.Unfinished count) = Unit {0}
+IsQuietEnd (ended.Unfinished count unwritten connected) = Unit {0}
 IsQuietEnd (ended.Fault low high) = ⊥
 IsQuietEnd (ended.Spent host peer entries) = ⊥
 IsQuietEnd ended.Memory = ⊥

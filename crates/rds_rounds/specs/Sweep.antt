@@ -4,7 +4,7 @@ use Rattle.rds_fmap.specs.Readers.{WriterView}
 use Rattle.rds_mail.specs.Learning.{AllGot}
 use Rattle.rds_link.specs.Ends.{Means}
 use Rattle.rds_line.specs.Line.{LineView, line_past}
-use Rattle.rds_rounds.specs.Causes.{LacksStream}
+use Rattle.rds_rounds.specs.Causes.{LacksStream, OwesNothing}
 use Rattle.rds_rounds.specs.Connection.{AreConnected, IsFullAt}
 use Rattle.rds_rounds.specs.Drained.{AreDrained}
 use Rattle.rds_rounds.specs.Grid.{EachRow, IsAt}
@@ -39,10 +39,12 @@ LackStreamAt first second low high one other = (first ≡ low) × (second ≡ hi
 
 module _ {E : Type 0} (m : Means E) where
   -- The lines of two hosts after a round of theirs: what their journals have is sound. Where the round was idle, each got all orders that
-  -- it was told of, and where moreover nothing is left to be written over ends that tell their bytes, the journals are drained.
+  -- it was told of, and owes nothing where it has nothing to write. Where moreover neither has over ends that tell their bytes, the journals
+  -- are drained.
   pub record HaveHadRound (Idle : Type 0) (one other : LineView E WriterView) : Type 0 where
     pub sound : AreSoundJournals m.tells (line_past one) (line_past other)
     pub quiet : Idle → AllGot one.orders × AllGot other.orders
+    pub owes : Idle → (one.channel.out ≡ [] → OwesNothing (line_past one)) × (other.channel.out ≡ [] → OwesNothing (line_past other))
     pub drained : m.tells ≡ true → Idle → one.channel.out ≡ [] → other.channel.out ≡ [] → AreDrained (line_past one) (line_past other)
 
   -- the lines of two hosts go on, and stay connected

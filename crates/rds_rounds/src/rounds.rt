@@ -1,6 +1,6 @@
 //! The last rounds of a run, on one thread.
-ghost use Rattle.std.specs.Prelude.{◌≡◌, ◌≢◌, ◌≤◌, ◌<◌, ℕ, All, true, Some, length};
-ghost use Rattle.rds_rounds.specs.Causes.{AreUnacked, HostsLackStream};
+ghost use Rattle.std.specs.Prelude.{◌≡◌, ◌≢◌, ◌≤◌, ◌<◌, ℕ, Bool, All, false, true, Some, length};
+ghost use Rattle.rds_rounds.specs.Causes.{AreClosed, AreUnacked, HostsLackStream, OweNothing};
 ghost use Rattle.rds_rounds.specs.Connection.{AreHosts, IsFullHost};
 ghost use Rattle.rds_rounds.specs.Done.{AreDone};
 ghost use Rattle.rds_rounds.specs.Drained.{AreDrainedLines};
@@ -11,7 +11,7 @@ ghost use Rattle.rds_rounds.specs.declared.rounds.Rounds.{Rounds as RoundsView};
 ghost use Rattle.rds_rounds.specs.declared.rounds.Rounds.TheVariants as ended;
 ghost use Rattle.rds_rounds.specs.declared.verdict.Round.TheVariants as round;
 
-use crate::counting::{are_written, unacked};
+use crate::counting::{are_closed, are_written, unacked};
 use crate::sweeping::round_of_all;
 use crate::verdict::{Round, Wanted};
 use rds_fmap::Writer;
@@ -27,12 +27,24 @@ pub type Lines<E> = Vec<Vec<Line<E, Writer>>>;
 pub enum Rounds {
     /// Nothing is left to move.
     Done,
-    /// So many datagrams aren't acknowledged, and the budget of quiet rounds is spent.
-    Unfinished { count: u64 },
+    /// So many datagrams aren't acknowledged, and the budget of quiet rounds is spent. Whether bytes wait that an end had no room for, and
+    /// whether a stream is open between two of the hosts.
+    Unfinished {
+        count: u64,
+        unwritten: bool,
+        connected: bool,
+    },
     /// The two hosts have no stream left and should have one.
-    Fault { low: u8, high: u8 },
+    Fault {
+        low: u8,
+        high: u8,
+    },
     /// The journal of this host with that peer has so many entries, and two more would pass its limit.
-    Spent { host: u8, peer: u8, entries: u32 },
+    Spent {
+        host: u8,
+        peer: u8,
+        entries: u32,
+    },
     /// Memory ran out.
     Memory,
 }
@@ -56,7 +68,10 @@ pub fn last_rounds<W: Wire, R: Wait>(
     ensures drained { W.End.means.tells ≡ true → result ≡ ended.Done → AreDrainedLines (rows_of lines.new.items) }
     ensures fault { (low high : ℕ) → result ≡ ended.Fault low high → (low < high) × (high < length lines.new.items) }
     ensures lacks { (low high : ℕ) → result ≡ ended.Fault low high → HostsLackStream low high (rows_of lines.new.items) }
-    ensures unfinished { (count : ℕ) → result ≡ ended.Unfinished count → AreUnacked W.End.means.tells count (rows_of lines.new.items) }
+    ensures unfinished { (count : ℕ) (unwritten connected : Bool) → result ≡ ended.Unfinished count unwritten connected →
+        AreUnacked W.End.means.tells count (rows_of lines.new.items) }
+    ensures owes { (count : ℕ) (connected : Bool) → result ≡ ended.Unfinished count false connected → All OweNothing (rows_of lines.new.items) }
+    ensures closed { (count : ℕ) (unwritten : Bool) → result ≡ ended.Unfinished count unwritten false → All AreClosed (rows_of lines.new.items) }
     ensures spent { (host peer entries : ℕ) → result ≡ ended.Spent host peer entries → IsFullHost host peer entries (rows_of lines.new.items) }
 {
     let mut quiet = 0u64;
@@ -90,7 +105,10 @@ fn end_after<E: End>(
     requires { (hosts : ℕ) × (hosts ≤ 8) × AreRows hosts (rows_of lines.now.items) }
     ensures fault { (low high : ℕ) → result ≡ Some (ended.Fault low high) → came ≡ round.Fault low high }
     ensures spent { (host peer entries : ℕ) → result ≡ Some (ended.Spent host peer entries) → came ≡ round.Spent host peer entries }
-    ensures unfinished { (count : ℕ) → result ≡ Some (ended.Unfinished count) → AreUnacked tells count (rows_of lines.now.items) }
+    ensures unfinished { (count : ℕ) (unwritten connected : Bool) → result ≡ Some (ended.Unfinished count unwritten connected) →
+        AreUnacked tells count (rows_of lines.now.items) }
+    ensures left { (count : ℕ) (connected : Bool) → result ≡ Some (ended.Unfinished count false connected) → All AreWritten (rows_of lines.now.items) }
+    ensures closed { (count : ℕ) (unwritten : Bool) → result ≡ Some (ended.Unfinished count unwritten false) → All AreClosed (rows_of lines.now.items) }
     ensures quiet { (end : RoundsView) → result ≡ Some end → IsQuietEnd end → came ≡ round.Idle }
     ensures written { tells ≡ true → result ≡ Some ended.Done → All AreWritten (rows_of lines.now.items) }
 {
@@ -114,7 +132,10 @@ fn end_after<E: End>(
 // Whether the rounds stop after so many quiet ones.
 fn after_idle<E: End>(tells: bool, quiet: u64, budget: u64, lines: &Lines<E>) -> Option<Rounds>
     requires { (hosts : ℕ) × (hosts ≤ 8) × AreRows hosts (rows_of lines.now.items) }
-    ensures unfinished { (count : ℕ) → result ≡ Some (ended.Unfinished count) → AreUnacked tells count (rows_of lines.now.items) }
+    ensures unfinished { (count : ℕ) (unwritten connected : Bool) → result ≡ Some (ended.Unfinished count unwritten connected) →
+        AreUnacked tells count (rows_of lines.now.items) }
+    ensures left { (count : ℕ) (connected : Bool) → result ≡ Some (ended.Unfinished count false connected) → All AreWritten (rows_of lines.now.items) }
+    ensures closed { (count : ℕ) (unwritten : Bool) → result ≡ Some (ended.Unfinished count unwritten false) → All AreClosed (rows_of lines.now.items) }
     ensures never_fault { (low high : ℕ) → result ≢ Some (ended.Fault low high) }
     ensures never_spent { (host peer entries : ℕ) → result ≢ Some (ended.Spent host peer entries) }
     ensures written { tells ≡ true → result ≡ Some ended.Done → All AreWritten (rows_of lines.now.items) }
@@ -131,7 +152,11 @@ fn after_idle<E: End>(tells: bool, quiet: u64, budget: u64, lines: &Lines<E>) ->
         return Some(Rounds::Done);
     }
     if quiet >= budget {
-        return Some(Rounds::Unfinished { count });
+        return Some(Rounds::Unfinished {
+            count,
+            unwritten: !are_written(lines),
+            connected: !are_closed(lines),
+        });
     }
     None
 }

@@ -2,6 +2,7 @@
 ghost use Rattle.std.specs.Prelude.{◌≡◌, ◌⊎◌, ◌<◌, ℕ, true, []};
 ghost use Rattle.rds_mail.specs.Learning.{AllGot};
 ghost use Rattle.rds_line.specs.Line.{line_past};
+ghost use Rattle.rds_rounds.specs.Causes.{OwesNothing};
 ghost use Rattle.rds_rounds.specs.Connection.{AreConnected, IsFullAt};
 ghost use Rattle.rds_rounds.specs.Drained.{AreDrained};
 ghost use Rattle.rds_rounds.specs.Rest.{AreMetLines};
@@ -53,6 +54,8 @@ fn turn_both<E: End, R: Wait>(
     requires told { tells ≡ E.means.tells }
     ensures together { GoOnTogether E.means low high one.old other.old one.new other.new }
     ensures idle { result ≡ verdict.Idle → AllGot one.new.orders × AllGot other.new.orders }
+    ensures owes { result ≡ verdict.Idle →
+        (one.new.channel.out ≡ [] → OwesNothing (line_past one.new)) × (other.new.channel.out ≡ [] → OwesNothing (line_past other.new)) }
     ensures drained { E.means.tells ≡ true → AreMetLines E.means one.old other.old → result ≡ verdict.Idle → one.new.channel.out ≡ [] →
         other.new.channel.out ≡ [] → AreDrained (line_past one.new) (line_past other.new) }
     ensures fault { (first second : ℕ) → result ≡ verdict.Fault first second → LackStreamAt first second low high one.new other.new }

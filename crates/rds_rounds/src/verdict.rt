@@ -1,13 +1,13 @@
 //! What the turns of a round come to.
-ghost use Rattle.std.specs.Prelude.{◌≡◌, ◌∷◌, ℕ, List, max, min, true};
+ghost use Rattle.std.specs.Prelude.{◌≡◌, ◌∷◌, ℕ, List, [], max, min, true};
 ghost use Rattle.rds_mail.specs.Learning.{AllGot};
 ghost use Rattle.rds_model.specs.declared.entry.Entry.{Entry as Event};
 ghost use Rattle.rds_model.specs.Past.{newest_stream};
-ghost use Rattle.rds_line.specs.Line.{IsFull};
+ghost use Rattle.rds_line.specs.Line.{IsFull, line_past};
 ghost use Rattle.rds_line.specs.Stays.{LineStays};
 ghost use Rattle.rds_line.specs.Turns.{IsIdleTurn};
 ghost use Rattle.rds_host.specs.Lines.{pair_of};
-ghost use Rattle.rds_rounds.specs.Causes.{LacksStream};
+ghost use Rattle.rds_rounds.specs.Causes.{LacksStream, OwesNothing};
 ghost use Rattle.rds_rounds.specs.Rest.{KeepsStreams};
 ghost use Rattle.rds_rounds.specs.declared.verdict.Round.TheVariants as round;
 
@@ -92,6 +92,7 @@ pub(crate) fn turn<E: End, R: Wait>(
     ensures kept { KeepsStreams E.means line.old }
     ensures keeps { KeepsStreams E.means line.new }
     ensures nothing { tells ≡ true → result ≡ round.Idle → IsIdleTurn E.means line.old line.new }
+    ensures owes { result ≡ round.Idle → line.new.channel.out ≡ [] → OwesNothing (line_past line.new) }
     ensures fault { (low high : ℕ) → result ≡ round.Fault low high → (low ≡ min host peer) × (high ≡ max host peer) }
     ensures lacks { (low high : ℕ) → result ≡ round.Fault low high → LacksStream line.new }
     ensures spent { (at to entries : ℕ) → result ≡ round.Spent at to entries → (at ≡ host) × (to ≡ peer) × IsFull entries line.new }

@@ -10,7 +10,7 @@ use Rattle.rds_run.specs.declared.status.Status.{Status}
 use Rattle.rds_run.specs.declared.status.Status.TheVariants as ended
 use Rattle.rds_run.specs.ExitStatus.{HasTaken, IsAnswer, code, IsEndOfCall, IsEndOfRefusal, IsPlayed, IsRefusal, IsSpelled, IsSpent, IsToldRefused, IsToldSpelled, SinkSeen, SourceSeen}
 use Rattle.rds_run.specs.Reading.{IsEndOfReading}
-use Rattle.rds_run.specs.RunStatus.{HasFilled, IsEndOfGenCall, IsEndOfRunCall, IsEndOfRunOver, IsEndOfScript, IsEndOfTooMany, IsRan, IsRunUnfinished, IsTooMany, IsWireFault, Ran, TooMany, tells_over}
+use Rattle.rds_run.specs.RunStatus.{HasFilled, IsEndOfGenCall, IsEndOfRunCall, IsEndOfRunOver, IsEndOfScript, IsEndOfTooMany, IsRan, IsRunUnfinished, IsTooMany, IsWireFault, Ran, TooMany, WireSeen, seen_over, tells_over}
 use Rattle.rds_parties.specs.Streams.{prepared_streams}
 use Rattle.rds_run.specs.Texts.{read_fault_line, too_many_line, usage_line}
 use Rattle.rds_run.specs.Ending.{IsEndOfProgram, IsEndOfRunning, IsEndOfUsage, OfGen, OfMemory, OfNone, OfPlay, OfRun}
@@ -33,36 +33,42 @@ usage_of sink s (inl t) begun = subst (IsEndOfUsage sink) (sym t.0) t.1
 usage_of sink s (inr t) begun = subst (IsEndOfUsage sink) (sym t.0) (t.1, begun)
 
 -- the words are those of one command, which ended so
-pub of_play : (tells : Bool) (words : List (String Global)) (source : SourceSeen) (sink : SinkSeen) (s : Status) → ArePlay words → IsEndOfCall source sink s
+pub of_play : (tcp : WireSeen) (words : List (String Global)) (source : SourceSeen) (sink : SinkSeen) (s : Status) → ArePlay words → IsEndOfCall source sink s
     → ((line : ℕ) (why : Cause) → IsToldRefused source.left line why → IsEndOfRefusal line why sink s ⊎ ((s ≡ ended.ReadFault) ⊎ (s ≡ ended.WriteFault)))
     → ((m : Meaning) → IsToldSpelled source.left m → (HasRisen source.faults_before source.faults_after → ⊥) → (HasRisen sink.faults_before sink.faults_after → ⊥)
-    → (s ≡ ended.Written) ⊎ ((s ≡ ended.Memory) ⊎ (s ≡ ended.Spent))) → IsEndOfProgram tells words source sink s
-of_play tells words source sink s is ends refuses plays = OfPlay is (record { ends = ends; refuses = refuses; plays = plays })
+    → (s ≡ ended.Written) ⊎ ((s ≡ ended.Memory) ⊎ (s ≡ ended.Spent))) → IsEndOfProgram tcp words source sink s
+of_play tcp words source sink s is ends refuses plays = OfPlay is (record { ends = ends; refuses = refuses; plays = plays })
 
-pub of_run : (tells : Bool) (words : List (String Global)) (source : SourceSeen) (sink : SinkSeen) (s : Status) (over : RunWire) → AreRun words over
-    → IsEndOfRunCall (tells_over over tells) over source sink s
+pub of_run : (tcp : WireSeen) (words : List (String Global)) (source : SourceSeen) (sink : SinkSeen) (s : Status) (over : RunWire) → AreRun words over
+    → IsEndOfRunCall (seen_over over tcp) over source sink s
     → ((line : ℕ) (why : Cause) → IsToldRefused source.left line why → IsEndOfRefusal line why sink s ⊎ ((s ≡ ended.ReadFault) ⊎ (s ≡ ended.WriteFault)))
     → ((m : Meaning) → IsToldSpelled source.left m → IsTooMany over m → IsEndOfTooMany (prepared_streams m) sink s ⊎ ((s ≡ ended.ReadFault) ⊎ (s ≡ ended.WriteFault)))
-    → IsEndOfProgram tells words source sink s
-of_run tells words source sink s over is ends refuses too_many = OfRun over is (record { ends = ends; refuses = refuses; too_many = too_many })
+    → ((m : Meaning) → IsToldSpelled source.left m → (HasRisen source.faults_before source.faults_after → ⊥) → IsEndOfRunOver (seen_over over tcp) over m sink s ⊎ (s ≡ ended.Memory))
+    → IsEndOfProgram tcp words source sink s
+of_run tcp words source sink s over is ends refuses too_many runs = OfRun over is (record { ends = ends; refuses = refuses; too_many = too_many; runs = runs })
+
+-- no count rose that stood at nothing all the time
+pub never_risen : HasRisen 0 0 → ⊥
+never_risen (inl less) = omega (arith, less)
+never_risen (inr last) = omega (arith, last)
 
 -- 96 streams are not too many
 few_of : (m : Meaning) → (IsTooMany wire.Tcp m → ⊥) → prepared_streams m ≤ 96
 few_of m none = let not_above : 96 < prepared_streams m → ⊥ = λ above. none (refl, above) in omega (arith, not_above)
 
-module _ (tells : Bool) (words : List (String Global)) (source : SourceSeen) (sink : SinkSeen) where
+module _ (tcp : WireSeen) (words : List (String Global)) (source : SourceSeen) (sink : SinkSeen) where
   abbrev Ends : Status → Type 0
-  Ends s = IsEndOfProgram tells words source sink s
+  Ends s = IsEndOfProgram tcp words source sink s
 
   -- what a call of `run` with this status leads to: no script was read, or one with too many streams, or one was run
   by_run : (over : RunWire) (s : Status) (P : Type 0) → (IsEndOfReading source sink s → P)
       → ((m : Meaning) → IsSpelled source.left m → IsTooMany over m → IsEndOfTooMany (prepared_streams m) sink s → P)
-      → ((m : Meaning) → IsSpelled source.left m → (IsTooMany over m → ⊥) → IsEndOfScript (tells_over over tells) form.Report m sink s → P)
-      → IsEndOfRunCall (tells_over over tells) over source sink s → P
+      → ((m : Meaning) → IsSpelled source.left m → (IsTooMany over m → ⊥) → IsEndOfScript (seen_over over tcp) form.Report m sink s → P)
+      → IsEndOfRunCall (seen_over over tcp) over source sink s → P
   by_run over s P unread many ran (inl e) = unread e
   by_run over s P unread many ran (inr e) = go e.2
     where
-      go : IsEndOfRunOver (tells_over over tells) over e.0 sink s → P
+      go : IsEndOfRunOver (seen_over over tcp) over e.0 sink s → P
       go (TooMany is end) = many e.0 e.1 is end
       go (Ran few end) = ran e.0 e.1 few end
 
@@ -191,7 +197,7 @@ module _ (tells : Bool) (words : List (String Global)) (source : SourceSeen) (si
 
   -- words of `run` over a wire end the program as `run` over that wire ended, unless memory ran out before
   abbrev HasRun : RunWire → Status → Type 0
-  HasRun over s = IsEndOfRunning (tells_over over tells) over source sink s ⊎ ((s ≡ ended.Memory) × (sink.held_after ≡ sink.held_before))
+  HasRun over s = IsEndOfRunning (seen_over over tcp) over source sink s ⊎ ((s ≡ ended.Memory) × (sink.held_after ≡ sink.held_before))
 
   run_at : (over : RunWire) (s : Status) → Ends s → AreRun words over → HasRun over s
   run_at over s (OfPlay is e) run = absurd (play_or_run words over is run)
@@ -201,7 +207,7 @@ module _ (tells : Bool) (words : List (String Global)) (source : SourceSeen) (si
   run_at over s (OfMemory e same) run = inr (e, same)
 
   abbrev IsRanWhole : RunWire → Type 0
-  IsRanWhole over = (m : Meaning) × IsSpelled source.left m × IsRan (tells_over over tells) form.Report m sink.held_before sink.held_after
+  IsRanWhole over = (m : Meaning) × IsSpelled source.left m × IsRan (seen_over over tcp).tells form.Report m sink.held_before sink.held_after
       × (IsTooMany over m → ⊥)
 
   ran_at : (over : RunWire) → HasRun over ended.Written → IsRanWhole over
@@ -216,7 +222,7 @@ module _ (tells : Bool) (words : List (String Global)) (source : SourceSeen) (si
   ran s n is end run e = let r = ran_whole wire.Memory s n is end run e in (r.0, r.1, r.2)
 
   pub ran_over_tcp : (s : Status) (n : ℕ) → n ≡ code s → Ends s → AreRun words wire.Tcp → n ≡ 0 →
-      (m : Meaning) × IsSpelled source.left m × IsRan tells form.Report m sink.held_before sink.held_after
+      (m : Meaning) × IsSpelled source.left m × IsRan tcp.tells form.Report m sink.held_before sink.held_after
   ran_over_tcp s n is end run e = let r = ran_whole wire.Tcp s n is end run e in (r.0, r.1, r.2)
 
   pub few : (s : Status) (n : ℕ) → n ≡ code s → Ends s → AreRun words wire.Tcp → n ≡ 0 →
@@ -255,10 +261,15 @@ module _ (tells : Bool) (words : List (String Global)) (source : SourceSeen) (si
   full s n is end play e = full_at (ends_at s 7 end (sym is ∙ e)) play
 
   abbrev IsFilled : RunWire → Type 0
-  IsFilled over = (m : Meaning) × IsSpelled source.left m × HasFilled (tells_over over tells) m sink.held_before sink.held_after
+  IsFilled over = (m : Meaning) × IsSpelled source.left m × HasFilled (tells_over over tcp.tells) m sink.held_before sink.held_after
+
+  -- what the ends of a wire tell is what is seen of it
+  tells_seen : (over : RunWire) → (seen_over over tcp).tells ≡ tells_over over tcp.tells
+  tells_seen wire.Memory = refl
+  tells_seen wire.Tcp = refl
 
   filled_at : (over : RunWire) → HasRun over ended.Spent → IsFilled over
-  filled_at over (inl e) = by_run over _ _ (λ r. absurd r) (λ m read many r. absurd r) (λ m read few r. (m, read, r)) e.ends
+  filled_at over (inl e) = by_run over _ _ (λ r. absurd r) (λ m read many r. absurd r) (λ m read few r. (m, read, subst (λ (b : Bool). HasFilled b m sink.held_before sink.held_after) (tells_seen over) r)) e.ends
   filled_at over (inr none) = let e = none.0 in absurd (cc)
 
   pub filled : (s : Status) (n : ℕ) → n ≡ code s → Ends s → (over : RunWire) → AreRun words over → n ≡ 7 → IsFilled over
@@ -301,32 +312,34 @@ module _ (tells : Bool) (words : List (String Global)) (source : SourceSeen) (si
 
   abbrev HasWireFault : Type 0
   HasWireFault =
-      ((over : RunWire) × AreRun words over × ((m : Meaning) × IsSpelled source.left m
-      × IsWireFault (tells_over over tells) m sink.held_before sink.held_after))
-      ⊎ ((sends : ℕ) × (seed : ℕ) × AreGen words sends seed × IsWireFault true (generated sends seed) sink.held_before sink.held_after)
+      AreRun words wire.Tcp × HasRisen tcp.before.faults tcp.after.faults
+      × ((m : Meaning) × IsSpelled source.left m × IsWireFault tcp m sink.held_before sink.held_after)
 
-  wire_at : Ends ended.WireFault → (ArePlay words → ⊥) × HasWireFault
+  wire_over : (over : RunWire) → AreRun words over
+      → ((m : Meaning) × IsSpelled source.left m × IsWireFault (seen_over over tcp) m sink.held_before sink.held_after) → HasWireFault
+  wire_over wire.Memory is r = absurd (never_risen r.2.rose)
+  wire_over wire.Tcp is r = (is, r.2.rose, r)
+
+  wire_at : Ends ended.WireFault → HasWireFault
   wire_at (OfPlay is e) = absurd e.ends
-  wire_at (OfRun over is e) = (
-    λ play. play_or_run words over play is,
-    inl (over, is, by_run over _ _ (λ r. absurd r) (λ m read many r. absurd r) (λ m read few r. (m, read, r)) e.ends),
-  )
-  wire_at (OfGen sends seed is e) = (λ play. play_or_gen words sends seed play is, inr (sends, seed, is, e))
+  wire_at (OfRun over is e) =
+      wire_over over is (by_run over _ _ (λ r. absurd r) (λ m read many r. absurd r) (λ m read few r. (m, read, r)) e.ends)
+  wire_at (OfGen sends seed is e) = absurd (never_risen e.rose)
   wire_at (OfNone none e) = absurd e
   wire_at (OfMemory e same) = absurd (cc)
 
-  pub wire_fault : (s : Status) (n : ℕ) → n ≡ code s → Ends s → n ≡ 5 → (ArePlay words → ⊥) × HasWireFault
+  pub wire_fault : (s : Status) (n : ℕ) → n ≡ code s → Ends s → n ≡ 5 → HasWireFault
   wire_fault s n is end e = wire_at (ends_at s 5 end (sym is ∙ e))
 
   abbrev IsUnfinishedOver : RunWire → Type 0
-  IsUnfinishedOver over = (m : Meaning) × IsSpelled source.left m × IsRunUnfinished (tells_over over tells) m sink.held_before sink.held_after
+  IsUnfinishedOver over = (m : Meaning) × IsSpelled source.left m × IsRunUnfinished (seen_over over tcp) m sink.held_before sink.held_after
 
   abbrev HasUnfinished : Type 0
   HasUnfinished =
-      AreRun words wire.Tcp × (tells ≡ false)
-      × ((m : Meaning) × IsSpelled source.left m × IsRunUnfinished tells m sink.held_before sink.held_after)
+      AreRun words wire.Tcp × (tcp.tells ≡ false)
+      × ((m : Meaning) × IsSpelled source.left m × IsRunUnfinished tcp m sink.held_before sink.held_after)
 
-  unfinished_over : (over : RunWire) → IsEndOfRunning (tells_over over tells) over source sink ended.Unfinished → IsUnfinishedOver over
+  unfinished_over : (over : RunWire) → IsEndOfRunning (seen_over over tcp) over source sink ended.Unfinished → IsUnfinishedOver over
   unfinished_over over e = by_run over _ _ (λ r. absurd r) (λ m read many r. absurd r) (λ m read few r. (m, read, r)) e.ends
 
   unfinished_run : (over : RunWire) → AreRun words over → IsUnfinishedOver over → HasUnfinished

@@ -4,3 +4,4 @@ pub mod Commands
 pub mod Calling
 pub mod Ended
 pub mod Ran
+pub mod Complete

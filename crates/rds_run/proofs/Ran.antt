@@ -1,5 +1,5 @@
 -- A run that ended so is one of which the status says so.
-use Rattle.std.proofs.Common.{◌≡◌, ℕ, Bool, Vec, subst}
+use Rattle.std.proofs.Common.{◌≡◌, ◌≢◌, ◌⊎◌, inl, inr, ℕ, Bool, true, false, List, [], Vec, refl, subst}
 use Rattle.std.specs.Global.{Global}
 use Rattle.rds_script.specs.Grammar.{Meaning}
 use Rattle.rds_report.specs.Views.{host_views}
@@ -10,7 +10,12 @@ use Rattle.rds_threads.specs.declared.form.RunEnd.{RunEnd}
 use Rattle.rds_threads.specs.declared.form.RunEnd.TheVariants as ended
 use Rattle.rds_model.specs.Log.{Log}
 use Rattle.rds_model.specs.declared.journal.TheConstants.{MAX_ENTRIES}
-use Rattle.rds_run.specs.RunStatus.{HasFilled, IsRan, IsRunUnfinished, IsWireFault}
+use Rattle.rds_threads.specs.Counted.{IsCountedEnd}
+use Rattle.rds_link.specs.declared.wire.WireCounts.{WireCounts}
+use Rattle.rds_run.specs.declared.status.Status.{Status}
+use Rattle.rds_run.specs.declared.status.Status.TheVariants as status
+use Rattle.rds_run.specs.ExitStatus.{SinkSeen}
+use Rattle.rds_run.specs.RunStatus.{HasFilled, IsEndOfScript, IsRan, IsRunUnfinished, IsWireFault, WireSeen, memory_seen}
 
 pub ran_of : (tells : Bool) (limit : ℕ) (form : Form) (s : Meaning) (sink : Written) (result : RunEnd) (ends : Vec HostEnd Global) → result ≡ ended.Ok ends →
     IsEndOfRun form tells limit s.hosts s.commands sink result → IsRan tells form s sink.held_before sink.held_after
@@ -19,22 +24,53 @@ ran_of tells limit form s sink result ends is end =
     record { ends = host_views ends.items; did = ran.0; drained = λ told. (ran.1 told).0; none_pending = λ told. (ran.1 told).1; written = ran.2 }
 
 -- and so for the other ends of a run
-module _ (tells : Bool) (form : Form) (s : Meaning) (sink : Written) (result : RunEnd) where
+module _ (seen : WireSeen) (form : Form) (s : Meaning) (sink : Written) (result : RunEnd) where
   abbrev IsEnd : RunEnd → Type 0
-  IsEnd end = IsEndOfRun form tells MAX_ENTRIES s.hosts s.commands sink end
+  IsEnd end = IsEndOfRun form seen.tells MAX_ENTRIES s.hosts s.commands sink end
 
-  pub lacking_of : (low high stream : ℕ) → result ≡ ended.WireFault low high stream → IsEnd result → IsWireFault tells s sink.held_before sink.held_after
-  lacking_of low high stream is end =
-      let ran = subst IsEnd is end in record { low = low; high = high; stream = stream; lacking = ran.0; written = ran.1 }
+  module _ (may_fail : Type 0) where
+    abbrev IsCounted : RunEnd → Type 0
+    IsCounted end = IsCountedEnd seen.tells may_fail 20000000 seen.before seen.after end
+
+    pub lacking_of : (low high stream : ℕ) → result ≡ ended.WireFault low high stream → IsEnd result → IsCounted result →
+        IsWireFault seen s sink.held_before sink.held_after
+    lacking_of low high stream is end counted =
+        let ran = subst IsEnd is end in
+        let why = subst IsCounted is counted in
+        record { low = low; high = high; stream = stream; lacking = ran.0; rose = why.1; thrice = why.2; written = ran.1 }
+
+    -- where hosts lack a stream the wire may fail
+    pub may_of : (low high stream : ℕ) → result ≡ ended.WireFault low high stream → IsCounted result → may_fail
+    may_of low high stream is counted = (subst IsCounted is counted).0
+
+    pub unfinished_of : (count : ℕ) (ends : Vec HostEnd Global) → result ≡ ended.Unfinished count ends → IsEnd result → IsCounted result →
+        IsRunUnfinished seen s sink.held_before sink.held_after
+    unfinished_of count ends is end counted =
+        let ran = subst IsEnd is end in
+        let why = subst IsCounted is counted in
+        record { count = count; ends = host_views ends.items; did = ran.0; unacknowledged = ran.1; full = why.0; waited = why.1; written = ran.2 }
 
   pub filled_of : (host peer entries : ℕ) (own other : Log) → result ≡ ended.Spent host peer entries own other → IsEnd result →
-      HasFilled tells s sink.held_before sink.held_after
+      HasFilled seen.tells s sink.held_before sink.held_after
   filled_of host peer entries own other is end =
       let ran = subst IsEnd is end in
       record { host = host; peer = peer; entries = entries; own = own.past; other = other.past; full = ran.0; written = ran.1 }
 
-  pub unfinished_of : (count : ℕ) (ends : Vec HostEnd Global) → result ≡ ended.Unfinished count ends → IsEnd result →
-      IsRunUnfinished tells s sink.held_before sink.held_after
-  unfinished_of count ends is end =
-      let ran = subst IsEnd is end in
-      record { count = count; ends = host_views ends.items; did = ran.0; unacknowledged = ran.1; written = ran.2 }
+-- a run in memory that lacks no stream ended so that no count tells of it
+pub in_memory_of : (before after : WireCounts) (form : Form) (m : Meaning) (sink : SinkSeen) (s : Status) → (s ≡ status.WireFault → ⊥) →
+    IsEndOfScript (record { tells = true; before = before; after = after }) form m sink s → IsEndOfScript memory_seen form m sink s
+in_memory_of before after form m sink status.Written never end = end
+in_memory_of before after form m sink status.Refused never end = end
+in_memory_of before after form m sink status.Usage never end = end
+in_memory_of before after form m sink status.ReadFault never end = end
+in_memory_of before after form m sink status.WriteFault never end = end
+in_memory_of before after form m sink status.WireFault never end = absurd (never refl)
+in_memory_of before after form m sink status.Memory never end = end
+in_memory_of before after form m sink status.Spent never end = end
+in_memory_of before after form m sink status.Unfinished never end = let told = end.unacknowledged.untold in absurd (cc)
+in_memory_of before after form m sink status.TooManyStreams never end = end
+
+-- a wire in memory none of whose openings and calls is to fail can't fail
+pub never_fails : (openings calls : List ℕ) → openings ≡ [] → calls ≡ [] → (openings ≢ []) ⊎ (calls ≢ []) → ⊥
+never_fails openings calls no_opening no_call (inl opening) = opening no_opening
+never_fails openings calls no_opening no_call (inr call) = call no_call

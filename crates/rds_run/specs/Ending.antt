@@ -1,5 +1,5 @@
 -- How the program ends, by what its words ask for. Source: this project's own.
-use Rattle.std.specs.Prelude.{◌≡◌, ◌⊎◌, ℕ, Bool, List, String}
+use Rattle.std.specs.Prelude.{◌≡◌, ◌⊎◌, ℕ, List, String}
 use Rattle.std.specs.Global.{Global}
 use Rattle.rds_link.specs.Streaming.{HasRisen}
 use Rattle.rds_script.specs.declared.cause.Cause.{Cause}
@@ -7,7 +7,7 @@ use Rattle.rds_script.specs.Grammar.{Meaning}
 use Rattle.rds_run.specs.declared.status.Status.{Status}
 use Rattle.rds_run.specs.declared.status.Status.TheVariants as status
 use Rattle.rds_run.specs.ExitStatus.{HasFailedIn, HasTaken, HasTakenNothing, IsEndOfCall, IsEndOfRefusal, IsToldRefused, IsToldSpelled, SinkSeen, SourceSeen}
-use Rattle.rds_run.specs.RunStatus.{IsEndOfGenCall, IsEndOfRunCall, IsEndOfTooMany, IsTooMany, tells_over}
+use Rattle.rds_run.specs.RunStatus.{IsEndOfGenCall, IsEndOfRunCall, IsEndOfRunOver, IsEndOfTooMany, IsTooMany, WireSeen, seen_over}
 use Rattle.rds_parties.specs.Streams.{prepared_streams}
 use Rattle.rds_run.specs.Texts.{usage_line}
 use Rattle.rds_words.specs.declared.wire.RunWire.{RunWire}
@@ -29,12 +29,14 @@ pub record IsEndOfPlaying (source : SourceSeen) (sink : SinkSeen) (s : Status) :
       (s ≡ status.Written) ⊎ ((s ≡ status.Memory) ⊎ (s ≡ status.Spent))
 
 -- how `run` ends; a text that spells a script for which too many streams would be prepared is answered so, unless the source or the sink
--- fails or memory runs out
-pub record IsEndOfRunning (tells : Bool) (over : RunWire) (source : SourceSeen) (sink : SinkSeen) (s : Status) : Type 0 where
-  pub ends : IsEndOfRunCall tells over source sink s
+-- fails or memory runs out, and one that spells another script is run
+pub record IsEndOfRunning (seen : WireSeen) (over : RunWire) (source : SourceSeen) (sink : SinkSeen) (s : Status) : Type 0 where
+  pub ends : IsEndOfRunCall seen over source sink s
   pub refuses : Refuses source sink s
   pub too_many : (m : Meaning) → IsToldSpelled source.left m → IsTooMany over m →
       IsEndOfTooMany (prepared_streams m) sink s ⊎ ((s ≡ status.ReadFault) ⊎ (s ≡ status.WriteFault))
+  pub runs : (m : Meaning) → IsToldSpelled source.left m → (HasRisen source.faults_before source.faults_after → ⊥) →
+      IsEndOfRunOver seen over m sink s ⊎ (s ≡ status.Memory)
 
 -- the usage line was written, or the sink failed after it took a beginning of it; another status can't come
 abbrev pub IsEndOfUsage : SinkSeen → Status → Type 0
@@ -42,11 +44,11 @@ IsEndOfUsage sink status.Usage = HasTaken sink usage_line
 IsEndOfUsage sink status.WriteFault = HasFailedIn sink usage_line
 IsEndOfUsage sink _ = ⊥
 
--- The words are those of one command, which ends so, or those of none, or memory ran out before that was known. The ends of the wire over
--- TCP tell so.
-pub data IsEndOfProgram (tells : Bool) (words : List (String Global)) (source : SourceSeen) (sink : SinkSeen) (s : Status) : Type 0 where
-  OfPlay : ArePlay words → IsEndOfPlaying source sink s → IsEndOfProgram tells words source sink s
-  OfRun : (over : RunWire) → AreRun words over → IsEndOfRunning (tells_over over tells) over source sink s → IsEndOfProgram tells words source sink s
-  OfGen : (sends seed : ℕ) → AreGen words sends seed → IsEndOfGenCall sends seed sink s → IsEndOfProgram tells words source sink s
-  OfNone : AreNoCommand words → IsEndOfUsage sink s → IsEndOfProgram tells words source sink s
-  OfMemory : s ≡ status.Memory → HasTakenNothing sink → IsEndOfProgram tells words source sink s
+-- The words are those of one command, which ends so, or those of none, or memory ran out before that was known. This is seen of the wire over
+-- TCP.
+pub data IsEndOfProgram (tcp : WireSeen) (words : List (String Global)) (source : SourceSeen) (sink : SinkSeen) (s : Status) : Type 0 where
+  OfPlay : ArePlay words → IsEndOfPlaying source sink s → IsEndOfProgram tcp words source sink s
+  OfRun : (over : RunWire) → AreRun words over → IsEndOfRunning (seen_over over tcp) over source sink s → IsEndOfProgram tcp words source sink s
+  OfGen : (sends seed : ℕ) → AreGen words sends seed → IsEndOfGenCall sends seed sink s → IsEndOfProgram tcp words source sink s
+  OfNone : AreNoCommand words → IsEndOfUsage sink s → IsEndOfProgram tcp words source sink s
+  OfMemory : s ≡ status.Memory → HasTakenNothing sink → IsEndOfProgram tcp words source sink s

@@ -1,6 +1,7 @@
 -- What the exit status of a run says of its source and its sink. Source: this project's own; docs/COMMAND.md has the table.
 use Rattle.std.specs.Prelude.{◌≡◌, ◌⊎◌, ℕ, ◌<◌, Bool, true, Option, List}
-use Rattle.rds_link.specs.Streaming.{HasRisen, SinkGained}
+use Rattle.rds_link.specs.Streaming.{HasRisen, HasRisenBy, SinkGained}
+use Rattle.rds_link.specs.declared.wire.WireCounts.{WireCounts}
 use Rattle.rds_model.specs.declared.entry.Entry.{Entry}
 use Rattle.rds_model.specs.declared.journal.TheConstants.{MAX_ENTRIES}
 use Rattle.rds_script.specs.Grammar.{Meaning}
@@ -8,6 +9,7 @@ use Rattle.rds_text.specs.Lines.{spent_line}
 use Rattle.rds_report.specs.FinalState.{FinalHost}
 use Rattle.rds_parties.specs.Streams.{prepared_streams}
 use Rattle.rds_threads.specs.Causes.{AreLackingStream, AreUnacknowledged, IsFullJournal}
+use Rattle.rds_threads.specs.Counted.{AreEndsClosed, EndsOweNothing}
 use Rattle.rds_threads.specs.Ends.{AreDrainedHosts, AreEnds, NonePending}
 use Rattle.rds_threads.specs.Texts.{fault_line, text_of, unfinished_line}
 use Rattle.rds_threads.specs.declared.form.Form.{Form}
@@ -25,6 +27,25 @@ use Rattle.rds_run.specs.Texts.{too_many_line}
 abbrev pub tells_over : RunWire → (tcp : Bool) → Bool
 tells_over wire.Memory tcp = true
 tells_over wire.Tcp tcp = tcp
+
+-- what a call sees of a wire: whether its ends tell their bytes, and what it counted before and after
+pub record WireSeen : Type 0 where
+  pub tells : Bool
+  pub before : WireCounts
+  pub after : WireCounts
+
+-- nothing was counted
+abbrev pub none_counted : WireCounts
+none_counted = record { faults = 0; nothings = 0; fulls = 0 }
+
+-- Streams in memory, none of which fails: their ends tell their bytes, and no status is answered for a count of theirs.
+abbrev pub memory_seen : WireSeen
+memory_seen = record { tells = true; before = none_counted; after = none_counted }
+
+-- the wire that a run goes over: streams in memory, or this one of TCP
+abbrev pub seen_over : RunWire → (tcp : WireSeen) → WireSeen
+seen_over wire.Memory tcp = memory_seen
+seen_over wire.Tcp tcp = tcp
 
 -- A run of the script came to its end: its hosts did the script's commands, what they have then is sound, and the sink took exactly the
 -- text of this form on it. Where ends tell their bytes, nothing is left on its way between any two of the hosts, and no datagram is pending.
@@ -46,21 +67,27 @@ pub record HasFilled (tells : Bool) (s : Meaning) (held_before held_after : Opti
   pub full : IsFullJournal tells MAX_ENTRIES s.hosts s.commands host peer entries own other
   pub written : SinkGained held_before held_after (spent_line host peer entries)
 
--- two hosts of the script lack a stream, and the sink took the line that says so
-pub record IsWireFault (tells : Bool) (s : Meaning) (held_before held_after : Option (List ℕ)) : Type 0 where
+-- Two hosts of the script lack a stream, and the sink took the line that says so. The wire counted a fault in the call, and at least three
+-- where its ends tell their bytes.
+pub record IsWireFault (seen : WireSeen) (s : Meaning) (held_before held_after : Option (List ℕ)) : Type 0 where
   pub low : ℕ
   pub high : ℕ
   pub stream : ℕ
-  pub lacking : AreLackingStream tells s.hosts s.commands low high stream
+  pub lacking : AreLackingStream seen.tells s.hosts s.commands low high stream
+  pub rose : HasRisen seen.before.faults seen.after.faults
+  pub thrice : seen.tells ≡ true → HasRisenBy 3 seen.before.faults seen.after.faults
   pub written : SinkGained held_before held_after (fault_line low high stream)
 
 -- The hosts did the script's commands, and what they have then is sound. So many datagrams aren't acknowledged, and the sink took the line
--- that says so.
-pub record IsRunUnfinished (tells : Bool) (s : Meaning) (held_before held_after : Option (List ℕ)) : Type 0 where
+-- that says so. No journal owes anything to its open stream, or the wire counted in the call that there was no room; and it counted at least
+-- 20,000,000 times that no bytes were there, or no stream is open.
+pub record IsRunUnfinished (seen : WireSeen) (s : Meaning) (held_before held_after : Option (List ℕ)) : Type 0 where
   pub count : ℕ
   pub ends : List FinalHost
-  pub did : AreEnds tells s.hosts s.commands ends
-  pub unacknowledged : AreUnacknowledged tells count ends
+  pub did : AreEnds seen.tells s.hosts s.commands ends
+  pub unacknowledged : AreUnacknowledged seen.tells count ends
+  pub full : EndsOweNothing ends ⊎ HasRisen seen.before.fulls seen.after.fulls
+  pub waited : AreEndsClosed ends ⊎ HasRisenBy 20000000 seen.before.nothings seen.after.nothings
   pub written : SinkGained held_before held_after (unfinished_line count)
 
 -- more streams would be prepared for a run of the script over TCP than may be
@@ -78,25 +105,25 @@ IsEndOfTooMany count sink status.Memory = HasTakenNothing sink
 IsEndOfTooMany count sink _ = ⊥
 
 -- the status after a script was run, whose text has this form
-abbrev pub IsEndOfScript : (tells : Bool) → Form → Meaning → SinkSeen → Status → Type 0
-IsEndOfScript tells form s sink status.Written = IsRan tells form s sink.held_before sink.held_after
-IsEndOfScript tells form s sink status.WireFault = IsWireFault tells s sink.held_before sink.held_after
-IsEndOfScript tells form s sink status.Spent = HasFilled tells s sink.held_before sink.held_after
-IsEndOfScript tells form s sink status.Unfinished = IsRunUnfinished tells s sink.held_before sink.held_after
-IsEndOfScript tells form s sink status.WriteFault = HasRisen sink.faults_before sink.faults_after
-IsEndOfScript tells form s sink status.Memory = HasTakenNothing sink
-IsEndOfScript tells form s sink _ = ⊥
+abbrev pub IsEndOfScript : WireSeen → Form → Meaning → SinkSeen → Status → Type 0
+IsEndOfScript seen form s sink status.Written = IsRan seen.tells form s sink.held_before sink.held_after
+IsEndOfScript seen form s sink status.WireFault = IsWireFault seen s sink.held_before sink.held_after
+IsEndOfScript seen form s sink status.Spent = HasFilled seen.tells s sink.held_before sink.held_after
+IsEndOfScript seen form s sink status.Unfinished = IsRunUnfinished seen s sink.held_before sink.held_after
+IsEndOfScript seen form s sink status.WriteFault = HasRisen sink.faults_before sink.faults_after
+IsEndOfScript seen form s sink status.Memory = HasTakenNothing sink
+IsEndOfScript seen form s sink _ = ⊥
 
 -- how the command `run` ends with a script: its streams are too many, or it was run
-pub data IsEndOfRunOver (tells : Bool) (over : RunWire) (s : Meaning) (sink : SinkSeen) (end : Status) : Type 0 where
-  TooMany : IsTooMany over s → IsEndOfTooMany (prepared_streams s) sink end → IsEndOfRunOver tells over s sink end
-  Ran : (IsTooMany over s → ⊥) → IsEndOfScript tells form.Report s sink end → IsEndOfRunOver tells over s sink end
+pub data IsEndOfRunOver (seen : WireSeen) (over : RunWire) (s : Meaning) (sink : SinkSeen) (end : Status) : Type 0 where
+  TooMany : IsTooMany over s → IsEndOfTooMany (prepared_streams s) sink end → IsEndOfRunOver seen over s sink end
+  Ran : (IsTooMany over s → ⊥) → IsEndOfScript seen form.Report s sink end → IsEndOfRunOver seen over s sink end
 
 -- the status of the command `run`: no script was read, or the source's bytes spell one
-abbrev pub IsEndOfRunCall : (tells : Bool) → RunWire → SourceSeen → SinkSeen → Status → Type 0
-IsEndOfRunCall tells over source sink end =
-    IsEndOfReading source sink end ⊎ ((s : Meaning) × IsSpelled source.left s × IsEndOfRunOver tells over s sink end)
+abbrev pub IsEndOfRunCall : WireSeen → RunWire → SourceSeen → SinkSeen → Status → Type 0
+IsEndOfRunCall seen over source sink end =
+    IsEndOfReading source sink end ⊎ ((s : Meaning) × IsSpelled source.left s × IsEndOfRunOver seen over s sink end)
 
 -- the status of the command `gen`: the generated script was run over memory, or memory ran out before
 abbrev pub IsEndOfGenCall : (sends seed : ℕ) → SinkSeen → Status → Type 0
-IsEndOfGenCall sends seed sink s = IsEndOfScript true (form.Summary seed sends) (generated sends seed) sink s
+IsEndOfGenCall sends seed sink s = IsEndOfScript memory_seen (form.Summary seed sends) (generated sends seed) sink s

@@ -1,10 +1,11 @@
 ghost use Rattle.std.specs.Prelude.{◌≡◌, ◌⊎◌, ◌↔◌, ◌<◌, ℕ, IsTrue};
+ghost use Rattle.rds_link.specs.Streaming.{HasRisen};
 ghost use Rattle.rds_script.specs.Script.{IsScript};
 ghost use Rattle.rds_script.specs.declared.cause.Cause.{Cause as Why};
 ghost use Rattle.rds_script.specs.Grammar.{Meaning, meaning};
 ghost use Rattle.rds_words.specs.declared.wire.RunWire.TheVariants as wires;
 ghost use Rattle.rds_run.specs.ExitStatus.{IsEndOfRefusal, IsToldRefused, IsToldSpelled};
-ghost use Rattle.rds_run.specs.RunStatus.{IsEndOfRunCall, IsEndOfRunOver, IsEndOfTooMany, IsTooMany, tells_over};
+ghost use Rattle.rds_run.specs.RunStatus.{IsEndOfRunCall, IsEndOfRunOver, IsEndOfTooMany, IsTooMany, seen_over};
 ghost use Rattle.rds_parties.specs.Streams.{prepared_streams as streams_of};
 ghost use Rattle.rds_run.specs.declared.status.Status.TheVariants as ended;
 
@@ -39,7 +40,12 @@ pub fn run_text<S: Source, K: Sink, W: Wire, G: Gate + Sync, R: Threads + Wait +
 ) -> Status
 where
     W::End: Send,
-    ensures ends { IsEndOfRunCall (tells_over wire W.End.means.tells) wire
+    ensures ends { IsEndOfRunCall (seen_over wire
+        record {
+          tells = W.End.means.tells;
+          before = record { faults = W.faults tcp.old; nothings = W.nothings tcp.old; fulls = W.fulls tcp.old };
+          after = record { faults = W.faults tcp.new; nothings = W.nothings tcp.new; fulls = W.fulls tcp.new };
+        }) wire
         record { left = S.left source.old; faults_before = S.faults source.old; faults_after = S.faults source.new }
         record { held_before = K.held sink.old; held_after = K.held sink.new; faults_before = K.faults sink.old; faults_after = K.faults sink.new }
         result }
@@ -53,6 +59,16 @@ where
         record { held_before = K.held sink.old; held_after = K.held sink.new; faults_before = K.faults sink.old; faults_after = K.faults sink.new }
         result
         ⊎ ((result ≡ ended.ReadFault) ⊎ (result ≡ ended.WriteFault)) }
+    ensures runs { (s : Meaning) → IsToldSpelled (S.left source.old) s → (HasRisen (S.faults source.old) (S.faults source.new) → ⊥) →
+        IsEndOfRunOver (seen_over wire
+        record {
+          tells = W.End.means.tells;
+          before = record { faults = W.faults tcp.old; nothings = W.nothings tcp.old; fulls = W.fulls tcp.old };
+          after = record { faults = W.faults tcp.new; nothings = W.nothings tcp.new; fulls = W.fulls tcp.new };
+        }) wire s
+        record { held_before = K.held sink.old; held_after = K.held sink.new; faults_before = K.faults sink.old; faults_after = K.faults sink.new }
+        result
+        ⊎ (result ≡ ended.Memory) }
 {
     match read_script(alloc, source, sink) {
         Ok(script) => run_over(rt, alloc, wire, &script, sink, tcp, gate),
@@ -73,7 +89,12 @@ fn run_over<K: Sink, W: Wire, G: Gate + Sync, R: Threads + Wait + Net + Sync>(
 where
     W::End: Send,
     requires { IsScript script.now }
-    ensures { IsEndOfRunOver (tells_over wire W.End.means.tells) wire (meaning script.now)
+    ensures { IsEndOfRunOver (seen_over wire
+        record {
+          tells = W.End.means.tells;
+          before = record { faults = W.faults tcp.old; nothings = W.nothings tcp.old; fulls = W.fulls tcp.old };
+          after = record { faults = W.faults tcp.new; nothings = W.nothings tcp.new; fulls = W.fulls tcp.new };
+        }) wire (meaning script.now)
         record { held_before = K.held sink.old; held_after = K.held sink.new; faults_before = K.faults sink.old; faults_after = K.faults sink.new }
         result }
 {

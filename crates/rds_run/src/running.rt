@@ -1,7 +1,8 @@
-ghost use Rattle.std.specs.Prelude.{true};
+ghost use Rattle.std.specs.Prelude.{◌≡◌};
 ghost use Rattle.rds_script.specs.Script.{IsScript};
 ghost use Rattle.rds_script.specs.Grammar.{meaning};
-ghost use Rattle.rds_run.specs.RunStatus.{IsEndOfScript};
+ghost use Rattle.rds_run.specs.RunStatus.{IsEndOfScript, memory_seen};
+ghost use Rattle.rds_run.specs.declared.status.Status.TheVariants as status;
 
 use crate::status::Status;
 use rds_link::{Gate, MemWire, Sink, Wire};
@@ -26,7 +27,7 @@ pub(crate) fn run_in_memory<K: Sink, G: Gate + Sync, R: Threads + Wait + Net + S
     gate: &G,
 ) -> Status
     requires script { IsScript script.now }
-    ensures { IsEndOfScript true form (meaning script.now)
+    ensures { IsEndOfScript memory_seen form (meaning script.now)
         record { held_before = K.held sink.old; held_after = K.held sink.new; faults_before = K.faults sink.old; faults_after = K.faults sink.new }
         result }
 {
@@ -47,9 +48,16 @@ pub(crate) fn run_script<K: Sink, W: Wire, G: Gate + Sync, R: Threads + Wait + N
 where
     W::End: Send,
     requires script { IsScript script.now }
-    ensures { IsEndOfScript W.End.means.tells form (meaning script.now)
+    ensures ends { IsEndOfScript
+        record {
+          tells = W.End.means.tells;
+          before = record { faults = W.faults wire.old; nothings = W.nothings wire.old; fulls = W.fulls wire.old };
+          after = record { faults = W.faults wire.new; nothings = W.nothings wire.new; fulls = W.fulls wire.new };
+        }
+        form (meaning script.now)
         record { held_before = K.held sink.old; held_after = K.held sink.new; faults_before = K.faults sink.old; faults_after = K.faults sink.new }
         result }
+    ensures may_fail { result ≡ status.WireFault → W.may_fail wire.old }
 {
     match run(
         rt,

@@ -116,15 +116,26 @@ where
         (HasRisen (S.faults source.old) (S.faults source.new) → ⊥) → (HasRisen (K.faults sink.old) (K.faults sink.new) → ⊥) →
         (result ≡ 0) ⊎ ((result ≡ 6) ⊎ (result ≡ 7)) }
 
-    // Two hosts of the script that was run lack a stream, and exactly the line that says so was written.
-    ensures wire_fault { result ≡ 5 → (ArePlay words.now → ⊥)
-        × (((over : RunWire) × AreRun words.now over × ((s : Meaning) × IsSpelled (S.left source.old) s
-        × IsWireFault (tells_over over W.End.means.tells) s (K.held sink.old) (K.held sink.new)))
-        ⊎ ((sends : ℕ) × (seed : ℕ) × AreGen words.now sends seed × IsWireFault true (generated sends seed) (K.held sink.old) (K.held sink.new))) }
-    // Some datagrams of the hosts of the script aren't acknowledged, over TCP alone and where its ends don't tell their bytes, and exactly
-    // the line that says how many was written.
+    // Over TCP alone: two hosts of the script that was run lack a stream, the wire counted a fault in this call, and exactly the line that
+    // says so was written.
+    ensures wire_fault { result ≡ 5 → AreRun words.now wires.Tcp × HasRisen (W.faults tcp.old) (W.faults tcp.new)
+        × ((s : Meaning) × IsSpelled (S.left source.old) s × IsWireFault
+        record {
+          tells = W.End.means.tells;
+          before = record { faults = W.faults tcp.old; nothings = W.nothings tcp.old; fulls = W.fulls tcp.old };
+          after = record { faults = W.faults tcp.new; nothings = W.nothings tcp.new; fulls = W.fulls tcp.new };
+        }
+        s (K.held sink.old) (K.held sink.new)) }
+    // Over TCP alone, and where its ends don't tell their bytes: some datagrams of the hosts of the script aren't acknowledged, the wire's
+    // counts say why the run didn't go on, and exactly the line that says how many was written.
     ensures unfinished { result ≡ 8 → AreRun words.now wires.Tcp × (W.End.means.tells ≡ false)
-        × ((s : Meaning) × IsSpelled (S.left source.old) s × IsRunUnfinished W.End.means.tells s (K.held sink.old) (K.held sink.new)) }
+        × ((s : Meaning) × IsSpelled (S.left source.old) s × IsRunUnfinished
+        record {
+          tells = W.End.means.tells;
+          before = record { faults = W.faults tcp.old; nothings = W.nothings tcp.old; fulls = W.fulls tcp.old };
+          after = record { faults = W.faults tcp.new; nothings = W.nothings tcp.new; fulls = W.fulls tcp.new };
+        }
+        s (K.held sink.old) (K.held sink.new)) }
 
     // The source's bytes spell a script, which would need so many streams over TCP, and exactly the line that says so was written.
     ensures too_many { result ≡ 9 → AreRun words.now wires.Tcp × ((s : Meaning) × IsSpelled (S.left source.old) s
@@ -133,6 +144,15 @@ where
     ensures refuses_many { AreRun words.now wires.Tcp → (s : Meaning) → IsToldSpelled (S.left source.old) s → 96 < prepared_streams s →
         (result ≡ 9 × SinkGained (K.held sink.old) (K.held sink.new) (too_many_line (prepared_streams s)))
         ⊎ ((result ≡ 3) ⊎ ((result ≡ 4) ⊎ (result ≡ 6))) }
+    // A text that spells a script is run by `run`, unless the source, the sink or the wire over TCP fails or memory runs out. Only over TCP
+    // it may be left unfinished, or need too many streams.
+    ensures runs { (over : RunWire) → AreRun words.now over → (s : Meaning) → IsToldSpelled (S.left source.old) s →
+        (HasRisen (S.faults source.old) (S.faults source.new) → ⊥) → (HasRisen (K.faults sink.old) (K.faults sink.new) → ⊥) →
+        (HasRisen (W.faults tcp.old) (W.faults tcp.new) → ⊥) →
+        (result ≡ 0) ⊎ ((result ≡ 6) ⊎ ((result ≡ 7) ⊎ ((over ≡ wires.Tcp) × ((result ≡ 8) ⊎ (result ≡ 9))))) }
+    // And so is a generated script by `gen`.
+    ensures generates { (sends seed : ℕ) → AreGen words.now sends seed → (HasRisen (K.faults sink.old) (K.faults sink.new) → ⊥) →
+        (result ≡ 0) ⊎ ((result ≡ 6) ⊎ (result ≡ 7)) }
     ensures known { result ≤ 9 }
 {
     do_work(rt, alloc, words, source, sink, tcp, gate).code()
@@ -150,7 +170,12 @@ fn do_work<S: Source, K: Sink, W: Wire, G: Gate + Sync, R: Threads + Wait + Net 
 ) -> Status
 where
     W::End: Send,
-    ensures { IsEndOfProgram W.End.means.tells words.now
+    ensures { IsEndOfProgram
+        record {
+          tells = W.End.means.tells;
+          before = record { faults = W.faults tcp.old; nothings = W.nothings tcp.old; fulls = W.fulls tcp.old };
+          after = record { faults = W.faults tcp.new; nothings = W.nothings tcp.new; fulls = W.fulls tcp.new };
+        } words.now
         record { left = S.left source.old; faults_before = S.faults source.old; faults_after = S.faults source.new }
         record { held_before = K.held sink.old; held_after = K.held sink.new; faults_before = K.faults sink.old; faults_after = K.faults sink.new }
         result }

@@ -20,4 +20,5 @@ pub mod Pending
 pub mod NonePending
 pub mod KeptPorts
 pub mod Alive
+pub mod Counted
 pub mod Lacking

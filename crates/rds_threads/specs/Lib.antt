@@ -4,4 +4,5 @@ pub mod Outcome
 pub mod Causes
 pub mod Taking
 pub mod Ends
+pub mod Counted
 pub mod Settled

@@ -1,7 +1,7 @@
 //! How a run ends, and what is written then.
-ghost use Rattle.std.specs.Prelude.{◌≡◌, ◌<◌, ℕ, List, IfOk, OnErr, length, true};
+ghost use Rattle.std.specs.Prelude.{◌≡◌, ◌<◌, ℕ, Bool, List, All, IfOk, OnErr, length, true, false};
 ghost use Rattle.rds_parties.specs.Preparing.{HaveCounted};
-ghost use Rattle.rds_rounds.specs.Causes.{AreUnacked, HostsLackStream};
+ghost use Rattle.rds_rounds.specs.Causes.{AreClosed, AreUnacked, HostsLackStream, OweNothing};
 ghost use Rattle.rds_rounds.specs.Connection.{IsFullHost};
 ghost use Rattle.rds_rounds.specs.Done.{AreDone};
 ghost use Rattle.rds_rounds.specs.Drained.{AreDrainedLines};
@@ -9,10 +9,12 @@ ghost use Rattle.rds_rounds.specs.Grid.{rows_of};
 ghost use Rattle.rds_rounds.specs.Quiet.{IsQuietEnd};
 ghost use Rattle.rds_rounds.specs.declared.rounds.Rounds.TheVariants as rounds;
 ghost use Rattle.rds_script.specs.declared.script.Placed.{Placed};
+ghost use Rattle.rds_threads.specs.Counted.{IsCountedEnd};
 ghost use Rattle.rds_threads.specs.Ends.{IsEndOfRun};
 ghost use Rattle.rds_threads.specs.Settled.{HaveDoneSpared, HaveSettled};
 
 use crate::answers::{end_by_fault, end_by_report, end_by_spent, end_unfinished};
+use crate::counting::Start;
 use crate::form::{Form, RunEnd};
 use crate::giving::end_lines;
 use crate::leaving::host_ends;
@@ -30,6 +32,7 @@ pub(crate) fn end_run<K: Sink, W: Wire, R: Wait>(
     alloc: Global,
     wire: &mut W,
     form: Form,
+    start: Start,
     end: Rounds,
     callers: Vec<Caller>,
     lines: Lines<W::End>,
@@ -40,11 +43,16 @@ pub(crate) fn end_run<K: Sink, W: Wire, R: Wait>(
     requires drained { W.End.means.tells ≡ true → end ≡ rounds.Done → AreDrainedLines (rows_of lines.items) }
     requires fault { (low high : ℕ) → end ≡ rounds.Fault low high → (low < high) × (high < length lines.items) }
     requires lacks { (low high : ℕ) → end ≡ rounds.Fault low high → HostsLackStream low high (rows_of lines.items) }
-    requires unacked { (count : ℕ) → end ≡ rounds.Unfinished count → AreUnacked W.End.means.tells count (rows_of lines.items) }
+    requires unacked { (count : ℕ) (unwritten connected : Bool) → end ≡ rounds.Unfinished count unwritten connected →
+        AreUnacked W.End.means.tells count (rows_of lines.items) }
+    requires owe { (count : ℕ) (connected : Bool) → end ≡ rounds.Unfinished count false connected → All OweNothing (rows_of lines.items) }
+    requires closed { (count : ℕ) (unwritten : Bool) → end ≡ rounds.Unfinished count unwritten false → All AreClosed (rows_of lines.items) }
     requires spent { (host peer entries : ℕ) → end ≡ rounds.Spent host peer entries → IsFullHost host peer entries (rows_of lines.items) }
     ensures end { (limit hosts : ℕ) (commands : List Placed) (before after : ℕ) → AreDone W.End.means limit hosts (rows_of lines.items) →
         HaveDoneSpared hosts commands callers.items (rows_of lines.items) → HaveCounted commands before after (rows_of lines.items) → IfOk result (IsEndOfRun form W.End.means.tells limit hosts commands
         record { held_before = K.held sink.old; held_after = K.held sink.new; faults_before = K.faults sink.old; faults_after = K.faults sink.new }) }
+    ensures counted { IfOk result (IsCountedEnd W.End.means.tells (start.can_fail ≡ true) start.budget start.counts
+        record { faults = W.faults wire.new; nothings = W.nothings wire.new; fulls = W.fulls wire.new }) }
     ensures memory { OnErr result (K.held sink.new ≡ K.held sink.old) }
 {
     match end {
@@ -52,12 +60,22 @@ pub(crate) fn end_run<K: Sink, W: Wire, R: Wait>(
             let ends = host_ends(rt, alloc, wire, callers, lines)?;
             end_by_report(alloc, form, ends, sink)
         }
-        Rounds::Unfinished { count } => {
+        Rounds::Unfinished {
+            count,
+            unwritten,
+            connected,
+        } => {
             let ends = host_ends(rt, alloc, wire, callers, lines)?;
+            if !start.has_waited(unwritten, connected, wire.counts()) {
+                return Err(Memory);
+            }
             end_unfinished(alloc, count, ends, sink)
         }
         Rounds::Fault { low, high } => {
             let (journal, _) = journals(rt, wire, lines, low, high);
+            if !start.has_faulted(wire.tells(), wire.counts()) {
+                return Err(Memory);
+            }
             end_by_fault(alloc, low, high, &journal, sink)
         }
         Rounds::Spent {

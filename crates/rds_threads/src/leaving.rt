@@ -1,11 +1,11 @@
 //! What is left of the hosts of a run.
-ghost use Rattle.std.specs.Prelude.{◌≡◌, ◌≤◌, ◌∷◌, ◌++◌, [], ℕ, List, IfOk, Ok, OnOk, Some, length, map, slice_get, true};
+ghost use Rattle.std.specs.Prelude.{◌≡◌, ◌≤◌, ◌∷◌, ◌++◌, [], ℕ, List, All, IfOk, Ok, OnOk, Some, length, map, slice_get, true};
 ghost use Rattle.rds_text.specs.declared.host.TheConstants.{MAX_HOSTS};
 ghost use Rattle.rds_gather.specs.Grounded.{AreMapsGrounded};
 ghost use Rattle.rds_gather.specs.Sides.{line_side};
 ghost use Rattle.rds_report.specs.declared.final_state.HostEnd.{HostEnd as EndView};
 ghost use Rattle.rds_report.specs.Views.{AreFinalHosts, host_view, host_views, side_view, socket_view};
-ghost use Rattle.rds_rounds.specs.Causes.{alive_in_rows};
+ghost use Rattle.rds_rounds.specs.Causes.{AreClosed, OweNothing, alive_in_rows};
 ghost use Rattle.rds_rounds.specs.Done.{AreDone};
 ghost use Rattle.rds_rounds.specs.Drained.{AreDrainedLines};
 ghost use Rattle.rds_rounds.specs.Grid.{rows_of};
@@ -13,6 +13,7 @@ ghost use Rattle.rds_callers.specs.Places.{IsUsed, Place};
 ghost use Rattle.rds_settling.specs.Tied.{AreSlotsTold, AreTied, PlacesHear, holdings};
 ghost use Rattle.rds_script.specs.declared.script.Placed.{Placed};
 ghost use Rattle.rds_threads.specs.Causes.{alive_in_ends};
+ghost use Rattle.rds_threads.specs.Counted.{AreEndsClosed, EndsOweNothing};
 ghost use Rattle.rds_threads.specs.Ends.{AreEnds, AreSettledHosts};
 ghost use Rattle.rds_threads.specs.Reliable.{HasReceived};
 ghost use Rattle.rds_threads.specs.Settled.{AreAllCut, AreAllSent, AreKeptOf, AreLeftOf, HasSettled, HaveAllFound, HaveAllGone, HaveAllLooked, HaveDoneSpared, HaveSettled};
@@ -49,6 +50,8 @@ pub(crate) fn host_ends<W: Wire, R: Wait>(
         HaveDoneSpared hosts commands callers.items (rows_of lines.items) → W.End.means.tells ≡ true → AreDrainedLines (rows_of lines.items) →
         IfOk result (λ ends. AreSettledHosts (host_views ends.items)) }
     ensures alive { IfOk result (λ ends. alive_in_ends (host_views ends.items) ≡ alive_in_rows (rows_of lines.items)) }
+    ensures owe { All OweNothing (rows_of lines.items) → IfOk result (λ ends. EndsOweNothing (host_views ends.items)) }
+    ensures closed { All AreClosed (rows_of lines.items) → IfOk result (λ ends. AreEndsClosed (host_views ends.items)) }
 {
     fifo_of_all();
     all_ends(rt, alloc, wire, callers, lines)

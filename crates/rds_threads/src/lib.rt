@@ -2,6 +2,7 @@
 #![tactic(auto)]
 
 mod answers;
+mod counting;
 mod ending;
 mod form;
 mod giving;

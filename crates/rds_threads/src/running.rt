@@ -1,16 +1,18 @@
 //! A run.
-ghost use Rattle.std.specs.Prelude.{◌≡◌, ◌≤◌, ℕ, List, IfOk, OnErr, length};
+ghost use Rattle.std.specs.Prelude.{◌≡◌, ◌≤◌, ℕ, List, IfOk, OnErr, length, true};
 ghost use Rattle.rds_model.specs.declared.journal.TheConstants.{MAX_ENTRIES, MIN_ENTRIES};
 ghost use Rattle.rds_script.specs.Script.{IsScript};
 ghost use Rattle.rds_rounds.specs.Connection.{AreHosts};
 ghost use Rattle.rds_rounds.specs.Grid.{rows_of};
 ghost use Rattle.rds_script.specs.declared.script.Placed.{Placed};
+ghost use Rattle.rds_threads.specs.Counted.{IsCountedEnd};
 ghost use Rattle.rds_threads.specs.Ends.{IsEndOfRun};
 ghost use Rattle.rds_threads.specs.Settled.{AreToldBelow, HaveDoneLed, IsToldOf};
 ghost use Rattle.rds_parties.specs.Parties.{AreParties};
 ghost use Rattle.rds_parties.specs.Preparing.{HaveCounted};
 ghost use Rattle.rds_settling.specs.Tied.{AreTied};
 
+use crate::counting::Start;
 use crate::ending::end_run;
 use crate::form::{Form, RunEnd};
 use crate::giving::end_lines;
@@ -51,9 +53,12 @@ where
     requires script { IsScript script.now }
     requires least { MIN_ENTRIES ≤ limit }
     requires most { limit ≤ MAX_ENTRIES }
-    ensures { IsEndOfRun form W.End.means.tells limit script.now.hosts script.now.commands.items
+    ensures end { IsEndOfRun form W.End.means.tells limit script.now.hosts script.now.commands.items
         record { held_before = K.held sink.old; held_after = K.held sink.new; faults_before = K.faults sink.old; faults_after = K.faults sink.new }
         result }
+    ensures counted { IsCountedEnd W.End.means.tells (W.may_fail wire.old) budget
+        record { faults = W.faults wire.old; nothings = W.nothings wire.old; fulls = W.fulls wire.old }
+        record { faults = W.faults wire.new; nothings = W.nothings wire.new; fulls = W.fulls wire.new } result }
 {
     match ended(rt, alloc, script, wire, gate, form, limit, budget, sink) {
         Ok(end) => end,
@@ -80,8 +85,12 @@ where
     requires most { limit ≤ MAX_ENTRIES }
     ensures end { IfOk result (IsEndOfRun form W.End.means.tells limit script.now.hosts script.now.commands.items
         record { held_before = K.held sink.old; held_after = K.held sink.new; faults_before = K.faults sink.old; faults_after = K.faults sink.new }) }
+    ensures counted { IfOk result (IsCountedEnd W.End.means.tells (W.may_fail wire.old) budget
+        record { faults = W.faults wire.old; nothings = W.nothings wire.old; fulls = W.fulls wire.old }
+        record { faults = W.faults wire.new; nothings = W.nothings wire.new; fulls = W.fulls wire.new }) }
     ensures memory { OnErr result (K.held sink.new ≡ K.held sink.old) }
 {
+    let start = Start::of(wire, budget);
     let Prepared { streams, wanted } = prepare(rt, alloc, wire, script)?;
     let (callers, lines) = parties(alloc, script, streams, limit)?;
     let (callers, lines) = play(rt, alloc, script, gate, callers, lines);
@@ -90,7 +99,7 @@ where
         return Err(Memory);
     };
     let wanted = wanted.as_slice();
-    finish(rt, alloc, wire, form, wanted, budget, callers, lines, sink)
+    finish(rt, alloc, wire, form, wanted, start, callers, lines, sink)
 }
 
 // What a run comes to whose callers have done their commands.
@@ -100,7 +109,7 @@ fn finish<K: Sink, W: Wire, R: Wait>(
     wire: &mut W,
     form: Form,
     wanted: &[Vec<Wanted>],
-    budget: u64,
+    start: Start,
     mut callers: Vec<Caller>,
     mut lines: Lines<W::End>,
     sink: &mut K,
@@ -110,14 +119,16 @@ fn finish<K: Sink, W: Wire, R: Wait>(
     ensures end { (limit hosts : ℕ) (commands : List Placed) (before after : ℕ) → AreHosts W.End.means limit hosts (rows_of lines.items) →
         HaveDoneLed hosts commands callers.items (rows_of lines.items) → HaveCounted commands before after (rows_of lines.items) → IfOk result (IsEndOfRun form W.End.means.tells limit hosts commands
         record { held_before = K.held sink.old; held_after = K.held sink.new; faults_before = K.faults sink.old; faults_after = K.faults sink.new }) }
+    ensures counted { IfOk result (IsCountedEnd W.End.means.tells (start.can_fail ≡ true) start.budget start.counts
+        record { faults = W.faults wire.new; nothings = W.nothings wire.new; fulls = W.fulls wire.new }) }
     ensures memory { OnErr result (K.held sink.new ≡ K.held sink.old) }
 {
     tell_all(&mut callers, &mut lines);
     connected_keeps::<W::End>();
     counted_keeps::<W::End>();
     tied_keeps::<W::End>();
-    let end = last_rounds(rt, wire, wanted, budget, &mut lines);
-    end_run(rt, alloc, wire, form, end, callers, lines, sink)
+    let end = last_rounds(rt, wire, wanted, start.budget, &mut lines);
+    end_run(rt, alloc, wire, form, start, end, callers, lines, sink)
 }
 
 // Gives up the slots of all hosts that no socket had, and tells the lines of each host all orders that its slots have put.

@@ -1,6 +1,8 @@
 use captured::CAPTURED;
 use rds_wire::*;
 use sealed_elsewhere::SEALED;
+use std::alloc::{AllocError, Global};
+use std::process::Abort;
 use std::test::Fail;
 
 mod captured;
@@ -30,54 +32,66 @@ fn bytes_of(row: &[u64; 13]) -> [u8; 48] {
     bytes
 }
 
+// The header of a row, with its extension and its checksum.
+fn sealed_of(row: &[u64; 13]) -> Result<Header, Fail> {
+    let mut header = header_of(row)?;
+    if row[6] > 0 {
+        header.ext = put_ext(&Ext::Generation(u32::try_from(row[6])?));
+    }
+    Ok(sealed(header))
+}
+
+// A header is written as these bytes, and read from them.
+fn stands_for(rt: &impl Abort, header: &Header, bytes: &[u8; 48]) {
+    assert_eq!(rt; encode(header), *bytes);
+    assert_eq!(rt; decode(bytes), *header);
+}
+
 #[test]
 fn headers_sealed_elsewhere(rt: HostRuntime) -> Result<(), Fail> {
     for row in &SEALED {
-        let mut header = header_of(row)?;
-        if row[6] > 0 {
-            header.ext = put_ext(&Ext::Generation(u32::try_from(row[6])?));
-        }
-        let header = sealed(header);
-        assert_eq!(rt; encode(&header), bytes_of(row));
-        assert_eq!(rt; decode(&bytes_of(row)), header);
+        let header = sealed_of(row)?;
+        stands_for(&rt, &header, &bytes_of(row));
         assert!(rt; sum_ok(&header));
     }
+    Ok(())
+}
+
+// The extension that a row of a Linux kernel tells, and its end.
+fn paths_of(row: &[u64; 13]) -> Result<Option<(Ext, usize)>, Fail> {
+    if row[6] > 0 {
+        Ok(Some((Ext::Paths(u16::try_from(row[6])?), 3)))
+    } else {
+        Ok(None)
+    }
+}
+
+// The header of a row, with its extension.
+fn header_with(row: &[u64; 13], ext: &Option<(Ext, usize)>) -> Result<Header, Fail> {
+    let mut header = header_of(row)?;
+    if let Some((paths, _)) = ext {
+        header.ext = put_ext(paths);
+    }
+    Ok(header)
+}
+
+fn is_of_a_kernel(rt: &impl Abort, row: &[u64; 13]) -> Result<(), Fail> {
+    let ext = paths_of(row)?;
+    let header = header_with(row, &ext)?;
+    stands_for(rt, &header, &bytes_of(row));
+    assert_eq!(rt; next_ext(&header.ext, 0), ext);
+    let kind = if row[5] == 1 { Kind::Map } else { Kind::Data };
+    assert_eq!(rt; check(&header, 0), Ok(kind));
     Ok(())
 }
 
 #[test]
 fn headers_of_a_linux_kernel(rt: HostRuntime) -> Result<(), Fail> {
     for row in &CAPTURED {
-        let bytes = bytes_of(row);
-        let read = decode(&bytes);
-        let mut header = header_of(row)?;
-        let mut ext = None;
-        if row[6] > 0 {
-            let paths = Ext::Paths(u16::try_from(row[6])?);
-            header.ext = put_ext(&paths);
-            ext = Some((paths, 3));
-        }
-        assert_eq!(rt; read, header);
-        assert_eq!(rt; encode(&read), bytes);
-        assert_eq!(rt; next_ext(&read.ext, 0), ext);
-        let kind = if row[5] == 1 { Kind::Map } else { Kind::Data };
-        assert_eq!(rt; check(&read, 0), Ok(kind));
+        is_of_a_kernel(&rt, row)?;
     }
     Ok(())
 }
-
-const HELLO: Header = Header {
-    sequence: 1,
-    ack: 0,
-    len: 5,
-    sport: 4000,
-    dport: 4001,
-    flags: ACK_REQUIRED,
-    credit: 0,
-    padding: [0; 4],
-    csum: 0,
-    ext: [0; 16],
-};
 
 // A header with these fields, and no checksum.
 fn numbered(sequence: u64, ack: u64, len: u32, dport: u16, flags: u8) -> Header {
@@ -144,14 +158,23 @@ fn faults_in_their_order(rt: HostRuntime) {
     }
 }
 
-#[test]
-fn extensions_one_after_another(rt: HostRuntime) {
+// Two extensions one after the other, the second at byte 5, and behind them one whose data would pass the area.
+fn area() -> [u8; 16] {
+    [6, 0, 0, 0, 9, 3, 0, 0, 0, 7, 0, 0, 1, 0, 5, 2]
+}
+
+// The first of the two extensions, and none behind it.
+fn has_one(rt: &impl Abort) {
     let mut area = [0; 16];
     area[..5].copy_from_slice(&[6, 0, 0, 0, 9]);
     assert_eq!(rt; next_ext(&area, 0), Some((Ext::Generation(9), 5)));
     assert_eq!(rt; next_ext(&area, 5), None);
-    area[5..14].copy_from_slice(&[3, 0, 0, 0, 7, 0, 0, 1, 0]);
-    area[14..].copy_from_slice(&[5, 2]);
+}
+
+#[test]
+fn extensions_one_after_another(rt: HostRuntime) {
+    has_one(&rt);
+    let area = area();
     let dest = Ext::RdmaDest {
         key: 7,
         offset: 256,
@@ -161,15 +184,35 @@ fn extensions_one_after_another(rt: HostRuntime) {
     assert_eq!(rt; put_ext(&dest)[..9], area[5..14]);
 }
 
-#[test]
-fn payloads(rt: HostRuntime) -> Result<(), Fail> {
-    let payload = Payload::copy_of(rt.alloc(), b"hello")?;
-    let shared = payload.share()?;
-    drop(payload);
+// Another owner of a payload whose first owner is dropped.
+fn shared(alloc: Global) -> Result<Payload, Memory> {
+    let payload = Payload::copy_of(alloc, b"hello")?;
+    payload.share()
+}
+
+// A payload that takes the bytes.
+fn own(rt: &impl Abort, alloc: Global) -> Result<Payload, AllocError> {
+    let bytes = b"hello".to_vec(alloc)?;
+    Ok(Payload::from_vec(bytes).expect(rt, "ample memory"))
+}
+
+fn are_hello(rt: &impl Abort, shared: &Payload, own: &Payload) {
     assert_eq!(rt; shared.as_slice(), b"hello".as_slice());
     assert_eq!(rt; shared.len(), 5);
-    let own = Payload::from_vec(b"hello".to_vec(rt.alloc())?).expect(&rt, "ample memory");
     assert_eq!(rt; own.as_slice(), shared.as_slice());
-    assert!(rt; Payload::copy_of(rt.alloc(), b"")?.is_empty());
+}
+
+// Whether a payload of no bytes is empty.
+fn none_is_empty(alloc: Global) -> Result<bool, Memory> {
+    let none = Payload::copy_of(alloc, b"")?;
+    Ok(none.is_empty())
+}
+
+#[test]
+fn payloads(rt: HostRuntime) -> Result<(), Fail> {
+    let shared = shared(rt.alloc())?;
+    let own = own(&rt, rt.alloc())?;
+    are_hello(&rt, &shared, &own);
+    assert!(rt; none_is_empty(rt.alloc())?);
     Ok(())
 }

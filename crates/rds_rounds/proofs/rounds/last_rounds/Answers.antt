@@ -1,11 +1,11 @@
-use Rattle.std.proofs.Common.{Some, ap, length, subst, ◌∙◌, arith}
+use Rattle.std.proofs.Common.{Some, false, ap, length, subst, ◌∙◌, arith}
 use Rattle.rds_rounds.specs.Causes.{AreUnacked}
 use Rattle.rds_rounds.specs.Grid.{rows_of}
 use Rattle.rds_rounds.specs.Sweep.{IsPairBelow}
 use Rattle.rds_rounds.specs.declared.rounds.Rounds.TheVariants as ended
 use Rattle.rds_rounds.proofs.Going.{rows_same, rows_through}
 use Rattle.rds_rounds.proofs.Halves.{rows_count}
-use Rattle.rds_rounds.proofs.Swept.{all_pairs, done_swept, drained_swept, full_host, goes_swept, hosts_swept, lacking_hosts, lacking_within, quiet_swept}
+use Rattle.rds_rounds.proofs.Swept.{all_pairs, done_swept, drained_swept, full_host, goes_swept, hosts_swept, lacking_hosts, lacking_within, owes_swept, quiet_swept}
 use Rattle.rds_rounds.proofs.rounds.last_rounds.Goals as goal
 
 pub loop-init : goal.loop-init
@@ -107,6 +107,23 @@ end_after-requires g c =
     (hosts, are.few, are.shape)
 
 pub returns-in-Some-end_after-clause-unfinished : goal.returns-in-Some-end_after-clause-unfinished
-returns-in-Some-end_after-clause-unfinished g c = λ count unfinished.
+returns-in-Some-end_after-clause-unfinished g c = λ count unwritten connected unfinished.
     let is = c.in-Some-end_after.is ∙ ap Some unfinished in
-    subst (λ b. AreUnacked b count (rows_of c.round_of_all-came.new.lines.items)) c.tells.ensures (c.end_after.ensures.unfinished count is)
+    subst (λ b. AreUnacked b count (rows_of c.round_of_all-came.new.lines.items)) c.tells.ensures (c.end_after.ensures.unfinished count unwritten connected is)
+
+pub returns-in-Some-end_after-clause-owes : goal.returns-in-Some-end_after-clause-owes
+returns-in-Some-end_after-clause-owes g c = λ count connected unfinished.
+    let m = g.W.End.End.means in
+    let n = length c.loop.lines.items in
+    let old = rows_of c.loop.lines.items in
+    let new = rows_of c.round_of_all-came.new.lines.items in
+    let came = c.round_of_all-came.result in
+    let swept = c.round_of_all-came.ensures in
+    let is = c.in-Some-end_after.is ∙ ap Some unfinished in
+    owes_swept m (IsPairBelow n n) came old new swept c.requires.0 c.requires.1 (c.loop.invariant.0 c.requires.0 c.requires.1 c.requires.2)
+    (all_pairs m n came old new swept (rows_count c.loop.lines.items))
+    (c.end_after.ensures.quiet (ended.Unfinished count false connected) is tt) (c.end_after.ensures.left count connected is)
+
+pub returns-in-Some-end_after-clause-closed : goal.returns-in-Some-end_after-clause-closed
+returns-in-Some-end_after-clause-closed g c = λ count unwritten unfinished.
+    c.end_after.ensures.closed count unwritten (c.in-Some-end_after.is ∙ ap Some unfinished)

@@ -1,4 +1,9 @@
-use Rattle.std.proofs.Common.{⊎_elim, inl, inr}
+use Rattle.std.proofs.Common.{⊎_elim, inl, inr, List, sym, subst, ◌∙◌}
+use Rattle.rds_mail.specs.Learning.{AllGot}
+use Rattle.rds_model.specs.declared.entry.Entry.{Entry}
+use Rattle.rds_line.specs.Line.{line_past}
+use Rattle.rds_rounds.specs.Causes.{OwesNothing}
+use Rattle.rds_rounds.specs.Drained.{AreDrained}
 use Rattle.rds_rounds.proofs.Going.{goes_through}
 use Rattle.rds_rounds.proofs.Lacking.{lacks_met}
 use Rattle.rds_rounds.proofs.turning.round.Goals as goal
@@ -26,6 +31,24 @@ returns-clause-together g c = record {
       c.meet_lines-2.ensures.connected limit c.args.low c.args.high
       (c.turn_both-came.ensures.together.connected limit (c.meet_lines.ensures.connected limit c.args.low c.args.high connected));
 }
+
+pub returns-clause-had : goal.returns-clause-had
+returns-clause-had g c =
+    let one = c.meet_lines-2.ensures.one in
+    let other = c.meet_lines-2.ensures.other in
+    record {
+      sound = c.meet_lines-2.ensures.sound;
+      quiet = λ idle.
+          let got = c.turn_both-came.ensures.idle idle in
+          (subst AllGot (sym one.orders) got.0, subst AllGot (sym other.orders) got.1);
+      owes = λ idle.
+          let owes = c.turn_both-came.ensures.owes idle in
+          (λ out. subst OwesNothing (sym one.past) (owes.0 (sym one.out ∙ out)), λ out. subst OwesNothing (sym other.past) (owes.1 (sym other.out ∙ out)));
+      drained = λ tells idle one_out other_out.
+          let drained = c.turn_both-came.ensures.drained tells c.meet_lines.ensures.met idle (sym one.out ∙ one_out) (sym other.out ∙ other_out) in
+          subst (λ (past : List Entry). AreDrained past (line_past c.meet_lines-2.new.other)) (sym one.past)
+          (subst (AreDrained (line_past c.turn_both-came.new.one)) (sym other.past) drained);
+    }
 
 pub returns-clause-fault : goal.returns-clause-fault
 returns-clause-fault g c = λ first second fault.

@@ -15,6 +15,9 @@ returns-clause-together g c = record {
       connected c.turn-first.ensures.stays c.turn-second.ensures.stays;
 }
 
+pub returns-clause-owes : goal.returns-clause-owes
+returns-clause-owes g c = λ idle. let both = c.either.ensures.idle idle in (c.turn-first.ensures.owes both.0, c.turn-second.ensures.owes both.1)
+
 pub returns-clause-drained : goal.returns-clause-drained
 returns-clause-drained g c = λ tells met idle one_out other_out.
     let both = c.either.ensures.idle idle in

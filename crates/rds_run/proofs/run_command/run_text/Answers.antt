@@ -1,7 +1,7 @@
 use Rattle.std.proofs.Common.{inl, inr}
 use Rattle.rds_script.specs.Grammar.{meaning}
 use Rattle.rds_run.specs.ExitStatus.{SourceSeen, SinkSeen}
-use Rattle.rds_run.proofs.Calling.{too_many_read, too_many_unread}
+use Rattle.rds_run.proofs.Calling.{run_read, run_unread, too_many_read, too_many_unread}
 use Rattle.rds_run.proofs.run_command.run_text.Goals as goal
 
 pub returns-in-Ok-clause-ends : goal.returns-in-Ok-clause-ends
@@ -37,3 +37,23 @@ returns-in-Err-clause-too_many g c s told many =
       faults_after = g.K.Sink.faults c.read_script.new.sink;
     } in
     too_many_unread s source sink c.in-Err.status (c.in-Err.ensures.reads s told) c.in-Err.ensures.ends
+
+pub returns-in-Ok-clause-runs : goal.returns-in-Ok-clause-runs
+returns-in-Ok-clause-runs g c s told read =
+    let sink : SinkSeen = record {
+      held_before = g.K.Sink.held c.args.sink.now;
+      held_after = g.K.Sink.held c.run_over.new.sink;
+      faults_before = g.K.Sink.faults c.args.sink.now;
+      faults_after = g.K.Sink.faults c.run_over.new.sink;
+    } in
+    let ran = rw c.in-Ok.ensures.same at c.run_over.ensures in
+    inl (run_read _ _ _ s sink c.run_over.result (c.in-Ok.ensures.reads s told) ran)
+
+pub returns-in-Err-clause-runs : goal.returns-in-Err-clause-runs
+returns-in-Err-clause-runs g c s told read =
+    let source : SourceSeen = record {
+      left = g.S.Source.left c.args.source.now;
+      faults_before = g.S.Source.faults c.args.source.now;
+      faults_after = g.S.Source.faults c.read_script.new.source;
+    } in
+    inr (run_unread s source c.in-Err.status (c.in-Err.ensures.reads s told) read)

@@ -1,46 +1,77 @@
 use Rattle.rds_model.specs.declared.journal.TheConstants.{MAX_ENTRIES}
 use Rattle.rds_script.specs.Grammar.{meaning}
 use Rattle.rds_threads.specs.Ends.{Written}
-use Rattle.rds_run.proofs.Ran.{filled_of, lacking_of, ran_of, unfinished_of}
+use Rattle.rds_run.specs.RunStatus.{WireSeen}
+use Rattle.rds_run.proofs.Ran.{filled_of, lacking_of, may_of, ran_of, unfinished_of}
 use Rattle.rds_run.proofs.running.run_script.Goals as goal
 
 -- refused where a run that didn't end well is told as one that did
-pub returns-in-Ok : goal.returns-in-Ok
-returns-in-Ok g c =
+pub returns-in-Ok-clause-ends : goal.returns-in-Ok-clause-ends
+returns-in-Ok-clause-ends g c =
     let sink : Written = record {
       held_before = g.K.Sink.held c.args.sink.now;
       held_after = g.K.Sink.held c.run.new.sink;
       faults_before = g.K.Sink.faults c.args.sink.now;
       faults_after = g.K.Sink.faults c.run.new.sink;
     } in
-    ran_of _ MAX_ENTRIES c.args.form (meaning c.args.script.now) sink c.run.result _ c.in-Ok.is c.run.ensures
+    ran_of _ MAX_ENTRIES c.args.form (meaning c.args.script.now) sink c.run.result _ c.in-Ok.is c.run.ensures.end
 
-pub returns-in-WireFault : goal.returns-in-WireFault
-returns-in-WireFault g c =
+pub returns-in-WireFault-clause-ends : goal.returns-in-WireFault-clause-ends
+returns-in-WireFault-clause-ends g c =
     let sink : Written = record {
       held_before = g.K.Sink.held c.args.sink.now;
       held_after = g.K.Sink.held c.run.new.sink;
       faults_before = g.K.Sink.faults c.args.sink.now;
       faults_after = g.K.Sink.faults c.run.new.sink;
     } in
-    lacking_of _ c.args.form (meaning c.args.script.now) sink c.run.result _ _ _ c.in-WireFault.is c.run.ensures
+    let seen : WireSeen = record {
+      tells = g.W.End.End.means.tells;
+      before = record { faults = g.W.Wire.faults c.args.wire.now; nothings = g.W.Wire.nothings c.args.wire.now; fulls = g.W.Wire.fulls c.args.wire.now };
+      after = record { faults = g.W.Wire.faults c.run.new.wire; nothings = g.W.Wire.nothings c.run.new.wire; fulls = g.W.Wire.fulls c.run.new.wire };
+    } in
+    lacking_of seen c.args.form (meaning c.args.script.now) sink c.run.result _ _ _ _ c.in-WireFault.is c.run.ensures.end c.run.ensures.counted
 
-pub returns-in-Spent : goal.returns-in-Spent
-returns-in-Spent g c =
+pub returns-in-WireFault-clause-may_fail : goal.returns-in-WireFault-clause-may_fail
+returns-in-WireFault-clause-may_fail g c = λ same.
     let sink : Written = record {
       held_before = g.K.Sink.held c.args.sink.now;
       held_after = g.K.Sink.held c.run.new.sink;
       faults_before = g.K.Sink.faults c.args.sink.now;
       faults_after = g.K.Sink.faults c.run.new.sink;
     } in
-    filled_of _ c.args.form (meaning c.args.script.now) sink c.run.result _ _ _ _ _ c.in-Spent.is c.run.ensures
+    let seen : WireSeen = record {
+      tells = g.W.End.End.means.tells;
+      before = record { faults = g.W.Wire.faults c.args.wire.now; nothings = g.W.Wire.nothings c.args.wire.now; fulls = g.W.Wire.fulls c.args.wire.now };
+      after = record { faults = g.W.Wire.faults c.run.new.wire; nothings = g.W.Wire.nothings c.run.new.wire; fulls = g.W.Wire.fulls c.run.new.wire };
+    } in
+    may_of seen c.args.form (meaning c.args.script.now) sink c.run.result _ _ _ _ c.in-WireFault.is c.run.ensures.counted
 
-pub returns-in-Unfinished : goal.returns-in-Unfinished
-returns-in-Unfinished g c =
+pub returns-in-Spent-clause-ends : goal.returns-in-Spent-clause-ends
+returns-in-Spent-clause-ends g c =
     let sink : Written = record {
       held_before = g.K.Sink.held c.args.sink.now;
       held_after = g.K.Sink.held c.run.new.sink;
       faults_before = g.K.Sink.faults c.args.sink.now;
       faults_after = g.K.Sink.faults c.run.new.sink;
     } in
-    unfinished_of _ c.args.form (meaning c.args.script.now) sink c.run.result _ _ c.in-Unfinished.is c.run.ensures
+    let seen : WireSeen = record {
+      tells = g.W.End.End.means.tells;
+      before = record { faults = g.W.Wire.faults c.args.wire.now; nothings = g.W.Wire.nothings c.args.wire.now; fulls = g.W.Wire.fulls c.args.wire.now };
+      after = record { faults = g.W.Wire.faults c.run.new.wire; nothings = g.W.Wire.nothings c.run.new.wire; fulls = g.W.Wire.fulls c.run.new.wire };
+    } in
+    filled_of seen c.args.form (meaning c.args.script.now) sink c.run.result _ _ _ _ _ c.in-Spent.is c.run.ensures.end
+
+pub returns-in-Unfinished-clause-ends : goal.returns-in-Unfinished-clause-ends
+returns-in-Unfinished-clause-ends g c =
+    let sink : Written = record {
+      held_before = g.K.Sink.held c.args.sink.now;
+      held_after = g.K.Sink.held c.run.new.sink;
+      faults_before = g.K.Sink.faults c.args.sink.now;
+      faults_after = g.K.Sink.faults c.run.new.sink;
+    } in
+    let seen : WireSeen = record {
+      tells = g.W.End.End.means.tells;
+      before = record { faults = g.W.Wire.faults c.args.wire.now; nothings = g.W.Wire.nothings c.args.wire.now; fulls = g.W.Wire.fulls c.args.wire.now };
+      after = record { faults = g.W.Wire.faults c.run.new.wire; nothings = g.W.Wire.nothings c.run.new.wire; fulls = g.W.Wire.fulls c.run.new.wire };
+    } in
+    unfinished_of seen c.args.form (meaning c.args.script.now) sink c.run.result _ _ _ c.in-Unfinished.is c.run.ensures.end c.run.ensures.counted

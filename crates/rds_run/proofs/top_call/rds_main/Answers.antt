@@ -1,4 +1,5 @@
 use Rattle.rds_run.proofs.Codes as codes
+use Rattle.rds_run.proofs.Complete as complete
 use Rattle.rds_run.proofs.Ended as ended
 use Rattle.rds_run.proofs.top_call.rds_main.Goals as goal
 
@@ -79,3 +80,9 @@ returns-clause-refuses_many g c = ended.refuses_many _ _ _ _ c.do_work.result c.
 
 pub returns-clause-known : goal.returns-clause-known
 returns-clause-known g c = codes.at_most c.do_work.result c.code.result c.code.ensures
+
+pub returns-clause-runs : goal.returns-clause-runs
+returns-clause-runs g c = complete.runs _ _ _ _ c.do_work.result c.code.result c.code.ensures c.do_work.ensures
+
+pub returns-clause-generates : goal.returns-clause-generates
+returns-clause-generates g c = complete.generates _ _ _ _ c.do_work.result c.code.result c.code.ensures c.do_work.ensures

@@ -1,11 +1,14 @@
-use Rattle.std.proofs.Common.{refl, sym, ◌∙◌, arith}
+use Rattle.std.proofs.Common.{◌≡◌, Bool, true, refl, sym, ap, ◌∙◌, arith, rules}
 use Rattle.rds_model.specs.Past.{newest_stream}
 use Rattle.rds_report.specs.Views.{host_views}
 use Rattle.rds_rounds.specs.Grid.{rows_of}
 use Rattle.rds_threads.specs.Causes.{AreUnacknowledged}
+use Rattle.rds_rounds.specs.declared.rounds.Rounds.TheVariants as rounds
+use Rattle.rds_threads.specs.Counted.{AreEndsClosed, EndsOweNothing}
 use Rattle.rds_threads.specs.Ends.{IsEndOfRun, Writes, Written}
 use Rattle.rds_threads.specs.Texts.{fault_line, text_of, unfinished_line}
 use Rattle.rds_threads.specs.declared.form.RunEnd.TheVariants as ended
+use Rattle.rds_threads.proofs.Counted.{as_tested, counted_ok}
 use Rattle.rds_threads.proofs.Lacking.{lacking_of}
 use Rattle.rds_threads.proofs.Rows.{rows_count}
 use Rattle.rds_threads.proofs.Spent.{full_two, spent_end}
@@ -83,11 +86,11 @@ returns-in_ok-ends-in-Done-clause-end g c = λ limit hosts commands before after
       refl,
     )) c.end_by_report.ensures.end
 
-pub returns-in_ok-ends-in-Unfinished-clause-end : goal.returns-in_ok-ends-in-Unfinished-clause-end
-returns-in_ok-ends-in-Unfinished-clause-end g c = λ limit hosts commands before after done did counted.
+pub returns-else-not-has_waited-clause-end : goal.returns-else-not-has_waited-clause-end
+returns-else-not-has_waited-clause-end g c = λ limit hosts commands before after done did counted.
     let ends = c.in_ok-ends-in-Unfinished.ends in
     let count = c.in-Unfinished.count in
-    let alive = c.requires.unacked count c.in-Unfinished.is in
+    let alive = c.requires.unacked count c.in-Unfinished.unwritten c.in-Unfinished.connected c.in-Unfinished.is in
     let unacked : AreUnacknowledged g.W.End.End.means.tells count (host_views ends.items) =
     record { untold = alive.untold; some = alive.some; all = alive.all ∙ sym c.in_ok-ends-in-Unfinished.ensures.alive } in
     let sink : Written = record {
@@ -101,8 +104,8 @@ returns-in_ok-ends-in-Unfinished-clause-end g c = λ limit hosts commands before
     (end_written c.args.form g.W.End.End.means.tells limit hosts commands sink (unfinished_line count) (ended.Unfinished count ends)
     (c.in_ok-ends-in-Unfinished.ensures.ends limit hosts commands done did, unacked, refl)) c.end_unfinished.ensures.end
 
-pub returns-in-Fault-clause-end : goal.returns-in-Fault-clause-end
-returns-in-Fault-clause-end g c = λ limit hosts commands before after done did counted.
+pub returns-else-not-has_faulted-clause-end : goal.returns-else-not-has_faulted-clause-end
+returns-else-not-has_faulted-clause-end g c = λ limit hosts commands before after done did counted.
     let low = c.in-Fault.low in
     let high = c.in-Fault.high in
     let own = c.journals-journal.result.0.past in
@@ -121,3 +124,69 @@ returns-in-Fault-clause-end g c = λ limit hosts commands before after done did 
     (IsEndOfRun c.args.form g.W.End.End.means.tells limit hosts commands sink) c.end_by_fault.result
     (end_written c.args.form g.W.End.End.means.tells limit hosts commands sink (fault_line low high stream) (ended.WireFault low high stream) (lacking, refl))
     c.end_by_fault.ensures.end
+
+pub returns-in_ok-ends-in-Done-clause-counted : goal.returns-in_ok-ends-in-Done-clause-counted
+returns-in_ok-ends-in-Done-clause-counted g c =
+    let ends = c.in_ok-ends-in-Done.ends in
+    let sink : Written = record {
+      held_before = g.K.Sink.held c.args.sink.now;
+      held_after = g.K.Sink.held c.end_by_report.new.sink;
+      faults_before = g.K.Sink.faults c.args.sink.now;
+      faults_after = g.K.Sink.faults c.end_by_report.new.sink;
+    } in
+    counted_ok _ _ _ _ _ sink (text_of c.args.form (host_views ends.items)) (ended.Ok ends) c.end_by_report.result tt c.end_by_report.ensures.end
+
+pub returns-in-Spent-clause-counted : goal.returns-in-Spent-clause-counted
+returns-in-Spent-clause-counted g c =
+    let own = c.journals-own.result.0 in
+    let other = c.journals-own.result.1 in
+    let sink : Written = record {
+      held_before = g.K.Sink.held c.args.sink.now;
+      held_after = g.K.Sink.held c.end_by_spent.new.sink;
+      faults_before = g.K.Sink.faults c.args.sink.now;
+      faults_after = g.K.Sink.faults c.end_by_spent.new.sink;
+    } in
+    counted_ok _ _ _ _ _ sink _ (ended.Spent c.in-Spent.host c.in-Spent.peer c.in-Spent.entries own other) c.end_by_spent.result tt
+    c.end_by_spent.ensures.end
+
+-- refused where nothing is asked of the counts
+pub returns-else-not-has_faulted-clause-counted : goal.returns-else-not-has_faulted-clause-counted
+returns-else-not-has_faulted-clause-counted g c =
+    let low = c.in-Fault.low in
+    let high = c.in-Fault.high in
+    let stream = newest_stream c.journals-journal.result.0.past in
+    let is : c.has_faulted.result ≡ true = search rules in
+    let tells = c.tells.ensures in
+    let sink : Written = record {
+      held_before = g.K.Sink.held c.args.sink.now;
+      held_after = g.K.Sink.held c.end_by_fault.new.sink;
+      faults_before = g.K.Sink.faults c.args.sink.now;
+      faults_after = g.K.Sink.faults c.end_by_fault.new.sink;
+    } in
+    counted_ok _ _ _ _ _ sink (fault_line low high stream) (ended.WireFault low high stream) c.end_by_fault.result
+    (c.has_faulted.ensures.can_fail is, search (rules, is), λ told. search (rules, is, told, tells)) c.end_by_fault.ensures.end
+
+-- refused where nothing is asked of the counts
+pub returns-else-not-has_waited-clause-counted : goal.returns-else-not-has_waited-clause-counted
+returns-else-not-has_waited-clause-counted g c =
+    let ends = c.in_ok-ends-in-Unfinished.ends in
+    let count = c.in-Unfinished.count in
+    let unwritten = c.in-Unfinished.unwritten in
+    let connected = c.in-Unfinished.connected in
+    let is : c.has_waited.result ≡ true = search rules in
+    let sink : Written = record {
+      held_before = g.K.Sink.held c.args.sink.now;
+      held_after = g.K.Sink.held c.end_unfinished.new.sink;
+      faults_before = g.K.Sink.faults c.args.sink.now;
+      faults_after = g.K.Sink.faults c.end_unfinished.new.sink;
+    } in
+    counted_ok _ _ _ _ _ sink (unfinished_line count) (ended.Unfinished count ends) c.end_unfinished.result (
+      as_tested (EndsOweNothing (host_views ends.items)) _ unwritten
+          (λ off. c.in_ok-ends-in-Unfinished.ensures.owe
+          (c.requires.owe count connected (c.in-Unfinished.is ∙ ap (λ (u : Bool). rounds.Unfinished count u connected) off)))
+          (λ on. search (rules, is, on)),
+      as_tested (AreEndsClosed (host_views ends.items)) _ connected
+          (λ off. c.in_ok-ends-in-Unfinished.ensures.closed
+          (c.requires.closed count unwritten (c.in-Unfinished.is ∙ ap (λ (o : Bool). rounds.Unfinished count unwritten o) off)))
+          (λ on. search (rules, is, on)),
+    ) c.end_unfinished.ensures.end

@@ -1,15 +1,18 @@
-use Rattle.std.proofs.Common.{◌≡◌, Vec, arith}
+use Rattle.std.proofs.Common.{◌≡◌, None, Vec, arith}
 use Rattle.std.specs.Global.{Global}
 use Rattle.std.proofs.lemmas.List.{length-map}
 use Rattle.rds_report.specs.Views.{AreFinalHosts, host_views}
 use Rattle.rds_report.specs.declared.final_state.HostEnd.{HostEnd}
-use Rattle.rds_rounds.specs.Causes.{alive_in_rows}
+use Rattle.rds_model.specs.Past.{open_stream}
+use Rattle.rds_rounds.specs.Causes.{OwesNothing, alive_in_rows}
 use Rattle.rds_rounds.specs.Grid.{rows_of}
 use Rattle.rds_threads.specs.Causes.{alive_in_ends}
+use Rattle.rds_threads.specs.Counted.{AreEndsClosed, EndsOweNothing}
 use Rattle.rds_threads.specs.Ends.{AreEnds, AreSettledHosts}
 use Rattle.rds_threads.specs.Settled.{AreLeftOf}
 use Rattle.rds_threads.proofs.NonePending.{none_pending}
 use Rattle.rds_threads.proofs.Alive.{alive_left}
+use Rattle.rds_threads.proofs.Counted.{of_each_left}
 use Rattle.rds_threads.proofs.Sound.{drained_of, ends_of, final_of}
 use Rattle.rds_threads.proofs.Written.{on_ok}
 use Rattle.rds_threads.proofs.leaving.host_ends.Goals as goal
@@ -51,3 +54,17 @@ returns-clause-alive g c =
     on_ok (λ (ends : Vec HostEnd Global). AreLeftOf c.args.callers.items (rows_of c.args.lines.items) ends.items)
     (λ (ends : Vec HostEnd Global). alive_in_ends (host_views ends.items) ≡ alive_in_rows (rows_of c.args.lines.items)) c.all_ends.result
     (λ ends left. alive_left c.args.callers.items (rows_of c.args.lines.items) ends.items c.requires.settled.count left) c.all_ends.ensures
+
+pub returns-clause-owe : goal.returns-clause-owe
+returns-clause-owe g c = λ owe.
+    on_ok (λ (ends : Vec HostEnd Global). AreLeftOf c.args.callers.items (rows_of c.args.lines.items) ends.items)
+    (λ (ends : Vec HostEnd Global). EndsOweNothing (host_views ends.items)) c.all_ends.result
+    (λ ends left. of_each_left OwesNothing c.args.callers.items (rows_of c.args.lines.items) ends.items c.requires.settled.count left owe) c.all_ends.ensures
+
+pub returns-clause-closed : goal.returns-clause-closed
+returns-clause-closed g c = λ closed.
+    on_ok (λ (ends : Vec HostEnd Global). AreLeftOf c.args.callers.items (rows_of c.args.lines.items) ends.items)
+    (λ (ends : Vec HostEnd Global). AreEndsClosed (host_views ends.items)) c.all_ends.result
+    (λ ends left.
+    of_each_left (λ past. open_stream past ≡ None) c.args.callers.items (rows_of c.args.lines.items) ends.items c.requires.settled.count left closed)
+    c.all_ends.ensures

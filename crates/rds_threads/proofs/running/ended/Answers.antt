@@ -1,3 +1,5 @@
+use Rattle.std.proofs.Common.{◌≡◌, true}
+use Rattle.rds_threads.proofs.Counted.{counted_of}
 use Rattle.rds_threads.proofs.Finished.{all_done}
 use Rattle.rds_threads.proofs.running.ended.Goals as goal
 
@@ -21,3 +23,11 @@ returns-clause-end g c =
     (c.play-callers.ensures.hosts c.args.limit hosts c.in_ok-callers.ensures.hosts)
     (all_done hosts commands _ _ _ c.in_ok-callers.ensures.new obeyed led)
     (c.play-callers.ensures.counted commands before after (c.in_ok-callers.ensures.counted commands before after c.in_ok-streams.ensures.counted))
+
+pub returns-clause-counted : goal.returns-clause-counted
+returns-clause-counted g c =
+    let wire = c.args.wire.now in
+    let start = c.of-start.result in
+    counted_of g.W.End.End.means.tells (start.can_fail ≡ true) (g.W.Wire.may_fail wire) c.of-start.ensures.can_fail start.budget c.args.budget start.counts
+    (record { faults = g.W.Wire.faults wire; nothings = g.W.Wire.nothings wire; fulls = g.W.Wire.fulls wire }) _ c.of-start.ensures.budget
+    c.of-start.ensures.counts c.finish.result c.finish.ensures.counted

@@ -66,3 +66,9 @@ returns-clause-end g c = λ limit hosts commands before after are did counted.
     c.last_rounds-end.ensures.rows did)
     (c.counted_keeps.ensures.goes commands before after told (rows_of c.last_rounds-end.new.lines.items)
     (c.counted_keeps.ensures.same commands before after old told counted kept) c.last_rounds-end.ensures.rows)
+
+pub end_run-requires-clause-owe : goal.end_run-requires-clause-owe
+end_run-requires-clause-owe g c = c.last_rounds-end.ensures.owes
+
+pub end_run-requires-clause-closed : goal.end_run-requires-clause-closed
+end_run-requires-clause-closed g c = c.last_rounds-end.ensures.closed

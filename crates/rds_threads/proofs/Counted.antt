@@ -1,0 +1,87 @@
+-- What the counts of a wire say of how a run ended.
+use Rattle.std.proofs.Common.{◌≡◌, ◌⊎◌, inl, inr, ℕ, Bool, true, false, List, All, Result, IfOk, length, map, refl, sym, subst}
+use Rattle.rds_wire.specs.declared.memory.Memory.{Memory}
+use Rattle.rds_link.specs.declared.wire.WireCounts.{WireCounts}
+use Rattle.rds_fmap.specs.Readers.{WriterView}
+use Rattle.rds_model.specs.declared.entry.Entry.{Entry}
+use Rattle.rds_line.specs.Line.{LineView, line_past}
+use Rattle.rds_gather.specs.Sides.{line_side}
+use Rattle.rds_callers.specs.Places.{CallerView}
+use Rattle.rds_report.specs.FinalState.{FinalHost, FinalJournal}
+use Rattle.rds_report.specs.Views.{host_view, host_views}
+use Rattle.rds_report.specs.declared.final_state.HostEnd.{HostEnd}
+use Rattle.rds_threads.specs.Counted.{IsCountedEnd, OfEachJournal}
+use Rattle.rds_threads.specs.Ends.{Writes, Written}
+use Rattle.rds_threads.specs.Settled.{AreLeftOf}
+use Rattle.rds_threads.specs.declared.form.RunEnd.{RunEnd}
+use Rattle.rds_threads.specs.declared.form.RunEnd.TheVariants as ended
+use Rattle.rds_threads.proofs.At.{all_at, all_from, at_map, stood_at}
+use Rattle.rds_threads.proofs.Written.{on_ok}
+
+module _ (Holds : List Entry → Type 0) where
+  abbrev OfSide : FinalJournal → Type 0
+  OfSide side = Holds side.past
+
+  abbrev OfSides : FinalHost → Type 0
+  OfSides end = All OfSide end.sides
+
+  module _ {E : Type 0} where
+    abbrev OfLine : LineView E WriterView → Type 0
+    OfLine line = Holds (line_past line)
+
+    -- what holds of the journals of lines holds of those that are left of them
+    in_sides : (lines : List (LineView E WriterView)) → All OfLine lines → All OfSide (map line_side lines)
+    in_sides lines each =
+        all_from OfSide (map line_side lines)
+        (λ place side at. let of = at_map line_side lines place side at in subst OfSide (sym of.2) (all_at OfLine lines place of.0 each of.1))
+
+    pub of_each_left : (callers : List CallerView) (rows : List (List (LineView E WriterView))) (ends : List HostEnd) → length callers ≡ length rows →
+        AreLeftOf callers rows ends → All (All OfLine) rows → OfEachJournal Holds (host_views ends)
+    of_each_left callers rows ends same left each =
+        all_from OfSides (host_views ends)
+        (λ host final at.
+        let of = at_map host_view ends host final at in
+        let row = stood_at rows ends host of.0 left.count of.1 in
+        let caller = stood_at callers rows host row.0 (sym same) row.1 in
+        subst OfSides (sym of.2)
+        (subst (All OfSide) (sym (left.each host caller.0 row.0 of.0 caller.1 row.1 of.1).journals) (in_sides row.0 (all_at (All OfLine) rows host row.0 each row.1))))
+
+-- what was written leaves what the counts say
+pub counted_written : (tells : Bool) (may_fail : Type 0) (budget : ℕ) (before after : WireCounts) (sink : Written) (text : List ℕ) (end result : RunEnd) →
+    IsCountedEnd tells may_fail budget before after end → Writes sink text end result → IsCountedEnd tells may_fail budget before after result
+counted_written tells may_fail budget before after sink text end result counted (inl said) =
+    subst (IsCountedEnd tells may_fail budget before after) (sym said.0) counted
+counted_written tells may_fail budget before after sink text end result counted (inr failed) =
+    subst (IsCountedEnd tells may_fail budget before after) (sym failed.0) tt
+
+-- and so does a reason for which the wire may fail
+pub counted_since : (tells : Bool) (can may : Type 0) → (can → may) → (budget : ℕ) (before after : WireCounts) (end : RunEnd) →
+    IsCountedEnd tells can budget before after end → IsCountedEnd tells may budget before after end
+counted_since tells can may why budget before after (ended.Ok ends) counted = tt
+counted_since tells can may why budget before after (ended.WireFault low high stream) counted = (why counted.0, counted.1, counted.2)
+counted_since tells can may why budget before after (ended.Spent host peer entries own other) counted = tt
+counted_since tells can may why budget before after (ended.Unfinished count ends) counted = counted
+counted_since tells can may why budget before after ended.WriteFault counted = tt
+counted_since tells can may why budget before after ended.Memory counted = tt
+
+-- so it is of what was to be written in the end
+pub counted_ok : (tells : Bool) (may_fail : Type 0) (budget : ℕ) (before after : WireCounts) (sink : Written) (text : List ℕ) (end : RunEnd)
+    (result : Result RunEnd Memory) → IsCountedEnd tells may_fail budget before after end → IfOk result (Writes sink text end) →
+    IfOk result (IsCountedEnd tells may_fail budget before after)
+counted_ok tells may_fail budget before after sink text end result counted =
+    on_ok (Writes sink text end) (IsCountedEnd tells may_fail budget before after) result
+    (λ e written. counted_written tells may_fail budget before after sink text end e counted written)
+
+-- what was counted since the start
+pub counted_of : (tells : Bool) (can may : Type 0) → (can → may) → (b budget : ℕ) (was before after : WireCounts) → b ≡ budget → was ≡ before →
+    (result : Result RunEnd Memory) → IfOk result (IsCountedEnd tells can b was after) → IfOk result (IsCountedEnd tells may budget before after)
+counted_of tells can may why b budget was before after same_budget same_before result =
+    on_ok (IsCountedEnd tells can b was after) (IsCountedEnd tells may budget before after) result
+    (λ e counted.
+    counted_since tells can may why budget before after e
+    (subst (λ (n : ℕ). IsCountedEnd tells can n before after e) same_budget (subst (λ (w : WireCounts). IsCountedEnd tells can b w after e) same_before counted)))
+
+-- one thing or another, as a test says
+pub as_tested : (A B : Type 0) (test : Bool) → (test ≡ false → A) → (test ≡ true → B) → A ⊎ B
+as_tested A B true off on = inr (on refl)
+as_tested A B false off on = inl (off refl)

@@ -1,0 +1,37 @@
+-- What the counts of a wire say of how a run ended. Source: this project's own.
+use Rattle.std.specs.Prelude.{◌≡◌, ◌⊎◌, ℕ, Bool, true, List, All, None}
+use Rattle.rds_link.specs.Streaming.{HasRisen, HasRisenBy}
+use Rattle.rds_link.specs.declared.wire.WireCounts.{WireCounts}
+use Rattle.rds_model.specs.declared.entry.Entry.{Entry}
+use Rattle.rds_model.specs.Past.{open_stream}
+use Rattle.rds_report.specs.FinalState.{FinalHost, FinalJournal}
+use Rattle.rds_report.specs.Views.{host_views}
+use Rattle.rds_rounds.specs.Causes.{OwesNothing}
+use Rattle.rds_threads.specs.declared.form.RunEnd.{RunEnd}
+use Rattle.rds_threads.specs.declared.form.RunEnd.TheVariants as ended
+
+-- this holds of each journal that hosts have in the end
+abbrev pub OfEachJournal : (List Entry → Type 0) → List FinalHost → Type 0
+OfEachJournal Holds ends = All (λ (end : FinalHost). All (λ (side : FinalJournal). Holds side.past) end.sides) ends
+
+-- no journal owes a frame to its open stream for the map that it pulled last
+abbrev pub EndsOweNothing : List FinalHost → Type 0
+EndsOweNothing ends = OfEachJournal OwesNothing ends
+
+-- no journal has an open stream
+abbrev pub AreEndsClosed : List FinalHost → Type 0
+AreEndsClosed ends = OfEachJournal (λ past. open_stream past ≡ None) ends
+
+-- What a wire counted before and after a run that ended so. Where hosts lack a stream, the wire may fail and counted a fault, and at least three
+-- where ends tell their bytes. Where datagrams aren't acknowledged, no journal owes anything or an end had no room, and ends answered at least once for each
+-- round of the budget that no bytes are there, or no stream is open.
+abbrev pub IsCountedEnd : (tells : Bool) (may_fail : Type 0) (budget : ℕ) (before after : WireCounts) → RunEnd → Type 0
+IsCountedEnd tells may_fail budget before after (ended.Ok ends) = Unit {0}
+IsCountedEnd tells may_fail budget before after (ended.WireFault low high stream) =
+    may_fail × HasRisen before.faults after.faults × (tells ≡ true → HasRisenBy 3 before.faults after.faults)
+IsCountedEnd tells may_fail budget before after (ended.Spent host peer entries own other) = Unit {0}
+IsCountedEnd tells may_fail budget before after (ended.Unfinished count ends) =
+    (EndsOweNothing (host_views ends.items) ⊎ HasRisen before.fulls after.fulls)
+    × (AreEndsClosed (host_views ends.items) ⊎ HasRisenBy budget before.nothings after.nothings)
+IsCountedEnd tells may_fail budget before after ended.WriteFault = Unit {0}
+IsCountedEnd tells may_fail budget before after ended.Memory = Unit {0}
