@@ -6,6 +6,3 @@ mod map;
 
 pub use limit::hysteresis;
 pub use map::{MAP_BYTES, PortMap, WORDS};
-
-#[cfg(test)]
-mod tests;

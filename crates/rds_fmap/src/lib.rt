@@ -4,8 +4,6 @@
 pub mod copies;
 mod maps;
 mod seen;
-#[cfg(test)]
-mod tests;
 mod words;
 
 pub use maps::{MapReader, MapWriter};

@@ -8,6 +8,3 @@ mod making;
 mod route;
 
 pub use making::{MAX_SENDS, generate};
-
-#[cfg(test)]
-mod tests;

@@ -1,4 +1,3 @@
 pub mod Reading
 pub mod Counting
 pub mod Relieving
-pub mod Few

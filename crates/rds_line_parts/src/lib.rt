@@ -9,8 +9,6 @@ mod own;
 mod ports;
 mod relief;
 mod slot_box;
-#[cfg(test)]
-mod tests;
 mod words;
 
 pub use boxes::Boxes;

@@ -7,6 +7,3 @@ mod streams;
 
 pub use meeting::meet;
 pub use streams::Streams;
-
-#[cfg(test)]
-mod tests;

@@ -28,7 +28,7 @@ impl Calls {
 
     // Whether a call can fail.
     pub(crate) fn can_fail(&self) -> bool
-        ensures { result ≡ true → self.now.fail ≢ [] }
+        ensures { result ≡ true ↔ self.now.fail ≢ [] }
     {
         !self.fail.is_empty()
     }

@@ -1,4 +1,4 @@
-ghost use Rattle.std.specs.Prelude.{◌≡◌, ◌≤◌, ℕ, IfOk, IsErrOf, true};
+ghost use Rattle.std.specs.Prelude.{◌≡◌, ◌≤◌, ◌↔◌, ℕ, IfOk, IsErrOf, true};
 ghost use Rattle.rds_link.specs.Ends.{Remains, MovesNothing, CountsStay, IsFresh, HasAll, RisesBy};
 ghost use Rattle.rds_link.specs.Standing.{LearnsOther, HaveCause, HaveFirst};
 ghost use Rattle.rds_link.specs.Streaming.{HasRisen};
@@ -49,7 +49,7 @@ pub trait Wire {
 
     /// Whether an opening of it, or a call of one of its ends, can fail.
     fn can_fail(&self) -> bool
-        ensures { result ≡ true → may_fail self.now };
+        ensures { result ≡ true ↔ may_fail self.now };
 
     /// What it has counted so far.
     fn counts(&self) -> WireCounts

@@ -10,8 +10,6 @@ mod plays;
 mod polling;
 mod rule;
 mod telling;
-#[cfg(test)]
-mod tests;
 mod view;
 
 pub use asked::Asked;

@@ -11,6 +11,3 @@ pub use entry::{Entry, MAX_SLOTS, Msg, NO_SLOT, Outcome, Target, Verdict};
 pub use journal::{Journal, JournalError, MAX_ENTRIES, MIN_ENTRIES};
 pub use order::{Datagram, Order, Pair};
 pub use owed::{MAX_UNASKED, MAX_UNASKED_BYTES};
-
-#[cfg(test)]
-mod tests;

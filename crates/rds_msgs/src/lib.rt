@@ -8,6 +8,3 @@ mod walk;
 pub use rds_model::Msg;
 pub use steps::Steps;
 pub use store::{MAX_MESSAGES, Store};
-
-#[cfg(test)]
-mod tests;

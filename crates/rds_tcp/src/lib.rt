@@ -11,6 +11,3 @@ mod wire;
 
 pub use end::TcpEnd;
 pub use wire::TcpWire;
-
-#[cfg(test)]
-mod tests;

@@ -14,12 +14,12 @@ ghost use Rattle.rds_threads.specs.Ends.{IsEndOfRun};
 ghost use Rattle.rds_threads.specs.Settled.{HaveDoneSpared, HaveSettled};
 
 use crate::answers::{end_by_fault, end_by_report, end_by_spent, end_unfinished};
-use crate::counting::Start;
 use crate::form::{Form, RunEnd};
 use crate::giving::end_lines;
 use crate::leaving::host_ends;
 use crate::taking::journals;
 use rds_callers::Caller;
+use rds_counts::Start;
 use rds_link::{Sink, Wire};
 use rds_rounds::{Lines, Rounds};
 use rds_wire::Memory;

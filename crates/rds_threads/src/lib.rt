@@ -2,7 +2,6 @@
 #![tactic(auto)]
 
 mod answers;
-mod counting;
 mod ending;
 mod form;
 mod giving;

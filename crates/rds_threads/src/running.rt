@@ -12,11 +12,11 @@ ghost use Rattle.rds_parties.specs.Parties.{AreParties};
 ghost use Rattle.rds_parties.specs.Preparing.{HaveCounted};
 ghost use Rattle.rds_settling.specs.Tied.{AreTied};
 
-use crate::counting::Start;
 use crate::ending::end_run;
 use crate::form::{Form, RunEnd};
 use crate::giving::end_lines;
 use rds_callers::Caller;
+use rds_counts::Start;
 use rds_fmap::Writer;
 use rds_line::Line;
 use rds_link::{End, Gate, Sink, Wire};

@@ -28,6 +28,6 @@ pub returns-clause-counted : goal.returns-clause-counted
 returns-clause-counted g c =
     let wire = c.args.wire.now in
     let start = c.of-start.result in
-    counted_of g.W.End.End.means.tells (start.can_fail ≡ true) (g.W.Wire.may_fail wire) c.of-start.ensures.can_fail start.budget c.args.budget start.counts
+    counted_of g.W.End.End.means.tells (start.can_fail ≡ true) (g.W.Wire.may_fail wire) c.of-start.ensures.can_fail.0 start.budget c.args.budget start.counts
     (record { faults = g.W.Wire.faults wire; nothings = g.W.Wire.nothings wire; fulls = g.W.Wire.fulls wire }) _ c.of-start.ensures.budget
     c.of-start.ensures.counts c.finish.result c.finish.ensures.counted

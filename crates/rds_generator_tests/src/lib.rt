@@ -1,0 +1,5 @@
+//! Tests of the generator of scripts.
+#![tactic(auto)]
+
+#[cfg(test)]
+mod scripts;

@@ -1,3 +1,0 @@
-mod delivering;
-mod putting;
-mod relieving;

@@ -1,0 +1,11 @@
+//! Tests of what a line holds beside its connection.
+#![tactic(auto)]
+
+#[cfg(test)]
+mod delivering;
+#[cfg(test)]
+mod putting;
+#[cfg(test)]
+mod relieving;
+#[cfg(test)]
+mod streams;

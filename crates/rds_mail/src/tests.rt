@@ -1,4 +1,0 @@
-mod gathering;
-mod polled;
-mod single;
-mod threads;
