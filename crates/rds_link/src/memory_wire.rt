@@ -28,6 +28,7 @@ pub struct MemWire {
     faults: u64,
     nothings: u64,
     fulls: u64,
+    returned: u64,
 }
 
 impl Model for MemWire {
@@ -35,14 +36,14 @@ impl Model for MemWire {
 
     ghost Value = { WireView };
 
-    ghost view = { λ w. record { openings = w.calls; fail_end = w.fail_end.items; faults = w.faults; nothings = w.nothings; fulls = w.fulls } };
+    ghost view = { λ w. record { openings = w.calls; fail_end = w.fail_end.items; faults = w.faults; nothings = w.nothings; fulls = w.fulls; returned = w.returned } };
 }
 
 impl MemWire {
     /// The openings whose numbers, from 1, stand in `fail_open` fail, and so do the calls of `read` and `write` of each
     /// end whose numbers stand in `fail_end`.
     pub fn new(alloc: Global, fail_open: Vec<u32>, fail_end: Vec<u32>) -> MemWire
-        ensures { result ≡ record { openings = record { fail = fail_open.items; made = 0 }; fail_end = fail_end.items; faults = 0; nothings = 0; fulls = 0 } }
+        ensures { result ≡ record { openings = record { fail = fail_open.items; made = 0 }; fail_end = fail_end.items; faults = 0; nothings = 0; fulls = 0; returned = 0 } }
     {
         MemWire {
             alloc,
@@ -51,6 +52,7 @@ impl MemWire {
             faults: 0,
             nothings: 0,
             fulls: 0,
+            returned: 0,
         }
     }
 
@@ -98,6 +100,8 @@ impl Wire for MemWire {
     ghost nothings = { λ w. w.nothings };
 
     ghost fulls = { λ w. w.fulls };
+
+    ghost returned = { λ w. w.returned };
 
     ghost may_fail = { λ w. MayFail w };
 
@@ -153,6 +157,7 @@ impl Wire for MemWire {
         self.faults = self.faults.saturating_add(end.standing.faults());
         self.nothings = self.nothings.saturating_add(end.nothings);
         self.fulls = self.fulls.saturating_add(end.fulls);
+        self.returned = self.returned.saturating_add(1);
         end.finish(rt);
     }
 }

@@ -1,7 +1,7 @@
 ghost use Rattle.std.specs.Prelude.{◌≡◌, ◌≤◌, ◌↔◌, ℕ, IfOk, IsErrOf, true};
 ghost use Rattle.rds_link.specs.Ends.{Remains, MovesNothing, CountsStay, IsFresh, HasAll, RisesBy};
 ghost use Rattle.rds_link.specs.Standing.{LearnsOther, HaveCause, HaveFirst};
-ghost use Rattle.rds_link.specs.Streaming.{HasRisen};
+ghost use Rattle.rds_link.specs.Streaming.{HasGrownBy, HasRisen};
 ghost use Rattle.rds_link.specs.declared.wire.WireError.TheVariants as errors;
 
 use crate::End;
@@ -40,6 +40,9 @@ pub trait Wire {
 
     ghost fulls: { Self → ℕ };
 
+    /// How many ends were given back.
+    ghost returned: { Self → ℕ };
+
     /// An opening of it or a call of one of its ends may fail.
     ghost may_fail: { Self → Type 0 };
 
@@ -68,7 +71,8 @@ pub trait Wire {
         ensures fault { IsErrOf result errors.Fault → HasRisen (faults self.old) (faults self.new) }
         ensures faults { faults self.old ≤ faults self.new }
         ensures nothings { nothings self.new ≡ nothings self.old }
-        ensures fulls { fulls self.new ≡ fulls self.old };
+        ensures fulls { fulls self.new ≡ fulls self.old }
+        ensures returned { returned self.new ≡ returned self.old };
 
     /// Each of the two ends of a stream is told all that the other sent and whether it has shut.
     fn meet(a: &mut Self::End, b: &mut Self::End)
@@ -87,5 +91,6 @@ pub trait Wire {
     fn give_back<R: Wait>(&mut self, rt: &R, end: Self::End)
         ensures faults { RisesBy (Self.End.means.stand end).faults (faults self.old) (faults self.new) }
         ensures nothings { RisesBy (Self.End.means.nothings end) (nothings self.old) (nothings self.new) }
-        ensures fulls { RisesBy (Self.End.means.fulls end) (fulls self.old) (fulls self.new) };
+        ensures fulls { RisesBy (Self.End.means.fulls end) (fulls self.old) (fulls self.new) }
+        ensures returned { HasGrownBy 1 (returned self.old) (returned self.new) };
 }

@@ -21,6 +21,7 @@ pub struct TcpWire {
     faults: u64,
     nothings: u64,
     fulls: u64,
+    returned: u64,
 }
 
 impl Model for TcpWire {
@@ -28,7 +29,7 @@ impl Model for TcpWire {
 
     ghost Value = { Counts };
 
-    ghost view = { λ w. record { faults = w.faults; nothings = w.nothings; fulls = w.fulls } };
+    ghost view = { λ w. record { faults = w.faults; nothings = w.nothings; fulls = w.fulls; returned = w.returned } };
 }
 
 impl TcpWire {
@@ -36,7 +37,7 @@ impl TcpWire {
     pub fn new<
         R: Threads + Wait + Net<Listener = TcpListener, Stream = TcpStream> + Copy + Send + 'static,
     >(rt: &R, alloc: Global) -> TcpWire
-        ensures { result ≡ record { faults = 0; nothings = 0; fulls = 0 } }
+        ensures { result ≡ record { faults = 0; nothings = 0; fulls = 0; returned = 0 } }
     {
         TcpWire {
             alloc,
@@ -44,6 +45,7 @@ impl TcpWire {
             faults: 0,
             nothings: 0,
             fulls: 0,
+            returned: 0,
         }
     }
 
@@ -56,6 +58,7 @@ impl TcpWire {
             faults: 0,
             nothings: 0,
             fulls: 0,
+            returned: 0,
         }
     }
 
@@ -88,6 +91,7 @@ impl TcpWire {
             faults: _,
             nothings: _,
             fulls: _,
+            returned: _,
         } = self;
         if let Some(crew) = crew {
             crew.finish(rt);
@@ -126,6 +130,8 @@ impl Wire for TcpWire {
     ghost nothings = { λ w. w.nothings };
 
     ghost fulls = { λ w. w.fulls };
+
+    ghost returned = { λ w. w.returned };
 
     ghost may_fail = { λ w. Unit {0} };
 
@@ -170,6 +176,7 @@ impl Wire for TcpWire {
         self.faults = self.faults.saturating_add(end.standing.faults());
         self.nothings = self.nothings.saturating_add(end.nothings);
         self.fulls = self.fulls.saturating_add(end.fulls);
+        self.returned = self.returned.saturating_add(1);
         end.finish(rt);
     }
 }

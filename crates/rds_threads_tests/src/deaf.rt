@@ -88,6 +88,8 @@ impl Wire for DeafWire {
 
     ghost fulls = { λ w. w.own.fulls };
 
+    ghost returned = { λ w. w.own.returned };
+
     ghost may_fail = { λ w. Unit {0} };
 
     fn tells(&self) -> bool {

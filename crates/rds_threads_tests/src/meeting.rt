@@ -162,6 +162,8 @@ impl<'a> Wire for MeetingWire<'a> {
 
     ghost fulls = { λ w. w.own.fulls };
 
+    ghost returned = { λ w. w.own.returned };
+
     ghost may_fail = { λ w. Unit {0} };
 
     fn tells(&self) -> bool {

@@ -12,7 +12,7 @@ returns g c = λ line at.
     let past = c.end_line.result.past in
     let same : taken ≡ line = c.swap_remove-line.ensures.value ∙ get_or_from_slice_get c.args.row.now.items c.args.place line taken at in
     let own : IsJournalOfLine taken past = record {
-      is = c.end_line.ensures;
-      opened = (taken.channel.streams.opened, ap opens c.end_line.ensures ∙ sym c.known.ensures.carried.opened);
+      is = c.end_line.ensures.past;
+      opened = (taken.channel.streams.opened, ap opens c.end_line.ensures.past ∙ sym c.known.ensures.carried.opened);
     } in
     subst (λ (l : LineView g.row.W-End.Denot WriterView). IsJournalOfLine l past) same own

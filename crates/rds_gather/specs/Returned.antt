@@ -1,0 +1,13 @@
+-- How many ends the lines of a host hold. Source: this project's own.
+use Rattle.std.specs.Prelude.{ℕ, List, length}
+use Rattle.rds_views.specs.Views.{total}
+use Rattle.rds_line.specs.Line.{LineView}
+
+module _ {E M : Type 0} where
+  -- a line holds one end of each of its streams
+  abbrev pub ends_of : LineView E M → ℕ
+  ends_of line = length line.channel.streams.list
+
+  -- those of all lines
+  abbrev pub ends_in : List (LineView E M) → ℕ
+  ends_in lines = total ends_of lines
