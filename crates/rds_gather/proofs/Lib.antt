@@ -7,4 +7,4 @@ pub mod Looking
 pub mod Owning
 pub mod Cutting
 pub mod Raising
-pub mod Returned
+pub mod Held

@@ -6,4 +6,3 @@ pub mod Heard
 pub mod Owned
 pub mod Cuts
 pub mod Grounded
-pub mod Returned

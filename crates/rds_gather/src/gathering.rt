@@ -1,13 +1,12 @@
-ghost use Rattle.std.specs.Prelude.{◌≡◌, IfOk, OnOk, map};
-ghost use Rattle.rds_link.specs.Streaming.{HasGrownBy};
+ghost use Rattle.std.specs.Prelude.{◌≡◌, ◌-◌, IfOk, OnOk, map};
 ghost use Rattle.rds_report.specs.Views.{side_view};
+ghost use Rattle.rds_host.specs.Held.{ends_in};
 ghost use Rattle.rds_host.specs.Passes.{AreAllPasses};
 ghost use Rattle.rds_host.specs.Ties.{AreOfHost};
 ghost use Rattle.rds_gather.specs.Cuts.{AreCutsOfSlots};
 ghost use Rattle.rds_gather.specs.Grounded.{AreMapsGrounded};
 ghost use Rattle.rds_gather.specs.Joined.{AreJoined, AreLooksOfJournals};
 ghost use Rattle.rds_gather.specs.Owned.{AreFound, AreOwned};
-ghost use Rattle.rds_gather.specs.Returned.{ends_in};
 ghost use Rattle.rds_gather.specs.Sides.{line_side};
 
 use crate::grounds::find_grounds;
@@ -52,7 +51,7 @@ pub fn gather<W: Wire, R: Wait>(
     ensures found { OnOk result (AreFound closed.items lines.items) }
     ensures grounded { OnOk result (AreMapsGrounded closed.items lines.items) }
     ensures cut { OnOk result (AreCutsOfSlots closed.items lines.items) }
-    ensures returned { HasGrownBy (ends_in lines.items) (W.returned wire.old) (W.returned wire.new) }
+    ensures out { W.out wire.new ≡ W.out wire.old - ends_in lines.items }
 {
     let mut left = take_lines(rt, alloc, wire, lines)?;
     let mut slots = take_slots(alloc, closed)?;

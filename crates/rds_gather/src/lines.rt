@@ -1,12 +1,11 @@
 //! Lines that are taken apart.
-ghost use Rattle.std.specs.Prelude.{◌≡◌, ◌∷◌, ◌++◌, [], All, IfOk, OnOk, map};
+ghost use Rattle.std.specs.Prelude.{◌≡◌, ◌-◌, ◌∷◌, ◌++◌, [], All, IfOk, OnOk, map};
 ghost use Rattle.rds_report.specs.Views.{side_view};
-ghost use Rattle.rds_link.specs.Streaming.{HasGrownBy};
+ghost use Rattle.rds_host.specs.Held.{ends_in, ends_of};
 ghost use Rattle.rds_line.specs.Keeps.{KeepsLine};
 ghost use Rattle.rds_line.specs.Line.{line_past};
 ghost use Rattle.rds_gather.specs.Columns.{rows_left};
 ghost use Rattle.rds_gather.specs.Cuts.{HasCut};
-ghost use Rattle.rds_gather.specs.Returned.{ends_in, ends_of};
 ghost use Rattle.rds_gather.specs.Sides.{line_side};
 
 use rds_fmap::Writer;
@@ -100,7 +99,7 @@ pub(crate) fn take_lines<W: Wire, R: Wait>(
     ensures words { IfOk result (λ left. left.words.items ≡ map (λ line. line.words) lines.items) }
     ensures kept { All (KeepsLine (λ w. w.published)) lines.items }
     ensures cut { All HasCut lines.items }
-    ensures returned { HasGrownBy (ends_in lines.items) (W.returned wire.old) (W.returned wire.new) }
+    ensures out { W.out wire.new ≡ W.out wire.old - ends_in lines.items }
 {
     let mut left = LinesLeft {
         journals: Vec::new(alloc),
@@ -129,7 +128,7 @@ fn take_line<W: Wire, R: Wait>(rt: &R, wire: &mut W, line: Line<W::End, Writer>)
     ensures words { result.words ≡ line.words }
     ensures kept { KeepsLine (λ w. w.published) line }
     ensures cut { HasCut line }
-    ensures returned { HasGrownBy (ends_of line) (W.returned wire.old) (W.returned wire.new) }
+    ensures out { W.out wire.new ≡ W.out wire.old - ends_of line }
 {
     line.known();
     let (journal, parts) = line.into_parts();
@@ -160,7 +159,7 @@ fn take_line<W: Wire, R: Wait>(rt: &R, wire: &mut W, line: Line<W::End, Writer>)
 /// Takes a line apart and gives the ends of all its streams back to the wire. The journal is left.
 pub fn end_line<W: Wire, R: Wait>(rt: &R, wire: &mut W, line: Line<W::End, Writer>) -> Journal
     ensures past { result.past ≡ line_past line }
-    ensures returned { HasGrownBy (ends_of line) (W.returned wire.old) (W.returned wire.new) }
+    ensures out { W.out wire.new ≡ W.out wire.old - ends_of line }
 {
     let LineLeft {
         peer: _,

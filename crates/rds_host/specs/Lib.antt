@@ -6,3 +6,4 @@ pub mod Keeping
 pub mod Telling
 pub mod Settled
 pub mod Seats
+pub mod Held

@@ -22,14 +22,14 @@ memory_means = record {
 }
 
 -- a wire in memory: which openings fail and how many were made, which calls of its ends fail, its three counts, and how many
--- ends were given back
+-- ends are out
 pub record WireView : Type 0 where
   pub openings : CallsView
   pub fail_end : List ℕ
   pub faults : ℕ
   pub nothings : ℕ
   pub fulls : ℕ
-  pub returned : ℕ
+  pub out : ℕ
 
 -- an opening of the wire, or a call of one of its ends, is to fail
 abbrev pub MayFail : WireView → Type 0

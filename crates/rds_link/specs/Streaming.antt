@@ -10,10 +10,6 @@ HasRisen old new = (old < new) ⊎ (new ≡ 2 ^ 64 - 1)
 abbrev pub HasRisenBy : ℕ → ℕ → ℕ → Type 0
 HasRisenBy least old new = (old + least ≤ new) ⊎ (new ≡ 2 ^ 64 - 1)
 
--- a count rose by at least so many, or is at the last value of a u64
-abbrev pub HasGrownBy : ℕ → ℕ → ℕ → Type 0
-HasGrownBy much old new = (old + much ≤ new) ⊎ (2 ^ 64 - 1 ≤ new)
-
 -- where a source tells what it has left, it handed out these bytes from the front
 abbrev pub SourceGave : Option (List ℕ) → Option (List ℕ) → List ℕ → Type 0
 SourceGave None new bytes = Unit {0}

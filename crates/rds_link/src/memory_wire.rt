@@ -1,5 +1,5 @@
 //! The wire whose streams stay in memory.
-ghost use Rattle.std.specs.Prelude.{◌≡◌, ◌≤◌, ◌↔◌, [], IfOk, IsErrOf, true};
+ghost use Rattle.std.specs.Prelude.{◌≡◌, ◌≤◌, ◌+◌, ◌↔◌, [], IfOk, IsErrOf, OnErr, true};
 ghost use Rattle.rds_link.specs.declared.wire.WireError.TheVariants as errors;
 ghost use Rattle.rds_link.specs.Ends.{IsFresh};
 ghost use Rattle.rds_link.specs.Failing.{next_call, NextFails};
@@ -28,7 +28,7 @@ pub struct MemWire {
     faults: u64,
     nothings: u64,
     fulls: u64,
-    returned: u64,
+    out: u64,
 }
 
 impl Model for MemWire {
@@ -36,14 +36,14 @@ impl Model for MemWire {
 
     ghost Value = { WireView };
 
-    ghost view = { λ w. record { openings = w.calls; fail_end = w.fail_end.items; faults = w.faults; nothings = w.nothings; fulls = w.fulls; returned = w.returned } };
+    ghost view = { λ w. record { openings = w.calls; fail_end = w.fail_end.items; faults = w.faults; nothings = w.nothings; fulls = w.fulls; out = w.out } };
 }
 
 impl MemWire {
     /// The openings whose numbers, from 1, stand in `fail_open` fail, and so do the calls of `read` and `write` of each
     /// end whose numbers stand in `fail_end`.
     pub fn new(alloc: Global, fail_open: Vec<u32>, fail_end: Vec<u32>) -> MemWire
-        ensures { result ≡ record { openings = record { fail = fail_open.items; made = 0 }; fail_end = fail_end.items; faults = 0; nothings = 0; fulls = 0; returned = 0 } }
+        ensures { result ≡ record { openings = record { fail = fail_open.items; made = 0 }; fail_end = fail_end.items; faults = 0; nothings = 0; fulls = 0; out = 0 } }
     {
         MemWire {
             alloc,
@@ -52,7 +52,7 @@ impl MemWire {
             faults: 0,
             nothings: 0,
             fulls: 0,
-            returned: 0,
+            out: 0,
         }
     }
 
@@ -101,7 +101,7 @@ impl Wire for MemWire {
 
     ghost fulls = { λ w. w.fulls };
 
-    ghost returned = { λ w. w.returned };
+    ghost out = { λ w. w.out };
 
     ghost may_fail = { λ w. MayFail w };
 
@@ -134,15 +134,20 @@ impl Wire for MemWire {
         ensures fail { IfOk result (λ ends. (memory_means.fail ends.0 ≡ self.old.fail_end) × (memory_means.fail ends.1 ≡ self.old.fail_end)) }
         ensures fault { IsErrOf result errors.Fault → HasRisen self.old.faults self.new.faults }
         ensures number { IsErrOf result errors.Fault ↔ NextFails self.old.openings.fail self.old.openings.made }
-        ensures counts { self.new ≡ record self.old { openings = record self.old.openings { made = next_call self.old.openings.made }; faults = self.new.faults } }
+        ensures counts { self.new ≡ record self.old { openings = record self.old.openings { made = next_call self.old.openings.made }; faults = self.new.faults; out = self.new.out } }
         ensures faults { self.old.faults ≤ self.new.faults }
+        ensures out { IfOk result (λ _. self.new.out ≤ self.old.out + 2) }
+        ensures none { OnErr result (self.new.out ≡ self.old.out) }
     {
         if self.calls.fails() {
             self.faults = self.faults.saturating_add(1);
             return Err(WireError::Fault);
         }
         match self.pair() {
-            Ok(ends) => Ok(ends),
+            Ok(ends) => {
+                self.out = self.out.saturating_add(2);
+                Ok(ends)
+            }
             Err(Memory) => Err(WireError::Memory),
         }
     }
@@ -157,7 +162,7 @@ impl Wire for MemWire {
         self.faults = self.faults.saturating_add(end.standing.faults());
         self.nothings = self.nothings.saturating_add(end.nothings);
         self.fulls = self.fulls.saturating_add(end.fulls);
-        self.returned = self.returned.saturating_add(1);
+        self.out = self.out.saturating_sub(1);
         end.finish(rt);
     }
 }

@@ -1,7 +1,7 @@
-ghost use Rattle.std.specs.Prelude.{◌≡◌, ◌≤◌, ◌↔◌, ℕ, IfOk, IsErrOf, true};
+ghost use Rattle.std.specs.Prelude.{◌≡◌, ◌≤◌, ◌+◌, ◌-◌, ◌↔◌, ℕ, IfOk, IsErrOf, OnErr, true};
 ghost use Rattle.rds_link.specs.Ends.{Remains, MovesNothing, CountsStay, IsFresh, HasAll, RisesBy};
 ghost use Rattle.rds_link.specs.Standing.{LearnsOther, HaveCause, HaveFirst};
-ghost use Rattle.rds_link.specs.Streaming.{HasGrownBy, HasRisen};
+ghost use Rattle.rds_link.specs.Streaming.{HasRisen};
 ghost use Rattle.rds_link.specs.declared.wire.WireError.TheVariants as errors;
 
 use crate::End;
@@ -40,8 +40,8 @@ pub trait Wire {
 
     ghost fulls: { Self → ℕ };
 
-    /// How many ends were given back.
-    ghost returned: { Self → ℕ };
+    /// How many ends of its streams are out: an opening handed them out, and they weren't given back.
+    ghost out: { Self → ℕ };
 
     /// An opening of it or a call of one of its ends may fail.
     ghost may_fail: { Self → Type 0 };
@@ -72,7 +72,8 @@ pub trait Wire {
         ensures faults { faults self.old ≤ faults self.new }
         ensures nothings { nothings self.new ≡ nothings self.old }
         ensures fulls { fulls self.new ≡ fulls self.old }
-        ensures returned { returned self.new ≡ returned self.old };
+        ensures out { IfOk result (λ _. out self.new ≤ out self.old + 2) }
+        ensures none { OnErr result (out self.new ≡ out self.old) };
 
     /// Each of the two ends of a stream is told all that the other sent and whether it has shut.
     fn meet(a: &mut Self::End, b: &mut Self::End)
@@ -92,5 +93,5 @@ pub trait Wire {
         ensures faults { RisesBy (Self.End.means.stand end).faults (faults self.old) (faults self.new) }
         ensures nothings { RisesBy (Self.End.means.nothings end) (nothings self.old) (nothings self.new) }
         ensures fulls { RisesBy (Self.End.means.fulls end) (fulls self.old) (fulls self.new) }
-        ensures returned { HasGrownBy 1 (returned self.old) (returned self.new) };
+        ensures out { out self.new ≡ out self.old - 1 };
 }

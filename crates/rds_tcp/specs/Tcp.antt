@@ -26,9 +26,9 @@ tcp_means = record {
 abbrev pub HasMovedNothing : TcpEnd → Type 0
 HasMovedNothing e = (sent e.out ≡ []) × (received e.inp ≡ [])
 
--- the three counts of a wire, and how many ends were given back
+-- the three counts of a wire, and how many of its ends are out
 pub record Counts : Type 0 where
   pub faults : ℕ
   pub nothings : ℕ
   pub fulls : ℕ
-  pub returned : ℕ
+  pub out : ℕ

@@ -11,3 +11,6 @@ mod wire;
 
 pub use end::TcpEnd;
 pub use wire::TcpWire;
+
+#[cfg(test)]
+mod tests;

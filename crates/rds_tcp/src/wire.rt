@@ -21,7 +21,7 @@ pub struct TcpWire {
     faults: u64,
     nothings: u64,
     fulls: u64,
-    returned: u64,
+    out: u64,
 }
 
 impl Model for TcpWire {
@@ -29,7 +29,7 @@ impl Model for TcpWire {
 
     ghost Value = { Counts };
 
-    ghost view = { λ w. record { faults = w.faults; nothings = w.nothings; fulls = w.fulls; returned = w.returned } };
+    ghost view = { λ w. record { faults = w.faults; nothings = w.nothings; fulls = w.fulls; out = w.out } };
 }
 
 impl TcpWire {
@@ -37,7 +37,7 @@ impl TcpWire {
     pub fn new<
         R: Threads + Wait + Net<Listener = TcpListener, Stream = TcpStream> + Copy + Send + 'static,
     >(rt: &R, alloc: Global) -> TcpWire
-        ensures { result ≡ record { faults = 0; nothings = 0; fulls = 0; returned = 0 } }
+        ensures { result ≡ record { faults = 0; nothings = 0; fulls = 0; out = 0 } }
     {
         TcpWire {
             alloc,
@@ -45,7 +45,7 @@ impl TcpWire {
             faults: 0,
             nothings: 0,
             fulls: 0,
-            returned: 0,
+            out: 0,
         }
     }
 
@@ -58,7 +58,7 @@ impl TcpWire {
             faults: 0,
             nothings: 0,
             fulls: 0,
-            returned: 0,
+            out: 0,
         }
     }
 
@@ -91,7 +91,7 @@ impl TcpWire {
             faults: _,
             nothings: _,
             fulls: _,
-            returned: _,
+            out: _,
         } = self;
         if let Some(crew) = crew {
             crew.finish(rt);
@@ -131,7 +131,7 @@ impl Wire for TcpWire {
 
     ghost fulls = { λ w. w.fulls };
 
-    ghost returned = { λ w. w.returned };
+    ghost out = { λ w. w.out };
 
     ghost may_fail = { λ w. Unit {0} };
 
@@ -159,7 +159,10 @@ impl Wire for TcpWire {
         _stream: u32,
     ) -> Result<(TcpEnd, TcpEnd), WireError> {
         match self.pair(rt) {
-            Ok(ends) => Ok(ends),
+            Ok(ends) => {
+                self.out = self.out.saturating_add(2);
+                Ok(ends)
+            }
             Err(WireError::Memory) => Err(WireError::Memory),
             Err(WireError::Fault) => {
                 self.faults = self.faults.saturating_add(1);
@@ -176,7 +179,7 @@ impl Wire for TcpWire {
         self.faults = self.faults.saturating_add(end.standing.faults());
         self.nothings = self.nothings.saturating_add(end.nothings);
         self.fulls = self.fulls.saturating_add(end.fulls);
-        self.returned = self.returned.saturating_add(1);
+        self.out = self.out.saturating_sub(1);
         end.finish(rt);
     }
 }

@@ -88,7 +88,7 @@ impl Wire for DeafWire {
 
     ghost fulls = { λ w. w.own.fulls };
 
-    ghost returned = { λ w. w.own.returned };
+    ghost out = { λ w. w.own.out };
 
     ghost may_fail = { λ w. Unit {0} };
 

@@ -162,7 +162,7 @@ impl<'a> Wire for MeetingWire<'a> {
 
     ghost fulls = { λ w. w.own.fulls };
 
-    ghost returned = { λ w. w.own.returned };
+    ghost out = { λ w. w.own.out };
 
     ghost may_fail = { λ w. Unit {0} };
 

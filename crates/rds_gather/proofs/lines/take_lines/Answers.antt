@@ -14,7 +14,7 @@ use Rattle.rds_gather.specs.Columns.{rows_left}
 use Rattle.rds_gather.specs.Cuts.{HasCut}
 use Rattle.rds_gather.specs.Sides.{line_side}
 use Rattle.rds_gather.proofs.Columns.{mapped_push, pushed_map}
-use Rattle.rds_gather.proofs.Returned.{returned_push}
+use Rattle.rds_gather.proofs.Held.{out_after}
 use Rattle.rds_gather.proofs.lines.take_lines.Goals as goal
 
 both_ok : {X Y Z : Type 0} (a : Result X Z) (b r : Result Y Z) → r ≡ result_and a b → is_ok r ≡ true → (is_ok a ≡ true) × (is_ok b ≡ true)
@@ -54,5 +54,5 @@ loop-line-preserved g c =
             pushed_map (λ (l : LineView g.row.W-End.Denot WriterView). l.ports) old.ports.items new.ports.items seen own.result.ports line (added c.add.result old.ports.items new.ports.items own.result.ports c.add.ensures.ports both.1) inv.3 own.ensures.ports,
             pushed_map (λ (l : LineView g.row.W-End.Denot WriterView). l.words) old.words.items new.words.items seen own.result.words line (added c.add.result old.words.items new.words.items own.result.words c.add.ensures.words both.1) inv.4 own.ensures.words,
           ),
-      returned_push seen line _ _ _ c.loop-line.invariant.3 own.ensures.returned,
+      out_after seen line _ _ _ c.loop-line.invariant.3 own.ensures.out,
     )

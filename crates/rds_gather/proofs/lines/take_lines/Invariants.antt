@@ -1,10 +1,9 @@
-use Rattle.std.proofs.Common.{◌≡◌, All, map, is_ok, true}
+use Rattle.std.proofs.Common.{◌≡◌, ◌-◌, All, map, is_ok, true}
 use Rattle.rds_report.specs.Views.{side_view}
-use Rattle.rds_link.specs.Streaming.{HasGrownBy}
+use Rattle.rds_host.specs.Held.{ends_in}
 use Rattle.rds_line.specs.Keeps.{KeepsLine}
 use Rattle.rds_gather.specs.Columns.{rows_left}
 use Rattle.rds_gather.specs.Cuts.{HasCut}
-use Rattle.rds_gather.specs.Returned.{ends_in}
 use Rattle.rds_gather.specs.Sides.{line_side}
 use Rattle.rds_gather.proofs.lines.take_lines.Given as goal
 
@@ -18,4 +17,4 @@ invariant-loop-line g l =
     × (rows_left l.left.boxes.items ≡ map (λ line. line.boxes) l.yielded)
     × (l.left.ports.items ≡ map (λ line. line.ports) l.yielded)
     × (l.left.words.items ≡ map (λ line. line.words) l.yielded))
-    × HasGrownBy (ends_in l.yielded) (g.W.Wire.returned l.fn.wire) (g.W.Wire.returned l.wire)
+    × (g.W.Wire.out l.wire ≡ g.W.Wire.out l.fn.wire - ends_in l.yielded)

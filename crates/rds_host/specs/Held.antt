@@ -1,4 +1,4 @@
--- How many ends the lines of a host hold. Source: this project's own.
+-- How many ends of streams the lines of hosts hold. Source: this project's own.
 use Rattle.std.specs.Prelude.{ℕ, List, length}
 use Rattle.rds_views.specs.Views.{total}
 use Rattle.rds_line.specs.Line.{LineView}
@@ -8,6 +8,10 @@ module _ {E M : Type 0} where
   abbrev pub ends_of : LineView E M → ℕ
   ends_of line = length line.channel.streams.list
 
-  -- those of all lines
+  -- those of all lines of a host
   abbrev pub ends_in : List (LineView E M) → ℕ
   ends_in lines = total ends_of lines
+
+  -- those of all hosts
+  abbrev pub ends_of_all : List (List (LineView E M)) → ℕ
+  ends_of_all rows = total ends_in rows

@@ -1,6 +1,5 @@
-//! Ends of streams and the wire.
+use crate::{TcpEnd, TcpWire};
 use rds_link::{End, Put, ROOM, Wire, WireError};
-use rds_tcp::{TcpEnd, TcpWire};
 use std::net::Net;
 use std::sync::Wait;
 use std::test::*;
