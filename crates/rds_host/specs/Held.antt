@@ -1,6 +1,6 @@
 -- How many ends of streams the lines of hosts hold. Source: this project's own.
 use Rattle.std.specs.Prelude.{ℕ, List, length}
-use Rattle.rds_views.specs.Views.{total}
+use Rattle.std.specs.List.{sum_by}
 use Rattle.rds_line.specs.Line.{LineView}
 
 module _ {E M : Type 0} where
@@ -10,8 +10,8 @@ module _ {E M : Type 0} where
 
   -- those of all lines of a host
   abbrev pub ends_in : List (LineView E M) → ℕ
-  ends_in lines = total ends_of lines
+  ends_in lines = sum_by ends_of lines
 
   -- those of all hosts
   abbrev pub ends_of_all : List (List (LineView E M)) → ℕ
-  ends_of_all rows = total ends_in rows
+  ends_of_all rows = sum_by ends_in rows
