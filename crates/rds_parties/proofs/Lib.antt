@@ -10,3 +10,4 @@ pub mod Jobs
 pub mod Led
 pub mod Cuts
 pub mod Counted
+pub mod Held

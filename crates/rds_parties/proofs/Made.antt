@@ -15,10 +15,13 @@ use Rattle.rds_parts.specs.Lanes.{Ascend}
 use Rattle.rds_report.specs.Hosts.{address_of}
 use Rattle.rds_script.specs.declared.script.Placed.{Placed}
 use Rattle.rds_callers.specs.Places.{CallerView}
+use Rattle.rds_host.specs.Held.{ends_in, ends_of, ends_of_all}
 use Rattle.rds_host.specs.Lines.{AreNewLines}
 use Rattle.rds_rounds.specs.Connection.{AreHosts, ArePaired}
 use Rattle.rds_rounds.specs.Grid.{AreRows, IsAt, OfEachPair, others, peer_at}
 use Rattle.rds_settling.specs.Tied.{AreTied}
+use Rattle.rds_parties.specs.Held.{ends_of_row, ends_prepared}
+use Rattle.rds_parties.specs.HeldLaws.{as_many_each}
 use Rattle.rds_parties.specs.Obeyed.{AreNewPlaces, slot_count}
 use Rattle.rds_parties.specs.Parties.{AreNewCallers, AreParties, HaveNotLooked}
 use Rattle.rds_parties.specs.Preparing.{AreAllCounted, AreAllPrepared, ArePrepared, HaveCounted, HaveNumbered}
@@ -277,3 +280,17 @@ module _ {E : Type 0} (m : Means E) where
         let b = line_at (suc place) low other at_other in
         subst (λ (l : List (ℕ × E)). HaveNumbered cuts before after low (suc place) l other.channel.streams.list) (sym a.2)
         (subst (λ (l : List (ℕ × E)). HaveNumbered cuts before after low (suc place) a.0.items l) (sym b.2) (counted low place a.0 b.0 le a.1 b.1))
+
+    -- and hold all the ends
+    pub made_ends : ends_of_all rows ≡ ends_prepared streams
+    made_ends =
+        as_many_each ends_of_row ends_in streams rows (made.rows_count ∙ sym prepared.shape.count)
+        (λ host lists row at_lists at_row.
+        let size = row_length host row at_row in
+        let same = row_size hosts streams prepared.shape host lists at_lists in
+        as_many_each (λ (list : StreamsOf). length list.items) ends_of lists row (omega (arith, size, same))
+        (λ place list line at_list at_line.
+        let within = slice_get_within row place line at_line in
+        let new = (made.lines host lists row at_lists at_row).each place (address_of (peer_at host place)) list.items line
+        (peer_there hosts host place (omega (arith, size, within))) (map_at (λ (l : StreamsOf). l.items) lists place list at_list) at_line in
+        ap (λ c. length c.streams.list) new.0))

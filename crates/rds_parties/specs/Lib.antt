@@ -4,3 +4,5 @@ pub mod Preparing
 pub mod Parties
 pub mod Growing
 pub mod Leading
+pub mod Held
+pub mod HeldLaws

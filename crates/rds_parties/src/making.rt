@@ -5,9 +5,11 @@ ghost use Rattle.rds_model.specs.declared.journal.TheConstants.{MAX_ENTRIES, MIN
 ghost use Rattle.rds_report.specs.Hosts.{address_of};
 ghost use Rattle.rds_script.specs.Script.{IsScript};
 ghost use Rattle.rds_line_streams.specs.Streams.{AreNumbered, IsUnused};
+ghost use Rattle.rds_host.specs.Held.{ends_of_all};
 ghost use Rattle.rds_host.specs.Lines.{AreNewLines};
 ghost use Rattle.rds_rounds.specs.Connection.{AreHosts};
 ghost use Rattle.rds_rounds.specs.Grid.{others, peer_at, rows_of};
+ghost use Rattle.rds_parties.specs.Held.{ends_prepared};
 ghost use Rattle.rds_parties.specs.Obeyed.{AreNewPlaces, is_bind_of as is_bind_of_host, slot_count};
 ghost use Rattle.rds_parties.specs.Parties.{AreNewCallers, AreParties, HaveNotLooked};
 ghost use Rattle.rds_parties.specs.Preparing.{AreAllCounted, AreAllPrepared, HaveCounted};
@@ -81,6 +83,7 @@ pub fn parties<E: End>(
     ensures looks { IfOk result (λ p. HaveNotLooked (rows_of p.1.items)) }
     ensures counted { (commands : List PlacedCommand) (before after : ℕ) → AreAllCounted commands before after (rows_of streams.items) →
         IfOk result (λ p. HaveCounted commands before after (rows_of p.1.items)) }
+    ensures ends { IfOk result (λ p. ends_of_all (rows_of p.1.items) ≡ ends_prepared (rows_of streams.items)) }
 {
     let mut callers = Vec::new(alloc);
     let mut lines = Vec::new(alloc);

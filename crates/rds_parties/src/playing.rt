@@ -7,6 +7,7 @@ ghost use Rattle.rds_parties.specs.Parties.{AreParties, HaveLed, HaveNotLooked, 
 ghost use Rattle.rds_parties.specs.Preparing.{HaveCounted};
 ghost use Rattle.rds_script.specs.declared.script.Placed.{Placed as PlacedCommand};
 ghost use Rattle.rds_script.specs.Script.{IsCommand, IsScript};
+ghost use Rattle.rds_host.specs.Held.{ends_of_all};
 ghost use Rattle.rds_host.specs.Lines.{AreTurned, pair_of};
 ghost use Rattle.rds_rounds.specs.Connection.{AreHosts};
 ghost use Rattle.rds_rounds.specs.Grid.{EachRow, rows_of};
@@ -169,6 +170,7 @@ pub fn play<E: End + Send, R: Threads + Wait + Sync, G: Gate + Sync>(
     ensures hosts { (limit hosts : ℕ) → AreHosts E.means limit hosts (rows_of lines.items) → AreHosts E.means limit hosts (rows_of result.1.items) }
     ensures counted { (commands : List PlacedCommand) (before after : ℕ) → HaveCounted commands before after (rows_of lines.items) →
         HaveCounted commands before after (rows_of result.1.items) }
+    ensures ends { ends_of_all (rows_of result.1.items) ≡ ends_of_all (rows_of lines.items) }
 {
     let commands = script.commands.as_slice();
     let Ok(leading) = lead(rt, alloc, commands, &mut callers, &mut lines) else {

@@ -4,6 +4,7 @@ ghost use Rattle.rds_line_streams.specs.Streams.{numbers};
 ghost use Rattle.rds_rounds.specs.Grid.{rows_of};
 ghost use Rattle.rds_script.specs.Script.{IsScript};
 ghost use Rattle.rds_parties.specs.Growing.{GrowsBy};
+ghost use Rattle.rds_parties.specs.Held.{ends_of_row, ends_prepared};
 ghost use Rattle.rds_parties.specs.Preparing.{AreAllCounted, AreAllPrepared, ArePrepared};
 ghost use Rattle.rds_parties.specs.Streams.{AreAllUnlessRisen, AreNumbersOf, streams_between};
 
@@ -72,6 +73,7 @@ pub fn prepare<W: Wire, R: Threads + Wait + Net>(
     ensures prepared { IfOk result (λ p. AreAllPrepared W.End.means script.now.hosts (rows_of p.streams.items)) }
     ensures counted { IfOk result (λ p. AreAllCounted script.now.commands.items (W.faults wire.old) (W.faults wire.new) (rows_of p.streams.items)) }
     ensures grows { W.faults wire.old ≤ W.faults wire.new }
+    ensures out { IfOk result (λ p. W.out wire.new ≤ W.out wire.old + ends_prepared (rows_of p.streams.items)) }
 {
     let mut prepared = Prepared {
         streams: Vec::new(alloc),
@@ -101,6 +103,7 @@ fn add_host<W: Wire, R: Threads + Wait + Net>(
         AreAllCounted script.now.commands.items before (W.faults wire.old) (rows_of prepared.old.streams.items) →
         OnOk result (AreAllCounted script.now.commands.items before (W.faults wire.new) (rows_of prepared.new.streams.items)) }
     ensures grows { W.faults wire.old ≤ W.faults wire.new }
+    ensures out { OnOk result (W.out wire.new + ends_prepared (rows_of prepared.old.streams.items) ≤ W.out wire.old + ends_prepared (rows_of prepared.new.streams.items)) }
 {
     let mut row = Row {
         streams: Vec::new(alloc),
@@ -131,6 +134,8 @@ fn add_pair<W: Wire, R: Threads + Wait + Net>(
     ensures grows { OnOk result (GrowsBy W.End.means low (streams_between low high script.now.commands.items) (W.faults wire.old) (W.faults wire.new) (rows_of prepared.old.streams.items) (rows_of prepared.new.streams.items) row.old.streams.items row.new.streams.items) }
     ensures wanted { length prepared.new.wanted.items ≡ length prepared.old.wanted.items }
     ensures faults { W.faults wire.old ≤ W.faults wire.new }
+    ensures out { OnOk result (W.out wire.new + (ends_prepared (rows_of prepared.old.streams.items) + ends_of_row row.old.streams.items) ≤
+        W.out wire.old + (ends_prepared (rows_of prepared.new.streams.items) + ends_of_row row.new.streams.items)) }
 {
     let cuts = cuts_between(script, low, high);
     let opened = open_all(rt, alloc, wire, low, high, cuts + MORE_STREAMS)?;
@@ -155,6 +160,7 @@ fn open_all<W: Wire, R: Threads + Wait + Net>(
     ensures prepared { IfOk result (λ opened. (newest : ℕ) × ArePrepared W.End.means newest opened.low.items opened.high.items) }
     ensures counted { IfOk result (λ opened. AreNumbersOf count (W.faults wire.old) (W.faults wire.new) (numbers opened.low.items)) }
     ensures grows { W.faults wire.old ≤ W.faults wire.new }
+    ensures out { IfOk result (λ opened. W.out wire.new ≤ W.out wire.old + (length opened.low.items + length opened.high.items)) }
 {
     let mut opened = Opened {
         low: Vec::new(alloc),
@@ -182,6 +188,8 @@ fn open_next<W: Wire, R: Threads + Wait + Net>(
     ensures whole { (first : ℕ) → first ≤ W.faults wire.old → AreAllUnlessRisen before first (W.faults wire.old) (numbers opened.old.low.items) →
         OnOk result (AreAllUnlessRisen (before + 1) first (W.faults wire.new) (numbers opened.new.low.items)) }
     ensures grows { W.faults wire.old ≤ W.faults wire.new }
+    ensures out { OnOk result (W.out wire.new + (length opened.old.low.items + length opened.old.high.items) ≤
+        W.out wire.old + (length opened.new.low.items + length opened.new.high.items)) }
 {
     let number = before + 1;
     match wire.open(rt, address(low), address(high), number) {

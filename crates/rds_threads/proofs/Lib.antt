@@ -22,3 +22,4 @@ pub mod KeptPorts
 pub mod Alive
 pub mod Counted
 pub mod Lacking
+pub mod Held

@@ -1,5 +1,5 @@
 -- The receive limits that the slots of a host have stored are those that its commands ask for.
-use Rattle.std.proofs.Common.{◌≡◌, ◌≢◌, ◌⊎◌, inl, inr, ℕ, ◌<◌, List, [], ◌∷◌, ◌++◌, Ok, Some, set, slice_get, refl, sym, ap, subst, ◌∙◌, arith}
+use Rattle.std.proofs.Common.{◌≡◌, ◌⊎◌, inl, inr, ℕ, List, [], ◌∷◌, Ok, Some, set, slice_get, refl, sym, ap, subst, ◌∙◌, arith}
 use Rattle.std.specs.Prelude.{Contains}
 use Rattle.std.proofs.lemmas.List.Elements.{Contains-append_right, Contains-push_cases}
 use Rattle.std.proofs.lemmas.Option.{same_Some, slice_get_within}
@@ -28,7 +28,7 @@ use Rattle.rds_callers.specs.Ends.{StoresNoMore}
 use Rattle.rds_callers.specs.Places.{Bound, Ended, Place, Spare, Vacant, holding_of, with_holding}
 use Rattle.rds_callers.specs.Tenants.{Asks, Cancels, Closes, ReceivesNext, SendsFrom, SendsOrNot}
 use Rattle.rds_callers.proofs.Storing.{stores_closed, stores_load, stores_received, stores_same}
-use Rattle.rds_parties.specs.Obeyed.{AreNewPlaces, DoesCommand, HasDone, HasObeyed}
+use Rattle.rds_parties.specs.Obeyed.{DoesCommand, HasDone, HasObeyed}
 use Rattle.rds_threads.specs.Outcome.{AskFor, BindsWith}
 use Rattle.rds_threads.proofs.At.{at_set, beside_set, one_at}
 use Rattle.rds_threads.proofs.CutsPut.{either_way}

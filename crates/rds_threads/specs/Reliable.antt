@@ -1,6 +1,6 @@
 -- What the sockets of a host handed out in a run, beside what its journals delivered and what other hosts sent. The words are those of a
 -- script that is played (rds_history, Sound). Source: rds(7) for reliable and in order; the words are this project's own.
-use Rattle.std.specs.Prelude.{◌≡◌, ℕ, ◌==◌, Option, Some, List, ◌++◌, All, Contains, filter, map, slice_get}
+use Rattle.std.specs.Prelude.{◌≡◌, ℕ, ◌==◌, Some, List, ◌++◌, All, Contains, filter, map, slice_get}
 use Rattle.std.specs.Option.{option_map}
 use Rattle.rds_wire.specs.declared.frame.Frame.{Frame}
 use Rattle.rds_model.specs.declared.entry.Entry.{Entry}

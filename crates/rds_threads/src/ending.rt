@@ -1,5 +1,6 @@
 //! How a run ends, and what is written then.
-ghost use Rattle.std.specs.Prelude.{◌≡◌, ◌<◌, ℕ, Bool, List, All, IfOk, OnErr, length, true, false};
+ghost use Rattle.std.specs.Prelude.{◌≡◌, ◌<◌, ◌-◌, ℕ, Bool, List, All, IfOk, OnErr, length, true, false};
+ghost use Rattle.rds_host.specs.Held.{ends_of_all};
 ghost use Rattle.rds_parties.specs.Preparing.{HaveCounted};
 ghost use Rattle.rds_rounds.specs.Causes.{AreClosed, AreUnacked, HostsLackStream, OweNothing};
 ghost use Rattle.rds_rounds.specs.Connection.{IsFullHost};
@@ -54,6 +55,7 @@ pub(crate) fn end_run<K: Sink, W: Wire, R: Wait>(
     ensures counted { IfOk result (IsCountedEnd W.End.means.tells (start.can_fail ≡ true) start.budget start.counts
         record { faults = W.faults wire.new; nothings = W.nothings wire.new; fulls = W.fulls wire.new }) }
     ensures memory { OnErr result (K.held sink.new ≡ K.held sink.old) }
+    ensures out { W.out wire.new ≡ W.out wire.old - ends_of_all (rows_of lines.items) }
 {
     match end {
         Rounds::Done => {

@@ -1,6 +1,7 @@
 //! What is left of the hosts of a run.
-ghost use Rattle.std.specs.Prelude.{◌≡◌, ◌≤◌, ◌∷◌, ◌++◌, [], ℕ, List, All, IfOk, Ok, OnOk, Some, length, map, slice_get, true};
+ghost use Rattle.std.specs.Prelude.{◌≡◌, ◌≤◌, ◌-◌, ◌∷◌, ◌++◌, [], ℕ, List, All, IfOk, Ok, OnOk, Some, length, map, slice_get, true};
 ghost use Rattle.rds_text.specs.declared.host.TheConstants.{MAX_HOSTS};
+ghost use Rattle.rds_host.specs.Held.{ends_in, ends_of_all};
 ghost use Rattle.rds_gather.specs.Grounded.{AreMapsGrounded};
 ghost use Rattle.rds_gather.specs.Sides.{line_side};
 ghost use Rattle.rds_report.specs.declared.final_state.HostEnd.{HostEnd as EndView};
@@ -52,6 +53,7 @@ pub(crate) fn host_ends<W: Wire, R: Wait>(
     ensures alive { IfOk result (λ ends. alive_in_ends (host_views ends.items) ≡ alive_in_rows (rows_of lines.items)) }
     ensures owe { All OweNothing (rows_of lines.items) → IfOk result (λ ends. EndsOweNothing (host_views ends.items)) }
     ensures closed { All AreClosed (rows_of lines.items) → IfOk result (λ ends. AreEndsClosed (host_views ends.items)) }
+    ensures out { W.out wire.new ≡ W.out wire.old - ends_of_all (rows_of lines.items) }
 {
     fifo_of_all();
     all_ends(rt, alloc, wire, callers, lines)
@@ -67,7 +69,8 @@ fn all_ends<W: Wire, R: Wait>(
 ) -> Result<Vec<HostEnd>, Memory>
     requires few { length lines.items ≤ MAX_HOSTS }
     requires settled { HaveSettled callers.items (rows_of lines.items) }
-    ensures { IfOk result (λ ends. AreLeftOf callers.items (rows_of lines.items) ends.items) }
+    ensures left { IfOk result (λ ends. AreLeftOf callers.items (rows_of lines.items) ends.items) }
+    ensures out { W.out wire.new ≡ W.out wire.old - ends_of_all (rows_of lines.items) }
 {
     let mut ends = Vec::new(alloc);
     let mut all: Result<(), Memory> = Ok(());
@@ -109,6 +112,7 @@ fn host_end<W: Wire, R: Wait>(
     ensures gone { IfOk result (λ end. HaveAllGone lines.items (map socket_view end.kept.items)) }
     ensures found { OnOk result (HaveAllFound caller.places lines.items) }
     ensures kept { IfOk result (λ end. AreKeptOf caller.places end.kept.items) }
+    ensures out { W.out wire.new ≡ W.out wire.old - ends_in lines.items }
 {
     tell_slots(&mut caller, &mut lines);
     let Ok((kept, closed)) = caller.end(rt, alloc) else {

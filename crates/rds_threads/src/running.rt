@@ -1,12 +1,14 @@
 //! A run.
-ghost use Rattle.std.specs.Prelude.{◌≡◌, ◌≤◌, ℕ, List, IfOk, OnErr, length, true};
+ghost use Rattle.std.specs.Prelude.{◌≡◌, ◌≢◌, ◌≤◌, ◌-◌, ℕ, List, IfOk, OnErr, length, true};
 ghost use Rattle.rds_model.specs.declared.journal.TheConstants.{MAX_ENTRIES, MIN_ENTRIES};
 ghost use Rattle.rds_script.specs.Script.{IsScript};
 ghost use Rattle.rds_rounds.specs.Connection.{AreHosts};
 ghost use Rattle.rds_rounds.specs.Grid.{rows_of};
 ghost use Rattle.rds_script.specs.declared.script.Placed.{Placed};
+ghost use Rattle.rds_host.specs.Held.{ends_of_all};
 ghost use Rattle.rds_threads.specs.Counted.{IsCountedEnd};
 ghost use Rattle.rds_threads.specs.Ends.{IsEndOfRun};
+ghost use Rattle.rds_threads.specs.declared.form.RunEnd.TheVariants as ended;
 ghost use Rattle.rds_threads.specs.Settled.{AreToldBelow, HaveDoneLed, IsToldOf};
 ghost use Rattle.rds_parties.specs.Parties.{AreParties};
 ghost use Rattle.rds_parties.specs.Preparing.{HaveCounted};
@@ -59,6 +61,7 @@ where
     ensures counted { IsCountedEnd W.End.means.tells (W.may_fail wire.old) budget
         record { faults = W.faults wire.old; nothings = W.nothings wire.old; fulls = W.fulls wire.old }
         record { faults = W.faults wire.new; nothings = W.nothings wire.new; fulls = W.fulls wire.new } result }
+    ensures given_back { result ≢ ended.Memory → W.out wire.new ≤ W.out wire.old }
 {
     match ended(rt, alloc, script, wire, gate, form, limit, budget, sink) {
         Ok(end) => end,
@@ -89,6 +92,7 @@ where
         record { faults = W.faults wire.old; nothings = W.nothings wire.old; fulls = W.fulls wire.old }
         record { faults = W.faults wire.new; nothings = W.nothings wire.new; fulls = W.fulls wire.new }) }
     ensures memory { OnErr result (K.held sink.new ≡ K.held sink.old) }
+    ensures out { IfOk result (λ _. W.out wire.new ≤ W.out wire.old) }
 {
     let start = Start::of(wire, budget);
     let Prepared { streams, wanted } = prepare(rt, alloc, wire, script)?;
@@ -122,6 +126,7 @@ fn finish<K: Sink, W: Wire, R: Wait>(
     ensures counted { IfOk result (IsCountedEnd W.End.means.tells (start.can_fail ≡ true) start.budget start.counts
         record { faults = W.faults wire.new; nothings = W.nothings wire.new; fulls = W.fulls wire.new }) }
     ensures memory { OnErr result (K.held sink.new ≡ K.held sink.old) }
+    ensures out { W.out wire.new ≡ W.out wire.old - ends_of_all (rows_of lines.items) }
 {
     tell_all(&mut callers, &mut lines);
     connected_keeps::<W::End>();

@@ -1,7 +1,8 @@
 //! The two lines of two hosts to each other, taken out of those of all hosts.
-ghost use Rattle.std.specs.Prelude.{◌≡◌, ◌≢◌, ◌<◌, ℕ, Some, length, slice_get};
+ghost use Rattle.std.specs.Prelude.{◌≡◌, ◌≢◌, ◌<◌, ◌+◌, ◌-◌, ℕ, Some, length, slice_get};
 ghost use Rattle.rds_fmap.specs.Readers.{WriterView};
 ghost use Rattle.rds_line.specs.Line.{LineView};
+ghost use Rattle.rds_host.specs.Held.{ends_in, ends_of_all};
 ghost use Rattle.rds_rounds.specs.Done.{AreDone};
 ghost use Rattle.rds_rounds.specs.Grid.{peer_at, rows_of};
 ghost use Rattle.rds_rounds.specs.Sound.{AreSoundJournals};
@@ -36,7 +37,8 @@ fn take_line<W: Wire, R: Wait>(
     place: usize,
 ) -> Journal
     requires { place < length row.old.items }
-    ensures { (line : LineView W.End WriterView) → slice_get row.old.items place ≡ Some line → IsJournalOfLine line result.past }
+    ensures journal { (line : LineView W.End WriterView) → slice_get row.old.items place ≡ Some line → IsJournalOfLine line result.past }
+    ensures out { (n : ℕ) × (ends_in row.old.items ≡ ends_in row.new.items + n) × (W.out wire.new ≡ W.out wire.old - n) }
 {
     let line = row.swap_remove(place);
     line.known();
@@ -58,6 +60,7 @@ pub(crate) fn journals<W: Wire, R: Wait>(
     ensures sound { AreSoundJournals W.End.means.tells result.0.past result.1.past }
     ensures own { IsJournalOf (rows_of lines.items) host peer result.0.past }
     ensures other { IsJournalOf (rows_of lines.items) peer host result.1.past }
+    ensures out { W.out wire.new ≡ W.out wire.old - ends_of_all (rows_of lines.items) }
 {
     let place = place_of(host, peer);
     let own = take_line(rt, wire, &mut lines[usize::from(host)], place);

@@ -1,10 +1,12 @@
-use Rattle.std.proofs.Common.{List, Vec, subst, sym}
+use Rattle.std.proofs.Common.{List, Vec, ap, subst, sym, ◌∙◌}
 use Rattle.std.specs.Global.{Global}
 use Rattle.rds_fmap.specs.Readers.{WriterView}
 use Rattle.rds_line.specs.Line.{LineView}
 use Rattle.rds_script.specs.declared.script.Placed.{Placed}
+use Rattle.rds_host.specs.Held.{ends_of_all}
 use Rattle.rds_host.specs.Lines.{AreTurned, pair_of}
 use Rattle.rds_rounds.specs.Grid.{rows_of}
+use Rattle.rds_parties.specs.HeldLaws.{all_as_many, kept_as_many}
 use Rattle.rds_parties.specs.Leading.{CallersKeep}
 use Rattle.rds_parties.specs.Parties.{AreParties, HaveLed, HaveObeyed}
 use Rattle.rds_parties.specs.Preparing.{HaveCounted}
@@ -74,3 +76,16 @@ pub returns-in_default-clause-counted : goal.returns-in_default-clause-counted
 returns-in_default-clause-counted g c = λ commands before after counted.
     subst (λ (l : Vec (Vec (LineView g.row.E.Denot WriterView) Global) Global). HaveCounted commands before after (rows_of l.items))
     (sym c.in_default.ensures.memory) counted
+
+pub returns-clause-ends : goal.returns-clause-ends
+returns-clause-ends g c =
+    let first = rows_of c.args.lines.items in
+    let led = rows_of c.lead.new.lines.items in
+    let last = rows_of c.play_beside.result.1.items in
+    all_as_many (AreTurned g.E.End.means pair_of) led last c.play_beside.ensures.turned
+    (λ old new turned. (turned.count, λ place line later at is. (turned.each place line later at is).channel.streams.numbers))
+    ∙ kept_as_many first led (learned_same first led c.in-Ok.ensures.lines)
+
+pub returns-in_default-clause-ends : goal.returns-in_default-clause-ends
+returns-in_default-clause-ends g c =
+    ap (λ (l : Vec (Vec (LineView g.row.E.Denot WriterView) Global) Global). ends_of_all (rows_of l.items)) c.in_default.ensures.memory

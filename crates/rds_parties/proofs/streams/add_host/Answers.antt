@@ -1,10 +1,12 @@
 use Rattle.std.proofs.Common.{◌≡◌, ◌≤◌, ◌<◌, ℕ, suc, ◌+◌, List, Vec, [], ◌∷◌, ◌++◌, set, ap, sym, ◌∙◌, subst, arith}
 use Rattle.std.specs.Global.{Global}
 use Rattle.std.proofs.lemmas.List.{map-append}
+use Rattle.std.proofs.lemmas.List.Sums.{sum_by_push}
 use Rattle.rds_rounds.specs.Grid.{rows_of}
 use Rattle.rds_link.specs.Ends.{Means}
 use Rattle.rds_line_streams.specs.Streams.{numbers}
 use Rattle.rds_parties.specs.Growing.{GrowsBy}
+use Rattle.rds_parties.specs.Held.{ends_of_row, ends_prepared}
 use Rattle.rds_parties.specs.Preparing.{AreAllCounted, AreAllPrepared}
 use Rattle.rds_parties.specs.Streams.{streams_between}
 use Rattle.rds_parties.proofs.Counted.{IsCounted, both_numbered, halfway_later, numbers_since}
@@ -29,6 +31,7 @@ loop-low-init g c =
           subst (λ (l : List (EndsOf g.row.W-End.Denot)). IsHalfway holds c.args.host 0 rows l) (sym c.new.ensures.items)
           (halfway_start holds c.args.host rows c.requires.prepared.shape all);
       grows = omega arith;
+      out = (let none : ends_of_row c.new.result.items ≡ 0 = ap ends_of_row c.new.ensures.items in omega (arith, none));
     }
 
 -- a pair more
@@ -74,6 +77,7 @@ loop-low-preserved g c =
           (numbers_since (streams_between low host commands) before faults after (numbers grows.one.items) lower grows.counted))
           (halfway_later commands before faults after host low rows row lower more (c.loop-low.invariant.counted before least all));
       grows = omega (arith, more, so_far);
+      out = (let one = c.in_ok-add_pair.ensures.out in let past = c.loop-low.invariant.out in omega (arith, one, past));
     }
 
 -- the rows with that of the host
@@ -108,3 +112,12 @@ returns-clause-counted g c = λ before least counted.
     let half = subst (λ n. IsHalfway holds host n rows own) end (c.loop-low.invariant.counted before least counted) in
     let all = with_own c.loop-low.prepared.streams.items c.loop-low.row.streams c.push.new.self.items c.in_ok-push.ensures.items in
     subst (λ (l : List (List (EndsOf g.row.W-End.Denot))). AreAllCounted commands before after l) (sym all) (halfway_pairs holds host rows own half)
+
+pub returns-clause-out : goal.returns-clause-out
+returns-clause-out g c =
+    let rows = rows_of c.loop-low.prepared.streams.items in
+    let own = c.loop-low.row.streams.items in
+    let all = ap ends_prepared (with_own c.loop-low.prepared.streams.items c.loop-low.row.streams c.push.new.self.items c.in_ok-push.ensures.items) in
+    let one = sum_by_push ends_of_row rows own in
+    let past = c.loop-low.invariant.out in
+    omega (arith, all, one, past)

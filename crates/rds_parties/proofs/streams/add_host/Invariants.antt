@@ -1,5 +1,6 @@
-use Rattle.std.proofs.Common.{◌≡◌, ◌≤◌, ℕ, length}
+use Rattle.std.proofs.Common.{◌≡◌, ◌≤◌, ◌+◌, ℕ, length}
 use Rattle.rds_rounds.specs.Grid.{rows_of}
+use Rattle.rds_parties.specs.Held.{ends_of_row, ends_prepared}
 use Rattle.rds_parties.specs.Preparing.{AreAllCounted}
 use Rattle.rds_parties.proofs.Counted.{IsCounted}
 use Rattle.rds_parties.proofs.Growing.{IsHalfway}
@@ -14,4 +15,6 @@ invariant-loop-low g l = record {
       AreAllCounted l.fn.script.commands.items before (g.W.Wire.faults l.fn.wire) (rows_of l.fn.prepared.streams.items) →
       IsHalfway (IsCounted l.fn.script.commands.items before (g.W.Wire.faults l.wire)) l.fn.host l.low (rows_of l.prepared.streams.items) l.row.streams.items;
   grows : g.W.Wire.faults l.fn.wire ≤ g.W.Wire.faults l.wire;
+  out : g.W.Wire.out l.wire + ends_prepared (rows_of l.fn.prepared.streams.items) ≤
+      g.W.Wire.out l.fn.wire + (ends_prepared (rows_of l.prepared.streams.items) + ends_of_row l.row.streams.items);
 }

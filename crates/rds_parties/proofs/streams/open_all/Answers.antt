@@ -19,6 +19,7 @@ loop-before-init g c =
           subst (λ (l : List (ℕ × g.row.W-End.Denot)). AreAllUnlessRisen 0 (g.W.Wire.faults c.args.wire.now) (g.W.Wire.faults c.args.wire.now) (numbers l)) (sym low)
           (λ calm. refl);
       grows = omega arith;
+      out = omega arith;
     }
 
 pub loop-before-preserved : goal.loop-before-preserved
@@ -26,6 +27,7 @@ loop-before-preserved g c = record {
   prepared = c.in_ok-open_next.ensures.prepared;
   whole = c.in_ok-open_next.ensures.whole (g.W.Wire.faults c.args.wire.now) c.loop-before.invariant.grows c.loop-before.invariant.whole;
   grows = (let more = c.open_next.ensures.grows in let so_far = c.loop-before.invariant.grows in omega (arith, more, so_far));
+  out = (let more = c.in_ok-open_next.ensures.out in let so_far = c.loop-before.invariant.out in omega (arith, more, so_far));
 }
 
 pub returns-clause-prepared : goal.returns-clause-prepared

@@ -1,4 +1,4 @@
-use Rattle.std.proofs.Common.{◌≤◌}
+use Rattle.std.proofs.Common.{◌≤◌, ◌+◌, length}
 use Rattle.rds_line_streams.specs.Streams.{numbers}
 use Rattle.rds_parties.specs.Preparing.{ArePrepared}
 use Rattle.rds_parties.specs.Streams.{AreAllUnlessRisen}
@@ -9,4 +9,5 @@ invariant-loop-before g l = record {
   prepared : ArePrepared g.W.End.End.means l.before l.opened.low.items l.opened.high.items;
   whole : AreAllUnlessRisen l.before (g.W.Wire.faults l.fn.wire) (g.W.Wire.faults l.wire) (numbers l.opened.low.items);
   grows : g.W.Wire.faults l.fn.wire ≤ g.W.Wire.faults l.wire;
+  out : g.W.Wire.out l.wire ≤ g.W.Wire.out l.fn.wire + (length l.opened.low.items + length l.opened.high.items);
 }

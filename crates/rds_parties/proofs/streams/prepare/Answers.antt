@@ -17,6 +17,7 @@ loop-host-init g c = record {
       AreAllCounted c.args.script.now.commands.items (g.W.Wire.faults c.args.wire.now) (g.W.Wire.faults c.args.wire.now) (rows_of l)) (sym c.new.ensures.items)
       (none_counted c.args.script.now.commands.items (g.W.Wire.faults c.args.wire.now) (g.W.Wire.faults c.args.wire.now));
   grows = omega arith;
+  out = omega arith;
 }
 
 pub loop-host-preserved : goal.loop-host-preserved
@@ -25,4 +26,5 @@ loop-host-preserved g c = record {
   wanted = c.in_ok-add_host.ensures.wanted;
   counted = c.in_ok-add_host.ensures.counted (g.W.Wire.faults c.args.wire.now) c.loop-host.invariant.grows c.loop-host.invariant.counted;
   grows = (let more = c.add_host.ensures.grows in let so_far = c.loop-host.invariant.grows in omega (arith, more, so_far));
+  out = (let one = c.in_ok-add_host.ensures.out in let past = c.loop-host.invariant.out in omega (arith, one, past));
 }

@@ -1,5 +1,6 @@
-use Rattle.std.proofs.Common.{◌≡◌, ◌≤◌, length}
+use Rattle.std.proofs.Common.{◌≡◌, ◌≤◌, ◌+◌, length}
 use Rattle.rds_rounds.specs.Grid.{rows_of}
+use Rattle.rds_parties.specs.Held.{ends_prepared}
 use Rattle.rds_parties.specs.Preparing.{AreAllCounted, AreAllPrepared}
 use Rattle.rds_parties.proofs.streams.prepare.Given as goal
 
@@ -9,4 +10,5 @@ invariant-loop-host g l = record {
   wanted : length l.prepared.wanted.items ≡ l.host;
   counted : AreAllCounted l.fn.script.commands.items (g.W.Wire.faults l.fn.wire) (g.W.Wire.faults l.wire) (rows_of l.prepared.streams.items);
   grows : g.W.Wire.faults l.fn.wire ≤ g.W.Wire.faults l.wire;
+  out : g.W.Wire.out l.wire ≤ g.W.Wire.out l.fn.wire + ends_prepared (rows_of l.prepared.streams.items);
 }

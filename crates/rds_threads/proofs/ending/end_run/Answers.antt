@@ -1,4 +1,6 @@
-use Rattle.std.proofs.Common.{◌≡◌, Bool, true, refl, sym, ap, ◌∙◌, arith, rules}
+use Rattle.std.proofs.Common.{◌≡◌, Bool, true, refl, sym, ap, subst, ◌∙◌, arith, rules}
+use Rattle.rds_link.specs.Streaming.{HasRisen, HasRisenBy}
+use Rattle.rds_link.specs.declared.wire.WireCounts.{WireCounts}
 use Rattle.rds_model.specs.Past.{newest_stream}
 use Rattle.rds_report.specs.Views.{host_views}
 use Rattle.rds_rounds.specs.Grid.{rows_of}
@@ -156,6 +158,10 @@ returns-else-not-has_faulted-clause-counted g c =
     let high = c.in-Fault.high in
     let stream = newest_stream c.journals-journal.result.0.past in
     let is : c.has_faulted.result ≡ true = search rules in
+    let wire = c.journals-journal.new.wire in
+    let after : WireCounts = record { faults = g.W.Wire.faults wire; nothings = g.W.Wire.nothings wire; fulls = g.W.Wire.fulls wire } in
+    let found = subst (λ (now : WireCounts). (c.args.start.can_fail ≡ true) × HasRisen c.args.start.counts.faults now.faults
+    × (c.tells.result ≡ true → HasRisenBy 3 c.args.start.counts.faults now.faults)) c.counts-in-Fault.ensures (c.has_faulted.ensures.0 is) in
     let tells = c.tells.ensures in
     let sink : Written = record {
       held_before = g.K.Sink.held c.args.sink.now;
@@ -163,8 +169,9 @@ returns-else-not-has_faulted-clause-counted g c =
       faults_before = g.K.Sink.faults c.args.sink.now;
       faults_after = g.K.Sink.faults c.end_by_fault.new.sink;
     } in
-    counted_ok _ _ _ _ _ sink (fault_line low high stream) (ended.WireFault low high stream) c.end_by_fault.result
-    (c.has_faulted.ensures.can_fail is, search (rules, is), λ told. search (rules, is, told, tells)) c.end_by_fault.ensures.end
+    counted_ok g.W.End.End.means.tells (c.args.start.can_fail ≡ true) c.args.start.budget c.args.start.counts after sink (fault_line low high stream)
+    (ended.WireFault low high stream) c.end_by_fault.result
+    (found.0, found.1, λ told. found.2 (tells ∙ told)) c.end_by_fault.ensures.end
 
 -- refused where nothing is asked of the counts
 pub returns-else-not-has_waited-clause-counted : goal.returns-else-not-has_waited-clause-counted
@@ -174,19 +181,25 @@ returns-else-not-has_waited-clause-counted g c =
     let unwritten = c.in-Unfinished.unwritten in
     let connected = c.in-Unfinished.connected in
     let is : c.has_waited.result ≡ true = search rules in
+    let wire = c.host_ends-in-Unfinished.new.wire in
+    let start = c.args.start in
+    let after : WireCounts = record { faults = g.W.Wire.faults wire; nothings = g.W.Wire.nothings wire; fulls = g.W.Wire.fulls wire } in
+    let found = subst (λ (now : WireCounts). (unwritten ≡ true → HasRisen start.counts.fulls now.fulls)
+    × (connected ≡ true → HasRisenBy start.budget start.counts.nothings now.nothings)) c.counts.ensures (c.has_waited.ensures.0 is) in
     let sink : Written = record {
       held_before = g.K.Sink.held c.args.sink.now;
       held_after = g.K.Sink.held c.end_unfinished.new.sink;
       faults_before = g.K.Sink.faults c.args.sink.now;
       faults_after = g.K.Sink.faults c.end_unfinished.new.sink;
     } in
-    counted_ok _ _ _ _ _ sink (unfinished_line count) (ended.Unfinished count ends) c.end_unfinished.result (
+    counted_ok g.W.End.End.means.tells (start.can_fail ≡ true) start.budget start.counts after sink (unfinished_line count) (ended.Unfinished count ends)
+    c.end_unfinished.result (
       as_tested (EndsOweNothing (host_views ends.items)) _ unwritten
           (λ off. c.in_ok-ends-in-Unfinished.ensures.owe
           (c.requires.owe count connected (c.in-Unfinished.is ∙ ap (λ (u : Bool). rounds.Unfinished count u connected) off)))
-          (λ on. search (rules, is, on)),
+          found.0,
       as_tested (AreEndsClosed (host_views ends.items)) _ connected
           (λ off. c.in_ok-ends-in-Unfinished.ensures.closed
           (c.requires.closed count unwritten (c.in-Unfinished.is ∙ ap (λ (o : Bool). rounds.Unfinished count unwritten o) off)))
-          (λ on. search (rules, is, on)),
+          found.1,
     ) c.end_unfinished.ensures.end

@@ -29,7 +29,7 @@ returns-clause-ends g c = λ limit hosts commands done did.
     (λ (ends : Vec HostEnd Global). AreEnds g.W.End.End.means.tells hosts commands (host_views ends.items)) c.all_ends.result
     (λ ends left.
     ends_of g.W.End.End.means limit hosts c.args.callers.items (rows_of c.args.lines.items) ends.items done c.requires.settled.count left c.fifo_of_all.ensures
-    commands did) c.all_ends.ensures
+    commands did) c.all_ends.ensures.left
 
 pub returns-clause-hosts : goal.returns-clause-hosts
 returns-clause-hosts g c =
@@ -37,7 +37,7 @@ returns-clause-hosts g c =
     (λ (ends : Vec HostEnd Global). AreFinalHosts (host_views ends.items)) c.all_ends.result
     (λ ends left.
     final_of g.W.End.End.means c.requires.done.0 c.requires.done.1 c.args.callers.items (rows_of c.args.lines.items) ends.items c.requires.done.2
-    c.requires.settled.count left) c.all_ends.ensures
+    c.requires.settled.count left) c.all_ends.ensures.left
 
 pub returns-clause-settled : goal.returns-clause-settled
 returns-clause-settled g c = λ limit hosts commands done did tells drained.
@@ -47,19 +47,19 @@ returns-clause-settled g c = λ limit hosts commands done did tells drained.
     let m = g.W.End.End.means in
     let nothing = drained_of m limit hosts c.args.callers.items (rows_of c.args.lines.items) ends.items done c.requires.settled.count left drained in
     let are = ends_of m limit hosts c.args.callers.items (rows_of c.args.lines.items) ends.items done c.requires.settled.count left c.fifo_of_all.ensures commands did in
-    (nothing, none_pending m.tells hosts commands (host_views ends.items) are c.fifo_of_all.ensures tells nothing)) c.all_ends.ensures
+    (nothing, none_pending m.tells hosts commands (host_views ends.items) are c.fifo_of_all.ensures tells nothing)) c.all_ends.ensures.left
 
 pub returns-clause-alive : goal.returns-clause-alive
 returns-clause-alive g c =
     on_ok (λ (ends : Vec HostEnd Global). AreLeftOf c.args.callers.items (rows_of c.args.lines.items) ends.items)
     (λ (ends : Vec HostEnd Global). alive_in_ends (host_views ends.items) ≡ alive_in_rows (rows_of c.args.lines.items)) c.all_ends.result
-    (λ ends left. alive_left c.args.callers.items (rows_of c.args.lines.items) ends.items c.requires.settled.count left) c.all_ends.ensures
+    (λ ends left. alive_left c.args.callers.items (rows_of c.args.lines.items) ends.items c.requires.settled.count left) c.all_ends.ensures.left
 
 pub returns-clause-owe : goal.returns-clause-owe
 returns-clause-owe g c = λ owe.
     on_ok (λ (ends : Vec HostEnd Global). AreLeftOf c.args.callers.items (rows_of c.args.lines.items) ends.items)
     (λ (ends : Vec HostEnd Global). EndsOweNothing (host_views ends.items)) c.all_ends.result
-    (λ ends left. of_each_left OwesNothing c.args.callers.items (rows_of c.args.lines.items) ends.items c.requires.settled.count left owe) c.all_ends.ensures
+    (λ ends left. of_each_left OwesNothing c.args.callers.items (rows_of c.args.lines.items) ends.items c.requires.settled.count left owe) c.all_ends.ensures.left
 
 pub returns-clause-closed : goal.returns-clause-closed
 returns-clause-closed g c = λ closed.
@@ -67,4 +67,4 @@ returns-clause-closed g c = λ closed.
     (λ (ends : Vec HostEnd Global). AreEndsClosed (host_views ends.items)) c.all_ends.result
     (λ ends left.
     of_each_left (λ past. open_stream past ≡ None) c.args.callers.items (rows_of c.args.lines.items) ends.items c.requires.settled.count left closed)
-    c.all_ends.ensures
+    c.all_ends.ensures.left

@@ -1,6 +1,7 @@
-use Rattle.std.proofs.Common.{◌≡◌, true}
+use Rattle.std.proofs.Common.{◌≡◌, ◌≤◌, true, arith}
 use Rattle.rds_threads.proofs.Counted.{counted_of}
 use Rattle.rds_threads.proofs.Finished.{all_done}
+use Rattle.rds_threads.proofs.Held.{of_any}
 use Rattle.rds_threads.proofs.running.ended.Goals as goal
 
 pub finish-requires-clause-hosts : goal.finish-requires-clause-hosts
@@ -31,3 +32,10 @@ returns-clause-counted g c =
     counted_of g.W.End.End.means.tells (start.can_fail ≡ true) (g.W.Wire.may_fail wire) c.of-start.ensures.can_fail.0 start.budget c.args.budget start.counts
     (record { faults = g.W.Wire.faults wire; nothings = g.W.Wire.nothings wire; fulls = g.W.Wire.fulls wire }) _ c.of-start.ensures.budget
     c.of-start.ensures.counts c.finish.result c.finish.ensures.counted
+
+pub returns-clause-out : goal.returns-clause-out
+returns-clause-out g c =
+    let prepared = c.in_ok-streams.ensures.out in
+    let made = c.in_ok-callers.ensures.ends in
+    let played = c.play-callers.ensures.ends in
+    of_any c.finish.result (g.W.Wire.out c.finish.new.wire ≤ g.W.Wire.out c.args.wire.now) (omega (arith, prepared, made, played, c.finish.ensures.out))

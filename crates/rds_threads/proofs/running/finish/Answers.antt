@@ -1,5 +1,6 @@
-use Rattle.std.proofs.Common.{◌≡◌, length, arith}
+use Rattle.std.proofs.Common.{◌≡◌, ◌-◌, length, ap, ◌∙◌, arith}
 use Rattle.rds_rounds.specs.Grid.{rows_of}
+use Rattle.rds_parties.specs.HeldLaws.{going_as_many, kept_as_many}
 use Rattle.rds_threads.proofs.Finished.{all_settled, done_spared}
 use Rattle.rds_threads.proofs.Keeping.{rows_same}
 use Rattle.rds_threads.proofs.running.finish.Goals as goal
@@ -72,3 +73,15 @@ end_run-requires-clause-owe g c = c.last_rounds-end.ensures.owes
 
 pub end_run-requires-clause-closed : goal.end_run-requires-clause-closed
 end_run-requires-clause-closed g c = c.last_rounds-end.ensures.closed
+
+pub returns-clause-out : goal.returns-clause-out
+returns-clause-out g c =
+    let old = rows_of c.args.lines.items in
+    let told = rows_of c.tell_all.new.lines.items in
+    let last = rows_of c.last_rounds-end.new.lines.items in
+    let callers = c.requires.parties.2.callers_count in
+    let rows = c.requires.parties.2.rows_count in
+    let same : length c.args.callers.items ≡ length old = omega (arith, callers, rows) in
+    let ends = going_as_many told last c.last_rounds-end.ensures.rows
+    ∙ kept_as_many old told (rows_same c.args.callers.items c.tell_all.new.callers.items old told same c.tell_all.ensures) in
+    c.end_run.ensures.out ∙ ap (λ n. g.W.Wire.out c.args.wire.now - n) ends

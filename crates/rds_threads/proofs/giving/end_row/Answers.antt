@@ -1,0 +1,10 @@
+use Rattle.std.proofs.Common.{arith}
+use Rattle.std.proofs.lemmas.List.Sums.{sum_by_push}
+use Rattle.rds_host.specs.Held.{ends_of}
+use Rattle.rds_threads.proofs.giving.end_row.Goals as goal
+
+pub loop-line-preserved : goal.loop-line-preserved
+loop-line-preserved g c =
+    let more = sum_by_push ends_of c.loop-line.yielded c.in-Some.line in
+    let past = c.loop-line.invariant in
+    omega (arith, more, past, c.end_line.ensures.out)
