@@ -9,6 +9,9 @@ use std::time::Duration;
 /// After so many idle rounds in a row a worker sleeps as well.
 const AWAKE: u32 = 32;
 
+/// After so many idle rounds in a row a worker that is told to stop does.
+const LONG: u32 = 8;
+
 /// How many microseconds it sleeps at first.
 const FIRST: u64 = 50;
 
@@ -31,6 +34,11 @@ impl Idle {
             sleep: FIRST,
             parker: Parker::new(),
         }
+    }
+
+    /// Whether so many rounds were idle that a worker may stop.
+    pub(crate) fn is_long(&self) -> bool {
+        self.rounds >= LONG
     }
 
     // A line moved.

@@ -4,10 +4,13 @@ ghost use Rattle.rds_link.specs.Failing.{next_call, NextFails};
 ghost use Rattle.rds_link.specs.Standing.{standing as standing_of, IsOver, GoesOn, Failed};
 
 use crate::calls::Calls;
-use crate::{End, Got, Put, Standing};
+use crate::{End, Got, Put, ROOM, Standing};
 use rtrb::{Consumer, Producer};
 use std::sync::Wait;
 use std::thread;
+
+/// How many bytes are taken at once out of a ring that is let go.
+const PIECE: usize = 4_096;
 
 /// An end of a stream in memory.
 #[derive(Drop)]
@@ -92,9 +95,20 @@ impl End for MemEnd {
 
     fn finish<R: Wait>(mut self, _rt: &R) {
         self.standing.shut();
+        empty(&mut self.inp);
     }
 
     fn rest<R: Wait>(&self, _rt: &R) {
         thread::yield_now();
+    }
+}
+
+// Takes out what waits in a ring, by pieces: a ring that is dropped lets go of one byte after another, which takes longer.
+fn empty(ring: &mut Consumer<u8>) {
+    let mut piece = [0; PIECE];
+    for _ in 0..2 * ROOM / PIECE {
+        if ring.pop_partial_slice(&mut piece) == 0 {
+            return;
+        }
     }
 }
