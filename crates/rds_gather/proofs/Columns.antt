@@ -9,7 +9,7 @@ use Rattle.std.proofs.lemmas.List.{drop-drop, drop_more, get_or-append-add, get_
 use Rattle.std.proofs.lemmas.List.Edits.{map_over_more}
 use Rattle.std.proofs.lemmas.List.Elements.{filter_map-append}
 use Rattle.std.proofs.lemmas.Option.{same_Some, slice_get-map, slice_get_within}
-use Rattle.rds_host.proofs.Columns.{mapped_at, pushed_at, there_is}
+use Rattle.rds_gather.proofs.Places.{mapped_at, pushed_at, there_is}
 use Rattle.rds_gather.specs.Columns.{AtEachPlace, column}
 
 -- what holds of a list holds of its front and of its back

@@ -17,7 +17,7 @@ use Rattle.rds_line_channel.specs.CutLaws.{none_late}
 use Rattle.rds_line.specs.Keeps.{KeepsLine, cuts_among}
 use Rattle.rds_line.specs.Line.{LineView, line_past}
 use Rattle.rds_host.specs.Telling.{IsTold}
-use Rattle.rds_host.proofs.Columns.{all_at}
+use Rattle.rds_gather.proofs.Places.{all_at}
 use Rattle.rds_gather.specs.Cuts.{AreCutsOfSlots, HasCut}
 
 -- the cuts of a longer list are no fewer

@@ -19,7 +19,7 @@ use Rattle.rds_line.specs.Line.{LineView, line_past}
 use Rattle.rds_host.specs.Passes.{AreAllPasses}
 use Rattle.rds_host.specs.Telling.{IsTold}
 use Rattle.rds_host.specs.Ties.{AreOfHost}
-use Rattle.rds_host.proofs.Columns.{all_at, mapped_at, there_is}
+use Rattle.rds_gather.proofs.Places.{all_at, mapped_at, there_is}
 use Rattle.rds_gather.specs.Columns.{AtEachPlace, column, passes_of}
 use Rattle.rds_gather.specs.Joined.{AreJoined, AreLooksOfJournals, IsPeer, orders_of, peer_of}
 use Rattle.rds_gather.specs.Shown.{ArePuttersOf, AreReadersOf, HasLookedAt, HaveLookedAt, ShowsAllPuts}

@@ -1,3 +1,4 @@
+pub mod Places
 pub mod Columns
 pub mod Marks
 pub mod Keys

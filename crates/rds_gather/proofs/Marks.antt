@@ -15,7 +15,7 @@ use Rattle.rds_mail.proofs.Numbers.{same_here}
 use Rattle.rds_joins.specs.Joins.{AreMarked, PutsAreTold}
 use Rattle.rds_host.specs.Passes.{putter_number, splits_at}
 use Rattle.rds_host.specs.Telling.{IsTold}
-use Rattle.rds_host.proofs.Columns.{mapped_at, there_is}
+use Rattle.rds_gather.proofs.Places.{mapped_at, there_is}
 use Rattle.rds_gather.specs.Shown.{ShowsAllPuts}
 
 pub got_at : {X : Type 0} (xs : List X) (i : ℕ) (x : X) → At xs i x → slice_get xs i ≡ Some x

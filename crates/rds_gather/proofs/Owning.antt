@@ -16,7 +16,7 @@ use Rattle.rds_line.specs.Keeps.{KeepsLine}
 use Rattle.rds_line.specs.Line.{LineView}
 use Rattle.rds_host.specs.Passes.{AreAllPasses}
 use Rattle.rds_host.specs.Ties.{AreOfHost}
-use Rattle.rds_host.proofs.Columns.{all_at, mapped_at, there_is}
+use Rattle.rds_gather.proofs.Places.{all_at, mapped_at, there_is}
 use Rattle.rds_gather.specs.Heard.{AreAmong, ClaimsNothing, FitsLooks, HasBeenFound, HasClaimedAll, HasHeard}
 use Rattle.rds_gather.specs.Owned.{AreFound, AreOwned}
 

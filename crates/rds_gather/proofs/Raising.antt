@@ -22,7 +22,7 @@ use Rattle.rds_line.specs.Keeps.{KeepsLine}
 use Rattle.rds_line.specs.Line.{LineView, line_past}
 use Rattle.rds_host.specs.Passes.{AreAllPasses}
 use Rattle.rds_host.specs.Ties.{AreOfHost}
-use Rattle.rds_host.proofs.Columns.{all_at, mapped_at}
+use Rattle.rds_gather.proofs.Places.{all_at, mapped_at}
 use Rattle.rds_gather.specs.Grounded.{AreMapsGrounded, HasDelivered, IsGrounded}
 use Rattle.rds_gather.proofs.Owning.{each_of}
 
