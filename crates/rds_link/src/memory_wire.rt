@@ -1,7 +1,7 @@
 //! The wire whose streams stay in memory.
 ghost use Rattle.std.specs.Prelude.{◌≡◌, ◌≤◌, ◌+◌, ◌↔◌, [], IfOk, IsErrOf, OnErr, true};
 ghost use Rattle.rds_link.specs.declared.wire.WireError.TheVariants as errors;
-ghost use Rattle.rds_link.specs.Ends.{IsFresh};
+ghost use Rattle.rds_link.specs.Ends.{IsFresh, RisesBy};
 ghost use Rattle.rds_link.specs.Failing.{next_call, NextFails};
 ghost use Rattle.rds_link.specs.Memory.{memory_means, MayFail};
 ghost use Rattle.rds_link.specs.Streaming.{HasRisen};
@@ -137,6 +137,7 @@ impl Wire for MemWire {
         ensures counts { self.new ≡ record self.old { openings = record self.old.openings { made = next_call self.old.openings.made }; faults = self.new.faults; out = self.new.out } }
         ensures faults { self.old.faults ≤ self.new.faults }
         ensures out { IfOk result (λ _. self.new.out ≤ self.old.out + 2) }
+        ensures opened { IfOk result (λ _. RisesBy 2 self.old.out self.new.out) }
         ensures none { OnErr result (self.new.out ≡ self.old.out) }
     {
         if self.calls.fails() {

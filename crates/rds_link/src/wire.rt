@@ -73,6 +73,7 @@ pub trait Wire {
         ensures nothings { nothings self.new ≡ nothings self.old }
         ensures fulls { fulls self.new ≡ fulls self.old }
         ensures out { IfOk result (λ _. out self.new ≤ out self.old + 2) }
+        ensures opened { IfOk result (λ _. RisesBy 2 (out self.old) (out self.new)) }
         ensures none { OnErr result (out self.new ≡ out self.old) };
 
     /// Each of the two ends of a stream is told all that the other sent and whether it has shut.
