@@ -9,11 +9,14 @@ use std::time::Duration;
 /// After so many idle rounds in a row a worker sleeps as well.
 const AWAKE: u32 = 32;
 
-/// After so many idle rounds in a row a worker that is told to stop does.
-const LONG: u32 = 8;
+/// After so many it does, once it is told to stop.
+const SOON: u32 = 8;
 
 /// How many microseconds it sleeps at first.
 const FIRST: u64 = 50;
+
+/// Once it would sleep so many next, a worker that is told to stop does. It has then slept for 350, one after another, and nothing came.
+const LONG: u64 = 400;
 
 /// How many it sleeps at most. Nothing wakes it, so this is how late it may see that it is to stop.
 const LONGEST: u64 = 5_000;
@@ -36,9 +39,9 @@ impl Idle {
         }
     }
 
-    /// Whether so many rounds were idle that a worker may stop.
+    /// Whether the worker has been idle for so long that it may stop.
     pub(crate) fn is_long(&self) -> bool {
-        self.rounds >= LONG
+        self.sleep >= LONG
     }
 
     // A line moved.
@@ -48,8 +51,9 @@ impl Idle {
     }
 
     // One idle round more. After many of them the worker sleeps, each time twice as long.
-    fn add<R: Wait>(&mut self, rt: &R) {
-        if self.rounds < AWAKE {
+    fn add<R: Wait>(&mut self, rt: &R, is_told: bool) {
+        let awake = if is_told { SOON } else { AWAKE };
+        if self.rounds < awake {
             self.rounds += 1;
             return;
         }
@@ -59,11 +63,13 @@ impl Idle {
     }
 }
 
-/// Rests after a round, unless a line moved in it: each line rests, and after many such rounds the worker sleeps.
+/// Rests after a round, unless a line moved in it: each line rests, and after many such rounds, or fewer where it is told to stop, the
+/// worker sleeps.
 pub(crate) fn rest<E: End, R: Wait>(
     rt: &R,
     lines: &[Line<E, Writer>],
     moved: bool,
+    is_told: bool,
     idle: &mut Idle,
 ) {
     if moved {
@@ -73,5 +79,5 @@ pub(crate) fn rest<E: End, R: Wait>(
     for line in lines {
         line.rest(rt);
     }
-    idle.add(rt);
+    idle.add(rt, is_told);
 }

@@ -8,8 +8,8 @@ use rds_line::{Line, Turn};
 use rds_link::End;
 use std::sync::Wait;
 
-/// Turns each line in order, round after round, until the stop flag is set and no line moved in several rounds: others may still be
-/// at work that have something for them. After a round in which none moved it rests. The lines come back in the same order.
+/// Turns each line in order, round after round, until the stop flag is set and no line moved for a while: others may still be at work
+/// that have something for them. After a round in which none moved it rests. The lines come back in the same order.
 pub fn work<E: End, R: Wait>(
     rt: &R,
     mut lines: Vec<Line<E, Writer>>,
@@ -19,12 +19,12 @@ pub fn work<E: End, R: Wait>(
 {
     let mut idle = Idle::new();
     for _ in rt.forever() {
-        let was_set = stop.is_set();
+        let is_told = stop.is_set();
         let moved = turn_all(rt, &mut lines);
-        if !moved && was_set && idle.is_long() {
+        if !moved && is_told && idle.is_long() {
             break;
         }
-        rest(rt, &lines, moved, &mut idle);
+        rest(rt, &lines, moved, is_told, &mut idle);
     }
     lines
 }

@@ -52,8 +52,8 @@ fn start(alloc: Global, journal: &Journal) -> Result<Walk, Memory>
     })
 }
 
-// A flag that isn't set for each number of a journal.
-fn none(alloc: Global, journal: &Journal) -> Result<Vec<bool>, Memory>
+/// A flag that isn't set for each number of a journal.
+pub fn none(alloc: Global, journal: &Journal) -> Result<Vec<bool>, Memory>
     ensures { IfOk result (λ none. none.items ≡ flags (λ n. false) (accepted journal.now.past)) }
 {
     let mut none = Vec::new(alloc);
