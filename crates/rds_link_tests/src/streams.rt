@@ -1,5 +1,5 @@
 //! Streams in memory, mostly from two threads.
-ghost use Rattle.std.specs.Prelude.{◌<◌};
+ghost use Rattle.std.specs.Prelude.{◌≡◌, ◌<◌, true};
 ghost use Rattle.rds_link.specs.Ends.{Remains};
 ghost use Rattle.rds_link.specs.Memory.{memory_means};
 
@@ -161,6 +161,26 @@ fn both_ends_shut_at_once(rt: HostRuntime) -> Result<(), Fail> {
     for _ in 0..20 {
         assert_eq!(rt; raced(&rt, &mut wire), Some((Got::Over, Put::Over)));
     }
+    Ok(())
+}
+
+// Opens a stream and gives both of its ends back, and answers whether it could: then as many ends are out as before.
+fn is_given_back<W: Wire, R: Threads + Wait + Net>(rt: &R, wire: &mut W) -> bool
+    ensures { result ≡ true → W.out wire.old < 1000 → W.out wire.new ≡ W.out wire.old }
+{
+    let Ok((a, b)) = wire.open(rt, 1, 2, 1) else {
+        return false;
+    };
+    wire.give_back(rt, a);
+    wire.give_back(rt, b);
+    true
+}
+
+#[test]
+fn both_ends_are_given_back(rt: HostRuntime) -> Result<(), Fail> {
+    let alloc = rt.alloc();
+    let mut wire = MemWire::new(alloc, Vec::new(alloc), Vec::new(alloc));
+    assert!(rt; is_given_back(&rt, &mut wire));
     Ok(())
 }
 
