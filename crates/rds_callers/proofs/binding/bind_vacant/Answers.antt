@@ -1,6 +1,12 @@
-use Rattle.std.proofs.Common.{refl}
+use Rattle.std.proofs.Common.{rules, refl}
 use Rattle.rds_callers.specs.Places.{Vacant}
 use Rattle.rds_callers.proofs.binding.bind_vacant.Goals as goal
 
 pub returns-in-Err-clause-failed : goal.returns-in-Err-clause-failed
 returns-in-Err-clause-failed c = (Vacant c.in-Err.vacant, refl, tt)
+
+pub bind-requires-clause-rcvbuf : goal.bind-requires-clause-rcvbuf
+bind-requires-clause-rcvbuf c = search rules
+
+pub returns-in-Ok-clause-bound : goal.returns-in-Ok-clause-bound
+returns-in-Ok-clause-bound c = search rules

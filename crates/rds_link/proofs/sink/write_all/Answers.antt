@@ -1,4 +1,4 @@
-use Rattle.std.proofs.Common.{ℕ, arith, length-drop}
+use Rattle.std.proofs.Common.{rules, ℕ, arith, length-drop}
 use Rattle.std.proofs.Math.Seq.{take-add}
 use Rattle.std.proofs.lemmas.List.{take_rest}
 use Rattle.rds_link.proofs.Loops.{Takes-then}
@@ -10,3 +10,6 @@ loop-written-preserved g c = record {
   within = omega (arith, c.in-Ok.ensures.count, length-drop {A = ℕ});
   counts = omega (arith, c.in-Ok.ensures.counts);
 }
+
+pub returns-in-Err-clause-ok : goal.returns-in-Err-clause-ok
+returns-in-Err-clause-ok g c = search rules

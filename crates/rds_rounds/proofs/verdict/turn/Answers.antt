@@ -6,3 +6,6 @@ returns-in-Over-clause-nothing g c = search rules
 
 pub returns-in-Spent-clause-spent : goal.returns-in-Spent-clause-spent
 returns-in-Spent-clause-spent g c = search rules
+
+pub returns-in-Moved-clause-lacks : goal.returns-in-Moved-clause-lacks
+returns-in-Moved-clause-lacks g c = search rules

@@ -1,4 +1,4 @@
-use Rattle.std.proofs.Common.{◌≡◌, true, [], ◌++◌, ap, ◌∙◌}
+use Rattle.std.proofs.Common.{rules, ◌≡◌, true, [], ◌++◌, ap, ◌∙◌}
 use Rattle.rds_conn.specs.Connection.{taken_bytes}
 use Rattle.rds_line_channel.specs.Channel.{ChannelView}
 use Rattle.rds_line_channel.proofs.Carrying.{carried_moved}
@@ -20,3 +20,6 @@ invariant_of-self g c =
     let did = c.receive.ensures in
     carried_moved m i.streams past (taken ++ i.piece) (taken ++ piece) i.out i.out i.cuts.numbers new did.same on did.received
     (λ tells n old later way. received_on m past tells n old later answer taken i.piece piece i.out empty way) c.self.invariant
+
+pub returns-clause-received : goal.returns-clause-received
+returns-clause-received g c = search rules

@@ -1,4 +1,5 @@
-use Rattle.std.proofs.Common.{◌≡◌, ℕ, List, ◌∷◌, ◌++◌, Err, take, true, refl, sym, ap, ◌∙◌}
+use Rattle.std.proofs.lemmas.Grind.{common_steps}
+use Rattle.std.proofs.Common.{arith, rules, ◌≡◌, ℕ, List, ◌∷◌, ◌++◌, Err, take, true, refl, sym, ap, ◌∙◌}
 use Rattle.std.proofs.lemmas.Option.{same_Some}
 use Rattle.rds_model.specs.declared.entry.Entry.TheVariants as entry
 use Rattle.rds_conn.specs.Connection.{Connection, taken_bytes}
@@ -35,3 +36,18 @@ invariant_of-self-in-Err-Malformed g c =
     restated m (entry_is ∙ ap (λ (n : ℕ). entry.Bad n header fault ∷ past) number_is)
     (ap (λ (conn : Connection). taken_bytes conn ++ piece) refuses.entry ∙ given.piece) given.out refl refl
     (refused taken inside.piece refuses.used refl legal refuses.fits bytes)
+
+pub invariant_of-self : goal.invariant_of-self
+invariant_of-self g c = grind (arith, common_steps)
+
+pub returns-after-fed-clause-frame : goal.returns-after-fed-clause-frame
+returns-after-fed-clause-frame g c = search rules
+
+pub returns-in-Err-Malformed-clause-part : goal.returns-in-Err-Malformed-clause-part
+returns-in-Err-Malformed-clause-part g c = search rules
+
+pub invariant_of-self-in-Err : goal.invariant_of-self-in-Err
+invariant_of-self-in-Err g c = search rules
+
+pub returns-in-Err : goal.returns-in-Err
+returns-in-Err g c = search rules

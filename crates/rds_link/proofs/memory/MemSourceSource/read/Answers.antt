@@ -1,4 +1,4 @@
-use Rattle.std.proofs.Common.{◌≡◌, ℕ, List, length, min, ◌<◌, sym, ap, take, drop, ◌∙◌, arith}
+use Rattle.std.proofs.Common.{rules, ◌≡◌, ℕ, List, length, min, ◌<◌, sym, ap, take, drop, ◌∙◌, arith}
 use Rattle.std.proofs.Math.Nat.{min-eq_left, min-eq_right}
 use Rattle.std.proofs.lemmas.List.{nil_from_length}
 use mathlib.Core.Logic.{dite}
@@ -25,3 +25,6 @@ returns-clause-end c ended =
     let short = shorter _ _ (sym count ∙ none) some in
     let long = ap (λ (xs : List ℕ). length xs) rest in
     ap (λ (s : Supply). s.left) (sym c.self.view_is) ∙ nil_from_length (drop c.self.inside.taken c.self.inside.text.items) (omega arith)
+
+pub returns-clause-number : goal.returns-clause-number
+returns-clause-number c = search rules

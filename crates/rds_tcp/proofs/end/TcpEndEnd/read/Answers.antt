@@ -1,0 +1,5 @@
+use Rattle.std.proofs.Common.{rules}
+use Rattle.rds_tcp.proofs.end.TcpEndEnd.read.Goals as goal
+
+pub returns-clause-nothings : goal.returns-clause-nothings
+returns-clause-nothings c = search rules
