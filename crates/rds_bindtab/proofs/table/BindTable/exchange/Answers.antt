@@ -1,3 +1,4 @@
+use Rattle.std.proofs.lemmas.Grind.{common_steps}
 use Rattle.std.proofs.Common.{◌≡◌, Some, sym, ap, subst, IsSome, Option, ℕ, ◌∙◌, arith}
 use Rattle.std.specs.Prelude.{unwrap_or}
 use Rattle.rds_bindtab.specs.Seats.{PortSeat}
@@ -17,3 +18,6 @@ compare_exchange-found-requires c =
       (let w = c.self.invariant.1 in omega arith),
       exchanges _ _ _ c.from.result c.from-slot.result c.seat.inside.seat.me (omega arith) (has.1 ∙ ap Some (sym slot)) (ap (λ (h : PortSeat). h.view.port) c.seat.view_is ∙ c.requires.port),
     )
+
+pub invariant_of-seat : goal.invariant_of-seat
+invariant_of-seat c = grind (arith, common_steps)

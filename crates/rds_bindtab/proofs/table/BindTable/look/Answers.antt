@@ -1,4 +1,4 @@
-use Rattle.std.proofs.Common.{◌≢◌, ◌-◌, sym, ◌∙◌, arith}
+use Rattle.std.proofs.Common.{rules, ◌≢◌, ◌-◌, sym, ◌∙◌, arith}
 use Rattle.rds_bindtab.proofs.Seated.{same_table}
 use Rattle.rds_bindtab.proofs.Looks.{looks, slot_at}
 use Rattle.rds_bindtab.proofs.table.BindTable.look.Goals as goal
@@ -19,3 +19,6 @@ overflow_cast-result c =
     let few = c.self.invariant.3 in
     let same = of.1 in
     record { fits = omega arith }
+
+pub returns-clause-seat : goal.returns-clause-seat
+returns-clause-seat c = search rules

@@ -1,4 +1,4 @@
-use Rattle.std.proofs.Common.{◌≡◌, ◌+◌, true, length, refl, ap, ◌∙◌, sym, subst, arith}
+use Rattle.std.proofs.Common.{rules, ◌≡◌, ◌+◌, true, length, refl, ap, ◌∙◌, sym, subst, arith}
 use Rattle.atomic_table.specs.Seated.{TableId}
 use Rattle.rds_fmap.specs.declared.words.view.View.{View}
 use Rattle.rds_fmap.proofs.Publication.{Publishing, begins, puts_more, number_is}
@@ -33,3 +33,6 @@ loop-j-preserved c =
           (puts_more c.args.map.now c.args.seat.now.me.0 c.loop-j.seat.me.0 c.loop-j.j c.half.result _ is (let t = c.loop-j-test.true in omega arith) c.requires.writer.2 c.half.ensures (number.1 ∙ c.from.ensures) c.loop-j.invariant.view);
       slots = ap (λ m. m.1) done.2 ∙ c.loop-j.invariant.slots;
     }
+
+pub returns-clause-view : goal.returns-clause-view
+returns-clause-view c = search rules

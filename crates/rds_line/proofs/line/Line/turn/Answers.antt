@@ -1,4 +1,4 @@
-use Rattle.std.proofs.Common.{◌≡◌, ◌⊎◌, nat_lt, List, length, sym, ap, subst, ◌∙◌}
+use Rattle.std.proofs.Common.{rules, ◌≡◌, ◌⊎◌, nat_lt, List, length, sym, ap, subst, ◌∙◌}
 use Rattle.rds_model.specs.declared.entry.Entry.{Entry}
 use Rattle.rds_line.specs.declared.outcome.Turn.{Turn}
 use Rattle.rds_line.specs.declared.outcome.Turn.TheVariants as turn
@@ -53,3 +53,12 @@ returns-in-Ok-clause-goes_on g c = λ is.
     c.len-before.ensures.len ∙ (ap (λ (l : List Entry). length l) c.journal.ensures.past ∙ ap (λ (l : LineView g.row.E.Denot g.row.M.Denot). length (line_past l)) c.self.view_is) in
     goes_on_of g.E.End.means c.args.self.now new done c.len-before.result (c.in-Ok.ensures {u = tt}).did count
     (answer_goes_on done.took (is_bytes_heard done.heard) (is_bytes_sent done.sent) streams.is_open (nat_lt streams.opened (length streams.list)) (nat_lt c.len-before.result (length (line_past new))) (subst (λ (t : Turn). (t ≡ turn.Moved) ⊎ (t ≡ turn.Idle)) c.judged.ensures is))
+
+pub returns-in-Err-Spent-clause-idle : goal.returns-in-Err-Spent-clause-idle
+returns-in-Err-Spent-clause-idle g c = search rules
+
+pub returns-in-Err-Spent-clause-goes_on : goal.returns-in-Err-Spent-clause-goes_on
+returns-in-Err-Spent-clause-goes_on g c = search rules
+
+pub returns-in-Err-Spent-clause-freed : goal.returns-in-Err-Spent-clause-freed
+returns-in-Err-Spent-clause-freed g c = search rules

@@ -1,4 +1,4 @@
-use Rattle.std.proofs.Common.{ap, arith}
+use Rattle.std.proofs.Common.{rules, ap, arith}
 use Rattle.rds_meter.specs.Places.{part}
 use Rattle.rds_meter.specs.Seats.{MeterSeat}
 use Rattle.rds_meter.proofs.Seated.{same_table}
@@ -13,3 +13,9 @@ fetch_add-requires c =
     let n = c.from-n.ensures in
     let few = c.requires.part in
     (of, (let w = c.self.invariant.0 in omega arith), adds _ _ c.args.word c.from-n.result c.seat.inside.seat.me c.seat.invariant.0 word.0 word.1 (omega arith))
+
+pub returns-clause-seat : goal.returns-clause-seat
+returns-clause-seat c = search rules
+
+pub returns-clause-part : goal.returns-clause-part
+returns-clause-part c = search rules

@@ -33,3 +33,6 @@ returns-clause-writes g c = λ plain ok.
     let none = nil_from_length _ c.in-None.ensures.steps.1.0 in
     let all = rw (none, append-nil) at before.2 in
     has_written_of_eq _ _ _ _ _ (all ∙ printed _ (search rules)) before.1
+
+pub returns-then-is_empty-clause-writes : goal.returns-then-is_empty-clause-writes
+returns-then-is_empty-clause-writes g c = search rules

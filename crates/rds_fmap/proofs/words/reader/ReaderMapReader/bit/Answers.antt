@@ -1,4 +1,5 @@
-use Rattle.std.proofs.Common.{◌≡◌, [], ◌∷◌, sym, ap, ◌∙◌, subst, arith}
+use Rattle.std.proofs.lemmas.Grind.{common_steps}
+use Rattle.std.proofs.Common.{rules, ◌≡◌, [], ◌∷◌, sym, ap, ◌∙◌, subst, arith}
 use Rattle.std.specs.Prelude.{Contains}
 use Rattle.std.proofs.lemmas.List.Elements.{Contains-append_left}
 use Rattle.atomic_table.specs.Seated.{TableId}
@@ -25,3 +26,12 @@ returns-clause-kept c p seen k =
     let mine : Contains old look = subst (λ (x : ReaderView). Contains x.found look) (sym c.self.view_is) was.1 in
     let more = Contains-append_left old (record { word = c.from-word.result; number = c.load-number.result } ∷ []) look mine in
     (was.0, subst (λ (v : View). Contains v.looks look) (sym (ap (λ m. m.0) c.load-number.ensures.2.0)) more, was.2)
+
+pub returns-clause-look : goal.returns-clause-look
+returns-clause-look c = grind (arith, common_steps)
+
+pub returns-clause-now : goal.returns-clause-now
+returns-clause-now c = grind (arith, common_steps)
+
+pub returns-clause-later : goal.returns-clause-later
+returns-clause-later c = search rules

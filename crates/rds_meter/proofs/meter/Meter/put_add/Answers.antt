@@ -1,0 +1,11 @@
+use Rattle.std.proofs.Common.{rules}
+use Rattle.rds_meter.proofs.meter.Meter.put_add.Goals as goal
+
+pub add-requires-clause-part : goal.add-requires-clause-part
+add-requires-clause-part c = search rules
+
+pub returns-clause-seat : goal.returns-clause-seat
+returns-clause-seat c = search rules
+
+pub returns-clause-part : goal.returns-clause-part
+returns-clause-part c = search rules
