@@ -1,12 +1,14 @@
 -- Which port a slot has claimed, through the calls on it.
-use Rattle.std.proofs.Common.{◌≡◌, ℕ, List, Option, Some, sym, ap, subst, ◌∙◌}
+use Rattle.std.proofs.Common.{◌≡◌, ℕ, List, Option, Some, sym, ap, subst, ⊎_elim, ◌∙◌}
+use Rattle.std.proofs.lemmas.List.Elements.{Contains-push_cases}
 use Rattle.std.proofs.lemmas.Option.{same_Some}
-use Rattle.rds_bindtab.specs.Seats.{PortSeat}
+use Rattle.rds_bindtab.specs.declared.view.View.{View}
+use Rattle.rds_bindtab.specs.declared.view.Step.TheVariants.{Claimed, Released}
+use Rattle.rds_bindtab.specs.Seats.{PortSeat, after_release, port_of}
 use Rattle.rds_fmap.specs.Readers.{ReaderView}
 use Rattle.rds_parts.specs.Ports.{HasClaimedOnly}
 use Rattle.rds_socket.specs.Holding.{Holding, Open}
 use Rattle.rds_socket.specs.Calls.{IsClosed}
-use Rattle.rds_socket.proofs.Claims.{claims_released}
 use Rattle.rds_model.specs.declared.order.Datagram.{Datagram}
 use Rattle.rds_callers.specs.Places.{Bound, Place}
 use Rattle.rds_callers.specs.Ends.{HasItsPort, claimed_port, open_port}
@@ -21,6 +23,11 @@ claims_same port old new same claimed = subst (λ (p : PortSeat). HasClaimedOnly
 pub claims_of : (port other : ℕ) (old new : Holding ReaderView) → new ≡ old → other ≡ port → HasClaimedOnly (Some other) old.ports.view → HasClaimedOnly (Some port) new.ports.view
 claims_of port other old new same called claimed =
     claims_same (Some port) old new (ap (λ (h : Holding ReaderView). h.ports) same) (subst (λ (q : ℕ). HasClaimedOnly (Some q) old.ports.view) called claimed)
+
+-- a release claims nothing
+claims_released : (v : View) (port : Option ℕ) → HasClaimedOnly port v → HasClaimedOnly port (after_release v)
+claims_released v port only q s m =
+    ⊎_elim (λ was. only q s was) (λ (e : Released (port_of v) ≡ Claimed q s 0). absurd (cc)) (Contains-push_cases v.steps (Released (port_of v)) (Claimed q s 0) m)
 
 -- the port was released
 pub claims_closed : (o : Open ReaderView) (h : Holding ReaderView) → IsClosed o h → HasClaimedOnly (Some o.port) o.own.ports.view → HasClaimedOnly (Some o.port) h.ports.view

@@ -1,9 +1,8 @@
 -- What a mailbox gave is kept, and what no call on a slot changes.
 use Rattle.std.proofs.Common.{◌≡◌, List, [], ◌∷◌, ◌++◌, refl, sym, ap, ◌∙◌, append_assoc}
 use Rattle.rds_model.specs.declared.order.Datagram.{Datagram}
-use Rattle.rds_mail.specs.Numbers.{Number, bare_items}
+use Rattle.rds_mail.specs.Numbers.{Number, Numbered, bare_items}
 use Rattle.rds_mail.specs.Passes.{Getter, after_get}
-use Rattle.rds_mail.proofs.Numbers.{items-append}
 use Rattle.rds_fmap.specs.Readers.{ReaderView, HasSeen}
 use Rattle.rds_parts.specs.ChangeLaws.{stay_same, stay_on}
 use Rattle.rds_socket.specs.Holding.{Holding}
@@ -11,7 +10,11 @@ use Rattle.rds_socket.specs.Calls.{with_inbox, after_taking_out}
 use Rattle.rds_socket.specs.Stays.{HoldingStays}
 use Rattle.rds_callers.specs.Places.{PlaceKeeps}
 use Rattle.rds_callers.specs.Ends.{IsEndOf}
-use Rattle.rds_callers.proofs.Storing.{stores_same, stores_then}
+use Rattle.rds_callers.specs.StoringLaws.{stores_same, stores_then}
+
+items-append : (xs ys : List (Numbered Datagram)) → bare_items (xs ++ ys) ≡ bare_items xs ++ bare_items ys
+items-append [] ys = refl
+items-append (e ∷ xs) ys = ap (λ l. e.1 ∷ l) (items-append xs ys)
 
 -- one more was got and kept
 pub kept_more : (got new : List Datagram) (get after : Getter Datagram) (number : Number) (item : Datagram)

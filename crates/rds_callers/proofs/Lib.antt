@@ -1,5 +1,4 @@
 pub mod Asking
-pub mod Storing
 pub mod Keeping
 pub mod Claiming
 pub mod Putting

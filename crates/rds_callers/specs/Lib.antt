@@ -4,3 +4,4 @@ pub mod Tenants
 pub mod States
 pub mod Doing
 pub mod Ends
+pub mod StoringLaws

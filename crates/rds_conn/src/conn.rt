@@ -1,12 +1,12 @@
-ghost use Rattle.std.specs.Prelude.{◌≡◌, ℕ, ◌+◌, ◌≤◌, ◌↔◌, nat_le, [], false, true, None, IfOk, OnOk, OnErr, IfSome, IfNone, IsNone, length, sum, replicate, filter};
+ghost use Rattle.std.specs.Prelude.{◌≡◌, ℕ, ◌+◌, ◌≤◌, nat_le, [], false, true, None, IfOk, IfSome, length, replicate};
 ghost use Rattle.rds_conn.specs.declared.conn.ConnError.TheVariants as errors;
 
 use crate::asking::Asking;
 use crate::charges::Charges;
-use crate::freed::{Freed, FreedBytes};
+use crate::freed::FreedBytes;
 use rds_cong::PortMap;
 use rds_frame::Splitter;
-use rds_model::{Journal, Target};
+use rds_model::Journal;
 use rds_msgs::Store;
 use rds_wire::{Malformed, Memory, Payload};
 use std::alloc::Global;
@@ -18,6 +18,7 @@ mod order;
 mod pull;
 mod read;
 mod ready;
+mod slots;
 mod streams;
 mod uncounted;
 
@@ -151,7 +152,7 @@ impl Model for Conn {
 }
 
 impl Conn {
-    ghost use Rattle.rds_model.specs.Alive.{covered, is_alive};
+    ghost use Rattle.rds_model.specs.Alive.{is_alive};
     ghost use Rattle.rds_model.specs.Past.{highest_pulled};
     ghost use Rattle.rds_model.specs.Streams.{was_pulled};
     ghost use Rattle.rds_model.specs.Legal.{IsWhole};
@@ -162,7 +163,6 @@ impl Conn {
     ghost use Rattle.rds_wire.specs.declared.kind.TheConstants.{MAX_LENGTH, MAP_LENGTH};
     ghost use Rattle.rds_model.specs.declared.journal.TheConstants.{MIN_ENTRIES, MAX_ENTRIES};
     ghost use Rattle.rds_conn.specs.Connection.{stream_of, taken_bytes};
-    ghost use Rattle.rds_conn.specs.Freeing.{HandsOutFreed};
 
     /// A connection of the host `me` with `peer`, both IPv4 addresses: an empty journal of at most `limit` entries, and
     /// no stream. The sockets of this host have slots below `slots`, at most `MAX_SLOTS`.
@@ -253,49 +253,12 @@ impl Conn {
         let _ = &self.slots;
     }
 
-    /// Replaces `out` by the numbers of the datagrams that a cancellation by this socket would take back now, ascending.
-    ///
-    /// # Errors
-    ///
-    /// Where there is no memory for them. `out` is as before.
-    pub fn covered(&self, slot: u16, target: &Target, out: &mut Vec<u64>) -> Result<(), Memory>
-        ensures ok { OnOk result (out.new.items ≡ covered slot target.now self.now.log.past) }
-        ensures err { OnErr result (out.new.items ≡ out.old.items) }
-    {
-        self.store.covered(slot, target, out)
-    }
-
-    /// Takes out freed bytes of one socket: bytes of its datagrams that were acknowledged or taken back, so that the
-    /// socket may send as many again. At most 1,048,576 at a time, from the lowest slot that has any; `None` where no slot
-    /// has.
-    pub fn take_freed(&mut self) -> Option<Freed>
-        ensures none { IsNone result ↔ (sum self.old.freed ≡ 0) }
-        ensures some { IfSome result (HandsOutFreed self.old.freed self.new.freed) }
-        ensures same { IfNone result (self.new ≡ self.old) }
-        ensures rest { self.new ≡ record self.old { freed = self.new.freed } }
-    {
-        match self.freed.take() {
-            Some(freed) => {
-                self.charges.take(freed.slot, freed.bytes);
-                Some(freed)
-            }
-            None => None,
-        }
-    }
-
     /// What has happened, as a list of entries.
     pub fn journal(&self) -> &Journal
         ensures past { result.now.past ≡ self.now.log.past }
         ensures limit { result.now.limit ≡ self.now.log.limit }
     {
         &self.journal
-    }
-
-    /// The number of the open stream, if one is.
-    pub fn stream(&self) -> Option<u32>
-        ensures { result ≡ stream_of self.now }
-    {
-        self.stream
     }
 
     /// Gives up the connection, and keeps what has happened.

@@ -1,6 +1,6 @@
 -- What a getter shows of putters that have the numbers of their places.
-use Rattle.std.proofs.Common.{◌≡◌, ℕ, zero, suc, ◌<◌, ◌≤◌, true, false, List, [], ◌∷◌, ◌++◌, All, Some, Option, length, map, slice_get, option_map, refl, sym, ap, subst, ⊎_elim, ◌∙◌, arith}
-use Rattle.std.proofs.lemmas.Bool.{cases_Bool, cond-true, cond-false}
+use Rattle.std.proofs.Common.{◌≡◌, ℕ, zero, suc, ◌<◌, ◌≤◌, ◌==◌, true, false, List, [], ◌∷◌, ◌++◌, All, Some, Option, length, map, slice_get, option_map, refl, sym, ap, subst, ⊎_elim, ◌∙◌, arith}
+use Rattle.std.proofs.lemmas.Bool.{cases_Bool, cond-true, cond-false, eq-eqb}
 use Rattle.std.proofs.lemmas.List.Elements.{All-head, All-tail}
 use Rattle.std.proofs.lemmas.Option.{none-some, same_Some, slice_get_within, slice_get-map}
 use mathlib.Core.Option.{some, some-injective, some-ne-none}
@@ -11,12 +11,16 @@ use Rattle.rds_mail.specs.Merging.{AreAll, HasNumber, IsMerged, by_key}
 use Rattle.rds_mail.specs.Numbers.{Number, Numbered, bare_items, items_of, same_number}
 use Rattle.rds_mail.specs.Passes.{Getter, Putter, account_of}
 use Rattle.rds_mail.specs.Shared.{IsPart}
-use Rattle.rds_mail.proofs.Numbers.{same_here}
 use Rattle.rds_joins.specs.Joins.{AreMarked, PutsAreTold}
 use Rattle.rds_host.specs.Passes.{putter_number, splits_at}
 use Rattle.rds_host.specs.Telling.{IsTold}
 use Rattle.rds_gather.proofs.Places.{mapped_at, there_is}
 use Rattle.rds_gather.specs.Shown.{ShowsAllPuts}
+
+-- a number is the same as itself
+same_here : (p : Number) → same_number p p ≡ true
+same_here [] = refl
+same_here (k ∷ p) = cond-true (k == k) (same_number p p) false (eq-eqb k k refl) ∙ same_here p
 
 pub got_at : {X : Type 0} (xs : List X) (i : ℕ) (x : X) → At xs i x → slice_get xs i ≡ Some x
 got_at [] i x at = absurd (some-ne-none x (sym at))

@@ -5,10 +5,10 @@ use std::test::*;
 fn a_source_is_read_to_its_end(rt: HostRuntime) -> Result<(), Fail> {
     let alloc = rt.alloc();
     let mut source = MemSource::new(b"some text".to_vec(alloc)?, Vec::new(alloc));
-    let text = read_all(alloc, &mut source, 100).map_err(|_| "no fault was asked for")?;
+    let text = read_all(alloc, &mut source, 100)?;
     assert_eq!(rt; text.as_slice(), b"some text".as_slice());
     let mut source = MemSource::new(b"some text".to_vec(alloc)?, Vec::new(alloc));
-    let text = read_all(alloc, &mut source, 4).map_err(|_| "no fault was asked for")?;
+    let text = read_all(alloc, &mut source, 4)?;
     assert_eq!(rt; text.as_slice(), b"some".as_slice());
     Ok(())
 }
@@ -41,7 +41,7 @@ fn any_reader_and_writer_will_do(rt: HostRuntime) -> Result<(), Fail> {
     let alloc = rt.alloc();
     let text = b"some text";
     let mut source = StdSource::new(text.as_slice());
-    let read = read_all(alloc, &mut source, 100).map_err(|_| "a slice has no faults")?;
+    let read = read_all(alloc, &mut source, 100)?;
     let mut sink = StdSink::new(Vec::new(alloc));
     assert_eq!(rt; write_all(&mut sink, &read), Ok(()));
     Ok(())

@@ -109,7 +109,7 @@ fn is_carried<R: Threads + Wait + Net + Sync>(
     cuts: bool,
 ) -> Result<bool, Fail> {
     let mut wire = MemWire::new(alloc, Vec::new(alloc), Vec::new(alloc));
-    let mut ends = wire.open(rt, 1, 2, 1).map_err(|_| "no memory")?;
+    let mut ends = wire.open(rt, 1, 2, 1)?;
     Ok(carries(rt, &mut ends, &mut Vec::new(alloc), sent, cuts))
 }
 
@@ -200,7 +200,7 @@ fn failing<R: Threads + Wait + Net>(
     number: u32,
 ) -> Result<((Put, Got, Got), u64), Fail> {
     let mut wire = MemWire::new(alloc, Vec::new(alloc), vec![in alloc; number]?);
-    let (mut a, mut b) = wire.open(rt, 1, 2, 1).map_err(|_| "no memory")?;
+    let (mut a, mut b) = wire.open(rt, 1, 2, 1)?;
     let all = answers(&mut a, &mut b);
     wire.give_back(rt, b);
     Ok((all, wire.faults()))
@@ -237,7 +237,7 @@ fn openings_fail_by_their_numbers(rt: HostRuntime) -> Result<(), Fail> {
 }
 
 fn overfilled<R: Threads + Wait + Net>(rt: &R, wire: &mut MemWire) -> Result<(Put, Put), Fail> {
-    let (mut a, _b) = wire.open(rt, 1, 2, 1).map_err(|_| "no memory")?;
+    let (mut a, _b) = wire.open(rt, 1, 2, 1)?;
     let piece = [7; ROOM + 1];
     let answers = (a.write(&piece), a.write(&piece));
     wire.give_back(rt, a);

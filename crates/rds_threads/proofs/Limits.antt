@@ -27,7 +27,7 @@ use Rattle.rds_callers.specs.Doing.{AtPort, BindsNext, IsDone, IsFirstFree}
 use Rattle.rds_callers.specs.Ends.{StoresNoMore}
 use Rattle.rds_callers.specs.Places.{Bound, Ended, Place, Spare, Vacant, holding_of, with_holding}
 use Rattle.rds_callers.specs.Tenants.{Asks, Cancels, Closes, ReceivesNext, SendsFrom, SendsOrNot}
-use Rattle.rds_callers.proofs.Storing.{stores_closed, stores_load, stores_received, stores_same}
+use Rattle.rds_callers.specs.StoringLaws.{stores_closed, stores_load, stores_received, stores_same}
 use Rattle.rds_parties.specs.Obeyed.{DoesCommand, HasDone, HasObeyed}
 use Rattle.rds_threads.specs.Outcome.{AskFor, BindsWith}
 use Rattle.rds_threads.proofs.At.{at_set, beside_set, one_at}

@@ -8,6 +8,13 @@ use crate::asking::Asking;
 use rds_model::Entry;
 
 impl Conn {
+    /// The number of the open stream, if one is.
+    pub fn stream(&self) -> Option<u32>
+        ensures { result ≡ stream_of self.now }
+    {
+        self.stream
+    }
+
     /// A stream to the peer was opened, and none was open. Its number is above those before it. All datagrams that are
     /// alive are to be pulled on it, behind the map.
     pub fn open(&mut self, stream: u32)

@@ -1,6 +1,6 @@
 use Rattle.std.proofs.Common.{[], ◌∷◌, ◌++◌, ap, ◌∙◌}
 use Rattle.rds_callers.proofs.Keeping.{kept_more}
-use Rattle.rds_callers.proofs.Storing.{stores_received}
+use Rattle.rds_callers.specs.StoringLaws.{stores_received}
 use Rattle.rds_callers.proofs.tenant.Tenant.receive.Goals as goal
 
 pub invariant_of-self-2 : goal.invariant_of-self-2

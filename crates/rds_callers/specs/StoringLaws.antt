@@ -1,3 +1,4 @@
+-- Laws, each proved: proofs in other crates use them. Nothing here has to be believed.
 -- A receipt stores no receive limit.
 use Rattle.std.proofs.Common.{◌≡◌, ◌≢◌, inl, inr, ◌⊎◌, ℕ, ◌+◌, ◌/◌, ◌%◌, ◌==◌, nat_le, nat_lt, cond, Bool, true, false, List, [], ◌∷◌, ◌++◌, ap, subst, ◌∙◌}
 use Rattle.std.specs.Prelude.{Contains}
