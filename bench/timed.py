@@ -1,17 +1,17 @@
 """Runs a program three times and prints the shortest times for each of COUNT datagrams: python3 bench/timed.py COUNT PROGRAM WORD .. < INPUT
 
-The times hold the whole process. Each run reads the same input, and what it prints is thrown away."""
+The times hold the whole process. INPUT is a file, which each run reads from its beginning, and what it prints is thrown away."""
 import resource
 import subprocess
 import sys
 import time
 
 count, words = int(sys.argv[1]), sys.argv[2:]
-text = sys.stdin.buffer.read()
 shortest = None
 for _ in range(3):
+    sys.stdin.seek(0)
     begun, used = time.monotonic(), resource.getrusage(resource.RUSAGE_CHILDREN)
-    subprocess.run(words, input=text, stdout=subprocess.DEVNULL, check=True)
+    subprocess.run(words, stdin=sys.stdin, stdout=subprocess.DEVNULL, check=True)
     wall, after = time.monotonic() - begun, resource.getrusage(resource.RUSAGE_CHILDREN)
     cpu = after.ru_utime + after.ru_stime - used.ru_utime - used.ru_stime
     shortest = min(shortest or (wall, cpu), (wall, cpu))
