@@ -16,6 +16,7 @@ pub mod Finished
 pub mod Spent
 pub mod Left
 pub mod Partners
+pub mod AtMost
 pub mod Pending
 pub mod NonePending
 pub mod KeptPorts
