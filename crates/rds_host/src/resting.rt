@@ -1,4 +1,5 @@
 //! How a worker rests while none of its lines has anything to do.
+use crate::stop::Stop;
 use rds_fmap::Writer;
 use rds_line::Line;
 use rds_link::End;
@@ -15,7 +16,8 @@ const SOON: u32 = 8;
 /// How many microseconds it sleeps at first.
 const FIRST: u64 = 50;
 
-/// Once it would sleep so many next, a worker that is told to stop does. It has then slept for 350, one after another, and nothing came.
+/// Once it would sleep so many next, a worker that is told to stop does, if no other has anything to do. It has then slept for 350, one
+/// after another, and nothing came.
 const LONG: u64 = 400;
 
 /// How many it sleeps at most. Nothing wakes it, so this is how late it may see that it is to stop.
@@ -44,22 +46,32 @@ impl Idle {
         self.sleep >= LONG
     }
 
-    // A line moved.
-    fn end(&mut self) {
+    // A line moved. Where the round before was idle, the worker has something to do again.
+    fn end(&mut self, stop: &Stop) {
+        if self.rounds > 0 {
+            stop.begin();
+        }
         self.rounds = 0;
         self.sleep = FIRST;
     }
 
-    // One idle round more. After many of them the worker sleeps, each time twice as long.
-    fn add<R: Wait>(&mut self, rt: &R, is_told: bool) {
-        let awake = if is_told { SOON } else { AWAKE };
+    // One idle round more. With the first the worker has nothing to do, and after many it sleeps, each time twice as long.
+    fn add<R: Wait>(&mut self, rt: &R, stop: &Stop, is_told: bool) {
+        if self.rounds == 0 {
+            stop.pause();
+        }
+        let (awake, longest) = if is_told {
+            (SOON, LONG)
+        } else {
+            (AWAKE, LONGEST)
+        };
         if self.rounds < awake {
             self.rounds += 1;
             return;
         }
         self.parker
             .park_timeout(rt, Duration::from_micros(self.sleep));
-        self.sleep = self.sleep.saturating_mul(2).min(LONGEST);
+        self.sleep = self.sleep.saturating_mul(2).min(longest);
     }
 }
 
@@ -69,15 +81,16 @@ pub(crate) fn rest<E: End, R: Wait>(
     rt: &R,
     lines: &[Line<E, Writer>],
     moved: bool,
+    stop: &Stop,
     is_told: bool,
     idle: &mut Idle,
 ) {
     if moved {
-        idle.end();
+        idle.end(stop);
         return;
     }
     for line in lines {
         line.rest(rt);
     }
-    idle.add(rt, is_told);
+    idle.add(rt, stop, is_told);
 }

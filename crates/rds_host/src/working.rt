@@ -8,8 +8,9 @@ use rds_line::{Line, Turn};
 use rds_link::End;
 use std::sync::Wait;
 
-/// Turns each line in order, round after round, until the stop flag is set and no line moved for a while: others may still be at work
-/// that have something for them. After a round in which none moved it rests. The lines come back in the same order.
+/// Turns each line in order, round after round, until the stop flag is set, no line moved for a while, and no other worker with this
+/// flag has anything to do: it may have something for them yet. After a round in which none moved it rests. The lines come back in the
+/// same order.
 pub fn work<E: End, R: Wait>(
     rt: &R,
     mut lines: Vec<Line<E, Writer>>,
@@ -18,13 +19,14 @@ pub fn work<E: End, R: Wait>(
     ensures { AreTurned E.means pair_of lines.items result.items }
 {
     let mut idle = Idle::new();
+    stop.begin();
     for _ in rt.forever() {
         let is_told = stop.is_set();
         let moved = turn_all(rt, &mut lines);
-        if !moved && is_told && idle.is_long() {
+        if !moved && is_told && idle.is_long() && stop.is_quiet() {
             break;
         }
-        rest(rt, &lines, moved, is_told, &mut idle);
+        rest(rt, &lines, moved, stop, is_told, &mut idle);
     }
     lines
 }
