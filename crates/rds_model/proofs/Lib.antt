@@ -18,6 +18,7 @@ pub mod NumberLists
 pub mod ReadLists
 pub mod AcceptedLists
 pub mod Headline
+pub mod Accounted
 pub mod ExampleSteps
 pub mod HelloRun
 pub mod CutRun

@@ -8,6 +8,7 @@ use Rattle.rds_model.specs.declared.entry.Entry.TheVariants.{Accept, Read}
 use Rattle.rds_model.specs.declared.entry.Outcome.{Outcome}
 use Rattle.rds_model.specs.declared.entry.Outcome.TheVariants as outcome
 use Rattle.rds_model.specs.Past.{Accepted, Moment, accepted, datagram, number, last_passed, passes}
+use Rattle.rds_model.specs.Streams.{was_passed}
 use Rattle.rds_model.specs.Alive.{was_taken_back}
 use Rattle.rds_model.specs.Fifo.{Carries}
 
@@ -86,3 +87,17 @@ pub record IsDeliveredOnce (sport dport : ℕ) (a b : List Entry) : Type 0 where
   pub none_lost : (n : ℕ) → Contains (accepted_for sport dport a) n → n ≤ last_passed b →
       Contains (delivered sport dport b) n ⊎ Contains (dropped sport dport b) n
       ⊎ Contains (taken_by_port_0 sport dport b) n ⊎ Contains (taken_back sport dport a) n
+
+-- a number of the pair was delivered to a slot, by a read of the journal
+pub record IsDeliveredAt (sport dport n : ℕ) (b : List Entry) : Type 0 where
+  pub slot : ℕ
+  pub stream : ℕ
+  pub frame : Frame
+  pub read : Contains b (Read stream frame (outcome.Slot slot))
+  pub listed : Contains (delivered_to slot sport dport b) n
+
+-- what was accepted for the pair is all accounted for: it was delivered, dropped, taken by port 0, or taken back and never passed
+abbrev pub IsAllAccounted : (sport dport : ℕ) → (a b : List Entry) → Type 0
+IsAllAccounted sport dport a b = (n : ℕ) → Contains (accepted_for sport dport a) n →
+    IsDeliveredAt sport dport n b ⊎ Contains (dropped sport dport b) n ⊎ Contains (taken_by_port_0 sport dport b) n
+    ⊎ (Contains (taken_back sport dport a) n × (was_passed b n ≡ false))

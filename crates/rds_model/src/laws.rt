@@ -15,7 +15,8 @@ ghost use Rattle.rds_model.specs.Owed.{owed_frame};
 ghost use Rattle.rds_model.specs.Legal.{IsLegal, IsWhole, IsMapPull};
 ghost use Rattle.rds_model.specs.Honest.{Begins, IsHonest};
 ghost use Rattle.rds_model.specs.Fifo.{IsFifo, HasNoBad};
-ghost use Rattle.rds_model.specs.Pairs.{IsDeliveredOnce, delivered, dropped, is_delivery_to, taken_back, taken_by_port_0};
+ghost use Rattle.rds_model.specs.Alive.{alive_numbers};
+ghost use Rattle.rds_model.specs.Pairs.{IsAllAccounted, IsDeliveredOnce, delivered, dropped, is_delivery_to, taken_back, taken_by_port_0};
 ghost use Rattle.rds_model.specs.declared.order.Datagram.{Datagram};
 ghost use Rattle.rds_model.specs.declared.order.Order.TheVariants as order;
 ghost use Rattle.rds_model.specs.Drained.{IsQuiet, IsSettledBetween};
@@ -78,6 +79,21 @@ pub fn drained(a: &Journal, b: &Journal)
 /// The same of all lists of entries.
 pub fn drained_of_all()
     ensures { (a b : List Entry) → IsLegal a → IsLegal b → IsHonest a b → (s : ℕ) → IsQuiet s a b → IsSettledBetween s a b }
+{}
+
+/// Where none of a sender's numbers is alive, none is pending: each datagram that it accepted for a port pair was delivered to a slot,
+/// found no socket, was taken by port 0, or was taken back and never arrived.
+pub fn accounted(a: &Journal, b: &Journal)
+    requires legal_a { IsLegal a.now.past }
+    requires legal_b { IsLegal b.now.past }
+    requires honest { IsHonest a.now.past b.now.past }
+    requires none_alive { alive_numbers a.now.past ≡ [] }
+    ensures { (sport dport : ℕ) → IsAllAccounted sport dport a.now.past b.now.past }
+{}
+
+/// The same of all lists of entries.
+pub fn accounted_of_all()
+    ensures { (a b : List Entry) → IsLegal a → IsLegal b → IsHonest a b → alive_numbers a ≡ [] → (sport dport : ℕ) → IsAllAccounted sport dport a b }
 {}
 
 /// What is owed and what may be pulled are one rule: the frame that is owed for a map may be pulled; where nothing is owed,

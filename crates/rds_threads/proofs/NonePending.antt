@@ -8,10 +8,9 @@ use Rattle.std.proofs.lemmas.Option.{same_Some, slice_get-map, slice_get_within}
 use Rattle.rds_model.specs.declared.entry.Entry.{Entry}
 use Rattle.rds_model.specs.declared.entry.Entry.TheVariants.{Accept}
 use Rattle.rds_model.specs.Alive.{alive_numbers}
-use Rattle.rds_model.specs.Fifo.{IsFifo}
 use Rattle.rds_model.specs.Honest.{IsHonest}
 use Rattle.rds_model.specs.Legal.{IsLegal}
-use Rattle.rds_model.proofs.Matching.{ArePeers}
+use Rattle.rds_model.specs.Pairs.{IsAllAccounted}
 use Rattle.rds_report.specs.FinalState.{FinalHost, FinalJournal, FinalSocket, past_of, past_with, sockets_of}
 use Rattle.rds_report.specs.Hosts.{address_of}
 use Rattle.rds_report.specs.Report.{Group, accepted_groups, ascending, counts, is_before, pending, with_group}
@@ -138,28 +137,30 @@ module _ (tells : Bool) (hosts : ℕ) (commands : List Placed) (ends : List Fina
 
   -- the two journals of two hosts, seen from the sender
   record IsWay (h k : ℕ) (a b : FinalJournal) (receiver : FinalHost) : Type 0 where
-    pub peers : ArePeers a.past b.past
+    pub legal_a : IsLegal a.past
+    pub legal_b : IsLegal b.past
+    pub honest : IsHonest a.past b.past
     pub none_alive : alive_numbers a.past ≡ []
     pub reliable : IsReliableTo h a.past b.past receiver.sockets
 
   -- no datagram from one host to the other is pending
-  way_done : (fifo : (x y : List Entry) → IsLegal x → IsLegal y → IsHonest x y → (IsFifo x y × IsFifo y x)) → (h k p q : ℕ) (sender receiver : FinalHost) (a b : FinalJournal) →
+  way_done : (accounted : (x y : List Entry) → IsLegal x → IsLegal y → IsHonest x y → alive_numbers x ≡ [] → (sport dport : ℕ) → IsAllAccounted sport dport x y) → (h k p q : ℕ) (sender receiver : FinalHost) (a b : FinalJournal) →
       slice_get ends h ≡ Some sender → slice_get ends k ≡ Some receiver → slice_get sender.sides p ≡ Some a → slice_get receiver.sides q ≡ Some b →
       peer_at h p ≡ k → peer_at k q ≡ h → IsWay h k a b receiver → (sport dport : ℕ) →
       pending (counts ends (record { to = a.peer; dport = dport; from = sender.addr; sport = sport })) ≡ 0
-  way_done fifo h k p q sender receiver a b at at_other at_a at_b to back way sport dport =
+  way_done accounted h k p q sender receiver a b at at_other at_a at_b to back way sport dport =
       let peer : a.peer ≡ address_of k = (peer_there h p sender a at at_a).0 ∙ ap address_of to in
       let peer_back : b.peer ≡ address_of h = (peer_there k q receiver b at_other at_b).0 ∙ ap address_of back in
       let gone = all_at (AllWentToSockets receiver.sockets) receiver.sides q b (e.did k receiver at_other).gone at_b in
-      let legal = way.peers in
-      let none = none_left h sport a.peer dport way.peers (fifo a.past b.past legal.legal_a legal.legal_b legal.honest).0 way.none_alive receiver.sockets gone
+      let all = accounted a.past b.past way.legal_a way.legal_b way.honest way.none_alive sport dport in
+      let none = none_left h sport a.peer dport all receiver.sockets gone
       (way.reliable.handed_out sport dport) in
       let are = counts_are ends h sport a.peer dport a.past b.past receiver.sockets (found_past h p sender a at at_a (address_of h) a.peer refl refl)
       (found_past k q receiver b at_other at_b a.peer (address_of h) peer peer_back) (found_sockets k receiver at_other a.peer peer) in
       subst (λ (from : ℕ). pending (counts ends (record { to = a.peer; dport = dport; from = from; sport = sport })) ≡ 0) (sym (e.addresses h sender at))
       (ap pending are ∙ none)
 
-  module _ (fifo : (x y : List Entry) → IsLegal x → IsLegal y → IsHonest x y → (IsFifo x y × IsFifo y x)) (told : tells ≡ true) (drained : AreDrainedHosts ends) where
+  module _ (accounted : (x y : List Entry) → IsLegal x → IsLegal y → IsHonest x y → alive_numbers x ≡ [] → (sport dport : ℕ) → IsAllAccounted sport dport x y) (told : tells ≡ true) (drained : AreDrainedHosts ends) where
     -- a journal stands at a place of a host's
     stands : (host place : ℕ) (end : FinalHost) (side : FinalJournal) → slice_get ends host ≡ Some end → slice_get end.sides place ≡ Some side →
         IsAt (map (λ (x : FinalHost). x.sides) ends) host place side
@@ -177,16 +178,16 @@ module _ (tells : Bool) (hosts : ℕ) (commands : List Placed) (ends : List Fina
         let honest = sound.honest told in
         let reliable = e.reliable low place one other a b least at at_other at_a at_b honest in (
           record {
-            peers = record { legal_a = sound.low_legal.legal; legal_b = sound.high_legal.legal; honest = honest };
+            legal_a = sound.low_legal.legal;
+            legal_b = sound.high_legal.legal;
+            honest = honest;
             none_alive = quiet.settled.none_alive_a;
             reliable = reliable.0;
           },
           record {
-            peers = record {
-              legal_a = sound.high_legal.legal;
-              legal_b = sound.low_legal.legal;
-              honest = record { forth = honest.back; back = honest.forth };
-            };
+            legal_a = sound.high_legal.legal;
+            legal_b = sound.low_legal.legal;
+            honest = record { forth = honest.back; back = honest.forth };
             none_alive = quiet.settled.none_alive_b;
             reliable = reliable.1;
           },
@@ -206,14 +207,14 @@ module _ (tells : Bool) (hosts : ℕ) (commands : List Placed) (ends : List Fina
               let is : suc (h - 1) ≡ h = omega (arith, before) in
               let least : p ≤ h - 1 = omega (arith, before) in
               let ways = both_ways p (h - 1) receiver.0 sender b.0 a least receiver.1 (subst (λ (n : ℕ). slice_get ends n ≡ Some sender) (sym is) at) b.1 at_a in
-              way_done fifo h p p (h - 1) sender receiver.0 a b.0 at receiver.1 at_a b.1 (peer_before h p before) (peer_after p (h - 1) least ∙ is)
+              way_done accounted h p p (h - 1) sender receiver.0 a b.0 at receiver.1 at_a b.1 (peer_before h p before) (peer_after p (h - 1) least ∙ is)
               (subst (λ (n : ℕ). IsWay n p a b.0 receiver.0) is ways.1)
           | inr after ↦
               let receiver = some_at ends (suc p) (omega (arith, within, count)) in
               let long = side_count (suc p) receiver.0 receiver.1 in
               let b = some_at receiver.0.sides h (omega (arith, long, within, after)) in
               let ways = both_ways h p sender receiver.0 a b.0 after at receiver.1 at_a b.1 in
-              way_done fifo h (suc p) p h sender receiver.0 a b.0 at receiver.1 at_a b.1 (peer_after h p after) (peer_before (suc p) h (omega (arith, after))) ways.0
+              way_done accounted h (suc p) p h sender receiver.0 a b.0 at receiver.1 at_a b.1 (peer_after h p after) (peer_before (suc p) h (omega (arith, after))) ways.0
         ]
 
     pub none_pending : NonePending ends

@@ -11,59 +11,15 @@ use Rattle.rds_model.specs.declared.entry.Outcome.{Outcome}
 use Rattle.rds_model.specs.declared.entry.Outcome.TheVariants as outcome
 use Rattle.rds_model.specs.declared.order.Datagram.{Datagram}
 use Rattle.rds_wire.specs.declared.frame.Frame.{Frame}
-use Rattle.rds_model.specs.Alive.{alive_numbers, is_alive, was_taken_back}
-use Rattle.rds_model.specs.EndingLaws.{acknowledged_at, ended}
-use Rattle.rds_model.specs.Fifo.{IsFifo}
-use Rattle.rds_model.specs.FrameLaws.{pull_acknowledges}
-use Rattle.rds_model.specs.LeastDueLaws.{none_passes}
-use Rattle.rds_model.specs.LegalityLaws.{lawful_pull}
-use Rattle.rds_model.specs.NumberLaws.{number_of_known}
-use Rattle.rds_model.specs.Pairs.{accepted_for, delivered_to, dropped, is_between, is_delivery_to, is_drop, is_port_0, read_with, taken_back, taken_by_port_0}
-use Rattle.rds_model.specs.Past.{Accepted, Moment, now, before, accepted, datagram, highest_ack, last_passed, number, passes}
+use Rattle.rds_model.specs.Pairs.{IsAllAccounted, IsDeliveredAt, accepted_for, delivered_to, dropped, taken_back, taken_by_port_0}
+use Rattle.rds_model.specs.Past.{accepted}
 use Rattle.rds_model.specs.Streams.{was_passed}
-use Rattle.rds_model.proofs.AcceptedLists.{AcceptedFor, accepted_number}
-use Rattle.rds_model.proofs.Matching.{ArePeers, other_way, pull_of_read}
-use Rattle.rds_model.proofs.Moments.{past_of}
-use Rattle.rds_model.proofs.NumberLists.{in_filter}
-use Rattle.rds_model.proofs.ReadLists.{listed_at}
-use Rattle.rds_model.proofs.Rise.{PassedAt, last_passed_grows, passed_before}
 use Rattle.rds_report.specs.FinalState.{FinalSocket}
 use Rattle.rds_report.specs.Hosts.{address_of}
 use Rattle.rds_report.specs.Report.{Counts, Group, of_group, pending}
 use Rattle.rds_history.specs.Sound.{is_of_ports, of_ports}
 use Rattle.rds_threads.specs.Reliable.{HandsOutSent, WentToSocket, all_handed}
 use Rattle.rds_threads.proofs.AtMost.{accepted_few, all_at_most}
-
--- each acknowledgement that was read is of a number that was passed
-acked_passed : {a b : List Entry} → ArePeers a b → highest_ack a ≤ last_passed b
-acked_passed {a} {b} peers =
-    elim (cases_lt 0 (highest_ack a)) [
-      | inl some ↦
-          let freed = acknowledged_at (highest_ack a) a some (omega arith) in
-          let reply = pull_of_read freed.stream freed.frame freed.outcome (other_way a b peers) freed.at in
-          let acks = pull_acknowledges freed.stream reply.past freed.frame (lawful_pull freed.stream freed.frame peers.legal_b reply.at) in
-          let grows = last_passed_grows peers (past_of reply.at) now in
-          let enough = freed.enough in
-          omega (arith, acks, grows, enough)
-      | inr none ↦ omega (arith, none)
-    ]
-
--- the passed read of a number
-passed_at : (n : ℕ) (j : List Entry) → was_passed j n ≡ true → PassedAt n j
-passed_at n [] was = absurd (false≢true was)
-passed_at n (Read s f o ∷ past) was =
-    elim (or_cases (passes o && (number f == n)) (was_passed past n) was) [
-      | inl this ↦
-          let both = and_parts (passes o) (number f == n) this in
-          record { stream = s; frame = f; outcome = o; past = past; at = now; passed = both.0; is = eqb-true (number f) n both.1 }
-      | inr older ↦ passed_before n (Read s f o) past (passed_at n past older)
-    ]
-passed_at n (x ∷ past) was = passed_before n x past (passed_at n past was)
-
--- what is appended at a moment is in the journal
-at_moment : {found : Entry} {p j : List Entry} → Moment (found ∷ p) j → Contains j found
-at_moment now = (0, omega arith, refl)
-at_moment {found} {p} (before {e} {j} m) = Contains-append_right (e ∷ []) j found (at_moment m)
 
 -- what is made of one thing is among what is made of all
 in_flat : {X : Type 0} (f : X → List ℕ) (xs : List X) (i : ℕ) (x : X) → slice_get xs i ≡ Some x → (n : ℕ) → Contains (f x) n → Contains (flat_map f xs) n
@@ -72,7 +28,20 @@ in_flat f (y ∷ ys) zero x at n has =
     Contains-append_left (f y) (flat_map f ys) n (subst (λ z. Contains (f z) n) (sym (same_Some y x at)) has)
 in_flat f (y ∷ ys) (suc i) x at n has = Contains-append_right (f y) (flat_map f ys) n (in_flat f ys i x at n has)
 
-module _ {a b : List Entry} (peers : ArePeers a b) (fifo : IsFifo a b) (none_alive : alive_numbers a ≡ []) (sport dport : ℕ) (sockets : List FinalSocket)
+-- a filter keeps what passes
+in_filter : (p : ℕ → Bool) (xs : List ℕ) (n : ℕ) → p n ≡ true → Contains xs n → Contains (filter p xs) n
+in_filter p [] n passes (i, within, is) = absurd (omega (arith, within))
+in_filter p (x ∷ xs) n passes (zero, within, is) =
+    let kept = cond-true (p x) (x ∷ filter p xs) (filter p xs) (ap p is ∙ passes) in
+    subst (λ (l : List ℕ). Contains l n) (sym kept) (0, omega arith, is)
+in_filter p (x ∷ xs) n passes (suc i, within, is) =
+    let later = in_filter p xs n passes (i, omega (arith, within), is) in
+    elim (p x) as (λ b. Contains (cond b (x ∷ filter p xs) (filter p xs)) n) [
+      | true ↦ Contains-append_right (x ∷ []) (filter p xs) n later
+      | false ↦ later
+    ]
+
+module _ {a b : List Entry} (sport dport : ℕ) (accounted : IsAllAccounted sport dport a b) (sockets : List FinalSocket)
     (gone : (stream slot : ℕ) (f : Frame) → Contains b (Read stream f (outcome.Slot slot)) → WentToSocket sockets slot f) where
   abbrev received_numbers : List ℕ
   received_numbers = flat_map (λ (s : FinalSocket). delivered_to s.slot sport dport b) sockets
@@ -86,69 +55,29 @@ module _ {a b : List Entry} (peers : ArePeers a b) (fifo : IsFifo a b) (none_ali
   abbrev fates : List ℕ
   fates = received_numbers ++ later_fates
 
-  between : (n : ℕ) → AcceptedFor sport dport n a → (x : PassedAt n b) → is_between sport dport x.frame ≡ true
-  between n acc x =
-      let (d, known, carries) = fifo.accepted x.stream x.frame x.outcome x.past x.at x.passed in
-      let is : d ≡ acc.d = same_Some d acc.d (sym (ap (datagram a) (sym x.is) ∙ known) ∙ acc.known) in
-      and_from (x.frame.header.sport == sport) (x.frame.header.dport == dport)
-      (eq-eqb x.frame.header.sport sport (carries.sport ∙ (ap (λ (e : Accepted). e.sport) is ∙ acc.from)))
-      (eq-eqb x.frame.header.dport dport (carries.dport ∙ (ap (λ (e : Accepted). e.dport) is ∙ acc.to)))
-
-  among : (such : Outcome → Bool) (n : ℕ) → AcceptedFor sport dport n a → (x : PassedAt n b) → such x.outcome ≡ true → Contains (read_with such sport dport b) n
-  among such n acc x is_such =
-      subst (Contains (read_with such sport dport b)) x.is (listed_at such sport dport x.stream x.frame x.outcome x.at is_such (between n acc x))
-
-  arrived : (n : ℕ) → AcceptedFor sport dport n a → (x : PassedAt n b) → Contains fates n
-  arrived n acc x = go x.outcome refl (ap passes refl ∙ x.passed)
-    where
-      at_port_0 : is_port_0 x.outcome ≡ true → Contains fates n
-      at_port_0 is =
-          Contains-append_right received_numbers later_fates n
-          (Contains-append_right (dropped sport dport b) (taken_by_port_0 sport dport b ++ cancelled_numbers) n
-          (Contains-append_left (taken_by_port_0 sport dport b) cancelled_numbers n (among is_port_0 n acc x is)))
-
-      go : (o : Outcome) → x.outcome ≡ o → passes o ≡ true → Contains fates n
-      go (outcome.Slot k) is p =
-          let s = gone x.stream k x.frame (subst (λ (o : Outcome). Contains b (Read x.stream x.frame o)) is (at_moment x.at)) in
-          let to : is_delivery_to s.1.slot x.outcome ≡ true = ap (is_delivery_to s.1.slot) is ∙ eq-eqb k s.1.slot (sym s.3) in
-          Contains-append_left received_numbers later_fates n
-          (in_flat (λ (t : FinalSocket). delivered_to t.slot sport dport b) sockets s.0 s.1 s.2 n (among (is_delivery_to s.1.slot) n acc x to))
-      go outcome.NoSocket is p =
-          Contains-append_right received_numbers later_fates n
-          (Contains-append_left (dropped sport dport b) (taken_by_port_0 sport dport b ++ cancelled_numbers) n (among is_drop n acc x (ap is_drop is)))
-      go outcome.Ping is p = at_port_0 (ap is_port_0 is)
-      go outcome.Void is p = at_port_0 (ap is_port_0 is)
-      go outcome.Old is p = absurd (false≢true p)
-      go outcome.AckOnly is p = absurd (false≢true p)
-      go outcome.Map is p = absurd (false≢true p)
-      go outcome.OddMap is p = absurd (false≢true p)
-
-  -- what didn't arrive was taken back
-  taken : (n : ℕ) → AcceptedFor sport dport n a → was_passed b n ≡ false → was_taken_back a n ≡ true
-  taken n acc missed =
-      let known = ap is_some acc.known in
-      let range = number_of_known a n known in
-      elim (ended a n known (none_passes (is_alive a) (accepted a) none_alive n range.0 range.1)) [
-        | inl back ↦ back
-        | inr acked ↦
-            elim (fifo.none_lost n range.0 (let most = acked_passed peers in omega (arith, acked, most))) [
-              | inl was ↦ absurd (both_ways (was_passed b n) missed was)
-              | inr back ↦ back
-            ]
-      ]
+  -- what was delivered to a slot was delivered to the socket that had it
+  at_socket : (n : ℕ) → IsDeliveredAt sport dport n b → Contains received_numbers n
+  at_socket n d =
+      let s = gone d.stream d.slot d.frame d.read in
+      in_flat (λ (t : FinalSocket). delivered_to t.slot sport dport b) sockets s.0 s.1 s.2 n
+      (subst (λ (slot : ℕ). Contains (delivered_to slot sport dport b) n) (sym s.3) d.listed)
 
   each_accounted : (n : ℕ) → Contains (accepted_for sport dport a) n → Contains fates n
   each_accounted n inside =
-      let acc = accepted_number sport dport n a inside in
-      elim (cases_Bool (was_passed b n)) [
-        | inl was ↦ arrived n acc (passed_at n b was)
-        | inr missed ↦
-            Contains-append_right received_numbers later_fates n
-            (Contains-append_right (dropped sport dport b) (taken_by_port_0 sport dport b ++ cancelled_numbers) n
-            (Contains-append_right (taken_by_port_0 sport dport b) cancelled_numbers n
-            (in_filter (λ n. not (was_passed b n)) (taken_back sport dport a) n (ap not missed)
-            (in_filter (was_taken_back a) (accepted_for sport dport a) n (taken n acc missed) inside))))
+      elim (accounted n inside) [
+        | inl delivered ↦ Contains-append_left received_numbers later_fates n (at_socket n delivered)
+        | inr (inl nowhere) ↦ late n (Contains-append_left (dropped sport dport b) (taken_by_port_0 sport dport b ++ cancelled_numbers) n nowhere)
+        | inr (inr (inl port_0)) ↦ last n (Contains-append_left (taken_by_port_0 sport dport b) cancelled_numbers n port_0)
+        | inr (inr (inr back)) ↦
+            last n (Contains-append_right (taken_by_port_0 sport dport b) cancelled_numbers n
+            (in_filter (λ n. not (was_passed b n)) (taken_back sport dport a) n (ap not back.1) back.0))
       ]
+    where
+      late : (n : ℕ) → Contains later_fates n → Contains fates n
+      late n = Contains-append_right received_numbers later_fates n
+
+      last : (n : ℕ) → Contains (taken_by_port_0 sport dport b ++ cancelled_numbers) n → Contains fates n
+      last n has = late n (Contains-append_right (dropped sport dport b) (taken_by_port_0 sport dport b ++ cancelled_numbers) n has)
 
   pub all_accounted : length (accepted_for sport dport a)
       ≤ length received_numbers + length (dropped sport dport b) + length (taken_by_port_0 sport dport b) + length cancelled_numbers
@@ -217,12 +146,12 @@ nothing_left : (x y : ℕ) → x ≤ y → x - y ≡ 0
 nothing_left x y most = omega (arith, most)
 
 -- none is pending
-pub none_left : (h sport to dport : ℕ) {a b : List Entry} → ArePeers a b → IsFifo a b → alive_numbers a ≡ [] → (sockets : List FinalSocket) →
+pub none_left : (h sport to dport : ℕ) {a b : List Entry} → IsAllAccounted sport dport a b → (sockets : List FinalSocket) →
     ((stream slot : ℕ) (f : Frame) → Contains b (Read stream f (outcome.Slot slot)) → WentToSocket sockets slot f) →
     All (HandsOutSent h sport dport a b) sockets → pending (counts_by (pair_of h sport to dport) a b sockets) ≡ 0
-none_left h sport to dport {a} {b} peers fifo none_alive sockets gone handed =
+none_left h sport to dport {a} {b} accounted sockets gone handed =
     let g = pair_of h sport to dport in
-    let all = all_accounted peers fifo none_alive sport dport sockets gone in
+    let all = all_accounted sport dport accounted sockets gone in
     let same = handed_count h sport to dport a b sockets handed in
     let c = counts_by g a b sockets in
     let enough : c.accepted ≤ c.received + c.unread + c.dropped + c.port0 + c.cancelled = omega (arith, all, same) in

@@ -47,7 +47,7 @@ returns-clause-settled g c = λ limit hosts commands done did tells drained.
     let m = g.W.End.End.means in
     let nothing = drained_of m limit hosts c.args.callers.items (rows_of c.args.lines.items) ends.items done c.requires.settled.count left drained in
     let are = ends_of m limit hosts c.args.callers.items (rows_of c.args.lines.items) ends.items done c.requires.settled.count left c.fifo_of_all.ensures commands did in
-    (nothing, none_pending m.tells hosts commands (host_views ends.items) are c.fifo_of_all.ensures tells nothing)) c.all_ends.ensures.left
+    (nothing, none_pending m.tells hosts commands (host_views ends.items) are c.accounted_of_all.ensures tells nothing)) c.all_ends.ensures.left
 
 pub returns-clause-alive : goal.returns-clause-alive
 returns-clause-alive g c =
