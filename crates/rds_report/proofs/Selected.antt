@@ -16,8 +16,22 @@ use Rattle.rds_report.specs.declared.item.What.TheVariants.{Accepted, Received, 
 use Rattle.rds_report.specs.declared.item.Item.{Item}
 use Rattle.rds_report.specs.FinalState.{FinalSocket, FinalJournal, FinalHost, past_with, past_of, sockets_of}
 use Rattle.rds_report.specs.Report.{Group}
-use Rattle.rds_report.specs.Items.{item, accepted_items, sent_items, read_items, came_items, socket_items, is_lost, side_items, host_items, items}
+use Rattle.rds_report.specs.Items.{item, accepted_items, read_items, arrival_items, journal_items, socket_items, is_lost, side_items, host_items, items}
 use Rattle.rds_report.specs.ItemReport.{is_of, of_pair}
+
+-- the items of what a host sent, where such numbers were taken back and never arrived
+abbrev pub sent_items : (from to : ℕ) → (ℕ → Bool) → List Entry → List Item
+sent_items from to lost [] = []
+sent_items from to lost (Accept slot sport dport payload ∷ past) =
+    sent_items from to lost past ++ accepted_items from to sport dport (lost (suc (accepted past)))
+sent_items from to lost (_ ∷ past) = sent_items from to lost past
+
+-- the items of what came to a host and went to no socket
+abbrev pub came_items : (from to : ℕ) → List Entry → List Item
+came_items from to [] = []
+came_items from to (Read stream frame outcome ∷ past) =
+    came_items from to past ++ read_items to frame.header.dport from frame.header.sport outcome
+came_items from to (_ ∷ past) = came_items from to past
 
 -- lists of which each differs from those after it
 
@@ -278,6 +292,46 @@ module _ (kind : What → Bool) where
       ∙ kindless_map (λ (d : Datagram). item to d.dport d.from d.sport Unread) (λ d. u) s.unread)
       ∙ kindless_sockets r u to sockets
 
+-- of the items of a journal those of what was sent or those of what came are chosen
+
+module _ (kind : What → Bool) (g : Group) where
+  module _ (no_came : (from to : ℕ) (past : List Entry) → chosen kind g (came_items from to past) ≡ []) where
+    no_arrival : (from to : ℕ) (e : Entry) → chosen kind g (arrival_items from to e) ≡ []
+    no_arrival from to (Read stream frame o) = no_came from to (Read stream frame o ∷ [])
+    no_arrival from to _ = refl
+
+    pub journal_sent : (host peer : ℕ) (lost : ℕ → Bool) (past : List Entry) →
+        chosen kind g (journal_items host peer lost past) ≡ chosen kind g (sent_items host peer lost past)
+    journal_sent host peer lost [] = refl
+    journal_sent host peer lost (Accept slot sport dport payload ∷ past) =
+        let own = accepted_items host peer sport dport (lost (suc (accepted past))) in
+        chosen_append kind g (journal_items host peer lost past) own
+        ∙ ap (λ (l : List Item). l ++ chosen kind g own) (journal_sent host peer lost past)
+        ∙ sym (chosen_append kind g (sent_items host peer lost past) own)
+    journal_sent host peer lost (e ∷ past) =
+        chosen_append kind g (journal_items host peer lost past) (arrival_items peer host e)
+        ∙ ap (λ (l : List Item). chosen kind g (journal_items host peer lost past) ++ l) (no_arrival peer host e)
+        ∙ append-nil (chosen kind g (journal_items host peer lost past)) ∙ journal_sent host peer lost past
+
+  module _ (no_sent : (from to : ℕ) (lost : ℕ → Bool) (past : List Entry) → chosen kind g (sent_items from to lost past) ≡ []) where
+    pub journal_came : (host peer : ℕ) (lost : ℕ → Bool) (past : List Entry) →
+        chosen kind g (journal_items host peer lost past) ≡ chosen kind g (came_items peer host past)
+    journal_came host peer lost [] = refl
+    journal_came host peer lost (Accept slot sport dport payload ∷ past) =
+        let own = accepted_items host peer sport dport (lost (suc (accepted past))) in
+        let none : chosen kind g own ≡ [] = no_sent host peer (λ n. lost (suc (accepted past))) (Accept slot sport dport payload ∷ []) in
+        chosen_append kind g (journal_items host peer lost past) own
+        ∙ ap (λ (l : List Item). chosen kind g (journal_items host peer lost past) ++ l) none
+        ∙ append-nil (chosen kind g (journal_items host peer lost past)) ∙ journal_came host peer lost past
+    journal_came host peer lost (Read stream frame o ∷ past) =
+        let own = read_items host frame.header.dport peer frame.header.sport o in
+        chosen_append kind g (journal_items host peer lost past) own
+        ∙ ap (λ (l : List Item). l ++ chosen kind g own) (journal_came host peer lost past)
+        ∙ sym (chosen_append kind g (came_items peer host past) own)
+    journal_came host peer lost (_ ∷ past) =
+        chosen_append kind g (journal_items host peer lost past) []
+        ∙ append-nil (chosen kind g (journal_items host peer lost past)) ∙ journal_came host peer lost past
+
 -- each host has at most one journal with a peer
 abbrev pub AllSidesOnce : List FinalHost → Type 0
 AllSidesOnce [] = ⊤
@@ -296,9 +350,6 @@ module _ (kind : What → Bool) (g : Group) (all : List FinalHost) where
       chosen_append kind g (flat_map (side_items all e.addr) e.sides) (flat_map (socket_items e.addr) e.sockets)
       ∙ ap (λ (l : List Item). l ++ chosen kind g (flat_map (socket_items e.addr) e.sockets)) (chosen_spread kind g (side_items all e.addr) e.sides)
 
-  side_parts : (addr : ℕ) (s : FinalJournal) → at_side addr s ≡ chosen kind g (sent_items addr s.peer (is_lost s.past (past_of s.peer addr all)) s.past) ++ chosen kind g (came_items s.peer addr s.past)
-  side_parts addr s = chosen_append kind g (sent_items addr s.peer (is_lost s.past (past_of s.peer addr all)) s.past) (came_items s.peer addr s.past)
-
   no_sides : (addr : ℕ) → ((s : FinalJournal) → at_side addr s ≡ []) → (sides : List FinalJournal) → flat_map (at_side addr) sides ≡ []
   no_sides addr none [] = refl
   no_sides addr none (s ∷ sides) = ap (λ (l : List Item). l ++ flat_map (at_side addr) sides) (none s) ∙ no_sides addr none sides
@@ -309,9 +360,7 @@ module _ (kind : What → Bool) (g : Group) (all : List FinalHost) where
     sent_at past = chosen kind g (sent_items g.from g.to (is_lost past (past_of g.to g.from all)) past)
 
     only_sent : (addr : ℕ) (s : FinalJournal) → at_side addr s ≡ chosen kind g (sent_items addr s.peer (is_lost s.past (past_of s.peer addr all)) s.past)
-    only_sent addr s =
-        side_parts addr s ∙ ap (λ (l : List Item). chosen kind g (sent_items addr s.peer (is_lost s.past (past_of s.peer addr all)) s.past) ++ l) (no_came s.peer addr s.past)
-        ∙ append-nil (chosen kind g (sent_items addr s.peer (is_lost s.past (past_of s.peer addr all)) s.past))
+    only_sent addr s = journal_sent kind g no_came addr s.peer (is_lost s.past (past_of s.peer addr all)) s.past
 
     only_sides : (e : FinalHost) → at_end e ≡ flat_map (at_side e.addr) e.sides
     only_sides e = end_parts e ∙ ap (λ (l : List Item). flat_map (at_side e.addr) e.sides ++ l) (no_sockets e.addr e.sockets) ∙ append-nil (flat_map (at_side e.addr) e.sides)
@@ -343,7 +392,7 @@ module _ (kind : What → Bool) (g : Group) (all : List FinalHost) where
 
   module _ (no_sent : (from to : ℕ) (lost : ℕ → Bool) (past : List Entry) → chosen kind g (sent_items from to lost past) ≡ []) where
     only_came : (addr : ℕ) (s : FinalJournal) → at_side addr s ≡ chosen kind g (came_items s.peer addr s.past)
-    only_came addr s = side_parts addr s ∙ ap (λ (l : List Item). l ++ chosen kind g (came_items s.peer addr s.past)) (no_sent addr s.peer (is_lost s.past (past_of s.peer addr all)) s.past)
+    only_came addr s = journal_came kind g no_sent addr s.peer (is_lost s.past (past_of s.peer addr all)) s.past
 
     module _ (no_sockets : (to : ℕ) (sockets : List FinalSocket) → chosen kind g (flat_map (socket_items to) sockets) ≡ []) where
       abbrev came_at : List Entry → List Item

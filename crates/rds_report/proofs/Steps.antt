@@ -1,10 +1,11 @@
 -- A walk over a journal, entry by entry.
-use Rattle.std.proofs.Common.{◌≡◌, ◌<◌, ◌≤◌, ◌+◌, ◌-◌, ℕ, zero, suc, List, [], ◌∷◌, length, reverse, drop, slice_get, Some, get_or, arith, sym, ap, ◌∙◌, drop-cons}
+use Rattle.std.proofs.Common.{◌≡◌, ◌<◌, ◌≤◌, ◌+◌, ◌-◌, ◌||◌, ℕ, zero, suc, Bool, true, false, List, [], ◌∷◌, length, reverse, drop, slice_get, Some, get_or, arith, sym, ap, refl, ◌∙◌, drop-cons}
 use Rattle.std.proofs.lemmas.List.{get_or-reverse, length-reverse, drop_all}
 use Rattle.std.proofs.lemmas.Option.{slice_get_within, get_or_from_slice_get}
 use Rattle.rds_model.specs.declared.entry.Entry.{Entry}
 use Rattle.rds_model.specs.declared.entry.Entry.TheVariants.{Accept}
 use Rattle.rds_model.specs.Past.{accepted}
+use Rattle.rds_report.specs.Items.{is_cancellation, has_cancellation}
 use Rattle.rds_report.specs.TakenBackWalk.{before}
 
 -- the next entry comes on top
@@ -39,3 +40,16 @@ accepted_drop (suc k) (_ ∷ past) = accepted_drop k past
 
 pub accepted_before : (i : ℕ) (past : List Entry) → accepted (before i past) ≤ accepted past
 accepted_before i past = accepted_drop (length past - i) past
+
+-- a cancellation among the first i entries is one among all
+cancelled_drop : (k : ℕ) (past : List Entry) → has_cancellation (drop k past) ≡ true → has_cancellation past ≡ true
+cancelled_drop zero past is = is
+cancelled_drop (suc k) [] is = is
+cancelled_drop (suc k) (e ∷ past) is = or_true (is_cancellation e) (cancelled_drop k past is)
+  where
+    or_true : (x : Bool) → has_cancellation past ≡ true → (x || has_cancellation past) ≡ true
+    or_true true rest = refl
+    or_true false rest = rest
+
+pub cancelled_before : (i : ℕ) (past : List Entry) → has_cancellation (before i past) ≡ true → has_cancellation past ≡ true
+cancelled_before i past = cancelled_drop (length past - i) past

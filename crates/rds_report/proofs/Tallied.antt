@@ -21,12 +21,12 @@ use Rattle.rds_report.specs.Hosts.{IsAddress}
 use Rattle.rds_report.specs.FinalState.{FinalSocket, FinalJournal, FinalHost, past_of, sockets_of}
 use Rattle.rds_report.specs.Report.{Group, Counts, accepted_groups, ascending, groups, of_group, received, unread, counts, counts_line, data_line, group_text, pair_text}
 use Rattle.rds_report.specs.Views.{AreSides, AreFinalHosts}
-use Rattle.rds_report.specs.Items.{seen, item, accepted_items, sent_items, read_items, came_items, socket_items, is_lost, side_items, host_items, items}
+use Rattle.rds_report.specs.Items.{seen, item, accepted_items, read_items, arrival_items, journal_items, socket_items, is_lost, side_items, host_items, items}
 use Rattle.rds_report.specs.ItemReport.{is_same, is_of, of_pair, is_accepted, is_received, is_unread, is_dropped, is_port0, is_cancelled_item, tally, data_lines, pair_lines, accepted_pairs, groups_text, AreKnown}
 use Rattle.rds_report.proofs.Orders.{has, rising_one, rising_ascending, has_ascending, same_is}
 use Rattle.rds_report.proofs.Chunks.{accepting, pairs_append}
 use Rattle.rds_report.proofs.Counted.{same_counts}
-use Rattle.rds_report.proofs.Selected.{eq_comm, of_kind, chosen, chosen_append, none_chosen, kindless_sent, kindless_came, kindless_sockets, kindless_map, EndsOnce, AllSidesOnce, sides_once, ends_once, all_sent, all_came, all_kept}
+use Rattle.rds_report.proofs.Selected.{sent_items, came_items, eq_comm, of_kind, chosen, chosen_append, none_chosen, kindless_sent, kindless_came, kindless_sockets, kindless_map, EndsOnce, AllSidesOnce, sides_once, ends_once, all_sent, all_came, all_kept}
 
 -- an item between the hosts of a pair is of the pair where its ports are
 
@@ -331,24 +331,36 @@ or_false : (x : Bool) → (x || false) ≡ x
 or_false true = refl
 or_false false = refl
 
-has_sent : (g : Group) (from to : ℕ) (lost : ℕ → Bool) (past : List Entry) → has g (accepted_pairs (sent_items from to lost past)) ≡ has g (accepted_groups from to past)
-has_sent g from to lost [] = refl
-has_sent g from to lost (Accept slot sport dport payload ∷ past) =
-    has_append g (sent_items from to lost past) (accepted_items from to sport dport (lost (suc (accepted past))))
-    ∙ ap (λ (b : Bool). b || has g (accepted_pairs (accepted_items from to sport dport (lost (suc (accepted past)))))) (has_sent g from to lost past)
-    ∙ ap (λ (b : Bool). has g (accepted_groups from to past) || b) (one (lost (suc (accepted past))))
-    ∙ swap (has g (accepted_groups from to past)) (is_same g (record { to = to; dport = dport; from = from; sport = sport }))
+has_none : (g : Group) (xs : List Item) → of_kind is_accepted xs ≡ [] → has g (accepted_pairs xs) ≡ false
+has_none g xs is = ap (λ (l : List Item). has g (map (λ (i : Item). seen i.group) l)) is
+
+has_arrival : (g : Group) (from to : ℕ) (e : Entry) → has g (accepted_pairs (arrival_items from to e)) ≡ false
+has_arrival g from to (Read stream frame o) =
+    has_none g (came_items from to (Read stream frame o ∷ [])) (kindless_came is_accepted refl refl from to (Read stream frame o ∷ []))
+has_arrival g from to _ = refl
+
+has_journal : (g : Group) (host peer : ℕ) (lost : ℕ → Bool) (past : List Entry) →
+    has g (accepted_pairs (journal_items host peer lost past)) ≡ has g (accepted_groups host peer past)
+has_journal g host peer lost [] = refl
+has_journal g host peer lost (Accept slot sport dport payload ∷ past) =
+    has_append g (journal_items host peer lost past) (accepted_items host peer sport dport (lost (suc (accepted past))))
+    ∙ ap (λ (b : Bool). b || has g (accepted_pairs (accepted_items host peer sport dport (lost (suc (accepted past)))))) (has_journal g host peer lost past)
+    ∙ ap (λ (b : Bool). has g (accepted_groups host peer past) || b) (one (lost (suc (accepted past))))
+    ∙ swap (has g (accepted_groups host peer past)) (is_same g (record { to = peer; dport = dport; from = host; sport = sport }))
   where
-    one : (b : Bool) → has g (accepted_pairs (accepted_items from to sport dport b)) ≡ is_same g (record { to = to; dport = dport; from = from; sport = sport })
-    one true = or_false (is_same g (record { to = to; dport = dport; from = from; sport = sport }))
-    one false = or_false (is_same g (record { to = to; dport = dport; from = from; sport = sport }))
+    one : (b : Bool) → has g (accepted_pairs (accepted_items host peer sport dport b)) ≡ is_same g (record { to = peer; dport = dport; from = host; sport = sport })
+    one true = or_false (is_same g (record { to = peer; dport = dport; from = host; sport = sport }))
+    one false = or_false (is_same g (record { to = peer; dport = dport; from = host; sport = sport }))
 
     swap : (x y : Bool) → (x || y) ≡ (y || x)
     swap true true = refl
     swap true false = refl
     swap false true = refl
     swap false false = refl
-has_sent g from to lost (_ ∷ past) = has_sent g from to lost past
+has_journal g host peer lost (e ∷ past) =
+    has_append g (journal_items host peer lost past) (arrival_items peer host e)
+    ∙ ap (λ (b : Bool). has g (accepted_pairs (journal_items host peer lost past)) || b) (has_arrival g peer host e)
+    ∙ or_false (has g (accepted_pairs (journal_items host peer lost past))) ∙ has_journal g host peer lost past
 
 has_spread : {X : Type 0} (g : Group) (f : X → List Item) (h : X → List Group) → ((x : X) → has g (accepted_pairs (f x)) ≡ has g (h x)) → (xs : List X) →
     has g (accepted_pairs (flat_map f xs)) ≡ has g (flat_map h xs)
@@ -368,20 +380,13 @@ end_groups e = flat_map (side_groups e.addr) e.sides
 pub has_items : (g : Group) (ends : List FinalHost) → has g (accepted_pairs (items ends)) ≡ has g (flat_map end_groups ends)
 has_items g ends = has_spread g (host_items ends) end_groups at_end ends
   where
-    none : (xs : List Item) → of_kind is_accepted xs ≡ [] → has g (accepted_pairs xs) ≡ false
-    none xs is = ap (λ (l : List Item). has g (map (λ (i : Item). seen i.group) l)) is
-
     at_side : (addr : ℕ) (s : FinalJournal) → has g (accepted_pairs (side_items ends addr s)) ≡ has g (side_groups addr s)
-    at_side addr s =
-        has_append g (sent_items addr s.peer (is_lost s.past (past_of s.peer addr ends)) s.past) (came_items s.peer addr s.past)
-        ∙ ap (λ (b : Bool). has g (accepted_pairs (sent_items addr s.peer (is_lost s.past (past_of s.peer addr ends)) s.past)) || b) (none (came_items s.peer addr s.past) (kindless_came is_accepted refl refl s.peer addr s.past))
-        ∙ or_false (has g (accepted_pairs (sent_items addr s.peer (is_lost s.past (past_of s.peer addr ends)) s.past)))
-        ∙ has_sent g addr s.peer (is_lost s.past (past_of s.peer addr ends)) s.past
+    at_side addr s = has_journal g addr s.peer (is_lost s.past (past_of s.peer addr ends)) s.past
 
     at_end : (e : FinalHost) → has g (accepted_pairs (host_items ends e)) ≡ has g (end_groups e)
     at_end e =
         has_append g (flat_map (side_items ends e.addr) e.sides) (flat_map (socket_items e.addr) e.sockets)
-        ∙ ap (λ (b : Bool). has g (accepted_pairs (flat_map (side_items ends e.addr) e.sides)) || b) (none (flat_map (socket_items e.addr) e.sockets) (kindless_sockets is_accepted (λ p. refl) refl e.addr e.sockets))
+        ∙ ap (λ (b : Bool). has g (accepted_pairs (flat_map (side_items ends e.addr) e.sides)) || b) (has_none g (flat_map (socket_items e.addr) e.sockets) (kindless_sockets is_accepted (λ p. refl) refl e.addr e.sockets))
         ∙ or_false (has g (accepted_pairs (flat_map (side_items ends e.addr) e.sides)))
         ∙ has_spread g (side_items ends e.addr) (side_groups e.addr) (at_side e.addr) e.sides
 

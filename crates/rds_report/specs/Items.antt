@@ -1,10 +1,10 @@
 -- Private: needed by the proofs of `report` and `summary` only. The items of the report: each datagram, once for each thing
 -- that is counted of it. Source: this project's own.
 use Rattle.std.specs.Prelude.{ℕ, suc, ◌==◌, ◌&&◌, not, Bool, true, false, Option, Some, None, List, [], ◌∷◌, ◌++◌, map}
-use Rattle.std.specs.List.{flat_map}
+use Rattle.std.specs.List.{flat_map, list_any}
 use Rattle.rds_model.specs.declared.order.Datagram.{Datagram}
 use Rattle.rds_model.specs.declared.entry.Entry.{Entry}
-use Rattle.rds_model.specs.declared.entry.Entry.TheVariants.{Accept, Read}
+use Rattle.rds_model.specs.declared.entry.Entry.TheVariants.{Accept, Cancel, Read}
 use Rattle.rds_model.specs.declared.entry.Outcome.{Outcome}
 use Rattle.rds_model.specs.declared.entry.Outcome.TheVariants as outcome
 use Rattle.rds_model.specs.Past.{accepted, number, passes}
@@ -35,13 +35,6 @@ abbrev pub accepted_items : (from to sport dport : ℕ) → Bool → List Item
 accepted_items from to sport dport true = item to dport from sport Accepted ∷ item to dport from sport Cancelled ∷ []
 accepted_items from to sport dport false = item to dport from sport Accepted ∷ []
 
--- the items of what a host sent, where such numbers were taken back and never arrived
-abbrev pub sent_items : (from to : ℕ) → (ℕ → Bool) → List Entry → List Item
-sent_items from to lost [] = []
-sent_items from to lost (Accept slot sport dport payload ∷ past) =
-    sent_items from to lost past ++ accepted_items from to sport dport (lost (suc (accepted past)))
-sent_items from to lost (_ ∷ past) = sent_items from to lost past
-
 -- the items of a datagram that was read, where it went to no socket
 abbrev pub read_items : (to dport from sport : ℕ) → Outcome → List Item
 read_items to dport from sport outcome.NoSocket = item to dport from sport Dropped ∷ []
@@ -54,12 +47,12 @@ abbrev pub arrival_items : (from to : ℕ) → Entry → List Item
 arrival_items from to (Read stream frame outcome) = read_items to frame.header.dport from frame.header.sport outcome
 arrival_items from to _ = []
 
--- the items of what came to a host and went to no socket
-abbrev pub came_items : (from to : ℕ) → List Entry → List Item
-came_items from to [] = []
-came_items from to (Read stream frame outcome ∷ past) =
-    came_items from to past ++ read_items to frame.header.dport from frame.header.sport outcome
-came_items from to (_ ∷ past) = came_items from to past
+-- the items of a journal of a host, in the order of its entries, where such numbers were taken back and never arrived
+abbrev pub journal_items : (host peer : ℕ) → (ℕ → Bool) → List Entry → List Item
+journal_items host peer lost [] = []
+journal_items host peer lost (Accept slot sport dport payload ∷ past) =
+    journal_items host peer lost past ++ accepted_items host peer sport dport (lost (suc (accepted past)))
+journal_items host peer lost (e ∷ past) = journal_items host peer lost past ++ arrival_items peer host e
 
 -- the items of a socket of the host at an address
 abbrev pub socket_items : ℕ → FinalSocket → List Item
@@ -70,6 +63,15 @@ socket_items to s =
 -- the numbers that were taken back and never arrived, by the journals of both ends
 abbrev pub is_lost : (past back : List Entry) → ℕ → Bool
 is_lost past back n = was_taken_back past n && not (was_passed back n)
+
+-- an entry is a cancellation
+abbrev pub is_cancellation : Entry → Bool
+is_cancellation (Cancel slot target) = true
+is_cancellation _ = false
+
+-- some entry is a cancellation
+abbrev pub has_cancellation : List Entry → Bool
+has_cancellation past = list_any is_cancellation past
 
 -- the entries of a journal, or none
 abbrev pub past_in : Option Log → List Entry
@@ -83,8 +85,7 @@ passes_number _ n = false
 
 -- the items of a journal of a host
 abbrev pub side_items : List FinalHost → ℕ → FinalJournal → List Item
-side_items hosts addr s =
-    sent_items addr s.peer (is_lost s.past (past_of s.peer addr hosts)) s.past ++ came_items s.peer addr s.past
+side_items hosts addr s = journal_items addr s.peer (is_lost s.past (past_of s.peer addr hosts)) s.past
 
 -- the items of a host
 abbrev pub host_items : List FinalHost → FinalHost → List Item

@@ -5,7 +5,7 @@ ghost use Rattle.rds_model.specs.Past.{accepted};
 ghost use Rattle.rds_report.specs.declared.item.What.TheVariants as what;
 ghost use Rattle.rds_report.specs.FinalState.{past_of, past_with};
 ghost use Rattle.rds_report.specs.Views.{host_view, host_views, side_view, socket_view};
-ghost use Rattle.rds_report.specs.Items.{flags, item, items as items_of, host_items, side_items, sent_items, accepted_items, came_items, read_items, arrival_items, socket_items, past_in};
+ghost use Rattle.rds_report.specs.Items.{flags, item, items as items_of, host_items, side_items, journal_items, accepted_items, read_items, arrival_items, socket_items, past_in};
 
 use crate::flags::flag;
 use crate::item::{Group, Item, What};
@@ -39,8 +39,7 @@ fn add_journals(
     for (peer, journal) in &host.journals {
         let back = journal_of(hosts, *peer, host.addr);
         let lost = lost(alloc, journal, back)?;
-        add_sent(items, host.addr, *peer, journal, &lost)?;
-        add_came(items, *peer, host.addr, journal)?;
+        add_journal(items, host.addr, *peer, journal, &lost)?;
     }
     Ok(())
 }
@@ -68,16 +67,16 @@ fn journal_with(journals: &[(u32, Journal)], peer: u32) -> Option<&Journal>
     None
 }
 
-// The items of what a host sent, where such numbers are lost, counted from 1.
-fn add_sent(
+// The items of a journal of a host, where such numbers are lost, counted from 1.
+fn add_journal(
     items: &mut Vec<Item>,
-    from: u32,
-    to: u32,
+    host: u32,
+    peer: u32,
     journal: &Journal,
     lost: &[bool],
 ) -> Result<(), Memory>
     ensures { (test : ℕ → Bool) → lost.now ≡ flags test (accepted journal.now.past) →
-        OnOk result (items.new.items ≡ items.old.items ++ sent_items from to test journal.now.past) }
+        OnOk result (items.new.items ≡ items.old.items ++ journal_items host peer test journal.now.past) }
 {
     let mut n = 0u32;
     for i in 0..journal.len() {
@@ -86,13 +85,15 @@ fn add_sent(
         };
         if let Entry::Accept { sport, dport, .. } = entry {
             let group = Group {
-                to,
+                to: peer,
                 dport: *dport,
-                from,
+                from: host,
                 sport: *sport,
             };
             add_accepted(items, group, flag(lost, n))?;
             n += 1;
+        } else {
+            add_read(items, peer, host, entry)?;
         }
     }
     Ok(())
@@ -111,19 +112,6 @@ fn add_accepted(items: &mut Vec<Item>, group: Group, is_lost: bool) -> Result<()
             group,
             what: What::Cancelled,
         })?;
-    }
-    Ok(())
-}
-
-// The items of what came from a peer to a host and went to no socket.
-fn add_came(items: &mut Vec<Item>, from: u32, to: u32, journal: &Journal) -> Result<(), Memory>
-    ensures { OnOk result (items.new.items ≡ items.old.items ++ came_items from to journal.now.past) }
-{
-    for i in 0..journal.len() {
-        let Some(entry) = journal.at(i) else {
-            unreachable!()
-        };
-        add_read(items, from, to, entry)?;
     }
     Ok(())
 }

@@ -52,8 +52,8 @@ fn start(alloc: Global, journal: &Journal) -> Result<Walk, Memory>
     })
 }
 
-/// A flag that isn't set for each number of a journal.
-pub fn none(alloc: Global, journal: &Journal) -> Result<Vec<bool>, Memory>
+// A flag that isn't set for each number of a journal.
+fn none(alloc: Global, journal: &Journal) -> Result<Vec<bool>, Memory>
     ensures { IfOk result (λ none. none.items ≡ flags (λ n. false) (accepted journal.now.past)) }
 {
     let mut none = Vec::new(alloc);
@@ -66,8 +66,8 @@ pub fn none(alloc: Global, journal: &Journal) -> Result<Vec<bool>, Memory>
     Ok(none)
 }
 
-// One flag more, where an entry is an acceptance.
-fn count(none: &mut Vec<bool>, entry: &Entry) -> Result<(), Memory>
+/// One flag more that isn't set, where an entry is an acceptance.
+pub fn count(none: &mut Vec<bool>, entry: &Entry) -> Result<(), Memory>
     ensures { OnOk result ((past : List Event) → none.old.items ≡ flags (λ n. false) (accepted past) →
         none.new.items ≡ flags (λ n. false) (accepted (entry.now ∷ past))) }
 {

@@ -2,13 +2,12 @@ use Rattle.std.proofs.Common.{◌≡◌, ◌≤◌, ◌+◌, ◌∙◌, ◌++◌
 use Rattle.rds_model.specs.declared.entry.Entry.{Entry}
 use Rattle.rds_model.specs.declared.entry.Entry.TheVariants.{Accept}
 use Rattle.rds_model.specs.Past.{accepted}
-use Rattle.rds_report.specs.declared.item.Item.{Item}
-use Rattle.rds_report.specs.Items.{sent_items, accepted_items}
+use Rattle.rds_report.specs.Items.{journal_items, accepted_items}
 use Rattle.rds_report.specs.TakenBackWalk.{before}
 use Rattle.rds_report.proofs.Steps.{before_more, accepted_before}
-use Rattle.rds_report.proofs.Gathered.{sent_accept, sent_other, accepted_other}
-use Rattle.rds_report.proofs.collect.add_sent.Goals as goal
-use Rattle.rds_report.proofs.collect.add_sent.Goals.{in-Accept+in_ok-add_accepted, in_default-entry}
+use Rattle.rds_report.proofs.Gathered.{journal_accept, journal_other, accepted_other}
+use Rattle.rds_report.proofs.collect.add_journal.Goals as goal
+use Rattle.rds_report.proofs.collect.add_journal.Goals.{in-Accept+in_ok-add_accepted, in_default-entry+in_ok-add_read}
 
 pub loop-i-preserved : goal.loop-i-preserved
 loop-i-preserved c =
@@ -27,22 +26,22 @@ loop-i-preserved c =
           record {
             number = omega (arith, w.n-is, known, one);
             few = omega (arith, w.n-is, few);
-            sent = λ test is.
+            added = λ test is.
                 ap (λ v. v.items) w.items-is ∙ w.in_ok-add_accepted.ensures
-                ∙ ap (λ (b : Bool). c.loop-i.items.items ++ accepted_items c.args.from c.args.to a.sport a.dport b)
+                ∙ ap (λ (b : Bool). c.loop-i.items.items ++ accepted_items c.args.host c.args.peer a.sport a.dport b)
                 (w.flag.ensures test (accepted all) is (omega (arith, most, one, known)) ∙ ap test next)
-                ∙ sent_accept c.args.from c.args.to test a.slot a.sport a.dport a.payload past c.args.items.now.items c.loop-i.items.items (c.loop-i.invariant.sent test is)
-                ∙ ap (λ (p : List Entry). c.args.items.now.items ++ sent_items c.args.from c.args.to test p) (sym this);
+                ∙ journal_accept c.args.host c.args.peer test a.slot a.sport a.dport a.payload past c.args.items.now.items c.loop-i.items.items (c.loop-i.invariant.added test is)
+                ∙ ap (λ (p : List Entry). c.args.items.now.items ++ journal_items c.args.host c.args.peer test p) (sym this);
           }
-      | in_default-entry w ↦
+      | in_default-entry+in_ok-add_read w ↦
           let other = w.in_default-entry.not-Accept in
           let same : accepted (before (c.loop-i.i + 1) all) ≡ accepted past = ap accepted more ∙ accepted_other c.in-Some.entry.now past other in
           record {
             number = omega (arith, w.n-is, known, same);
             few = omega (arith, w.n-is, few);
-            sent = λ test is.
-                ap (λ v. v.items) w.items-is ∙ c.loop-i.invariant.sent test is
-                ∙ ap (λ (l : List Item). c.args.items.now.items ++ l) (sym (sent_other c.args.from c.args.to test c.in-Some.entry.now past other))
-                ∙ ap (λ (p : List Entry). c.args.items.now.items ++ sent_items c.args.from c.args.to test p) (sym more);
+            added = λ test is.
+                ap (λ v. v.items) w.items-is ∙ w.in_ok-add_read.ensures
+                ∙ journal_other c.args.host c.args.peer test c.in-Some.entry.now past other c.args.items.now.items c.loop-i.items.items (c.loop-i.invariant.added test is)
+                ∙ ap (λ (p : List Entry). c.args.items.now.items ++ journal_items c.args.host c.args.peer test p) (sym more);
           }
     ]
