@@ -5,6 +5,7 @@ pub mod Steps
 pub mod Binds
 pub mod WordLemmas
 pub mod PayloadLemmas
+pub mod Counting
 pub mod Places
 pub mod NameLemmas
 pub mod Spelled

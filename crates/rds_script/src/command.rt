@@ -8,10 +8,9 @@ ghost use Rattle.rds_script.specs.declared.name.Name.TheVariants as names;
 
 use crate::fault::Fault;
 use crate::name::Name;
-use crate::payload::payload_at;
+use crate::payload::{Room, payload_at};
 use crate::place::{host_at, number_at, peer_at, port_at};
 use crate::{Cause, Command};
-use rds_wire::Payloads;
 
 /// The most bytes that a socket's buffer may have.
 const MAX_BUFFER: u32 = 16_777_216;
@@ -20,7 +19,7 @@ const MAX_BUFFER: u32 = 16_777_216;
 /// from the room that all payloads of the script share.
 #[tactic(auto, unfolding(crate::specs::Reading::command_at))]
 pub(crate) fn command_of(
-    room: &mut Payloads,
+    room: &mut Room,
     hosts: u8,
     name: Name,
     rest: &[u8],
@@ -133,7 +132,7 @@ fn movement(hosts: u8, rest: &[u8]) -> Result<Command, Cause>
 
 /// A host and a port, another host and port, and a payload.
 #[tactic(auto, unfolding(crate::specs::Reading::command_at))]
-fn send(room: &mut Payloads, hosts: u8, rest: &[u8]) -> Result<Command, Fault>
+fn send(room: &mut Room, hosts: u8, rest: &[u8]) -> Result<Command, Fault>
     ensures { GivesOrMemory (λ c. c) result (command_at hosts names.Send (words rest.now)) }
 {
     let (host, rest) = host_at(hosts, rest)?;

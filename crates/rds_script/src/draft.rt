@@ -5,18 +5,18 @@ use crate::command::command_of;
 use crate::fault::Fault;
 use crate::line::{first_word, has_words, is_named, is_text_line};
 use crate::name::Name;
+use crate::payload::Room;
 use crate::place::number_at;
 use crate::script::{MAX_CUTS, MAX_TOTAL};
 use crate::{Cause, Command, Placed, Script};
-use rds_wire::Payloads;
 use std::alloc::Global;
 
 /// The script of the lines that were read so far; it has 0 hosts before its first command.
 #[derive(Drop)]
 pub(crate) struct Draft {
     pub(crate) script: Script,
-    /// Where the bytes of all payloads stand.
-    room: Payloads,
+    /// What the payloads are made from.
+    room: Room,
     /// The payload bytes of all sends.
     total: u32,
     /// How many cuts there are.
@@ -43,7 +43,7 @@ impl Draft {
                 hosts_line: 0,
                 commands: Vec::new(alloc),
             },
-            room: Payloads::new(alloc),
+            room: Room::new(alloc),
             total: 0,
             cuts: 0,
         }
