@@ -4,8 +4,11 @@ pub mod Walked
 pub mod Gathered
 pub mod Orders
 pub mod Chunks
+pub mod Chosen
 pub mod Selected
+pub mod Sides
 pub mod Tallied
+pub mod Pairs
 pub mod Words
 pub mod Counted
 pub mod Totalled

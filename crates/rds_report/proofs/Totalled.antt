@@ -15,8 +15,10 @@ use Rattle.rds_report.specs.ItemReport.{of_pair, is_received, tally, accepted_pa
 use Rattle.rds_report.specs.ItemTotals.{bytes_of, grouped, payload_bytes}
 use Rattle.rds_report.specs.Summary.{all_counts, plus, received_bytes, total}
 use Rattle.rds_report.proofs.Counted.{tally_append}
-use Rattle.rds_report.proofs.Selected.{of_kind, ends_once}
-use Rattle.rds_report.proofs.Tallied.{all_once, got_all, got_item, sorted_groups, tally_is}
+use Rattle.rds_report.proofs.Selected.{of_kind}
+use Rattle.rds_report.proofs.Chosen.{ends_once}
+use Rattle.rds_report.proofs.Tallied.{got_all, got_item, tally_is}
+use Rattle.rds_report.proofs.Pairs.{all_once, sorted_groups}
 
 -- the counts of pairs
 

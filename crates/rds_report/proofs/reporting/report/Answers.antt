@@ -6,7 +6,7 @@ use Rattle.rds_report.specs.Report.{Group, groups, group_text}
 use Rattle.rds_report.specs.Views.{host_views}
 use Rattle.rds_report.specs.Items.{items}
 use Rattle.rds_report.specs.ItemReport.{of_pair, IsUp, groups_text, AreKnown}
-use Rattle.rds_report.proofs.Tallied.{sorted_known, sorted_text}
+use Rattle.rds_report.proofs.Pairs.{sorted_known, sorted_text}
 use Rattle.rds_report.proofs.reporting.report.Goals as goal
 
 pub print_groups-requires : goal.print_groups-requires
