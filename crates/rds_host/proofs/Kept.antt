@@ -18,7 +18,7 @@ use Rattle.rds_host.specs.Keeping.{LineKeeps, LinesKeep, SlotKeeps, SlotsKeep}
 use Rattle.rds_host.specs.Lines.{AreTurned, pair_of}
 use Rattle.rds_host.specs.Passes.{AreAllPasses, splits_at}
 use Rattle.rds_host.specs.Ties.{AreOfHost}
-use Rattle.rds_host.proofs.Columns.{mapped_at, there_is}
+use Rattle.rds_host.proofs.Pushing.{mapped_at, there_is}
 use Rattle.rds_host.proofs.Standing.{total_alike}
 use Rattle.rds_host.proofs.Staying.{boxes_same, boxes_through}
 

@@ -1,6 +1,9 @@
+pub mod Pushing
 pub mod Columns
+pub mod ColumnLines
 pub mod Drawn
 pub mod Kept
 pub mod Staying
 pub mod Told
+pub mod ToldLines
 pub mod Standing

@@ -1,3 +1,4 @@
+mod Verdicts
 mod Delivering
 mod Feeding
 mod Fields
@@ -9,13 +10,16 @@ mod Looking
 mod Passing
 mod PortLooks
 mod Pulled
+mod PulledFrames
 mod Quiet
 mod Relieving
 mod Starting
+mod Same
 mod Staying
 mod StaysPassed
 mod Stepping
 mod Storing
 mod Taking
+mod Obeying
 mod Unlogged
 mod Written

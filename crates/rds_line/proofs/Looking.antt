@@ -13,7 +13,7 @@ use Rattle.rds_line_channel.specs.Channel.{ChannelView, with_conn}
 use Rattle.rds_line.specs.Line.{LineView, line_past, pulls_in}
 use Rattle.rds_line.specs.Stays.{LineStays}
 use Rattle.rds_line.specs.Turns.{LoadsOwn, PullsOwn}
-use Rattle.rds_line.proofs.Staying.{begins_through, moment_of, moment_through}
+use Rattle.rds_line.proofs.Same.{begins_through, moment_of, moment_through}
 
 -- what a journal got since
 newer_part : {p q : List Entry} → Moment p q → (more : List Entry) × (q ≡ more ++ p)

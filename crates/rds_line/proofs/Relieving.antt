@@ -17,7 +17,8 @@ use Rattle.rds_line.specs.Line.{LineView, line_past}
 use Rattle.rds_line.specs.Seats.{AreFoundSet, AreLooksFor}
 use Rattle.rds_line.specs.Stays.{LineStays}
 use Rattle.rds_line.proofs.Grounding.{found_still}
-use Rattle.rds_line.proofs.Staying.{boxes_same, relief_stays, same_view}
+use Rattle.rds_line.proofs.Staying.{relief_stays}
+use Rattle.rds_line.proofs.Same.{boxes_same, same_view}
 use Rattle.rds_line.proofs.Storing.{relief_stores}
 
 -- the words that count freed bytes have room for those that are held

@@ -43,7 +43,8 @@ use Rattle.rds_line.specs.Stays.{AreSameBoxes, ChannelStays}
 use Rattle.rds_line.specs.Steps.{PassesOne, StaysQuiet}
 use Rattle.rds_line.proofs.Passing.{moment_after, passes_reads, read_past}
 use Rattle.rds_line.proofs.PortLooks.{told_looked}
-use Rattle.rds_line.proofs.Staying.{begins_of, begins_through, boxes_same, channel_of, channel_same, conn_stays, ending_stays, same_port_view, same_view}
+use Rattle.rds_line.proofs.Staying.{channel_of, channel_same, conn_stays, ending_stays}
+use Rattle.rds_line.proofs.Same.{begins_of, begins_through, boxes_same, same_port_view, same_view}
 
 -- what holds on success and what holds on failure, where the test says which it was
 pub at_ok : {A F : Type 0} {P : Type 0} (r : Result A F) → false ≡ is_err r → OnOk r P → P

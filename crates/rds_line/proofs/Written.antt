@@ -21,7 +21,8 @@ use Rattle.rds_line.specs.Steps.{StaysQuiet}
 use Rattle.rds_line.specs.Turns.{FindsNoRoom, GetsBytes, HearsNothing, LeavesNothing, SendsBytes}
 use Rattle.rds_line.proofs.Keeping.{keeps_plain, pulled_off}
 use Rattle.rds_line.proofs.Quiet.{quiet_inside, quiet_through}
-use Rattle.rds_line.proofs.Staying.{begins_of, channel_moved, channel_of, channel_through, read_stays, room_stays, shutting_stays, write_stays}
+use Rattle.rds_line.proofs.Staying.{channel_moved, channel_of, channel_through, read_stays, room_stays, shutting_stays, write_stays}
+use Rattle.rds_line.proofs.Same.{begins_of}
 
 -- what there is
 pub the_one : {A : Type 0} (o : Option A) → IsSome o → (a : A) × (o ≡ Some a)

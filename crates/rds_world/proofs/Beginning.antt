@@ -1,11 +1,10 @@
 -- A world in which nothing has happened.
-use Rattle.std.proofs.Common.{◌≡◌, ℕ, ◌+◌, ◌*◌, ◌<◌, ◌≤◌, Some, None, List, [], length, refl, sym, ◌∙◌, ap, subst, arith}
+use Rattle.std.proofs.Common.{◌≡◌, ℕ, ◌+◌, ◌*◌, ◌≤◌, Some, None, [], length, refl, sym, subst, arith}
 use Rattle.std.specs.List.{All}
 use Rattle.std.proofs.lemmas.List.Elements.{All-get_or}
 use Rattle.rds_model.specs.declared.entry.TheConstants.{MAX_SLOTS}
 use Rattle.rds_joint.specs.Ends.{JointEnd, blank}
 use Rattle.rds_mesh.specs.Ends.{IsNewMesh}
-use Rattle.rds_hosts.specs.declared.host.ScriptHost.{ScriptHost}
 use Rattle.rds_world.specs.declared.peer_map.PeerMap.{PeerMap}
 use Rattle.rds_world.specs.Fresh.{IsNewHost, IsUnread}
 use Rattle.rds_world.specs.Telling.{State, Tells, TellsEnd, TellsPeer}

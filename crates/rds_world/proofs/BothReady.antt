@@ -1,5 +1,5 @@
 -- Two entries, one in each of two journals, for which both have to have room.
-use Rattle.std.proofs.Common.{◌≡◌, ◌≢◌, ℕ, suc, ◌+◌, Bool, true, false, cond, Option, Some, None, Ok, Err, List, ◌∷◌, length, refl, sym, ◌∙◌, ap, subst}
+use Rattle.std.proofs.Common.{◌≡◌, ◌≢◌, ℕ, suc, ◌+◌, Bool, true, false, cond, Option, Some, Ok, Err, List, ◌∷◌, length, refl, ◌∙◌, ap}
 use Rattle.std.specs.Prelude.{nat_lt}
 use Rattle.std.specs.Option.{option_map_or}
 use Rattle.rds_model.specs.declared.entry.Entry.{Entry}
@@ -8,7 +8,7 @@ use Rattle.rds_model.specs.Past.{newest_stream, open_stream}
 use Rattle.rds_history.specs.Courses.{Course, and_then, appends, if_room}
 use Rattle.rds_history.specs.Events.{Event, Appended}
 use Rattle.rds_history.specs.Journals.{journal}
-use Rattle.rds_history.specs.Open.{open_both, open_one, shut_if_open}
+use Rattle.rds_history.specs.Open.{open_both, shut_if_open}
 use Rattle.rds_world.specs.Happening.{both_opened, both_shut, shut_both}
 use Rattle.rds_world.proofs.Journaling.{journal_there}
 

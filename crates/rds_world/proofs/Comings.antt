@@ -1,16 +1,15 @@
 -- What comes of courses, one after another.
-use Rattle.std.proofs.Common.{◌≡◌, ◌≢◌, ℕ, ◌+◌, ◌<◌, Bool, true, false, cond, Result, Ok, Err, List, ◌∷◌, ◌++◌, length, refl, sym, ap, subst}
+use Rattle.std.proofs.Common.{◌≡◌, ℕ, ◌+◌, Result, Ok, Err, List, ◌∷◌, ◌++◌, length, refl, sym, ap, subst}
 use Rattle.std.specs.Prelude.{OnOk, nat_lt}
 use Rattle.std.proofs.lemmas.Bool.{cond-true, cond-false}
 use Rattle.rds_history.specs.Events.{Event, Printed}
 use Rattle.rds_history.specs.Courses.{Course, and_then, if_room, prints}
 use Rattle.rds_history.specs.Journals.{journal}
 use Rattle.rds_hosts.specs.HostLaws.{untouched}
-use Rattle.rds_world.specs.declared.stop.Full.{Full}
 use Rattle.rds_world.specs.declared.stop.Stop.{Stop}
 use Rattle.rds_world.specs.declared.stop.Stop.TheVariants as stop
-use Rattle.rds_world.specs.Readiness.{IsMemory, IsStopAt, LacksMemory, Readies}
-use Rattle.rds_world.specs.Coming.{ComesRight, ComesWaiting}
+use Rattle.rds_world.specs.Readiness.{IsMemory, LacksMemory, Readies}
+use Rattle.rds_world.specs.Coming.{ComesWaiting}
 use Rattle.rds_world.specs.Telling.{State, TellsWaiting, Waiting}
 
 -- there may always be no memory

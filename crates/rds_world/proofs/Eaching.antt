@@ -1,5 +1,5 @@
 -- A step that is taken for each of a list, and how far a loop over it has come.
-use Rattle.std.proofs.Common.{◌≡◌, ◌⊎◌, ⊎_elim, ℕ, zero, suc, ◌+◌, ◌-◌, ◌<◌, ◌≤◌, Bool, true, false, cond, Result, Ok, Err, List, [], ◌∷◌, ◌++◌, map, refl, sym, ◌∙◌, ap, subst, arith}
+use Rattle.std.proofs.Common.{◌≡◌, ⊎_elim, ℕ, zero, suc, ◌+◌, ◌-◌, ◌<◌, ◌≤◌, Bool, true, false, cond, Result, Ok, Err, List, [], ◌∷◌, ◌++◌, map, refl, sym, ◌∙◌, ap, subst, arith}
 use Rattle.std.specs.Prelude.{nat_lt, min, ◌||◌}
 use Rattle.std.specs.List.{filter, flat_map, range_with_len}
 use Rattle.std.proofs.lemmas.Bool.{cases_lt, cond-true, cond-false, lt-ltb, le-ltb, ltb-true, ltb-false}
@@ -11,9 +11,9 @@ use Rattle.rds_history.specs.Events.{Event}
 use Rattle.rds_history.specs.Journals.{moved_in_all}
 use Rattle.rds_world.specs.declared.stop.Stop.{Stop}
 use Rattle.rds_world.specs.declared.stop.Stop.TheVariants as stop
-use Rattle.rds_world.specs.Coming.{Comes, ComesRight, ComesWaiting}
+use Rattle.rds_world.specs.Coming.{Comes, ComesRight}
 use Rattle.rds_world.specs.Draining.{SaysMoved, pairs_above}
-use Rattle.rds_world.specs.Readiness.{IsMemory, IsStopAt}
+use Rattle.rds_world.specs.Readiness.{IsMemory}
 use Rattle.rds_world.specs.Telling.{State, Tells, none_waits}
 use Rattle.rds_world.proofs.Comings.{comes_lacking}
 

@@ -1,5 +1,5 @@
 -- What the end of a host tells after an event.
-use Rattle.std.proofs.Common.{◌≡◌, ◌≢◌, ⊎_elim, ℕ, zero, suc, ◌+◌, ◌<◌, ◌≤◌, ◌==◌, Bool, true, false, Option, Some, None, List, [], ◌∷◌, ◌++◌, length, drop, refl, sym, ◌∙◌, ap, subst, arith}
+use Rattle.std.proofs.Common.{◌≡◌, ◌≢◌, ⊎_elim, ℕ, zero, suc, ◌<◌, ◌≤◌, ◌==◌, Option, Some, None, List, [], ◌∷◌, ◌++◌, length, drop, refl, sym, ◌∙◌, ap, subst, arith}
 use Rattle.std.specs.Option.{option_map_or}
 use Rattle.std.specs.List.{flat_map}
 use Rattle.std.proofs.lemmas.Bool.{cases_eq, cond-false, ne_eqb}
@@ -13,7 +13,7 @@ use Rattle.rds_model.specs.Streams.{pulled_frames, written_bytes}
 use Rattle.rds_model.specs.LegalityLaws.{lawful_open, lawful_pull, open_is_newest}
 use Rattle.rds_joint.specs.Ends.{JointEnd}
 use Rattle.rds_mesh.specs.Ends.{ChangesPair, IsOtherPair, MeshView, end_at}
-use Rattle.rds_history.specs.Events.{Event, Appended, Moved}
+use Rattle.rds_history.specs.Events.{Event, Appended}
 use Rattle.rds_history.specs.Journals.{journal, moved_count, in_flight, written_to_open}
 use Rattle.rds_world.specs.Telling.{EndsTell, TellsEnd, Waiting}
 use Rattle.rds_world.proofs.Journaling.{journal_here, journal_there, moved_opened, moved_there}

@@ -18,5 +18,7 @@ pub mod Addressed
 pub mod Changing
 pub mod Pulling
 pub mod Passing
+pub mod Readings
 pub mod Arriving
+pub mod Right
 pub mod Turns

@@ -9,20 +9,20 @@ use Rattle.rds_model.specs.Drained.{last_map_read}
 use Rattle.rds_pair.specs.declared.error.PairError.{PairError}
 use Rattle.rds_joint.specs.Ends.{JointEnd}
 use Rattle.rds_joint.specs.Steps.{opened, opened_from, shut_from, stream_shut}
-use Rattle.rds_mesh.specs.Ends.{ChangesPair, IsOtherPair, MeshView, end_at}
+use Rattle.rds_mesh.specs.Ends.{ChangesPair, MeshView, end_at}
 use Rattle.rds_mesh.specs.Known.{KnownOfEnds}
 use Rattle.rds_history.specs.Events.{Event, Appended}
 use Rattle.rds_history.specs.Journals.{journal, maps_read}
-use Rattle.rds_history.specs.Transcript.{entry_line, lines}
+use Rattle.rds_history.specs.Transcript.{entry_line}
 use Rattle.rds_hosts.specs.HostLaws.{untouched}
 use Rattle.rds_world.specs.declared.peer_map.PeerMap.{PeerMap}
 use Rattle.rds_world.specs.declared.stop.Stop.{Stop}
 use Rattle.rds_world.specs.Readiness.{or_memory}
-use Rattle.rds_world.specs.Happening.{opened_at, both_opened, both_shut}
+use Rattle.rds_world.specs.Happening.{both_opened, both_shut}
 use Rattle.rds_world.specs.Printing.{PrintsAlone}
 use Rattle.rds_world.specs.Telling.{State, Tells, TellsEnd, TellsPeer, none_waits}
-use Rattle.rds_world.proofs.Journaling.{journal_here, journal_there}
-use Rattle.rds_world.proofs.Ends.{IsStill, appended_elsewhere, end_opened, end_shut, end_still, ends_changed, still_then}
+use Rattle.rds_world.proofs.Journaling.{journal_there}
+use Rattle.rds_world.proofs.Ends.{appended_elsewhere, end_opened, end_shut, end_still, ends_changed, still_then}
 
 -- what a line that was printed leaves
 abbrev pub Prints : {A E : Type 0} (h k : ℕ) (result : Result A E) (m : MeshView) (s t : State) → Type 0

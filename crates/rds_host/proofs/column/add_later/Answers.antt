@@ -1,6 +1,7 @@
 use Rattle.std.proofs.Common.{◌≡◌, ◌≤◌, ◌-◌, ap, ◌∙◌, arith}
 use Rattle.rds_host.specs.Ties.{putters_from}
-use Rattle.rds_host.proofs.Columns.{after_splits, later_more}
+use Rattle.rds_host.proofs.Columns.{later_more}
+use Rattle.rds_host.proofs.Pushing.{after_splits}
 use Rattle.rds_host.proofs.column.add_later.Goals as goal
 
 pub loop-preserved : goal.loop-preserved

@@ -1,6 +1,6 @@
 use Rattle.std.proofs.Common.{◌≡◌, ◌-◌}
 use Rattle.rds_host.specs.Ties.{putters_from}
-use Rattle.rds_host.proofs.Columns.{after_splits}
+use Rattle.rds_host.proofs.Pushing.{after_splits}
 use Rattle.rds_host.proofs.column.add_later.Given as goal
 
 abbrev pub invariant-loop : goal.invariant-loop

@@ -2,7 +2,8 @@ use Rattle.std.proofs.Common.{◌≡◌, suc, ◌+◌, ◌<◌, length, get_or, 
 use Rattle.rds_model.specs.declared.order.Datagram.{Datagram}
 use Rattle.rds_mail.specs.Passes.{Putter, split_from}
 use Rattle.rds_host.specs.Ties.{new_putter, with_box}
-use Rattle.rds_host.proofs.Columns.{split_at, with_boxes_more}
+use Rattle.rds_host.proofs.Columns.{with_boxes_more}
+use Rattle.rds_host.proofs.Pushing.{split_at}
 use Rattle.rds_host.proofs.making.add_later_boxes.Goals as goal
 
 pub loop-i-preserved : goal.loop-i-preserved

@@ -1,6 +1,6 @@
 use Rattle.std.proofs.Common.{◌≡◌, suc, ◌++◌, length, take, drop}
 use Rattle.rds_host.specs.Ties.{with_boxes}
-use Rattle.rds_host.proofs.Columns.{after_splits}
+use Rattle.rds_host.proofs.Pushing.{after_splits}
 use Rattle.rds_host.proofs.making.add_later_boxes.Given as goal
 
 abbrev pub invariant-loop-i : goal.invariant-loop-i

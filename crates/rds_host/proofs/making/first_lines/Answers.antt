@@ -9,7 +9,8 @@ use Rattle.std.proofs.lemmas.List.{map-id}
 use Rattle.rds_views.specs.Views.{Table}
 use Rattle.rds_line_streams.specs.Streams.{AreNumbered, IsUnused}
 use Rattle.rds_host.specs.Ties.{ColumnView, AreLinesOf}
-use Rattle.rds_host.proofs.Columns.{counted_on, line_at, lines_push, next_of, one_left, push_one}
+use Rattle.rds_host.proofs.Pushing.{counted_on, next_of, one_left, push_one}
+use Rattle.rds_host.proofs.ColumnLines.{line_at, lines_push}
 use Rattle.rds_host.proofs.making.first_lines.Goals as goal
 
 pub add_line-requires-clause-boxes : goal.add_line-requires-clause-boxes

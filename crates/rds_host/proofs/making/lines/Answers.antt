@@ -8,7 +8,8 @@ use Rattle.rds_fmap.specs.Readers.{WriterView}
 use Rattle.rds_line.specs.Line.{LineView}
 use Rattle.rds_line_streams.specs.Streams.{AreNumbered, IsUnused}
 use Rattle.rds_host.specs.Ties.{ColumnView, AreLinesOf}
-use Rattle.rds_host.proofs.Columns.{line_at, lines_among, lines_push, pushed_here}
+use Rattle.rds_host.proofs.Columns.{pushed_here}
+use Rattle.rds_host.proofs.ColumnLines.{line_at, lines_among, lines_push}
 use Rattle.rds_host.proofs.making.lines.Goals as goal
 
 pub first_lines-requires-clause-unused : goal.first_lines-requires-clause-unused

@@ -6,7 +6,8 @@ use Rattle.std.proofs.lemmas.Option.{slice_get-get_or}
 use Rattle.rds_fmap.specs.Readers.{ReaderView}
 use Rattle.rds_parts.specs.Lanes.{Lane}
 use Rattle.rds_host.specs.Ties.{AreNextOf, ColumnView, IsNextOf, lane_way, popped, ways_of}
-use Rattle.rds_host.proofs.Columns.{next_push, routes_more, untouched}
+use Rattle.rds_host.proofs.Columns.{next_push}
+use Rattle.rds_host.proofs.Pushing.{routes_more, untouched}
 use Rattle.rds_host.proofs.making.routes.Goals as goal
 
 pub loop-i-preserved : goal.loop-i-preserved

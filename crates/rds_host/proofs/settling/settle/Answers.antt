@@ -1,7 +1,8 @@
 use Rattle.std.proofs.Common.{map}
 use Rattle.rds_fmap.specs.Readers.{ReaderView}
 use Rattle.rds_socket.specs.Holding.{Open}
-use Rattle.rds_host.proofs.Told.{can_back, can_front, can_still, lines_keep_told, settled_more, slots_keep_told}
+use Rattle.rds_host.proofs.Told.{slots_keep_told}
+use Rattle.rds_host.proofs.ToldLines.{can_back, can_front, can_still, lines_keep_told, settled_more}
 use Rattle.rds_host.proofs.settling.settle.Goals as goal
 
 pub settle_sockets-requires : goal.settle_sockets-requires

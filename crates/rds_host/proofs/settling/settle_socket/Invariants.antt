@@ -1,4 +1,4 @@
-use Rattle.rds_host.proofs.Told.{ToldUpTo}
+use Rattle.rds_host.proofs.ToldLines.{ToldUpTo}
 use Rattle.rds_host.proofs.settling.settle_socket.Given as goal
 
 abbrev pub invariant-loop-i : goal.invariant-loop-i

@@ -4,7 +4,8 @@ use Rattle.std.proofs.lemmas.Option.{slice_get-get_or, slice_get-map}
 use Rattle.rds_fmap.specs.Readers.{ReaderView}
 use Rattle.rds_socket.specs.Holding.{Holding, Open}
 use Rattle.rds_host.specs.Settled.{AreSettled}
-use Rattle.rds_host.proofs.Told.{can_one, can_still, lines_keep_told, none_settled, same_at, settled_set}
+use Rattle.rds_host.proofs.Told.{same_at}
+use Rattle.rds_host.proofs.ToldLines.{can_one, can_still, lines_keep_told, none_settled, settled_set}
 use Rattle.rds_host.proofs.settling.settle_sockets.Goals as goal
 
 abbrev own : Open ReaderView → Holding ReaderView

@@ -4,7 +4,8 @@ use Rattle.rds_model.specs.Reading.{verdict_of}
 use Rattle.rds_conn.specs.declared.conn.Found.TheVariants as found
 use Rattle.rds_conn.specs.Passing.{outcome_of}
 use Rattle.rds_line.proofs.Passing.{keeps_passed}
-use Rattle.rds_line.proofs.Delivering.{passes_quietly, unasked_kept, unasked_looks, unmapped, verdict_there}
+use Rattle.rds_line.proofs.Delivering.{passes_quietly, unasked_kept, unasked_looks, unmapped}
+use Rattle.rds_line.proofs.Verdicts.{verdict_there}
 use Rattle.rds_line.proofs.Fields.{view_in}
 use Rattle.rds_line.proofs.Quiet.{quiet_inside}
 use Rattle.rds_line.proofs.StaysPassed.{passed_one, passed_pulls, passed_stays}

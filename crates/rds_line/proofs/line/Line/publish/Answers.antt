@@ -3,9 +3,11 @@ use Rattle.std.proofs.lemmas.Option.{same_Some}
 use Rattle.rds_wire.specs.declared.frame.Frame.{Frame}
 use Rattle.rds_wire.specs.declared.kind.TheConstants.{MAP_LENGTH}
 use Rattle.rds_model.specs.SumLaws.{few_maps}
-use Rattle.rds_line.proofs.Staying.{boxes_same, channel_same}
+use Rattle.rds_line.proofs.Staying.{channel_same}
+use Rattle.rds_line.proofs.Same.{boxes_same}
 use Rattle.rds_line.proofs.Passing.{keeps_passed, keeps_unpublished}
-use Rattle.rds_line.proofs.Delivering.{map_is, map_length, passes_map, ready_inside, verdict_here, waits_inside}
+use Rattle.rds_line.proofs.Delivering.{passes_map}
+use Rattle.rds_line.proofs.Verdicts.{map_is, map_length, ready_inside, verdict_here, waits_inside}
 use Rattle.rds_line.proofs.StaysPassed.{at_err, at_value, line_quiet, passed_one, passed_pulls, passed_stays, seats_same}
 use Rattle.rds_line.proofs.line.Line.publish.Goals as goal
 

@@ -1,13 +1,12 @@
-use Rattle.std.proofs.Common.{◌≡◌, ℕ, suc, ◌+◌, ◌-◌, ◌<◌, Bool, true, false, Ok, Err, List, sym, ◌∙◌, ap, subst, arith}
+use Rattle.std.proofs.Common.{◌≡◌, suc, ◌+◌, ◌-◌, Bool, Ok, Err, sym, ◌∙◌, subst, arith}
 use Rattle.std.specs.Prelude.{Result}
 use Rattle.std.proofs.lemmas.Grind.{common_steps}
-use Rattle.rds_history.specs.Courses.{Course, again}
+use Rattle.rds_history.specs.Courses.{again}
 use Rattle.rds_history.specs.Drain.{round, rounds}
-use Rattle.rds_history.specs.Events.{Event}
 use Rattle.rds_world.specs.declared.stop.Stop.{Stop}
 use Rattle.rds_world.specs.Coming.{Comes, ComesRight}
 use Rattle.rds_world.specs.Draining.{SaysMoved}
-use Rattle.rds_world.specs.Telling.{Tells, none_waits, state}
+use Rattle.rds_world.specs.Telling.{none_waits, state}
 use Rattle.rds_world.proofs.Eaching.{RunsOn, runs_more, runs_out, runs_stopped}
 use Rattle.rds_world.proofs.world.World.all_rounds.Goals as goal
 

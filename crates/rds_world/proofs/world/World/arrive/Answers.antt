@@ -6,7 +6,8 @@ use Rattle.rds_history.specs.Move.{arrive, move_piece, portion}
 use Rattle.rds_world.specs.declared.stop.Stop.{Stop}
 use Rattle.rds_world.specs.Coming.{ComesRight}
 use Rattle.rds_world.specs.Telling.{none_waits, state}
-use Rattle.rds_world.proofs.Turns.{IsMore, arrived, none_arrives, portion_within, right_lacking, right_stopped, right_then, some_arrive, some_flies}
+use Rattle.rds_world.proofs.Turns.{arrived, none_arrives, portion_within, some_arrive}
+use Rattle.rds_world.proofs.Right.{IsMore, right_lacking, right_stopped, right_then, some_flies}
 use Rattle.rds_world.proofs.world.World.arrive.Goals as goal
 
 pub returns-then-flight-eq0-clause-course : goal.returns-then-flight-eq0-clause-course

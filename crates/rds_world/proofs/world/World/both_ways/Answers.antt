@@ -1,19 +1,15 @@
-use Rattle.std.proofs.Common.{◌≡◌, ℕ, ◌+◌, ◌-◌, ◌<◌, ◌≤◌, Bool, false, None, Ok, Err, List, [], ◌∷◌, refl, sym, ◌∙◌, ap, subst, arith}
-use Rattle.std.specs.Prelude.{Result, nat_lt, min, ◌||◌}
-use Rattle.std.specs.List.{range_with_len}
-use Rattle.std.specs.Option.{option_map}
-use Rattle.std.proofs.lemmas.Bool.{le-ltb}
+use Rattle.std.proofs.Common.{◌≡◌, ℕ, ◌-◌, Bool, None, Ok, Err, List, sym, ◌∙◌, subst, arith}
+use Rattle.std.specs.Prelude.{Result, nat_lt, min}
 use Rattle.std.proofs.lemmas.Grind.{common_steps}
-use Rattle.rds_history.specs.Courses.{Course, again, each}
-use Rattle.rds_history.specs.Drain.{both_ways, pairs, round, rounds}
+use Rattle.rds_history.specs.Drain.{both_ways}
 use Rattle.rds_history.specs.Events.{Event}
 use Rattle.rds_history.specs.Journals.{moved_in_all}
 use Rattle.rds_history.specs.Move.{move_up_to}
 use Rattle.rds_world.specs.declared.stop.Stop.{Stop}
-use Rattle.rds_world.specs.Coming.{Comes, ComesRight}
-use Rattle.rds_world.specs.Draining.{SaysMoved, pairs_above}
-use Rattle.rds_world.specs.Telling.{Tells, none_waits, state}
-use Rattle.rds_world.proofs.Eaching.{Reaches, each_above, each_pair, moved_by, moved_then, range_done, range_next, reaches_more, reaches_right, right_map, right_reached, right_same_stop, right_stopped, right_then}
+use Rattle.rds_world.specs.Coming.{ComesRight}
+use Rattle.rds_world.specs.Draining.{SaysMoved}
+use Rattle.rds_world.specs.Telling.{none_waits, state}
+use Rattle.rds_world.proofs.Eaching.{moved_by, moved_then, right_map, right_same_stop, right_stopped, right_then}
 use Rattle.rds_world.proofs.world.World.both_ways.Goals as goal
 
 -- what an answer of a move says

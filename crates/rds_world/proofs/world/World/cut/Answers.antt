@@ -1,4 +1,4 @@
-use Rattle.std.proofs.Common.{◌≡◌, ℕ, true, false, Option, Some, Ok, List, ◌∷◌, ◌<◌, sym, ◌∙◌, ap, subst, arith, length}
+use Rattle.std.proofs.Common.{◌≡◌, ℕ, Option, List, ◌∷◌, ◌<◌, sym, ◌∙◌, ap, subst, arith, length}
 use Rattle.std.specs.Prelude.{IsSome, codes}
 use Rattle.std.specs.Option.{option_map_or}
 use Rattle.std.proofs.lemmas.Grind.{common_steps}

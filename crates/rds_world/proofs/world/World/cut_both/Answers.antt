@@ -1,5 +1,5 @@
-use Rattle.std.proofs.Common.{◌≡◌, ℕ, Option, Some, None, Ok, Err, List, sym, ◌∙◌, ap, subst, arith}
-use Rattle.std.specs.Prelude.{Result, IsSome}
+use Rattle.std.proofs.Common.{◌≡◌, ℕ, Ok, Err, List, sym, ◌∙◌, ap, subst, arith}
+use Rattle.std.specs.Prelude.{Result}
 use Rattle.std.proofs.lemmas.Grind.{common_steps}
 use Rattle.rds_model.specs.Past.{open_stream}
 use Rattle.rds_history.specs.Courses.{Course, and_then, if_room}
@@ -8,8 +8,8 @@ use Rattle.rds_history.specs.Journals.{journal}
 use Rattle.rds_world.specs.declared.stop.Stop.{Stop}
 use Rattle.rds_world.specs.Coming.{Comes}
 use Rattle.rds_world.specs.Happening.{both_shut, shut_both}
-use Rattle.rds_world.specs.Telling.{Tells, none_waits, state}
-use Rattle.rds_world.proofs.BothReady.{if_both, open_both_is, room_same, shut_both_is}
+use Rattle.rds_world.specs.Telling.{none_waits, state}
+use Rattle.rds_world.proofs.BothReady.{room_same, shut_both_is}
 use Rattle.rds_world.proofs.Comings.{comes_made, comes_stopped, comes_then}
 use Rattle.rds_world.proofs.OpeningBoth.{same_stream, some_in}
 use Rattle.rds_world.proofs.world.World.cut_both.Goals as goal

@@ -6,7 +6,8 @@ use Rattle.rds_mesh.specs.Ends.{end_at}
 use Rattle.rds_world.specs.Happening.{IsRead}
 use Rattle.rds_world.specs.Telling.{Tells, state}
 use Rattle.rds_world.proofs.Changing.{peers_no_map}
-use Rattle.rds_world.proofs.Passing.{end_waits, here_on, ok_then, read_after, tells_read}
+use Rattle.rds_world.proofs.Passing.{end_waits, ok_then, tells_read}
+use Rattle.rds_world.proofs.Readings.{here_on, read_after}
 use Rattle.rds_world.proofs.world.World.deliver.Goals as goal
 
 pub returns-clause-told : goal.returns-clause-told

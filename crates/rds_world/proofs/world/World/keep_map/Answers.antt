@@ -6,7 +6,8 @@ use Rattle.rds_model.specs.Sums.{last_pulled_frame}
 use Rattle.rds_history.specs.Journals.{journal}
 use Rattle.rds_mesh.specs.Ends.{end_at}
 use Rattle.rds_world.specs.Telling.{state}
-use Rattle.rds_world.proofs.Passing.{chunk_is, end_waits, few_versions, kept_here, map_long, ok_both, pulled_whole, some_same}
+use Rattle.rds_world.proofs.Passing.{chunk_is, end_waits, map_long, ok_both, pulled_whole}
+use Rattle.rds_world.proofs.Readings.{few_versions, kept_here, some_same}
 use Rattle.rds_world.proofs.world.World.keep_map.Goals as goal
 
 pub returns-in-Some-first_chunk-clause-kept : goal.returns-in-Some-first_chunk-clause-kept

@@ -1,7 +1,7 @@
 use Rattle.std.proofs.Common.{◌≡◌, ◌<◌, get_or, length, subst, arith}
 use Rattle.std.specs.Prelude.{string_bytes}
 use Rattle.rds_world.specs.Telling.{state}
-use Rattle.rds_world.proofs.Passing.{tells_marked}
+use Rattle.rds_world.proofs.Readings.{tells_marked}
 use Rattle.rds_world.proofs.world.World.mark_port.Goals as goal
 
 pub returns-clause-told : goal.returns-clause-told

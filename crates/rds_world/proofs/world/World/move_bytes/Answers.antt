@@ -10,7 +10,8 @@ use Rattle.rds_history.specs.Move.{move, move_up_to}
 use Rattle.rds_world.specs.declared.stop.Stop.{Stop}
 use Rattle.rds_world.specs.Coming.{Comes}
 use Rattle.rds_world.specs.Telling.{state}
-use Rattle.rds_world.proofs.Turns.{IsCount, moved_and_told, open_moves, some_stream, told_stopped}
+use Rattle.rds_world.proofs.Turns.{moved_and_told, open_moves, some_stream, told_stopped}
+use Rattle.rds_world.proofs.Right.{IsCount}
 use Rattle.rds_world.proofs.world.World.move_bytes.Goals as goal
 
 pub returns-in_err-moved-clause-course : goal.returns-in_err-moved-clause-course

@@ -4,7 +4,7 @@ use Rattle.rds_history.specs.Events.{Event, Moved}
 use Rattle.rds_history.specs.Journals.{in_flight}
 use Rattle.rds_world.specs.Telling.{Tells, state}
 use Rattle.rds_world.proofs.Arriving.{moved_part, moved_whole}
-use Rattle.rds_world.proofs.Turns.{no_bytes, none_bytes, some_bytes}
+use Rattle.rds_world.proofs.Right.{no_bytes, none_bytes, some_bytes}
 use Rattle.rds_world.proofs.world.World.move_piece.Goals as goal
 
 pub returns-then-not-is_empty-clause-told : goal.returns-then-not-is_empty-clause-told

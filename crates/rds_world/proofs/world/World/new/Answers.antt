@@ -1,5 +1,4 @@
 use Rattle.std.proofs.Common.{refl, ◌∙◌, sym}
-use Rattle.rds_world.specs.Telling.{state}
 use Rattle.rds_world.proofs.Beginning.{tells_nothing}
 use Rattle.rds_world.proofs.world.World.new.Goals as goal
 

@@ -1,15 +1,15 @@
-use Rattle.std.proofs.Common.{◌≡◌, ℕ, ◌+◌, ◌-◌, ◌<◌, Ok, Err, List, [], ◌∷◌, refl, sym, ◌∙◌, ap, subst, arith}
+use Rattle.std.proofs.Common.{◌≡◌, ℕ, ◌+◌, ◌-◌, ◌<◌, Err, List, refl, sym, ◌∙◌, subst, arith}
 use Rattle.std.specs.Prelude.{Result}
 use Rattle.std.specs.List.{range_with_len}
 use Rattle.std.proofs.lemmas.Grind.{common_steps}
 use Rattle.rds_history.specs.Courses.{Course, each}
-use Rattle.rds_history.specs.Drain.{HostPair, open_if_closed}
+use Rattle.rds_history.specs.Drain.{open_if_closed}
 use Rattle.rds_history.specs.Events.{Event}
 use Rattle.rds_world.specs.declared.stop.Stop.{Stop}
 use Rattle.rds_world.specs.Coming.{Comes}
-use Rattle.rds_world.specs.Draining.{SaysMoved, pairs_above}
-use Rattle.rds_world.specs.Telling.{Tells, state}
-use Rattle.rds_world.proofs.Eaching.{Reaches, each_above, each_pair, range_done, range_next, reaches_end, reaches_more, reaches_next, reaches_right, reaches_stopped}
+use Rattle.rds_world.specs.Draining.{pairs_above}
+use Rattle.rds_world.specs.Telling.{state}
+use Rattle.rds_world.proofs.Eaching.{Reaches, each_above, range_next, reaches_next, reaches_stopped}
 use Rattle.rds_world.proofs.world.World.open_above.Goals as goal
 
 pub loop-high-init : goal.loop-high-init

@@ -1,4 +1,4 @@
-use Rattle.std.proofs.Common.{◌≡◌, ℕ, ◌+◌, ◌-◌, ◌<◌, Ok, Err, List, [], ◌∷◌, refl, sym, ◌∙◌, ap, subst, arith}
+use Rattle.std.proofs.Common.{◌≡◌, ℕ, ◌+◌, ◌-◌, ◌<◌, Err, List, refl, sym, ◌∙◌, ap, subst, arith}
 use Rattle.std.specs.Prelude.{Result}
 use Rattle.std.specs.List.{range_with_len}
 use Rattle.std.proofs.lemmas.Grind.{common_steps}
@@ -7,9 +7,9 @@ use Rattle.rds_history.specs.Drain.{open_if_closed, pairs}
 use Rattle.rds_history.specs.Events.{Event}
 use Rattle.rds_world.specs.declared.stop.Stop.{Stop}
 use Rattle.rds_world.specs.Coming.{Comes}
-use Rattle.rds_world.specs.Draining.{SaysMoved, pairs_above}
-use Rattle.rds_world.specs.Telling.{Tells, state}
-use Rattle.rds_world.proofs.Eaching.{Reaches, each_above, each_pair, range_done, range_next, reaches_end, reaches_more, reaches_next, reaches_right, reaches_stopped}
+use Rattle.rds_world.specs.Draining.{pairs_above}
+use Rattle.rds_world.specs.Telling.{state}
+use Rattle.rds_world.proofs.Eaching.{Reaches, each_pair, range_next, reaches_next, reaches_stopped}
 use Rattle.rds_world.proofs.world.World.open_all.Goals as goal
 
 pub loop-low-init : goal.loop-low-init

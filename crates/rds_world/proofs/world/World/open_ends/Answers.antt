@@ -1,4 +1,4 @@
-use Rattle.std.proofs.Common.{◌≡◌, ◌∙◌}
+use Rattle.std.proofs.Common.{◌∙◌}
 use Rattle.rds_joint.specs.Steps.{opened}
 use Rattle.rds_mesh.specs.Ends.{ChangesPair, end_at}
 use Rattle.rds_world.specs.Telling.{state}

@@ -1,8 +1,8 @@
-use Rattle.std.proofs.Common.{◌≡◌, ℕ, ◌∷◌, ◌++◌, [], List, length, sym, ap, subst, arith}
+use Rattle.std.proofs.Common.{◌≡◌, ℕ, [], List, length, sym, ap, subst, arith}
 use Rattle.rds_model.specs.declared.entry.Entry.{Entry}
 use Rattle.rds_model.specs.Past.{accepted}
 use Rattle.rds_world.specs.Printing.{PrintsAlone}
-use Rattle.rds_world.specs.Telling.{State, state}
+use Rattle.rds_world.specs.Telling.{state}
 use Rattle.rds_world.proofs.world.World.print_newest.Goals as goal
 
 pub returns-clause-line : goal.returns-clause-line

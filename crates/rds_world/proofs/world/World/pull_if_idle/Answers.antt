@@ -9,7 +9,8 @@ use Rattle.rds_world.specs.declared.stop.Stop.{Stop}
 use Rattle.rds_world.specs.Coming.{Comes}
 use Rattle.rds_world.specs.Telling.{none_waits, state}
 use Rattle.rds_world.proofs.Comings.{comes_made, comes_stopped, comes_then}
-use Rattle.rds_world.proofs.Turns.{busy_stays, idle_pulls, no_bytes, none_bytes, room_same, some_bytes}
+use Rattle.rds_world.proofs.Turns.{busy_stays, idle_pulls}
+use Rattle.rds_world.proofs.Right.{no_bytes, none_bytes, room_same, some_bytes}
 use Rattle.rds_world.proofs.world.World.pull_if_idle.Goals as goal
 
 pub returns-then-not-is_empty-clause-course : goal.returns-then-not-is_empty-clause-course

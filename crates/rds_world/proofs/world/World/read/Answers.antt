@@ -2,7 +2,8 @@ use Rattle.std.proofs.Common.{◌<◌, subst}
 use Rattle.rds_history.specs.Journals.{journal}
 use Rattle.rds_mesh.specs.Ends.{end_at}
 use Rattle.rds_world.specs.Telling.{state}
-use Rattle.rds_world.proofs.Passing.{end_waits, read_unanswered, verdict_waits}
+use Rattle.rds_world.proofs.Passing.{end_waits}
+use Rattle.rds_world.proofs.Readings.{read_unanswered, verdict_waits}
 use Rattle.rds_world.proofs.world.World.read.Goals as goal
 
 pub returns-in-Old : goal.returns-in-Old

@@ -9,7 +9,8 @@ use Rattle.rds_history.specs.Journals.{journal}
 use Rattle.rds_history.specs.Mark.{update_mark}
 use Rattle.rds_history.specs.Sockets.{holder}
 use Rattle.rds_world.specs.Telling.{Tells, state}
-use Rattle.rds_world.proofs.Passing.{delivered_here, port_is, read_on_as, read_plainly}
+use Rattle.rds_world.proofs.Passing.{delivered_here, port_is, read_on_as}
+use Rattle.rds_world.proofs.Readings.{read_plainly}
 use Rattle.rds_world.proofs.world.World.read_datagram.Goals as goal
 
 pub returns-in_default-clause-told : goal.returns-in_default-clause-told

@@ -9,7 +9,8 @@ use Rattle.rds_mesh.specs.Ends.{end_at}
 use Rattle.rds_world.specs.Happening.{IsRead, outcome_here}
 use Rattle.rds_world.specs.Telling.{Tells, state}
 use Rattle.rds_world.proofs.Changing.{hosts_untouched}
-use Rattle.rds_world.proofs.Passing.{end_waits, here_on, ok_then, outcome_here_is, read_after, read_on_as, tells_read}
+use Rattle.rds_world.proofs.Passing.{end_waits, ok_then, outcome_here_is, read_on_as, tells_read}
+use Rattle.rds_world.proofs.Readings.{here_on, read_after}
 use Rattle.rds_world.proofs.world.World.read_map.Goals as goal
 
 pub returns-clause-told : goal.returns-clause-told

@@ -12,7 +12,8 @@ use Rattle.rds_mesh.specs.Ends.{end_at}
 use Rattle.rds_world.specs.Happening.{IsRead, outcome_here}
 use Rattle.rds_world.specs.Printing.{PrintsAlone}
 use Rattle.rds_world.specs.Telling.{Tells, state}
-use Rattle.rds_world.proofs.Passing.{end_waits, here_on, ok_then, ping_is, read_on_as, tells_ping}
+use Rattle.rds_world.proofs.Passing.{end_waits, ok_then, read_on_as}
+use Rattle.rds_world.proofs.Readings.{here_on, ping_is, tells_ping}
 use Rattle.rds_world.proofs.world.World.read_ping.Goals as goal
 
 pub returns-clause-told : goal.returns-clause-told

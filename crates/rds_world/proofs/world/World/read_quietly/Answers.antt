@@ -4,7 +4,8 @@ use Rattle.rds_history.specs.Events.{Appended}
 use Rattle.rds_mesh.specs.Ends.{end_at}
 use Rattle.rds_world.specs.Happening.{IsRead, outcome_here}
 use Rattle.rds_world.specs.Telling.{Tells, state}
-use Rattle.rds_world.proofs.Passing.{end_waits, here_on, ok_then, tells_plain}
+use Rattle.rds_world.proofs.Passing.{end_waits, ok_then}
+use Rattle.rds_world.proofs.Readings.{here_on, tells_plain}
 use Rattle.rds_world.proofs.world.World.read_quietly.Goals as goal
 
 pub returns-clause-told : goal.returns-clause-told

@@ -1,7 +1,7 @@
 use Rattle.std.proofs.Common.{◌≡◌, ℕ, ◌-◌, List}
 use Rattle.std.specs.List.{range_with_len}
-use Rattle.rds_history.specs.Courses.{Course, each}
-use Rattle.rds_history.specs.Drain.{both_ways, pairs, round}
+use Rattle.rds_history.specs.Courses.{each}
+use Rattle.rds_history.specs.Drain.{both_ways, round}
 use Rattle.rds_history.specs.Events.{Event}
 use Rattle.rds_world.specs.Draining.{SaysMoved, pairs_above}
 use Rattle.rds_world.specs.Telling.{Tells, state}

@@ -1,8 +1,8 @@
-use Rattle.std.proofs.Common.{◌≡◌, ◌∙◌}
+use Rattle.std.proofs.Common.{◌∙◌}
 use Rattle.rds_joint.specs.Steps.{stream_shut}
 use Rattle.rds_mesh.specs.Ends.{ChangesPair, end_at}
 use Rattle.rds_world.specs.Telling.{state}
-use Rattle.rds_world.proofs.OpeningBoth.{same_stream, tells_shut, went_well}
+use Rattle.rds_world.proofs.OpeningBoth.{tells_shut, went_well}
 use Rattle.rds_world.proofs.world.World.shut_ends.Goals as goal
 
 pub returns-clause-told : goal.returns-clause-told

@@ -6,7 +6,8 @@ use Rattle.rds_model.specs.declared.entry.Outcome.TheVariants as outcome
 use Rattle.rds_history.specs.Events.{Appended}
 use Rattle.rds_hosts.specs.Telling.{TellsHost}
 use Rattle.rds_world.specs.Telling.{state}
-use Rattle.rds_world.proofs.Passing.{end_waits, ok_then, queued_here, some_same}
+use Rattle.rds_world.proofs.Passing.{end_waits, ok_then}
+use Rattle.rds_world.proofs.Readings.{queued_here, some_same}
 use Rattle.rds_world.proofs.world.World.take_in.Goals as goal
 
 pub returns-in-Some-clause-queued : goal.returns-in-Some-clause-queued

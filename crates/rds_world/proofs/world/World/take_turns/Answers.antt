@@ -6,7 +6,8 @@ use Rattle.rds_history.specs.Move.{move_up_to, turn}
 use Rattle.rds_world.specs.declared.stop.Stop.{Stop}
 use Rattle.rds_world.specs.Coming.{ComesRight}
 use Rattle.rds_world.specs.Telling.{none_waits, state}
-use Rattle.rds_world.proofs.Turns.{IsCount, IsMore, IsMoving, moving_begins, moving_ends, moving_more, moving_over, moving_stopped, some_flies, top_of}
+use Rattle.rds_world.proofs.Turns.{IsMoving, moving_begins, moving_ends, moving_more, moving_over, moving_stopped, top_of}
+use Rattle.rds_world.proofs.Right.{IsCount, IsMore, some_flies}
 use Rattle.rds_world.proofs.world.World.take_turns.Goals as goal
 
 pub loop-turn-init : goal.loop-turn-init

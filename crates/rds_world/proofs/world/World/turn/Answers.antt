@@ -5,7 +5,8 @@ use Rattle.rds_history.specs.Move.{arrive, pull_if_idle, turn}
 use Rattle.rds_world.specs.declared.stop.Stop.{Stop}
 use Rattle.rds_world.specs.Coming.{ComesRight}
 use Rattle.rds_world.specs.Telling.{none_waits, state}
-use Rattle.rds_world.proofs.Turns.{IsMore, pull_if_idle_moves_none, right_stopped, right_then, right_weaker, left_none, left_some, turn_goes, turn_stays}
+use Rattle.rds_world.proofs.Turns.{pull_if_idle_moves_none, left_none, left_some, turn_goes, turn_stays}
+use Rattle.rds_world.proofs.Right.{IsMore, right_stopped, right_then, right_weaker}
 use Rattle.rds_world.proofs.world.World.turn.Goals as goal
 
 pub returns-then-eq-clause-course : goal.returns-then-eq-clause-course
