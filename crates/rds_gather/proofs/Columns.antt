@@ -23,66 +23,66 @@ all_back P xs ys all k d small =
 
 -- each row has something at this place
 abbrev pub AreFull : {X : Type 0} → ℕ → List (List X) → Type 0
-AreFull {X} n rows = (i : ℕ) (row : List X) → slice_get rows i ≡ Some row → n < length row
+AreFull {X} n rows = (i : ℕ) (cells : List X) → slice_get rows i ≡ Some cells → n < length cells
 
 module _ {X : Type 0} where
   -- a row with something there gives its first to the column
-  column_with : (n : ℕ) (row : List X) (x : X) (rows : List (List X)) → slice_get row n ≡ Some x → column n (row ∷ rows) ≡ x ∷ column n rows
-  column_with n row x rows is = ap (λ o. cons_option o (column n rows)) is
+  column_with : (n : ℕ) (cells : List X) (x : X) (rows : List (List X)) → slice_get cells n ≡ Some x → column n (cells ∷ rows) ≡ x ∷ column n rows
+  column_with n cells x rows is = ap (λ o. cons_option o (column n rows)) is
 
-  rest_full : (n : ℕ) (row : List X) (rows : List (List X)) → AreFull n (row ∷ rows) → AreFull n rows
-  rest_full n row rows full i r at = full (suc i) r at
+  rest_full : (n : ℕ) (cells : List X) (rows : List (List X)) → AreFull n (cells ∷ rows) → AreFull n rows
+  rest_full n cells rows full i r at = full (suc i) r at
 
   pub column_count : (n : ℕ) (rows : List (List X)) → AreFull n rows → length (column n rows) ≡ length rows
   column_count n [] full = refl
-  column_count n (row ∷ rows) full =
-      let first = there_is row n (full zero row refl) in
-      ap length (column_with n row first.0 rows first.1) ∙ ap suc (column_count n rows (rest_full n row rows full))
+  column_count n (cells ∷ rows) full =
+      let first = there_is cells n (full zero cells refl) in
+      ap length (column_with n cells first.0 rows first.1) ∙ ap suc (column_count n rows (rest_full n cells rows full))
 
   -- what stands in the column stands in the row of that place
   pub column_row : (n : ℕ) (rows : List (List X)) → AreFull n rows → (i : ℕ) (x : X) → slice_get (column n rows) i ≡ Some x →
-      (row : List X) × (slice_get rows i ≡ Some row) × (slice_get row n ≡ Some x)
+      (cells : List X) × (slice_get rows i ≡ Some cells) × (slice_get cells n ≡ Some x)
   column_row n [] full i x at = absurd (let small = slice_get_within [] i x at in omega arith)
-  column_row n (row ∷ rows) full zero x at =
-      let first = there_is row n (full zero row refl) in
-      let is : Some first.0 ≡ Some x = sym (ap (λ (l : List X). slice_get l 0) (column_with n row first.0 rows first.1)) ∙ at in
-      (row, refl, first.1 ∙ is)
-  column_row n (row ∷ rows) full (suc i) x at =
-      let first = there_is row n (full zero row refl) in
-      column_row n rows (rest_full n row rows full) i x (sym (ap (λ (l : List X). slice_get l (suc i)) (column_with n row first.0 rows first.1)) ∙ at)
+  column_row n (cells ∷ rows) full zero x at =
+      let first = there_is cells n (full zero cells refl) in
+      let is : Some first.0 ≡ Some x = sym (ap (λ (l : List X). slice_get l 0) (column_with n cells first.0 rows first.1)) ∙ at in
+      (cells, refl, first.1 ∙ is)
+  column_row n (cells ∷ rows) full (suc i) x at =
+      let first = there_is cells n (full zero cells refl) in
+      column_row n rows (rest_full n cells rows full) i x (sym (ap (λ (l : List X). slice_get l (suc i)) (column_with n cells first.0 rows first.1)) ∙ at)
 
   -- and the other way round
-  pub row_column : (n : ℕ) (rows : List (List X)) → AreFull n rows → (i : ℕ) (row : List X) (x : X) → slice_get rows i ≡ Some row → slice_get row n ≡ Some x →
+  pub row_column : (n : ℕ) (rows : List (List X)) → AreFull n rows → (i : ℕ) (cells : List X) (x : X) → slice_get rows i ≡ Some cells → slice_get cells n ≡ Some x →
       slice_get (column n rows) i ≡ Some x
-  row_column n [] full i row x at is = absurd (let small = slice_get_within [] i row at in omega arith)
-  row_column n (r ∷ rows) full zero row x at is =
-      let same : r ≡ row = same_Some r row at in
+  row_column n [] full i cells x at is = absurd (let small = slice_get_within [] i cells at in omega arith)
+  row_column n (r ∷ rows) full zero cells x at is =
+      let same : r ≡ cells = same_Some r cells at in
       ap (λ (l : List X). slice_get l 0) (column_with n r x rows (ap (λ (l : List X). slice_get l n) same ∙ is))
-  row_column n (r ∷ rows) full (suc i) row x at is =
+  row_column n (r ∷ rows) full (suc i) cells x at is =
       let first = there_is r n (full zero r refl) in
-      ap (λ (l : List X). slice_get l (suc i)) (column_with n r first.0 rows first.1) ∙ row_column n rows (rest_full n r rows full) i row x at is
+      ap (λ (l : List X). slice_get l (suc i)) (column_with n r first.0 rows first.1) ∙ row_column n rows (rest_full n r rows full) i cells x at is
 
-  first_left : (n : ℕ) (row : List X) → slice_get (drop n row) 0 ≡ slice_get row n
-  first_left zero row = refl
+  first_left : (n : ℕ) (cells : List X) → slice_get (drop n cells) 0 ≡ slice_get cells n
+  first_left zero cells = refl
   first_left (suc n) [] = refl
-  first_left (suc n) (x ∷ row) = first_left n row
+  first_left (suc n) (x ∷ cells) = first_left n cells
 
   -- the first column of what is left of the rows
   pub column_left : (n : ℕ) (rows : List (List X)) → column 0 (map (drop n) rows) ≡ column n rows
   column_left n [] = refl
-  column_left n (row ∷ rows) =
-      ap (λ (o : Option X). cons_option o (column 0 (map (drop n) rows))) (first_left n row)
-      ∙ ap (λ (l : List X). cons_option (slice_get row n) l) (column_left n rows)
+  column_left n (cells ∷ rows) =
+      ap (λ (o : Option X). cons_option o (column 0 (map (drop n) rows))) (first_left n cells)
+      ∙ ap (λ (l : List X). cons_option (slice_get cells n) l) (column_left n rows)
 
   pub none_left : (rows : List (List X)) → map (drop 0) rows ≡ rows
   none_left [] = refl
-  none_left (row ∷ rows) = ap (λ (l : List (List X)). row ∷ l) (none_left rows)
+  none_left (cells ∷ rows) = ap (λ (l : List (List X)). cells ∷ l) (none_left rows)
 
   pub one_more_left : (n : ℕ) (rows : List (List X)) → map (drop 1) (map (drop n) rows) ≡ map (drop (n + 1)) rows
   one_more_left n [] = refl
-  one_more_left n (row ∷ rows) =
-      ap (λ (l : List X). l ∷ map (drop 1) (map (drop n) rows)) (drop-drop 1 n row)
-      ∙ ap (λ (l : List (List X)). drop (n + 1) row ∷ l) (one_more_left n rows)
+  one_more_left n (cells ∷ rows) =
+      ap (λ (l : List X). l ∷ map (drop 1) (map (drop n) rows)) (drop-drop 1 n cells)
+      ∙ ap (λ (l : List (List X)). drop (n + 1) cells ∷ l) (one_more_left n rows)
 
   pub at_none : {Y : Type 0} (P : Y → List X → Type 0) (rows : List (List X)) → AtEachPlace P [] rows
   at_none P rows place y at = absurd (let small = slice_get_within [] place y at in omega arith)
@@ -100,44 +100,44 @@ module _ {X : Type 0} where
   option_list None = refl
   option_list (Some x) = refl
 
-  -- one more row gives what stands there, if anything does
-  column_more : (rows : List (List X)) (i : ℕ) (row : List X) → i < length rows → row ≡ get_or rows i row → column 0 (take (i + 1) rows) ≡ column 0 (take i rows) ++ option_to_list (slice_get row 0)
-  column_more rows i row small is =
-      ap (column 0) (take_more rows i row small)
-      ∙ (filter_map-append (λ (r : List X). slice_get r 0) (take i rows) (get_or rows i row ∷ [])
-      ∙ ap (λ (l : List X). column 0 (take i rows) ++ l) (option_list (slice_get (get_or rows i row) 0) ∙ ap (λ (r : List X). option_to_list (slice_get r 0)) (sym is)))
+  -- one more cells gives what stands there, if anything does
+  column_more : (rows : List (List X)) (i : ℕ) (cells : List X) → i < length rows → cells ≡ get_or rows i cells → column 0 (take (i + 1) rows) ≡ column 0 (take i rows) ++ option_to_list (slice_get cells 0)
+  column_more rows i cells small is =
+      ap (column 0) (take_more rows i cells small)
+      ∙ (filter_map-append (λ (r : List X). slice_get r 0) (take i rows) (get_or rows i cells ∷ [])
+      ∙ ap (λ (l : List X). column 0 (take i rows) ++ l) (option_list (slice_get (get_or rows i cells) 0) ∙ ap (λ (r : List X). option_to_list (slice_get r 0)) (sym is)))
 
-  -- the first item of one more row was taken, if it has one
-  pub row_taken : (rows ys : List (List X)) (i : ℕ) (row new : List X) (o : Option X) (got : List X) → i < length rows → ys ≡ map (drop 1) (take i rows) ++ drop i rows → row ≡ get_or ys i row
-      → new ≡ drop 1 row → o ≡ slice_get row 0 → got ≡ column 0 (take i rows)
+  -- the first item of one more cells was taken, if it has one
+  pub row_taken : (rows ys : List (List X)) (i : ℕ) (cells new : List X) (o : Option X) (got : List X) → i < length rows → ys ≡ map (drop 1) (take i rows) ++ drop i rows → cells ≡ get_or ys i cells
+      → new ≡ drop 1 cells → o ≡ slice_get cells 0 → got ≡ column 0 (take i rows)
       → (set ys i new ≡ map (drop 1) (take (i + 1) rows) ++ drop (i + 1) rows) × (got ++ option_to_list o ≡ column 0 (take (i + 1) rows))
-  row_taken rows ys i row new o got small before at left first is =
+  row_taken rows ys i cells new o got small before at left first is =
       let front = map (drop 1) (take i rows) in
       let long : length front ≡ i = length-map (take i rows) (drop 1) ∙ omega (arith, length-take i rows) in
-      let parts : ys ≡ front ++ get_or rows i row ∷ drop (i + 1) rows = before ∙ ap (λ (l : List (List X)). front ++ l) (drop_more rows i row small) in
-      let here : row ≡ get_or rows i row = at ∙ (ap (λ (l : List (List X)). get_or l i row) parts ∙ get_or_at front (get_or rows i row) (drop (i + 1) rows) row i long) in (
-        ap (set ys i) left ∙ map_over_more (drop 1) rows ys i row small before at,
+      let parts : ys ≡ front ++ get_or rows i cells ∷ drop (i + 1) rows = before ∙ ap (λ (l : List (List X)). front ++ l) (drop_more rows i cells small) in
+      let here : cells ≡ get_or rows i cells = at ∙ (ap (λ (l : List (List X)). get_or l i cells) parts ∙ get_or_at front (get_or rows i cells) (drop (i + 1) rows) cells i long) in (
+        ap (set ys i) left ∙ map_over_more (drop 1) rows ys i cells small before at,
         ap (λ (l : List X). l ++ option_to_list o) is
-            ∙ (ap (λ (p : Option X). column 0 (take i rows) ++ option_to_list p) first ∙ sym (column_more rows i row small here)),
+            ∙ (ap (λ (p : Option X). column 0 (take i rows) ++ option_to_list p) first ∙ sym (column_more rows i cells small here)),
       )
 
-  -- what holds of the whole first column holds of the item that one more row gives
-  pub column_has : (P : X → Type 0) (rows ys : List (List X)) (i : ℕ) (row : List X) (o : Option X) → i < length rows → ys ≡ map (drop 1) (take i rows) ++ drop i rows → row ≡ get_or ys i row
-      → o ≡ slice_get row 0 → All P (column 0 rows) → All P (option_to_list o)
-  column_has P rows ys i row o small before at first all =
+  -- what holds of the whole first column holds of the item that one more cells gives
+  pub column_has : (P : X → Type 0) (rows ys : List (List X)) (i : ℕ) (cells : List X) (o : Option X) → i < length rows → ys ≡ map (drop 1) (take i rows) ++ drop i rows → cells ≡ get_or ys i cells
+      → o ≡ slice_get cells 0 → All P (column 0 rows) → All P (option_to_list o)
+  column_has P rows ys i cells o small before at first all =
       let front = map (drop 1) (take i rows) in
       let long : length front ≡ i = length-map (take i rows) (drop 1) ∙ omega (arith, length-take i rows) in
-      let parts : ys ≡ front ++ get_or rows i row ∷ drop (i + 1) rows = before ∙ ap (λ (l : List (List X)). front ++ l) (drop_more rows i row small) in
-      let here : row ≡ get_or rows i row = at ∙ (ap (λ (l : List (List X)). get_or l i row) parts ∙ get_or_at front (get_or rows i row) (drop (i + 1) rows) row i long) in
-      let is : option_to_list o ≡ option_to_list (slice_get row 0) = ap option_to_list first in
+      let parts : ys ≡ front ++ get_or rows i cells ∷ drop (i + 1) rows = before ∙ ap (λ (l : List (List X)). front ++ l) (drop_more rows i cells small) in
+      let here : cells ≡ get_or rows i cells = at ∙ (ap (λ (l : List (List X)). get_or l i cells) parts ∙ get_or_at front (get_or rows i cells) (drop (i + 1) rows) cells i long) in
+      let is : option_to_list o ≡ option_to_list (slice_get cells 0) = ap option_to_list first in
       let whole : column 0 rows ≡ (column 0 (take i rows) ++ option_to_list o) ++ column 0 (drop (i + 1) rows) =
       ap (column 0) (sym (take-append-drop (i + 1) rows))
       ∙ (filter_map-append (λ (r : List X). slice_get r 0) (take (i + 1) rows) (drop (i + 1) rows)
-      ∙ ap (λ (l : List X). l ++ column 0 (drop (i + 1) rows)) (column_more rows i row small here ∙ ap (λ (l : List X). column 0 (take i rows) ++ l) (sym is))) in
+      ∙ ap (λ (l : List X). l ++ column 0 (drop (i + 1) rows)) (column_more rows i cells small here ∙ ap (λ (l : List X). column 0 (take i rows) ++ l) (sym is))) in
       all_back P (column 0 (take i rows)) (option_to_list o)
       (all_front P (column 0 (take i rows) ++ option_to_list o) (column 0 (drop (i + 1) rows)) (subst (λ (l : List X). All P l) whole all))
 
-  -- what a row gives next, and what is left of it
+  -- what a cells gives next, and what is left of it
   pub row_next : (old new : IntoIter X Global) (o : Option X) → into_iter_steps old o new → (into_iter_items new ≡ drop 1 (into_iter_items old)) × (o ≡ slice_get (into_iter_items old) 0)
   row_next old new None is =
       let none : into_iter_items old ≡ [] = nil_from_length (into_iter_items old) (omega (arith, is.0, old.rest.ok.0)) in
@@ -166,9 +166,9 @@ each_same {Y} {X} P ys zs rows others same alike all =
 -- the column of rows whose items were mapped
 mapped_column : {X Z : Type 0} (t : X → Z) (n : ℕ) (rows : List (List X)) → column n (map (map t) rows) ≡ map t (column n rows)
 mapped_column t n [] = refl
-mapped_column {X} {Z} t n (row ∷ rows) =
-    ap (λ (o : Option Z). cons_option o (column n (map (map t) rows))) (slice_get-map t row n)
-    ∙ (ap (λ (l : List Z). cons_option (option_map t (slice_get row n)) l) (mapped_column t n rows) ∙ mapped_cons (slice_get row n) (column n rows))
+mapped_column {X} {Z} t n (cells ∷ rows) =
+    ap (λ (o : Option Z). cons_option o (column n (map (map t) rows))) (slice_get-map t cells n)
+    ∙ (ap (λ (l : List Z). cons_option (option_map t (slice_get cells n)) l) (mapped_column t n rows) ∙ mapped_cons (slice_get cells n) (column n rows))
   where
     mapped_cons : (o : Option X) (xs : List X) → cons_option (option_map t o) (map t xs) ≡ map t (cons_option o xs)
     mapped_cons None xs = refl
@@ -176,13 +176,13 @@ mapped_column {X} {Z} t n (row ∷ rows) =
 
 -- what suits the first of two values at each place suits the pair of them, and the other way round
 module _ {L A B X Z : Type 0} (f : L → A) (g : L → B) (t : X → Z) (P : A → List Z → Type 0) (ls : List L) (rows : List (List X)) where
-  pub each_paired : AtEachPlace P (map f ls) (map (map t) rows) → AtEachPlace (λ (two : A × B) (row : List X). P two.0 (map t row)) (map (λ (l : L). (f l, g l)) ls) rows
+  pub each_paired : AtEachPlace P (map f ls) (map (map t) rows) → AtEachPlace (λ (two : A × B) (cells : List X). P two.0 (map t cells)) (map (λ (l : L). (f l, g l)) ls) rows
   each_paired all place two at =
       let l = mapped_at (λ (x : L). (f x, g x)) ls two place at in
       subst (λ (y : A × B). P y.0 (map t (column place rows))) l.2
       (subst (P (f l.0)) (mapped_column t place rows) (all place (f l.0) (slice_get-map f ls place ∙ ap (option_map f) l.1)))
 
-  pub each_first : AtEachPlace (λ (two : A × B) (row : List X). P two.0 (map t row)) (map (λ (l : L). (f l, g l)) ls) rows → AtEachPlace P (map f ls) (map (map t) rows)
+  pub each_first : AtEachPlace (λ (two : A × B) (cells : List X). P two.0 (map t cells)) (map (λ (l : L). (f l, g l)) ls) rows → AtEachPlace P (map f ls) (map (map t) rows)
   each_first all place a at =
       let l = mapped_at f ls a place at in
       let pair : L → A × B = λ (x : L). (f x, g x) in

@@ -1,25 +1,14 @@
 -- What stands in lists that are pushed to, popped and written, and which putter is split off next.
-use Rattle.std.proofs.Common.{◌≡◌, ◌⊎◌, ℕ, zero, suc, ◌+◌, ◌-◌, ◌<◌, ◌≤◌, List, [], ◌∷◌, ◌++◌, All, Some, length, map, reverse, take, drop, get_or, set, slice_get, option_map, replicate, refl, inl, inr, sym, ap, subst, ⊎_elim, ◌∙◌, arith}
+use Rattle.std.proofs.Common.{◌≡◌, ◌⊎◌, ℕ, zero, suc, ◌+◌, ◌-◌, ◌<◌, ◌≤◌, List, [], ◌∷◌, ◌++◌, All, Some, length, map, take, drop, get_or, slice_get, refl, inl, inr, sym, ap, subst, ⊎_elim, ◌∙◌, arith}
 use Rattle.std.proofs.Math.Seq.{take-append_seam}
-use Rattle.std.proofs.lemmas.List.{length-map, length_push, map_push, take_more, drop_more, get_or-append_right, get_or-drop, get_or-reverse, length-reverse, same_from_push, same_lists}
-use Rattle.std.proofs.lemmas.Grind.{reverse_onto}
-use Rattle.std.proofs.lemmas.List.Elements.{All-cons, All-nil, All-pop, All-replicate, All-take}
-use Rattle.std.proofs.lemmas.Option.{same_Some, slice_get_within, slice_get-get_or, slice_get-map, get_or_from_slice_get}
-use Rattle.rds_views.specs.Views.{Table}
-use Rattle.rds_model.specs.declared.order.Datagram.{Datagram}
+use Rattle.std.proofs.lemmas.List.{length-map, length_push, map_push, take_more, drop_more, get_or-append_right, get_or-drop}
+use Rattle.std.proofs.lemmas.List.Elements.{All-pop, All-take}
+use Rattle.std.proofs.lemmas.Option.{same_Some, slice_get_within, slice_get-get_or}
 use Rattle.rds_model.specs.declared.order.Order.{Order}
-use Rattle.rds_mail.specs.Passes.{Getter, Putter, QueueId, new_from, split_from}
-use Rattle.rds_fmap.specs.Readers.{ReaderView, WriterView}
-use Rattle.rds_parts.specs.Lanes.{Ascend, Lane}
-use Rattle.rds_line_parts.specs.Boxes.{IsBoxOf}
-use Rattle.rds_socket.specs.Holding.{Holding}
-use Rattle.rds_line.specs.Line.{LineView}
-use Rattle.rds_model.specs.declared.entry.TheConstants.{MAX_SLOTS}
-use Rattle.rds_line_channel.specs.Channel.{ChannelView, new_channel}
-use Rattle.rds_host.specs.Lines.{AreNewLines}
-use Rattle.rds_host.specs.Passes.{line_seats, slot_seats, AreAllPasses, putter_number, splits_at}
-use Rattle.rds_host.specs.Slots.{AreInPlace}
-use Rattle.rds_host.specs.Ties.{Way, ColumnView, IsSlotOf, IsLineOf, AreLinesOf, AreOfHost, IsColumnFilled, AreColumnsFilled, IsFront, IsNextOf, AreNextOf, new_putter, putters_from, popped, inbox_of, with_box, with_boxes, ways_of, peers_to, lane_way}
+use Rattle.rds_mail.specs.Passes.{Putter, QueueId, new_from}
+use Rattle.rds_fmap.specs.Readers.{ReaderView}
+use Rattle.rds_parts.specs.Lanes.{Lane}
+use Rattle.rds_host.specs.Ties.{Way, ColumnView, IsFront, IsNextOf, new_putter, ways_of, peers_to, lane_way}
 
 -- what stands in a list after one push stood there, or is what was pushed
 pub pushed_at : {X : Type 0} (xs : List X) (x y : X) (place : ℕ) → slice_get (xs ++ x ∷ []) place ≡ Some y → (slice_get xs place ≡ Some y) ⊎ ((place ≡ length xs) × (x ≡ y))

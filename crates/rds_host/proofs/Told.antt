@@ -1,32 +1,20 @@
 -- How slots and lines are told of each other, one after another.
-use Rattle.std.proofs.Common.{◌≡◌, ◌⊎◌, ℕ, zero, suc, ◌+◌, ◌-◌, ◌<◌, ◌≤◌, List, [], ◌∷◌, ◌++◌, All, Some, length, length-append, get_or, set, map, take, drop, slice_get, refl, inl, inr, sym, ap, subst, ⊎_elim, ◌∙◌, arith}
-use Rattle.std.proofs.lemmas.Bool.{cases_eq}
-use Rattle.std.proofs.lemmas.List.{length-set, map_push, take_more, drop_more, drop-set-lt}
-use Rattle.std.proofs.lemmas.Option.{same_Some, slice_get_within, slice_get-get_or, get_or_from_slice_get}
+use Rattle.std.proofs.Common.{◌≡◌, ◌⊎◌, ℕ, zero, suc, ◌+◌, ◌-◌, ◌<◌, ◌≤◌, List, [], ◌∷◌, ◌++◌, Some, length, length-append, set, take, drop, slice_get, refl, inl, inr, sym, ap, subst, ⊎_elim, ◌∙◌, arith}
+use Rattle.std.proofs.lemmas.Option.{same_Some, slice_get_within}
 use Rattle.atomic_table.proofs.Lists.{at_last, at_longer}
 use Rattle.rds_views.specs.Views.{At, Has}
 use Rattle.rds_model.specs.Honest.{Begins}
 use Rattle.rds_model.specs.SumLaws.{same_list}
 use Rattle.rds_model.specs.declared.order.Datagram.{Datagram}
-use Rattle.rds_model.specs.declared.order.Order.{Order}
 use Rattle.rds_mail.specs.declared.view.Account.{Account}
-use Rattle.rds_meter.specs.Grounds.{seats_of}
 use Rattle.rds_mail.specs.Passes.{Putter, account_of, after_note}
-use Rattle.rds_bindtab.specs.Seats.{PortSeat}
-use Rattle.rds_fmap.specs.Readers.{ReaderView, WriterView}
-use Rattle.rds_parts.specs.Lanes.{IsLaneAt, Lane}
-use Rattle.rds_line_parts.specs.Boxes.{IsBoxOf}
-use Rattle.rds_line_streams.specs.PlaceLaws.{at_set, beside_set}
+use Rattle.rds_fmap.specs.Readers.{ReaderView}
 use Rattle.rds_socket.specs.Calls.{with_inbox}
 use Rattle.rds_socket.specs.Holding.{Holding}
-use Rattle.rds_line.specs.Line.{LineView}
-use Rattle.rds_line.specs.Stays.{AreSameBoxes}
-use Rattle.rds_host.specs.Keeping.{LineKeeps, LinesKeep, SlotKeeps, SlotsKeep}
-use Rattle.rds_host.specs.Settled.{AreLinesToldMore, AreSettled, AreSlotsToldMore, CanTell, IsLineToldMore, IsToldMore}
+use Rattle.rds_host.specs.Keeping.{SlotKeeps, SlotsKeep}
+use Rattle.rds_host.specs.Settled.{AreSlotsToldMore, IsToldMore}
 use Rattle.rds_host.specs.Telling.{IsTold}
-use Rattle.rds_host.proofs.Pushing.{all_at}
-use Rattle.rds_host.proofs.Kept.{beside, host_kept, slots_same}
-use Rattle.rds_host.proofs.Staying.{begins_through, boxes_same}
+use Rattle.rds_host.proofs.Staying.{begins_through}
 
 has_more : {V : Type 0} (P : V → Type 0) (views more : List V) → Begins views more → Has views P → Has more P
 has_more P views more begins h = (h.0, h.1, subst (λ l. At l h.0 h.1) (sym begins.1) (at_longer views begins.0 h.0 h.1 h.2), h.3)
@@ -90,19 +78,19 @@ only_at x y zero at = same_Some x y at
 only_at x y (suc i) at = absurd (let small = slice_get_within (x ∷ []) (suc i) y at in omega arith)
 
 module _ {R : Type 0} where
-  slot_told_same : (h : Holding R) → IsToldMore h h
+  pub slot_told_same : (h : Holding R) → IsToldMore h h
   slot_told_same h = record { rest = refl; told = same_list h.inbox.get.told }
 
-  slot_told_through : (old middle new : Holding R) → IsToldMore old middle → IsToldMore middle new → IsToldMore old new
+  pub slot_told_through : (old middle new : Holding R) → IsToldMore old middle → IsToldMore middle new → IsToldMore old new
   slot_told_through old middle new first second = record {
     rest = second.rest ∙ ap (λ (h : Holding R). with_inbox h (record h.inbox { get = record h.inbox.get { told = new.inbox.get.told } })) first.rest;
     told = begins_through old.inbox.get.told middle.inbox.get.told new.inbox.get.told first.told second.told;
   }
 
-  none_slots : AreSlotsToldMore {R = R} [] []
+  pub none_slots : AreSlotsToldMore {R = R} [] []
   none_slots = record { count = refl; each = λ slot h after stood stands. absurd (let small = slice_get_within [] slot h stood in omega arith) }
 
-  slots_append : (old new more later : List (Holding R)) → AreSlotsToldMore old new → AreSlotsToldMore more later → AreSlotsToldMore (old ++ more) (new ++ later)
+  pub slots_append : (old new more later : List (Holding R)) → AreSlotsToldMore old new → AreSlotsToldMore more later → AreSlotsToldMore (old ++ more) (new ++ later)
   slots_append old new more later first second = record {
     count =
         let a = length-append old more in

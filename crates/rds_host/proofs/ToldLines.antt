@@ -1,15 +1,12 @@
 -- How lines are told of what slots put, one after another.
-use Rattle.std.proofs.Common.{◌≡◌, ◌⊎◌, ℕ, zero, suc, ◌+◌, ◌-◌, ◌<◌, ◌≤◌, List, [], ◌∷◌, ◌++◌, All, Some, length, length-append, get_or, set, map, take, drop, slice_get, refl, inl, inr, sym, ap, subst, ⊎_elim, ◌∙◌, arith}
+use Rattle.std.proofs.Common.{◌≡◌, ℕ, ◌+◌, ◌-◌, ◌<◌, ◌≤◌, List, [], ◌∷◌, ◌++◌, All, Some, length, get_or, set, map, take, drop, slice_get, refl, sym, ap, subst, ⊎_elim, ◌∙◌, arith}
 use Rattle.std.proofs.lemmas.Bool.{cases_eq}
 use Rattle.std.proofs.lemmas.List.{length-set, map_push, take_more, drop_more, drop-set-lt}
 use Rattle.std.proofs.lemmas.Option.{same_Some, slice_get_within, slice_get-get_or, get_or_from_slice_get}
-use Rattle.atomic_table.proofs.Lists.{at_last, at_longer}
-use Rattle.rds_views.specs.Views.{At, Has}
 use Rattle.rds_model.specs.Honest.{Begins}
 use Rattle.rds_model.specs.SumLaws.{same_list}
 use Rattle.rds_model.specs.declared.order.Datagram.{Datagram}
 use Rattle.rds_model.specs.declared.order.Order.{Order}
-use Rattle.rds_mail.specs.declared.view.Account.{Account}
 use Rattle.rds_meter.specs.Grounds.{seats_of}
 use Rattle.rds_mail.specs.Passes.{Putter, account_of, after_note}
 use Rattle.rds_bindtab.specs.Seats.{PortSeat}
@@ -17,17 +14,16 @@ use Rattle.rds_fmap.specs.Readers.{ReaderView, WriterView}
 use Rattle.rds_parts.specs.Lanes.{IsLaneAt, Lane}
 use Rattle.rds_line_parts.specs.Boxes.{IsBoxOf}
 use Rattle.rds_line_streams.specs.PlaceLaws.{at_set, beside_set}
-use Rattle.rds_socket.specs.Calls.{with_inbox}
 use Rattle.rds_socket.specs.Holding.{Holding}
 use Rattle.rds_line.specs.Line.{LineView}
 use Rattle.rds_line.specs.Stays.{AreSameBoxes}
-use Rattle.rds_host.specs.Keeping.{LineKeeps, LinesKeep, SlotKeeps, SlotsKeep}
-use Rattle.rds_host.specs.Settled.{AreLinesToldMore, AreSettled, AreSlotsToldMore, CanTell, IsLineToldMore, IsToldMore}
+use Rattle.rds_host.specs.Keeping.{LineKeeps, LinesKeep}
+use Rattle.rds_host.specs.Settled.{AreLinesToldMore, AreSettled, CanTell, IsLineToldMore, IsToldMore}
 use Rattle.rds_host.specs.Telling.{IsTold}
 use Rattle.rds_host.proofs.Pushing.{all_at}
 use Rattle.rds_host.proofs.Kept.{beside, host_kept, slots_same}
 use Rattle.rds_host.proofs.Staying.{begins_through, boxes_same}
-use Rattle.rds_host.proofs.Told.{told_still, told_now, appended_at, ahead, behind, same_at, taken_set, only_at, heard}
+use Rattle.rds_host.proofs.Told.{told_still, told_now, appended_at, ahead, behind, same_at, taken_set, only_at, heard, slot_told_same, slot_told_through, none_slots, slots_append}
 
 module _ {E : Type 0} where
   line_told_same : (line : LineView E WriterView) → IsLineToldMore line line

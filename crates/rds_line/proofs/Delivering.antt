@@ -1,14 +1,7 @@
 -- What a line does with a frame that it passes: it delivers it, publishes its map, or does nothing with it.
-use Rattle.std.proofs.Common.{◌≡◌, ◌≢◌, ℕ, ◌+◌, ◌<◌, ◌≤◌, ◌^◌, ◌==◌, if◌then◌else◌, Bool, true, false, cond, Option, Some, None, List, [], ◌∷◌, ◌++◌, length, take, refl, sym, ap, subst, ◌∙◌, ne_eqb, arith}
-use Rattle.std.specs.Option.{IfSome, option_map}
-use Rattle.std.proofs.lemmas.Option.{same_Some}
-use Rattle.std.proofs.lemmas.List.{length-set, take_all}
+use Rattle.std.proofs.Common.{◌≡◌, ◌≢◌, ℕ, ◌+◌, ◌<◌, ◌≤◌, ◌^◌, if◌then◌else◌, Bool, true, false, Option, Some, None, List, [], ◌∷◌, ◌++◌, length, refl, sym, ap, subst, ◌∙◌, ne_eqb, arith}
+use Rattle.std.proofs.lemmas.List.{length-set}
 use Rattle.rds_wire.specs.declared.frame.Frame.{Frame}
-use Rattle.rds_wire.specs.declared.header.Header.{Header}
-use Rattle.rds_wire.specs.declared.kind.Kind.{Kind}
-use Rattle.rds_wire.specs.declared.kind.Kind.TheVariants.{Data, Ack, Map, OddMap}
-use Rattle.rds_wire.specs.declared.kind.TheConstants.{MAP_LENGTH}
-use Rattle.rds_wire.specs.Kinds.{kind_of}
 use Rattle.rds_bindtab.specs.declared.view.Step.{Step}
 use Rattle.rds_bindtab.specs.Seats.{PortSeat, after_look, knowing}
 use Rattle.rds_meter.specs.Seats.{MeterSeat}
@@ -20,12 +13,11 @@ use Rattle.rds_model.specs.declared.entry.TheConstants.{MAX_SLOTS}
 use Rattle.rds_model.specs.declared.entry.Verdict.{Verdict}
 use Rattle.rds_model.specs.declared.entry.Verdict.TheVariants as verdict
 use Rattle.rds_model.specs.declared.journal.TheConstants.{MAX_ENTRIES}
-use Rattle.rds_model.specs.declared.order.Datagram.{Datagram}
 use Rattle.rds_model.specs.Deliveries.{datagram_from}
 use Rattle.rds_model.specs.DeliveryLaws.{put_bound, put_here}
 use Rattle.rds_model.specs.Pairs.{is_delivery}
 use Rattle.rds_model.specs.Legal.{IsLegal, pong_for}
-use Rattle.rds_model.specs.Reading.{is_old, verdict_of, verdict_of_kind, verdict_of_ports}
+use Rattle.rds_model.specs.Reading.{verdict_of}
 use Rattle.rds_model.specs.Sums.{maps, with_map}
 use Rattle.rds_mail.specs.Passes.{after_put}
 use Rattle.rds_meter.specs.declared.view.View.{View}
@@ -42,7 +34,6 @@ use Rattle.rds_line_parts.specs.DeliveryLaws.{delivery_part, read_after_delivery
 use Rattle.rds_line_parts.specs.Own.{IsAsRead}
 use Rattle.rds_line_channel.specs.Channel.{with_conn}
 use Rattle.rds_line.specs.Line.{LineView, line_past}
-use Rattle.rds_line.specs.Steps.{IsWaiting}
 use Rattle.rds_line.specs.Seats.{AreLooksFor, HasLooked, StoresNothing}
 use Rattle.rds_line.proofs.Passing.{PassesWith, passes_reads}
 use Rattle.rds_line.proofs.PortLooks.{looked_last, looks_again, looks_beside, looks_nobody, looks_slot}

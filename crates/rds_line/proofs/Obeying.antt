@@ -1,33 +1,27 @@
 -- What a line keeps when it takes an order and obeys it.
-use Rattle.std.proofs.Common.{◌≡◌, ◌≢◌, ◌⊎◌, ◌↔◌, inl, inr, ℕ, suc, ◌+◌, ◌<◌, Bool, true, false, List, [], ◌∷◌, ◌++◌, Option, Some, None, is_some, IsSome, Result, Ok, Err, OnOk, OnErr, if◌then◌else◌, length, length-append, ne_eqb, refl, sym, ap, subst, ◌∙◌, arith}
-use Rattle.std.proofs.lemmas.Bool.{false≢true}
+use Rattle.std.proofs.Common.{◌≡◌, ◌≢◌, ◌⊎◌, ◌↔◌, inl, inr, ℕ, ◌+◌, ◌<◌, Bool, true, false, List, [], ◌∷◌, ◌++◌, Some, IsSome, Result, Ok, Err, OnOk, OnErr, refl, sym, ap, subst, ◌∙◌}
 use Rattle.rds_link.specs.Ends.{Means}
 use Rattle.rds_wire.specs.declared.memory.Memory.{Memory}
-use Rattle.rds_model.specs.declared.entry.Entry.TheVariants as entry
-use Rattle.rds_model.specs.declared.entry.Target.TheVariants as target
-use Rattle.rds_model.specs.declared.entry.TheConstants.{MAX_SLOTS, NO_SLOT}
+use Rattle.rds_model.specs.declared.entry.TheConstants.{MAX_SLOTS}
 use Rattle.rds_model.specs.declared.order.Order.{Order}
 use Rattle.rds_model.specs.declared.order.Order.TheVariants as order
 use Rattle.rds_model.specs.Owed.{last_map}
-use Rattle.rds_model.specs.Past.{Moment, now, open_stream}
-use Rattle.rds_model.specs.Sums.{orders}
+use Rattle.rds_model.specs.Past.{now, open_stream}
 use Rattle.rds_model.specs.SumLaws.{same_list}
-use Rattle.rds_mail.specs.Numbers.{Number, Numbered, bare_items}
+use Rattle.rds_mail.specs.Numbers.{Number}
 use Rattle.rds_mail.specs.Orders.{IsAsked}
 use Rattle.rds_mail.specs.Passes.{Getter, after_get}
-use Rattle.rds_conn.specs.Connection.{Connection, freed_bytes_of, stream_of, with_room}
+use Rattle.rds_conn.specs.Connection.{freed_bytes_of, stream_of, with_room}
 use Rattle.rds_conn.specs.Orders.{IsOrderFor, after_order}
 use Rattle.rds_conn.specs.Released.{released_bytes}
-use Rattle.rds_line_channel.specs.Channel.{ChannelView, CutsView, with_conn}
-use Rattle.rds_line_streams.specs.Streams.{StreamsView}
+use Rattle.rds_line_channel.specs.Channel.{ChannelView, with_conn}
 use Rattle.rds_line_channel.specs.Changes.{ShutsStream}
-use Rattle.rds_line.specs.Keeps.{KeepsLine, IsPulled, uncut, cuts_among}
+use Rattle.rds_line.specs.Keeps.{KeepsLine, IsPulled}
 use Rattle.rds_line.specs.Line.{LineView, line_past, pulls_in}
-use Rattle.rds_line.specs.Stays.{StreamsStay, ChannelStays, LineStays}
-use Rattle.rds_line.proofs.Keeping.{HasSameSums, sums_same, sums_of, sums_more, held_same, keeps_taken, keeps_still, pulled_off, pulled_still, plain_released}
-use Rattle.rds_line.proofs.Staying.{channel_of, channel_through, order_stays, room_stays, shutting_stays, streams_same}
-use Rattle.rds_line.proofs.Same.{boxes_same}
-use Rattle.rds_line.proofs.Taking.{uncut_of, TakesCut, cut_pulls, takes_cut, ordered_pulls}
+use Rattle.rds_line.specs.Stays.{ChannelStays}
+use Rattle.rds_line.proofs.Keeping.{keeps_still, pulled_off, pulled_still}
+use Rattle.rds_line.proofs.Staying.{channel_of, channel_through, order_stays, room_stays, streams_same}
+use Rattle.rds_line.proofs.Taking.{uncut_of, TakesCut, cut_pulls, takes_cut, ordered_pulls, cut_off, cut_stays, keeps_cut, keeps_ordered, pulled_ordered}
 
 -- room was made for the note of a cut, or there was no memory for it
 pub cut_room : {E : Type 0} (old new : ChannelView E) (r : Result (Unit {0}) Memory) → OnOk r (new ≡ record old { cuts = record old.cuts { has_room = true } }) → OnErr r (new ≡ old)

@@ -1,17 +1,10 @@
 -- What a line keeps when it reads its host's own map and pulls the frame that is owed.
-use Rattle.std.proofs.Common.{◌≡◌, ◌≢◌, inl, inr, ℕ, suc, ◌+◌, ◌<◌, Bool, true, false, Option, Some, None, IfSome, IsSome, IfOk, OnOk, Result, Ok, List, [], ◌∷◌, ◌++◌, refl, sym, ap, subst, ◌∙◌}
-use Rattle.std.proofs.lemmas.Option.{same_Some}
-use Rattle.std.proofs.lemmas.Result.{IfOk-at_ok}
+use Rattle.std.proofs.Common.{◌≡◌, ℕ, ◌+◌, ◌<◌, Bool, true, false, Option, Some, None, List, [], ◌∷◌, ◌++◌, refl, sym, ap, subst, ◌∙◌}
 use Rattle.rds_wire.specs.declared.frame.Frame.{Frame}
-use Rattle.rds_wire.specs.declared.memory.Memory.{Memory}
-use Rattle.rds_wire.specs.declared.kind.Kind.{Kind}
-use Rattle.rds_wire.specs.declared.kind.Kind.TheVariants as kind
-use Rattle.rds_wire.specs.Kinds.{kind_of}
 use Rattle.rds_link.specs.Ends.{Means}
-use Rattle.rds_model.specs.declared.entry.Entry.{Entry}
 use Rattle.rds_model.specs.declared.entry.Entry.TheVariants.{Pull}
 use Rattle.rds_cong.specs.Map.{has_port}
-use Rattle.rds_model.specs.Owed.{is_map, last_map, owed_frame}
+use Rattle.rds_model.specs.Owed.{is_map}
 use Rattle.rds_model.specs.Past.{Moment, now, before}
 use Rattle.rds_model.specs.SumLaws.{same_list}
 use Rattle.rds_meter.specs.declared.view.Step.TheVariants.{Loaded}
@@ -20,23 +13,19 @@ use Rattle.rds_meter.specs.Grounds.{HasFoundSet}
 use Rattle.rds_meter.specs.Seats.{MeterSeat}
 use Rattle.rds_conn.specs.declared.conn.Pulled.{Pulled}
 use Rattle.rds_conn.specs.Connection.{Connection, freed_bytes_of, stream_of, with_entries}
-use Rattle.rds_conn.specs.declared.conn.Pulled.TheVariants as pulled
-use Rattle.rds_conn.specs.Pulling.{Pulls, is_frame, name_of_pull}
+use Rattle.rds_conn.specs.Pulling.{Pulls}
 use Rattle.rds_line_parts.specs.CountedLaws.{counted_for_steps}
 use Rattle.rds_line_parts.specs.Own.{Own, IsRefresh, loads_from}
 use Rattle.rds_line_parts.specs.OwnLaws.{refreshed}
 use Rattle.rds_line_parts.specs.Words.{AddsNothing}
-use Rattle.rds_line_channel.specs.Channel.{ChannelView}
 use Rattle.rds_line.specs.Keeps.{IsPulled, KeepsLine}
-use Rattle.rds_line.specs.Line.{LineView, line_past, pulls_in}
+use Rattle.rds_line.specs.Line.{LineView, line_past}
 use Rattle.rds_line.specs.Stays.{LineStays}
-use Rattle.rds_line.specs.Turns.{LeavesNothing, LoadsOwn, FindsNothingOwed}
 use Rattle.rds_line.specs.Steps.{HasBits}
-use Rattle.rds_line.proofs.Grounding.{found_pulled, found_still, own_found, pulled_payload}
-use Rattle.rds_line.proofs.Looking.{PullsOrNone}
+use Rattle.rds_line.proofs.Grounding.{found_pulled, found_still}
 use Rattle.rds_line.proofs.PortLooks.{looks_beside}
 use Rattle.rds_line.proofs.Staying.{streams_same}
-use Rattle.rds_line.proofs.Same.{begins_of, boxes_same, moment_of, same_view}
+use Rattle.rds_line.proofs.Same.{boxes_same, same_view}
 use Rattle.rds_line.proofs.Storing.{refresh_stores}
 
 -- what a pull leaves of the connection

@@ -1,33 +1,18 @@
 -- Lists, moments, views and boxes that stay what they were.
-use Rattle.std.proofs.Common.{◌≡◌, ℕ, ◌+◌, true, List, [], ◌∷◌, ◌++◌, get_or, append_assoc, refl, sym, ap, subst, ◌∙◌, arith}
+use Rattle.std.proofs.Common.{◌≡◌, List, [], ◌∷◌, ◌++◌, get_or, append_assoc, refl, sym, ap, subst, ◌∙◌, arith}
 use Rattle.std.proofs.lemmas.Option.{same_Some, slice_get_within, slice_get-get_or}
-use Rattle.rds_link.specs.declared.end.Got.{Got}
-use Rattle.rds_link.specs.declared.end.Put.{Put}
-use Rattle.rds_link.specs.Ends.{Means}
 use Rattle.rds_bindtab.specs.declared.view.Step.{Step as PortStep}
 use Rattle.rds_bindtab.specs.declared.view.View.{View as PortView}
 use Rattle.rds_meter.specs.declared.view.Check.{Check}
 use Rattle.rds_meter.specs.declared.view.Step.{Step as MeterStep}
 use Rattle.rds_meter.specs.declared.view.View.{View as MeterView}
 use Rattle.rds_model.specs.declared.entry.Entry.{Entry}
-use Rattle.rds_model.specs.declared.entry.Entry.TheVariants as entry
 use Rattle.rds_model.specs.declared.order.Datagram.{Datagram}
-use Rattle.rds_model.specs.declared.order.Order.{Order}
-use Rattle.rds_model.specs.declared.order.Order.TheVariants as order
 use Rattle.rds_model.specs.Honest.{Begins}
 use Rattle.rds_model.specs.Past.{Moment, now, before}
 use Rattle.rds_model.specs.SumLaws.{same_list}
 use Rattle.rds_mail.specs.Passes.{Putter}
-use Rattle.rds_conn.specs.Connection.{Connection, with_entries, with_room}
-use Rattle.rds_conn.specs.Orders.{after_order}
-use Rattle.rds_line_streams.specs.Changes.{ChangesAt, Receives, Sends, IsShutDown}
-use Rattle.rds_line_streams.specs.ChangeLaws.{same_length, each_through, changed_each, changed_numbers, changed_paired}
-use Rattle.rds_line_streams.specs.Meeting.{StayPaired}
-use Rattle.rds_line_streams.specs.Streams.{StreamsView}
-use Rattle.rds_line_channel.specs.Channel.{ChannelView, with_conn}
-use Rattle.rds_line_channel.specs.Changes.{OpensNext, EndsStream, ShutsStream}
-use Rattle.rds_line.specs.Line.{LineView}
-use Rattle.rds_line.specs.Stays.{AreSameBoxes, GoesFurther, StreamsStay, ChannelStays, LineStays}
+use Rattle.rds_line.specs.Stays.{AreSameBoxes}
 
 pub begins_through : {T : Type 0} (x y z : List T) → Begins x y → Begins y z → Begins x z
 begins_through {T} x y z first second = (first.0 ++ second.0, second.1 ∙ (ap (λ (l : List T). l ++ second.0) first.1 ∙ append_assoc x first.0 second.0))

@@ -1,23 +1,17 @@
 -- What every turn of a line leaves as it was stays so over each call of its channel, and over several calls.
-use Rattle.std.proofs.Common.{◌≡◌, ℕ, ◌+◌, true, List, [], ◌∷◌, ◌++◌, get_or, append_assoc, refl, sym, ap, subst, ◌∙◌, arith}
-use Rattle.std.proofs.lemmas.Option.{same_Some, slice_get_within, slice_get-get_or}
+use Rattle.std.proofs.Common.{◌≡◌, ℕ, ◌+◌, true, List, [], ◌∷◌, refl, sym, ap, subst, ◌∙◌, arith}
+use Rattle.std.proofs.lemmas.Option.{same_Some}
 use Rattle.rds_link.specs.declared.end.Got.{Got}
 use Rattle.rds_link.specs.declared.end.Put.{Put}
 use Rattle.rds_link.specs.Ends.{Means}
-use Rattle.rds_bindtab.specs.declared.view.Step.{Step as PortStep}
 use Rattle.rds_bindtab.specs.declared.view.View.{View as PortView}
-use Rattle.rds_meter.specs.declared.view.Check.{Check}
-use Rattle.rds_meter.specs.declared.view.Step.{Step as MeterStep}
 use Rattle.rds_meter.specs.declared.view.View.{View as MeterView}
-use Rattle.rds_model.specs.declared.entry.Entry.{Entry}
 use Rattle.rds_model.specs.declared.entry.Entry.TheVariants as entry
-use Rattle.rds_model.specs.declared.order.Datagram.{Datagram}
 use Rattle.rds_model.specs.declared.order.Order.{Order}
 use Rattle.rds_model.specs.declared.order.Order.TheVariants as order
 use Rattle.rds_model.specs.Honest.{Begins}
 use Rattle.rds_model.specs.Past.{Moment, now, before}
 use Rattle.rds_model.specs.SumLaws.{same_list}
-use Rattle.rds_mail.specs.Passes.{Putter}
 use Rattle.rds_conn.specs.Connection.{Connection, with_entries, with_room}
 use Rattle.rds_conn.specs.Orders.{after_order}
 use Rattle.rds_line_streams.specs.Changes.{ChangesAt, Receives, Sends, IsShutDown}
@@ -27,7 +21,7 @@ use Rattle.rds_line_streams.specs.Streams.{StreamsView}
 use Rattle.rds_line_channel.specs.Channel.{ChannelView, with_conn}
 use Rattle.rds_line_channel.specs.Changes.{OpensNext, EndsStream, ShutsStream}
 use Rattle.rds_line.specs.Line.{LineView}
-use Rattle.rds_line.specs.Stays.{AreSameBoxes, GoesFurther, StreamsStay, ChannelStays, LineStays}
+use Rattle.rds_line.specs.Stays.{GoesFurther, StreamsStay, ChannelStays, LineStays}
 use Rattle.rds_line.proofs.Same.{begins_through, begins_of, moment_through, moment_of, boxes_same, boxes_through}
 
 module _ {E : Type 0} (m : Means E) where

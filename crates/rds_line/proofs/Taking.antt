@@ -1,8 +1,7 @@
 -- What a line keeps stays so where an order is taken.
-use Rattle.std.proofs.Common.{◌≡◌, ◌≢◌, ◌⊎◌, ◌↔◌, inl, inr, ℕ, suc, ◌+◌, ◌<◌, Bool, true, false, List, [], ◌∷◌, ◌++◌, Option, Some, None, is_some, IsSome, Result, Ok, Err, OnOk, OnErr, if◌then◌else◌, length, length-append, ne_eqb, refl, sym, ap, subst, ◌∙◌, arith}
+use Rattle.std.proofs.Common.{◌≡◌, ◌≢◌, ◌⊎◌, ◌↔◌, inl, inr, ℕ, suc, ◌+◌, ◌<◌, Bool, true, false, List, [], ◌∷◌, ◌++◌, Option, Some, None, is_some, IsSome, if◌then◌else◌, length, length-append, ne_eqb, refl, sym, ap, subst, ◌∙◌, arith}
 use Rattle.std.proofs.lemmas.Bool.{false≢true}
 use Rattle.rds_link.specs.Ends.{Means}
-use Rattle.rds_wire.specs.declared.memory.Memory.{Memory}
 use Rattle.rds_model.specs.declared.entry.Entry.TheVariants as entry
 use Rattle.rds_model.specs.declared.entry.Target.TheVariants as target
 use Rattle.rds_model.specs.declared.entry.TheConstants.{MAX_SLOTS, NO_SLOT}
@@ -15,8 +14,8 @@ use Rattle.rds_model.specs.SumLaws.{same_list}
 use Rattle.rds_mail.specs.Numbers.{Number, Numbered, bare_items}
 use Rattle.rds_mail.specs.Orders.{IsAsked}
 use Rattle.rds_mail.specs.Passes.{Getter, after_get}
-use Rattle.rds_conn.specs.Connection.{Connection, freed_bytes_of, stream_of, with_room}
-use Rattle.rds_conn.specs.Orders.{IsOrderFor, after_order}
+use Rattle.rds_conn.specs.Connection.{Connection, freed_bytes_of, stream_of}
+use Rattle.rds_conn.specs.Orders.{after_order}
 use Rattle.rds_conn.specs.Released.{released_bytes}
 use Rattle.rds_line_channel.specs.Channel.{ChannelView, CutsView, with_conn}
 use Rattle.rds_line_streams.specs.Streams.{StreamsView}
@@ -24,8 +23,8 @@ use Rattle.rds_line_channel.specs.Changes.{ShutsStream}
 use Rattle.rds_line.specs.Keeps.{KeepsLine, IsPulled, uncut, cuts_among}
 use Rattle.rds_line.specs.Line.{LineView, line_past, pulls_in}
 use Rattle.rds_line.specs.Stays.{StreamsStay, ChannelStays, LineStays}
-use Rattle.rds_line.proofs.Keeping.{HasSameSums, sums_same, sums_of, sums_more, held_same, keeps_taken, keeps_still, pulled_off, pulled_still, plain_released}
-use Rattle.rds_line.proofs.Staying.{channel_of, channel_through, order_stays, room_stays, shutting_stays, streams_same}
+use Rattle.rds_line.proofs.Keeping.{HasSameSums, sums_same, sums_of, sums_more, held_same, keeps_taken, pulled_still, plain_released}
+use Rattle.rds_line.proofs.Staying.{shutting_stays, streams_same}
 use Rattle.rds_line.proofs.Same.{boxes_same}
 
 -- one order more

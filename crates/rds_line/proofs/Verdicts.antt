@@ -1,54 +1,25 @@
 -- What the verdict on the frame that waits says of its datagram, its port and its map.
-use Rattle.std.proofs.Common.{◌≡◌, ◌≢◌, ℕ, ◌+◌, ◌<◌, ◌≤◌, ◌^◌, ◌==◌, if◌then◌else◌, Bool, true, false, cond, Option, Some, None, List, [], ◌∷◌, ◌++◌, length, take, refl, sym, ap, subst, ◌∙◌, ne_eqb, arith}
+use Rattle.std.proofs.Common.{◌≡◌, ℕ, ◌==◌, Bool, true, false, cond, Option, Some, List, length, take, sym, ap, subst, ◌∙◌, arith}
 use Rattle.std.specs.Option.{IfSome, option_map}
 use Rattle.std.proofs.lemmas.Option.{same_Some}
-use Rattle.std.proofs.lemmas.List.{length-set, take_all}
+use Rattle.std.proofs.lemmas.List.{take_all}
 use Rattle.rds_wire.specs.declared.frame.Frame.{Frame}
 use Rattle.rds_wire.specs.declared.header.Header.{Header}
 use Rattle.rds_wire.specs.declared.kind.Kind.{Kind}
 use Rattle.rds_wire.specs.declared.kind.Kind.TheVariants.{Data, Ack, Map, OddMap}
 use Rattle.rds_wire.specs.declared.kind.TheConstants.{MAP_LENGTH}
 use Rattle.rds_wire.specs.Kinds.{kind_of}
-use Rattle.rds_bindtab.specs.declared.view.Step.{Step}
-use Rattle.rds_bindtab.specs.Seats.{PortSeat, after_look, knowing}
-use Rattle.rds_meter.specs.Seats.{MeterSeat}
 use Rattle.rds_model.specs.declared.entry.Entry.{Entry}
-use Rattle.rds_model.specs.declared.entry.Entry.TheVariants.{Read}
-use Rattle.rds_model.specs.declared.entry.Outcome.{Outcome}
-use Rattle.rds_model.specs.declared.entry.Outcome.TheVariants as outcome
-use Rattle.rds_model.specs.declared.entry.TheConstants.{MAX_SLOTS}
 use Rattle.rds_model.specs.declared.entry.Verdict.{Verdict}
 use Rattle.rds_model.specs.declared.entry.Verdict.TheVariants as verdict
-use Rattle.rds_model.specs.declared.journal.TheConstants.{MAX_ENTRIES}
 use Rattle.rds_model.specs.declared.order.Datagram.{Datagram}
 use Rattle.rds_model.specs.Deliveries.{datagram_from}
-use Rattle.rds_model.specs.DeliveryLaws.{put_bound, put_here}
-use Rattle.rds_model.specs.Pairs.{is_delivery}
-use Rattle.rds_model.specs.Legal.{IsLegal, pong_for}
 use Rattle.rds_model.specs.Reading.{is_old, verdict_of, verdict_of_kind, verdict_of_ports}
-use Rattle.rds_model.specs.Sums.{maps, with_map}
-use Rattle.rds_mail.specs.Passes.{after_put}
-use Rattle.rds_meter.specs.declared.view.View.{View}
-use Rattle.rds_meter.specs.Places.{part, freed_word, put_word}
 use Rattle.rds_conn.specs.declared.conn.Found.{Found}
-use Rattle.rds_conn.specs.declared.conn.Found.TheVariants as found
 use Rattle.rds_conn.specs.Connection.{Connection, IsReady}
-use Rattle.rds_conn.specs.Passing.{Passes, outcome_of}
-use Rattle.rds_line_parts.specs.Boxes.{IsPutInto}
-use Rattle.rds_line_parts.specs.Counted.{IsCountedFor, IsPutFor}
-use Rattle.rds_line_parts.specs.CountedLaws.{counted_for_more, counted_for_read, put_for_more, put_for_read}
-use Rattle.rds_line_parts.specs.Delivery.{IsDelivery}
-use Rattle.rds_line_parts.specs.DeliveryLaws.{delivery_part, read_after_delivery}
-use Rattle.rds_line_parts.specs.Own.{IsAsRead}
-use Rattle.rds_line_channel.specs.Channel.{with_conn}
-use Rattle.rds_line.specs.Line.{LineView, line_past}
+use Rattle.rds_conn.specs.Passing.{Passes}
+use Rattle.rds_line.specs.Line.{LineView}
 use Rattle.rds_line.specs.Steps.{IsWaiting}
-use Rattle.rds_line.specs.Seats.{AreLooksFor, HasLooked, StoresNothing}
-use Rattle.rds_line.proofs.Passing.{PassesWith, passes_reads}
-use Rattle.rds_line.proofs.PortLooks.{looked_last, looks_again, looks_beside, looks_nobody, looks_slot}
-use Rattle.rds_line.proofs.Storing.{delivery_stores}
-use Rattle.rds_line.proofs.Same.{begins_of}
-use Rattle.rds_line.proofs.StaysPassed.{same_seats}
 
 -- what a step asks of the view of a line is known of its parts
 pub ready_inside : {E M : Type 0} {inside old : LineView E M} → inside ≡ old →

@@ -10,9 +10,9 @@ use Rattle.rds_fmap.specs.Readers.{ReaderView}
 use Rattle.rds_parts.specs.Lanes.{Ascend}
 use Rattle.rds_socket.specs.Holding.{Holding}
 use Rattle.rds_host.specs.Ties.{AreColumnsFilled, AreLinesOf, ColumnView, IsSlotOf, inbox_of, peers_to, ways_of}
-use Rattle.rds_host.proofs.Columns.{all_passes, filled_boxes, lanes_peers, of_host}
+use Rattle.rds_host.proofs.Columns.{filled_boxes, lanes_peers}
 use Rattle.rds_host.proofs.Pushing.{all_at, count_of, same_count, written_back}
-use Rattle.rds_host.proofs.ColumnLines.{new_lines}
+use Rattle.rds_host.proofs.ColumnLines.{new_lines, all_passes, of_host}
 use Rattle.rds_host.proofs.making.make.Goals as goal
 
 pub vacants-requires-clause-filled : goal.vacants-requires-clause-filled

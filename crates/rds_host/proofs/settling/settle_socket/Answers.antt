@@ -8,8 +8,8 @@ use Rattle.rds_fmap.specs.Readers.{ReaderView, WriterView}
 use Rattle.rds_line_parts.specs.Boxes.{IsBoxOf}
 use Rattle.rds_socket.specs.Holding.{Holding, Open}
 use Rattle.rds_line.specs.Line.{LineView}
-use Rattle.rds_host.proofs.Told.{fit_box, fit_hear, fit_orders, fit_port, fit_route, heard}
-use Rattle.rds_host.proofs.ToldLines.{all_told, line_noted, none_told, told_more}
+use Rattle.rds_host.proofs.Told.{heard}
+use Rattle.rds_host.proofs.ToldLines.{all_told, line_noted, none_told, told_more, fit_box, fit_hear, fit_orders, fit_port, fit_route}
 use Rattle.rds_host.proofs.settling.settle_socket.Goals as goal
 
 pub order_note-requires : goal.order_note-requires

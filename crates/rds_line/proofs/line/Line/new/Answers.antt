@@ -1,4 +1,4 @@
-use Rattle.std.proofs.Common.{◌≡◌, refl, ap}
+use Rattle.std.proofs.Common.{refl, ap}
 use Rattle.rds_model.specs.declared.entry.TheConstants.{MAX_SLOTS}
 use Rattle.rds_line_parts.specs.Own.{Own}
 use Rattle.rds_line.specs.Line.{LineView}

@@ -10,8 +10,8 @@ use Rattle.rds_line.specs.Keeps.{IsPulled, KeepsLine}
 use Rattle.rds_line.specs.Line.{LineView}
 use Rattle.rds_line.specs.declared.line.Line.TheInside.{Inside}
 use Rattle.rds_line.proofs.Fields.{view_in}
-use Rattle.rds_line.proofs.Pulled.{ReadsOwn, reads_of, keeps_failed, failed_stays, keeps_pulled, pulled_stays, pulled_leaves, pulled_some, pulled_nothing, failed_looked, failed_pulls, pulled_looked, pulled_owed}
-use Rattle.rds_line.proofs.PulledFrames.{PullsOwed, owed_of_map, owed_of_last, same_channel}
+use Rattle.rds_line.proofs.Pulled.{ReadsOwn, reads_of}
+use Rattle.rds_line.proofs.PulledFrames.{PullsOwed, owed_of_map, owed_of_last, same_channel, keeps_failed, failed_stays, keeps_pulled, pulled_stays, pulled_leaves, pulled_some, pulled_nothing, failed_looked, failed_pulls, pulled_looked, pulled_owed}
 use Rattle.rds_line.proofs.line.Line.pull.Given as given
 use Rattle.rds_line.proofs.line.Line.pull.Goals as goal
 use Rattle.rds_line.proofs.line.Line.pull.Goals.{then-self, else-self}

@@ -6,8 +6,8 @@ use Rattle.rds_line_channel.specs.Channel.{ChannelView}
 use Rattle.rds_line.specs.Keeps.{IsPulled, KeepsLine}
 use Rattle.rds_line.specs.Line.{LineView, line_past, pulls_in}
 use Rattle.rds_line.proofs.Fields.{view_in}
-use Rattle.rds_line.proofs.Taking.{keeps_obeyed, obeyed_pulls, obeyed_stays, stays_taken}
-use Rattle.rds_line.proofs.Obeying.{Obeys, asked_allowed, cut_room, keeps_roomy, pulled_roomy, roomy_past, roomy_stays, roomy_streams}
+use Rattle.rds_line.proofs.Taking.{stays_taken}
+use Rattle.rds_line.proofs.Obeying.{Obeys, asked_allowed, cut_room, keeps_roomy, pulled_roomy, roomy_past, roomy_stays, roomy_streams, keeps_obeyed, obeyed_pulls, obeyed_stays}
 use Rattle.rds_line.proofs.Staying.{channel_of, channel_same, line_inside, line_of, line_shown, line_stays, line_through}
 use Rattle.rds_line.proofs.Unlogged.{keeps_alike}
 use Rattle.rds_line.proofs.line.Line.take_order.Given as given
