@@ -100,14 +100,14 @@ module _ {X : Type 0} where
   option_list None = refl
   option_list (Some x) = refl
 
-  -- one more cells gives what stands there, if anything does
+  -- one more row gives what stands there, if anything does
   column_more : (rows : List (List X)) (i : ℕ) (cells : List X) → i < length rows → cells ≡ get_or rows i cells → column 0 (take (i + 1) rows) ≡ column 0 (take i rows) ++ option_to_list (slice_get cells 0)
   column_more rows i cells small is =
       ap (column 0) (take_more rows i cells small)
       ∙ (filter_map-append (λ (r : List X). slice_get r 0) (take i rows) (get_or rows i cells ∷ [])
       ∙ ap (λ (l : List X). column 0 (take i rows) ++ l) (option_list (slice_get (get_or rows i cells) 0) ∙ ap (λ (r : List X). option_to_list (slice_get r 0)) (sym is)))
 
-  -- the first item of one more cells was taken, if it has one
+  -- the first item of one more row was taken, if it has one
   pub row_taken : (rows ys : List (List X)) (i : ℕ) (cells new : List X) (o : Option X) (got : List X) → i < length rows → ys ≡ map (drop 1) (take i rows) ++ drop i rows → cells ≡ get_or ys i cells
       → new ≡ drop 1 cells → o ≡ slice_get cells 0 → got ≡ column 0 (take i rows)
       → (set ys i new ≡ map (drop 1) (take (i + 1) rows) ++ drop (i + 1) rows) × (got ++ option_to_list o ≡ column 0 (take (i + 1) rows))
@@ -121,7 +121,7 @@ module _ {X : Type 0} where
             ∙ (ap (λ (p : Option X). column 0 (take i rows) ++ option_to_list p) first ∙ sym (column_more rows i cells small here)),
       )
 
-  -- what holds of the whole first column holds of the item that one more cells gives
+  -- what holds of the whole first column holds of the item that one more row gives
   pub column_has : (P : X → Type 0) (rows ys : List (List X)) (i : ℕ) (cells : List X) (o : Option X) → i < length rows → ys ≡ map (drop 1) (take i rows) ++ drop i rows → cells ≡ get_or ys i cells
       → o ≡ slice_get cells 0 → All P (column 0 rows) → All P (option_to_list o)
   column_has P rows ys i cells o small before at first all =
@@ -137,7 +137,7 @@ module _ {X : Type 0} where
       all_back P (column 0 (take i rows)) (option_to_list o)
       (all_front P (column 0 (take i rows) ++ option_to_list o) (column 0 (drop (i + 1) rows)) (subst (λ (l : List X). All P l) whole all))
 
-  -- what a cells gives next, and what is left of it
+  -- what a row gives next, and what is left of it
   pub row_next : (old new : IntoIter X Global) (o : Option X) → into_iter_steps old o new → (into_iter_items new ≡ drop 1 (into_iter_items old)) × (o ≡ slice_get (into_iter_items old) 0)
   row_next old new None is =
       let none : into_iter_items old ≡ [] = nil_from_length (into_iter_items old) (omega (arith, is.0, old.rest.ok.0)) in
