@@ -153,7 +153,7 @@ module _ (tells : Bool) (hosts : ℕ) (commands : List Placed) (ends : List Fina
       let peer_back : b.peer ≡ address_of h = (peer_there k q receiver b at_other at_b).0 ∙ ap address_of back in
       let gone = all_at (AllWentToSockets receiver.sockets) receiver.sides q b (e.did k receiver at_other).gone at_b in
       let all = accounted a.past b.past way.legal_a way.legal_b way.honest way.none_alive sport dport in
-      let none = none_left h sport a.peer dport all receiver.sockets gone
+      let none = none_left h sport a.peer dport a.past b.past all receiver.sockets gone
       (way.reliable.handed_out sport dport) in
       let are = counts_are ends h sport a.peer dport a.past b.past receiver.sockets (found_past h p sender a at at_a (address_of h) a.peer refl refl)
       (found_past k q receiver b at_other at_b a.peer (address_of h) peer peer_back) (found_sockets k receiver at_other a.peer peer) in

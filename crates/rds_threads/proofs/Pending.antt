@@ -1,13 +1,12 @@
 -- Where no number is alive, each datagram of a port pair is accounted for, so that none is pending.
-use Rattle.std.proofs.Common.{◌≡◌, inl, inr, ℕ, zero, suc, ◌+◌, ◌-◌, ◌≤◌, ◌==◌, ◌&&◌, not, Bool, true, false, cond, Some, is_some, List, [], ◌∷◌, ◌++◌, All, length, slice_get, refl, sym, ◌∙◌, ap, subst, arith, length-append}
+use Rattle.std.proofs.Common.{◌≡◌, inl, inr, ℕ, zero, suc, ◌+◌, ◌-◌, ◌≤◌, ◌==◌, ◌&&◌, not, Bool, true, false, cond, Some, List, [], ◌∷◌, ◌++◌, All, length, slice_get, refl, sym, ◌∙◌, ap, subst, arith, length-append}
 use Rattle.std.specs.List.{Contains, filter, flat_map}
-use Rattle.std.proofs.lemmas.Bool.{and_from, and_parts, both_ways, cases_Bool, cases_lt, eq-eqb, eqb-true, false≢true, or_cases}
+use Rattle.std.proofs.lemmas.Bool.{cond-true}
 use Rattle.std.proofs.lemmas.List.{length-map}
 use Rattle.std.proofs.lemmas.List.Elements.{Contains-append_left, Contains-append_right, filter-append}
 use Rattle.std.proofs.lemmas.Option.{same_Some}
 use Rattle.rds_model.specs.declared.entry.Entry.{Entry}
 use Rattle.rds_model.specs.declared.entry.Entry.TheVariants.{Read}
-use Rattle.rds_model.specs.declared.entry.Outcome.{Outcome}
 use Rattle.rds_model.specs.declared.entry.Outcome.TheVariants as outcome
 use Rattle.rds_model.specs.declared.order.Datagram.{Datagram}
 use Rattle.rds_wire.specs.declared.frame.Frame.{Frame}
@@ -41,7 +40,7 @@ in_filter p (x ∷ xs) n passes (suc i, within, is) =
       | false ↦ later
     ]
 
-module _ {a b : List Entry} (sport dport : ℕ) (accounted : IsAllAccounted sport dport a b) (sockets : List FinalSocket)
+module _ (a b : List Entry) (sport dport : ℕ) (accounted : IsAllAccounted sport dport a b) (sockets : List FinalSocket)
     (gone : (stream slot : ℕ) (f : Frame) → Contains b (Read stream f (outcome.Slot slot)) → WentToSocket sockets slot f) where
   abbrev received_numbers : List ℕ
   received_numbers = flat_map (λ (s : FinalSocket). delivered_to s.slot sport dport b) sockets
@@ -146,12 +145,12 @@ nothing_left : (x y : ℕ) → x ≤ y → x - y ≡ 0
 nothing_left x y most = omega (arith, most)
 
 -- none is pending
-pub none_left : (h sport to dport : ℕ) {a b : List Entry} → IsAllAccounted sport dport a b → (sockets : List FinalSocket) →
+pub none_left : (h sport to dport : ℕ) (a b : List Entry) → IsAllAccounted sport dport a b → (sockets : List FinalSocket) →
     ((stream slot : ℕ) (f : Frame) → Contains b (Read stream f (outcome.Slot slot)) → WentToSocket sockets slot f) →
     All (HandsOutSent h sport dport a b) sockets → pending (counts_by (pair_of h sport to dport) a b sockets) ≡ 0
-none_left h sport to dport {a} {b} accounted sockets gone handed =
+none_left h sport to dport a b accounted sockets gone handed =
     let g = pair_of h sport to dport in
-    let all = all_accounted sport dport accounted sockets gone in
+    let all = all_accounted a b sport dport accounted sockets gone in
     let same = handed_count h sport to dport a b sockets handed in
     let c = counts_by g a b sockets in
     let enough : c.accepted ≤ c.received + c.unread + c.dropped + c.port0 + c.cancelled = omega (arith, all, same) in
