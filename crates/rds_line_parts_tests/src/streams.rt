@@ -12,7 +12,8 @@ use std::sync::Wait;
 use std::test::*;
 use std::thread::Threads;
 
-type Both = (Streams<MemEnd>, Streams<MemEnd>);
+// A line over the wire in memory.
+type Line = Streams<MemEnd>;
 
 // A line's streams, with the numbers 1 and 3.
 fn two<E: End>(alloc: Global, first: E, second: E) -> Option<Streams<E>>
@@ -37,13 +38,19 @@ fn joined<W: Wire, R: Threads + Wait + Net>(
     ensures pairs { IfSome result (λ both. AtEach W.End.means.meets both.0.list both.1.list) }
     ensures closed { IfSome result (λ both. (both.0.is_open ≡ false) × (both.1.is_open ≡ false)) }
 {
-    let (a, b) = wire.open(rt, 1, 2, 1).ok()?;
-    let (c, d) = wire.open(rt, 1, 2, 3).ok()?;
-    Some((two(alloc, a, c)?, two(alloc, b, d)?))
+    let Ok((a, b)) = wire.open(rt, 1, 2, 1) else {
+        return None;
+    };
+    let Ok((c, d)) = wire.open(rt, 1, 2, 3) else {
+        return None;
+    };
+    let first = two(alloc, a, c)?;
+    let second = two(alloc, b, d)?;
+    Some((first, second))
 }
 
 // The streams of two lines.
-fn prepared<R: Threads + Wait + Net>(rt: &R, alloc: Global) -> Option<Both>
+fn prepared<R: Threads + Wait + Net>(rt: &R, alloc: Global) -> Option<(Line, Line)>
     ensures numbers { IfSome result (λ both. numbers both.1.list ≡ numbers both.0.list) }
     ensures pairs { IfSome result (λ both. AtEach memory_means.meets both.0.list both.1.list) }
     ensures closed { IfSome result (λ both. (both.0.is_open ≡ false) × (both.1.is_open ≡ false)) }
@@ -53,7 +60,7 @@ fn prepared<R: Threads + Wait + Net>(rt: &R, alloc: Global) -> Option<Both>
 }
 
 // What two lines answer that open the next stream, move five bytes over it and end it.
-fn carried<E: End>(a: &mut Streams<E>, b: &mut Streams<E>, buf: &mut [u8; 8]) -> Option<[Got; 3]>
+fn carried(a: &mut Line, b: &mut Line, buf: &mut [u8; 8]) -> Option<[Got; 3]>
     requires first { a.old.is_open ≡ false }
     requires second { b.old.is_open ≡ false }
 {
@@ -105,7 +112,7 @@ fn two_lines_meet(rt: HostRuntime) {
 }
 
 // The streams that a line has open, one after another, whether one is left, and how many there are.
-fn opened<E: End>(mut a: Streams<E>) -> Option<([Option<u32>; 3], bool, usize)>
+fn opened(mut a: Line) -> Option<([Option<u32>; 3], bool, usize)>
     requires { a.is_open ≡ false }
 {
     let none = a.current();
