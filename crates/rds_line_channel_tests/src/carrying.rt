@@ -217,19 +217,15 @@ fn end(c: &mut Line) -> Option<bool> {
     Some(c.is_open())
 }
 
-// Opens the stream at both channels, and has the first one send.
-fn starts(a: &mut Line, b: &mut Line, alloc: Global) -> Option<()>
+// What went over from the first channel to the second, and whether the second one's stream is open after a cut at the first one.
+fn carried(a: &mut Line, b: &mut Line, alloc: Global) -> Option<Carried>
     requires first { a.old.streams.is_open ≡ false }
     requires second { b.old.streams.is_open ≡ false }
     requires slots { a.old.conn.slots ≡ 1 }
 {
     open(a)?;
     open(b)?;
-    send(a, alloc)
-}
-
-// What went over, and whether the second channel's stream is open after a cut at the first one.
-fn carried(a: &mut Line, b: &mut Line, alloc: Global) -> Option<Carried> {
+    send(a, alloc)?;
     let sent = sends(a, alloc)?;
     let came = gets(b)?;
     cut(a)?;
@@ -238,7 +234,6 @@ fn carried(a: &mut Line, b: &mut Line, alloc: Global) -> Option<Carried> {
 
 fn carry<R: Threads + Wait + Net>(rt: &R, alloc: Global) -> Option<Carried> {
     let mut both = prepared(rt, alloc)?;
-    starts(&mut both.first, &mut both.second, alloc)?;
     carried(&mut both.first, &mut both.second, alloc)
 }
 
