@@ -62,20 +62,20 @@ fn pull_two(
     }
     let first = conn.pull(map, out)?;
     conn.reserve()?;
-    let second = conn.pull_behind(out)?;
-    Ok(Some((first, second)))
+    Ok(Some((first, conn.pull_behind(out)?)))
 }
 
 // What comes of pulling the map and a datagram twice.
 type Pulls = [Option<(Pulled, Pulled)>; 2];
 
+fn pull_twice(conn: &mut Conn, map: &PortMap, out: &mut Out) -> Result<Pulls, ConnError> {
+    Ok([pull_two(conn, map, out)?, pull_two(conn, map, out)?])
+}
+
 fn pulled_on(conn: &mut Conn, alloc: Global) -> Result<Pulls, ConnError> {
     let map = PortMap::new(alloc)?;
     let mut out = Out::new(alloc)?;
-    Ok([
-        pull_two(conn, &map, &mut out)?,
-        pull_two(conn, &map, &mut out)?,
-    ])
+    pull_twice(conn, &map, &mut out)
 }
 
 fn pulled(alloc: Global) -> Result<(u32, Pulls), ConnError> {
