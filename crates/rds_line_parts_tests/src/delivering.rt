@@ -36,11 +36,15 @@ fn deliveries(own: &mut OwnMap, words: &mut LineWords, ports: &mut LinePorts) ->
     ]
 }
 
+fn delivered_by(own: &mut OwnMap, alloc: Global) -> Result<[(bool, bool); 4], Memory> {
+    let mut ports = ports(alloc)?;
+    let mut words = words(alloc)?;
+    Ok(deliveries(own, &mut words, &mut ports))
+}
+
 fn all_delivered(alloc: Global) -> Result<[(bool, bool); 4], Memory> {
     let mut own = OwnMap::new(alloc)?;
-    let mut words = words(alloc)?;
-    let mut ports = ports(alloc)?;
-    Ok(deliveries(&mut own, &mut words, &mut ports))
+    delivered_by(&mut own, alloc)
 }
 
 #[test]
