@@ -1,13 +1,9 @@
 //! Headers that end their stream, that are passed over, or that are cut short.
-ghost use Rattle.std.specs.Prelude.{◌≡◌, []};
-
-use crate::steps::{GREATEST, feed, has_bad, header, is_refused, open, unused};
+use crate::steps::{GREATEST, fault_at, feed, header, opened};
 use rds_conn::{Conn, ConnError, Fed, Verdict};
 use rds_model::{Entry, Journal};
 use rds_wire::{CONG_BITMAP, Header, Malformed, RETRANSMITTED, encode};
 use std::alloc::Global;
-use std::process::Abort;
-use std::test::Fail;
 
 // Malformed headers, and what is wrong with each.
 fn malformed() -> [(Header, Malformed); 5] {
@@ -28,37 +24,35 @@ fn malformed() -> [(Header, Malformed); 5] {
     ]
 }
 
-fn refuses(
-    rt: &impl Abort,
-    conn: &mut Conn,
-    header: &Header,
-    fault: Malformed,
-) -> Result<(), ConnError>
-    requires { conn.old.log.past ≡ [] }
-{
-    open(conn)?;
-    is_refused(rt, feed(conn, &encode(header)), fault);
-    has_bad(rt, conn.journal(), 1, fault);
-    assert_eq!(rt; feed(conn, b"more"), Err(ConnError::Closed));
-    Ok(())
+// What a header is answered, the fault in its entry of the journal, and what further bytes are answered.
+type Refused = (
+    Result<Fed, ConnError>,
+    Option<Malformed>,
+    Result<Fed, ConnError>,
+);
+
+fn refused_on(conn: &mut Conn, header: &Header) -> Refused {
+    let answer = feed(conn, &encode(header));
+    let fault = fault_at(conn.journal(), 1);
+    (answer, fault, feed(conn, b"more"))
 }
 
-fn refused(
-    rt: &impl Abort,
-    alloc: Global,
-    header: &Header,
-    fault: Malformed,
-) -> Result<(), ConnError> {
-    let mut kept = unused(alloc)?;
-    refuses(rt, &mut kept.conn, header, fault)
+fn refused(alloc: Global, header: &Header) -> Result<Refused, ConnError> {
+    let mut kept = opened(alloc, 1)?;
+    Ok(refused_on(&mut kept.conn, header))
+}
+
+// What is to become of a header with this fault.
+fn refusal(fault: Malformed) -> Refused {
+    let answer = Err(ConnError::Malformed(fault));
+    (answer, Some(fault), Err(ConnError::Closed))
 }
 
 #[test]
-fn a_malformed_header_ends_its_stream(rt: HostRuntime) -> Result<(), Fail> {
-    for (header, fault) in malformed() {
-        refused(&rt, rt.alloc(), &header, fault)?;
+fn a_malformed_header_ends_its_stream(rt: HostRuntime) {
+    for (header, fault) in &malformed() {
+        assert_eq!(rt; refused(rt.alloc(), header), Ok(refusal(*fault)));
     }
-    Ok(())
 }
 
 // Headers that no sender makes, and the verdict on each.
@@ -78,78 +72,53 @@ fn odd() -> [(Header, Verdict); 5] {
     ]
 }
 
-fn judges(
-    rt: &impl Abort,
-    conn: &mut Conn,
-    header: &Header,
-    verdict: Verdict,
-) -> Result<(), ConnError>
-    requires { conn.old.log.past ≡ [] }
-{
-    open(conn)?;
+fn judged_on(conn: &mut Conn, header: &Header) -> Result<Option<Verdict>, ConnError> {
     feed(conn, &encode(header))?;
     feed(conn, b"hello")?;
-    assert_eq!(rt; conn.verdict(), Some(verdict));
-    Ok(())
+    Ok(conn.verdict())
 }
 
-fn judged(
-    rt: &impl Abort,
-    alloc: Global,
-    header: &Header,
-    verdict: Verdict,
-) -> Result<(), ConnError> {
-    let mut kept = unused(alloc)?;
-    judges(rt, &mut kept.conn, header, verdict)
+fn judged(alloc: Global, header: &Header) -> Result<Option<Verdict>, ConnError> {
+    let mut kept = opened(alloc, 1)?;
+    judged_on(&mut kept.conn, header)
 }
 
 #[test]
-fn an_odd_frame_has_its_verdict(rt: HostRuntime) -> Result<(), Fail> {
-    for (header, verdict) in odd() {
-        judged(&rt, rt.alloc(), &header, verdict)?;
+fn an_odd_frame_has_its_verdict(rt: HostRuntime) {
+    for (header, verdict) in &odd() {
+        assert_eq!(rt; judged(rt.alloc(), header), Ok(Some(*verdict)));
     }
-    Ok(())
 }
 
-// Takes all but the last byte of a header.
-fn takes_most(rt: &impl Abort, conn: &mut Conn) -> Result<(), ConnError>
-    requires { conn.old.log.past ≡ [] }
-{
-    open(conn)?;
+// The stream was opened and shut, and nothing else happened.
+fn has_nothing(journal: &Journal) -> bool {
+    journal.len() == 2
+        && matches!(journal.at(0), Some(Entry::Open { stream: 1 }))
+        && matches!(journal.at(1), Some(Entry::Shut { stream: 1 }))
+}
+
+// Takes all but the last byte of a header, and shuts the stream. Answers what was taken, which stream was shut, and whether
+// nothing is left of the header.
+fn cut_short_on(conn: &mut Conn) -> Result<(Fed, Option<u32>, bool), ConnError> {
+    let took = feed(conn, &[0; 47])?;
+    conn.reserve()?;
+    let stream = conn.stream();
+    if stream.is_some() {
+        conn.shut();
+    }
+    Ok((took, stream, has_nothing(conn.journal())))
+}
+
+fn cut_short(alloc: Global) -> Result<(Fed, Option<u32>, bool), ConnError> {
+    let mut kept = opened(alloc, 1)?;
+    cut_short_on(&mut kept.conn)
+}
+
+#[test]
+fn a_header_cut_short_leaves_nothing(rt: HostRuntime) {
     let took = Fed {
         used: 47,
         waiting: false,
     };
-    assert_eq!(rt; feed(conn, &[0; 47]), Ok(took));
-    Ok(())
-}
-
-fn shut(rt: &impl Abort, conn: &mut Conn) -> Result<(), ConnError> {
-    conn.reserve()?;
-    assert!(rt; conn.stream().is_some());
-    conn.shut();
-    Ok(())
-}
-
-// The stream was opened and shut, and nothing else happened.
-fn has_nothing(rt: &impl Abort, journal: &Journal) {
-    assert_eq!(rt; journal.len(), 2);
-    assert!(rt; matches!(journal.at(0), Some(Entry::Open { stream: 1 })));
-    assert!(rt; matches!(journal.at(1), Some(Entry::Shut { stream: 1 })));
-}
-
-fn forgets(rt: &impl Abort, conn: &mut Conn) -> Result<(), ConnError>
-    requires { conn.old.log.past ≡ [] }
-{
-    takes_most(rt, conn)?;
-    shut(rt, conn)?;
-    has_nothing(rt, conn.journal());
-    Ok(())
-}
-
-#[test]
-fn a_header_cut_short_leaves_nothing(rt: HostRuntime) -> Result<(), Fail> {
-    let mut kept = unused(rt.alloc())?;
-    forgets(&rt, &mut kept.conn)?;
-    Ok(())
+    assert_eq!(rt; cut_short(rt.alloc()), Ok((took, Some(1), true)));
 }

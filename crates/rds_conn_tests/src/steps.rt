@@ -1,16 +1,11 @@
 //! What the tests do with a connection.
-ghost use Rattle.std.specs.Prelude.{◌≡◌, ℕ, [], IfOk, OnOk};
-ghost use Rattle.rds_model.specs.Past.{newest_stream};
+ghost use Rattle.std.specs.Prelude.{ℕ};
 ghost use Rattle.rds_conn.specs.Passing.{Matches};
 
-use rds_cong::PortMap;
-use rds_conn::{Conn, ConnError, Fed, Found, Out, Verdict};
+use rds_conn::{Conn, ConnError, Fed, Found, Verdict};
 use rds_model::{Entry, Journal, Order};
-use rds_msgs::Steps;
-use rds_wire::{Header, Malformed, Memory, Payload, decode};
+use rds_wire::{Header, Malformed, Memory, Payload};
 use std::alloc::Global;
-use std::process::Abort;
-use std::sync::ledger::Ledger;
 
 pub const GREATEST: u64 = (1 << 63) - 1;
 
@@ -41,98 +36,52 @@ impl Drop for Kept {
 }
 
 /// A connection of which nothing has happened.
-pub fn unused(alloc: Global) -> Result<Kept, Memory>
-    ensures { IfOk result (λ kept. kept.conn.log.past ≡ []) }
-{
+pub fn unused(alloc: Global) -> Result<Kept, Memory> {
     let conn = Conn::new(alloc, 1, 2, 1, 20)?;
     Ok(Kept { conn })
 }
 
-/// Opens stream 1 at a connection of which nothing has happened.
-pub fn open(conn: &mut Conn) -> Result<(), ConnError>
-    requires { conn.old.log.past ≡ [] }
-    ensures { OnOk result (newest_stream conn.new.log.past ≡ 1) }
-{
+/// Opens this stream, where none is open and the number is new.
+pub fn open(conn: &mut Conn, stream: u32) -> Result<(), ConnError> {
     conn.reserve()?;
-    conn.open(1);
-    Ok(())
-}
-
-/// Sends `hello` from port 4000 to port 4001.
-pub fn send<L: Ledger>(
-    conn: &mut Conn,
-    alloc: Global,
-    steps: &mut Steps<L>,
-) -> Result<(), ConnError>
-    ensures { OnOk result (newest_stream conn.new.log.past ≡ newest_stream conn.old.log.past) }
-{
-    let payload = Payload::copy_of(alloc, b"hello")?;
-    conn.reserve()?;
-    if conn.slots() > 0 {
-        conn.order(
-            Order::Send {
-                slot: 0,
-                sport: 4000,
-                dport: 4001,
-                payload,
-            },
-            steps,
-        );
+    if conn.stream().is_none() && conn.newest_stream() < stream {
+        conn.open(stream);
     }
     Ok(())
 }
 
-/// Pulls the frame that is owed. Answers its number and its flags.
-fn pull(conn: &mut Conn, map: &PortMap, out: &mut Out) -> Result<Option<(u64, u8)>, ConnError>
-    ensures { OnOk result (newest_stream conn.new.log.past ≡ newest_stream conn.old.log.past) }
-{
+/// A connection on which this stream is open.
+pub fn opened(alloc: Global, stream: u32) -> Result<Kept, ConnError> {
+    let mut kept = unused(alloc)?;
+    open(&mut kept.conn, stream)?;
+    Ok(kept)
+}
+
+/// Sends `hello` from port 4000 to port 4001.
+pub fn send(conn: &mut Conn, alloc: Global) -> Result<(), ConnError> {
+    let payload = Payload::copy_of(alloc, b"hello")?;
     conn.reserve()?;
-    out.wipe();
-    conn.pull(map, out)?;
-    let Some(bytes) = out.rest().first_chunk::<48>() else {
-        return Ok(None);
-    };
-    let header = decode(bytes);
-    Ok(Some((header.sequence, header.flags)))
+    if conn.slots() > 0 {
+        conn.order_uncounted(Order::Send {
+            slot: 0,
+            sport: 4000,
+            dport: 4001,
+            payload,
+        });
+    }
+    Ok(())
 }
 
-/// Pulls four times.
-fn pull_four(
-    conn: &mut Conn,
-    map: &PortMap,
-    out: &mut Out,
-) -> Result<[Option<(u64, u8)>; 4], ConnError>
-    ensures { OnOk result (newest_stream conn.new.log.past ≡ newest_stream conn.old.log.past) }
-{
-    Ok([
-        pull(conn, map, out)?,
-        pull(conn, map, out)?,
-        pull(conn, map, out)?,
-        pull(conn, map, out)?,
-    ])
-}
-
-/// Pulls a map, two datagrams and nothing.
-pub fn pulls(conn: &mut Conn, alloc: Global) -> Result<[Option<(u64, u8)>; 4], ConnError>
-    ensures { OnOk result (newest_stream conn.new.log.past ≡ newest_stream conn.old.log.past) }
-{
-    let map = PortMap::new(alloc)?;
-    let mut out = Out::new(alloc)?;
-    pull_four(conn, &map, &mut out)
-}
-
-pub fn feed(conn: &mut Conn, bytes: &[u8]) -> Result<Fed, ConnError>
-    ensures { newest_stream conn.new.log.past ≡ newest_stream conn.old.log.past }
-{
+pub fn feed(conn: &mut Conn, bytes: &[u8]) -> Result<Fed, ConnError> {
     conn.reserve()?;
     conn.feed(bytes)
 }
 
 /// Passes the frame that waits, where no socket holds its port.
-pub fn pass<L: Ledger>(conn: &mut Conn, steps: &mut Steps<L>) -> Result<(), ConnError> {
+pub fn pass(conn: &mut Conn) -> Result<(), ConnError> {
     conn.reserve()?;
     if let Some(verdict) = conn.verdict() {
-        conn.pass(found(verdict), steps);
+        conn.pass_uncounted(found(verdict));
     }
     Ok(())
 }
@@ -146,13 +95,10 @@ fn found(verdict: Verdict) -> Found
     }
 }
 
-/// A piece was refused for this fault.
-pub fn is_refused(rt: &impl Abort, fed: Result<Fed, ConnError>, fault: Malformed) {
-    let refused = Err(ConnError::Malformed(fault));
-    assert_eq!(rt; fed, refused);
-}
-
-/// That entry of a journal is a header that was refused for this fault.
-pub fn has_bad(rt: &impl Abort, journal: &Journal, entry: u32, fault: Malformed) {
-    assert!(rt; matches!(journal.at(entry), Some(Entry::Bad { cause, .. }) if *cause == fault));
+/// The fault for which that entry of a journal refused a header, if it did.
+pub fn fault_at(journal: &Journal, entry: u32) -> Option<Malformed> {
+    match journal.at(entry) {
+        Some(Entry::Bad { cause, .. }) => Some(*cause),
+        _ => None,
+    }
 }

@@ -1,28 +1,13 @@
+//! What a caller sees of a connection: its counts, its frames and what waits.
 ghost use Rattle.std.specs.Prelude.{◌≤◌};
 ghost use Rattle.rds_wire.specs.declared.kind.TheConstants.{MAX_LENGTH};
 
+use crate::steps::{feed, header, opened, pass, send, unused};
 use rds_cong::PortMap;
-use rds_conn::{Conn, ConnError, Found, Freed, Out, Pulled, Verdict};
+use rds_conn::{Conn, ConnError, Freed, Out, Pulled};
 use rds_model::Order;
-use rds_wire::{Header, Payload, encode};
+use rds_wire::encode;
 use std::alloc::Global;
-use std::process::Abort;
-use std::test::Fail;
-
-/// Sends `hello` from the socket of slot 0.
-fn send(conn: &mut Conn, alloc: Global) -> Result<(), ConnError> {
-    let payload = Payload::copy_of(alloc, b"hello")?;
-    conn.reserve()?;
-    if conn.slots() > 0 {
-        conn.order_uncounted(Order::Send {
-            slot: 0,
-            sport: 4000,
-            dport: 4001,
-            payload,
-        });
-    }
-    Ok(())
-}
 
 fn close(conn: &mut Conn) -> Result<(), ConnError> {
     conn.reserve()?;
@@ -32,7 +17,7 @@ fn close(conn: &mut Conn) -> Result<(), ConnError> {
     Ok(())
 }
 
-/// What the socket of slot 0 has unacknowledged.
+// What the socket of slot 0 has unacknowledged.
 fn unacked(conn: &Conn) -> u64 {
     if conn.slots() > 0 {
         conn.unacked_bytes(0)
@@ -41,19 +26,31 @@ fn unacked(conn: &Conn) -> u64 {
     }
 }
 
-fn counting(rt: &impl Abort, conn: &mut Conn, alloc: Global) -> Result<(), Fail> {
+// How many datagrams were accepted, with what is unacknowledged then, after the socket was closed, and after its bytes were freed.
+type Counted = ((u64, u64), u64, Option<Freed>, u64);
+
+fn counted_on(conn: &mut Conn, alloc: Global) -> Result<Counted, ConnError> {
     send(conn, alloc)?;
     send(conn, alloc)?;
-    assert_eq!(rt; conn.accepted(), 2);
-    assert_eq!(rt; unacked(conn), 10);
+    let sent = (conn.accepted(), unacked(conn));
     close(conn)?;
-    assert_eq!(rt; unacked(conn), 0);
-    assert_eq!(rt; conn.take_freed(), Some(Freed { slot: 0, bytes: 10 }));
-    assert_eq!(rt; unacked(conn), 0);
-    Ok(())
+    let closed = unacked(conn);
+    let freed = conn.take_freed();
+    Ok((sent, closed, freed, unacked(conn)))
 }
 
-/// Pulls the map, and the datagram behind it.
+fn counted(alloc: Global) -> Result<Counted, ConnError> {
+    let mut kept = unused(alloc)?;
+    counted_on(&mut kept.conn, alloc)
+}
+
+#[test]
+fn bytes_that_were_taken_back_are_not_unacked(rt: HostRuntime) {
+    let freed = Some(Freed { slot: 0, bytes: 10 });
+    assert_eq!(rt; counted(rt.alloc()), Ok(((2, 10), 0, freed, 0)));
+}
+
+// Pulls the map, and the datagram behind it.
 fn pull_two(
     conn: &mut Conn,
     map: &PortMap,
@@ -65,27 +62,37 @@ fn pull_two(
     }
     let first = conn.pull(map, out)?;
     conn.reserve()?;
-    let second = conn.pull_behind(out)?;
-    Ok(Some((first, second)))
+    Ok(Some((first, conn.pull_behind(out)?)))
 }
 
-fn pulling(rt: &impl Abort, conn: &mut Conn, alloc: Global) -> Result<(), Fail> {
+// What comes of pulling the map and a datagram twice.
+type Pulls = [Option<(Pulled, Pulled)>; 2];
+
+fn pull_twice(conn: &mut Conn, map: &PortMap, out: &mut Out) -> Result<Pulls, ConnError> {
+    Ok([pull_two(conn, map, out)?, pull_two(conn, map, out)?])
+}
+
+fn pulled_on(conn: &mut Conn, alloc: Global) -> Result<Pulls, ConnError> {
     let map = PortMap::new(alloc)?;
     let mut out = Out::new(alloc)?;
-    send(conn, alloc)?;
-    assert_eq!(rt; conn.newest_stream(), 7);
-    assert_eq!(rt;
-        pull_two(conn, &map, &mut out)?,
-        Some((Pulled::Map, Pulled::Data))
-    );
-    assert_eq!(rt;
-        pull_two(conn, &map, &mut out)?,
-        Some((Pulled::Nothing, Pulled::Nothing))
-    );
-    Ok(())
+    pull_twice(conn, &map, &mut out)
 }
 
-/// How many bytes the payload of the frame that waits has, or 0.
+fn pulled(alloc: Global) -> Result<(u32, Pulls), ConnError> {
+    let mut kept = opened(alloc, 7)?;
+    send(&mut kept.conn, alloc)?;
+    let newest = kept.conn.newest_stream();
+    Ok((newest, pulled_on(&mut kept.conn, alloc)?))
+}
+
+#[test]
+fn a_datagram_is_pulled_behind_the_map(rt: HostRuntime) {
+    let first = Some((Pulled::Map, Pulled::Data));
+    let second = Some((Pulled::Nothing, Pulled::Nothing));
+    assert_eq!(rt; pulled(rt.alloc()), Ok((7, [first, second])));
+}
+
+// How many bytes the payload of the frame that waits has, or 0.
 fn waiting_len(conn: &Conn) -> u32
     ensures { result ≤ MAX_LENGTH }
 {
@@ -96,69 +103,21 @@ fn waiting_len(conn: &Conn) -> u32
     }
 }
 
-/// Passes the frame that waits, where no socket holds its port.
-fn pass(conn: &mut Conn) -> Result<(), ConnError> {
-    conn.reserve()?;
-    if let Some(verdict) = conn.verdict() {
-        let found = match verdict {
-            Verdict::Deliver { .. } => Found::NoSocket,
-            _ => Found::Unasked,
-        };
-        conn.pass_uncounted(found);
-    }
-    Ok(())
-}
-
-fn feed(conn: &mut Conn, bytes: &[u8]) -> Result<(), ConnError> {
-    conn.reserve()?;
-    conn.feed(bytes)?;
-    Ok(())
-}
-
-fn passing(rt: &impl Abort, conn: &mut Conn) -> Result<(), Fail> {
-    feed(conn, &encode(&datagram(3, 5)))?;
+// The length of the frame that waits before and after it is passed, and the number of the last passed one.
+fn passed_on(conn: &mut Conn) -> Result<(u32, u32, u64), ConnError> {
+    feed(conn, &encode(&header(3, 0, 5, 4001, 0)))?;
     feed(conn, b"hello")?;
-    assert_eq!(rt; waiting_len(conn), 5);
+    let before = waiting_len(conn);
     pass(conn)?;
-    assert_eq!(rt; conn.last_passed(), 3);
-    assert_eq!(rt; waiting_len(conn), 0);
-    Ok(())
+    Ok((before, waiting_len(conn), conn.last_passed()))
 }
 
-/// The header of a datagram to port 4001.
-fn datagram(sequence: u64, len: u32) -> Header {
-    Header {
-        sequence,
-        ack: 0,
-        len,
-        sport: 4000,
-        dport: 4001,
-        flags: 0,
-        credit: 0,
-        padding: [0; 4],
-        csum: 0,
-        ext: [0; 16],
-    }
+fn passed(alloc: Global) -> Result<(u32, u32, u64), ConnError> {
+    let mut kept = opened(alloc, 1)?;
+    passed_on(&mut kept.conn)
 }
 
 #[test]
-fn bytes_that_were_taken_back_are_not_unacked(rt: HostRuntime) -> Result<(), Fail> {
-    let mut conn = Conn::new(rt.alloc(), 1, 2, 1, 20)?;
-    counting(&rt, &mut conn, rt.alloc())
-}
-
-#[test]
-fn a_datagram_is_pulled_behind_the_map(rt: HostRuntime) -> Result<(), Fail> {
-    let mut conn = Conn::new(rt.alloc(), 1, 2, 1, 20)?;
-    conn.reserve()?;
-    conn.open(7);
-    pulling(&rt, &mut conn, rt.alloc())
-}
-
-#[test]
-fn a_frame_is_passed_without_a_count(rt: HostRuntime) -> Result<(), Fail> {
-    let mut conn = Conn::new(rt.alloc(), 1, 2, 1, 20)?;
-    conn.reserve()?;
-    conn.open(1);
-    passing(&rt, &mut conn)
+fn a_frame_is_passed_without_a_count(rt: HostRuntime) {
+    assert_eq!(rt; passed(rt.alloc()), Ok((5, 0, 3)));
 }

@@ -1,13 +1,14 @@
 //! Two channels over a wire in memory.
 ghost use Rattle.std.specs.Prelude.{◌≡◌, ℕ, false, [], ◌∷◌, IfSome};
 ghost use Rattle.rds_conn.specs.Passing.{Matches};
+ghost use Rattle.rds_link.specs.Memory.{memory_means};
 ghost use Rattle.rds_line_streams.specs.Meeting.{AtEach};
 ghost use Rattle.rds_line_streams.specs.Streams.{IsUnused, numbers};
 
 use rds_cong::PortMap;
 use rds_conn::{Found, Pulled};
 use rds_line_channel::*;
-use rds_link::{End, Got, MemWire, Put, Wire};
+use rds_link::{End, Got, MemEnd, MemWire, Put, Wire};
 use rds_model::{Order, Verdict};
 use rds_wire::Payload;
 use std::alloc::Global;
@@ -60,8 +61,8 @@ fn channel<E: End>(alloc: Global, me: u32, peer: u32, end: E) -> Option<Channel<
     }
 }
 
-// The channels of two hosts to each other.
-fn prepared<W: Wire, R: Threads + Wait + Net>(
+// The channels of two hosts over this wire.
+fn joined<W: Wire, R: Threads + Wait + Net>(
     rt: &R,
     alloc: Global,
     wire: &mut W,
@@ -71,15 +72,30 @@ fn prepared<W: Wire, R: Threads + Wait + Net>(
     ensures closed { IfSome result (λ both. (both.first.streams.is_open ≡ false) × (both.second.streams.is_open ≡ false)) }
     ensures slots { IfSome result (λ both. both.first.conn.slots ≡ 1) }
 {
-    let (a, b) = wire.open(rt, 1, 2, 1).ok()?;
-    Some(Both {
-        first: channel(alloc, 1, 2, a)?,
-        second: channel(alloc, 2, 1, b)?,
-    })
+    let Ok((a, b)) = wire.open(rt, 1, 2, 1) else {
+        return None;
+    };
+    let first = channel(alloc, 1, 2, a)?;
+    let second = channel(alloc, 2, 1, b)?;
+    Some(Both { first, second })
+}
+
+// A channel over the wire in memory.
+type Line = Channel<MemEnd>;
+
+// The channels of two hosts over the wire in memory.
+fn prepared<R: Threads + Wait + Net>(rt: &R, alloc: Global) -> Option<Both<MemEnd>>
+    ensures numbers { IfSome result (λ both. numbers both.second.streams.list ≡ numbers both.first.streams.list) }
+    ensures pairs { IfSome result (λ both. AtEach memory_means.meets both.first.streams.list both.second.streams.list) }
+    ensures closed { IfSome result (λ both. (both.first.streams.is_open ≡ false) × (both.second.streams.is_open ≡ false)) }
+    ensures slots { IfSome result (λ both. both.first.conn.slots ≡ 1) }
+{
+    let mut wire = MemWire::new(alloc, Vec::new(alloc), Vec::new(alloc));
+    joined(rt, alloc, &mut wire)
 }
 
 // Opens the next stream.
-fn open<E: End>(c: &mut Channel<E>) -> Option<bool>
+fn open(c: &mut Line) -> Option<bool>
     requires { c.old.streams.is_open ≡ false }
     ensures list { c.new.streams.list ≡ c.old.streams.list }
     ensures slots { c.new.conn.slots ≡ c.old.conn.slots }
@@ -89,7 +105,7 @@ fn open<E: End>(c: &mut Channel<E>) -> Option<bool>
 }
 
 // Sends five bytes from port 4000 to port 4001.
-fn send<E: End>(c: &mut Channel<E>, alloc: Global) -> Option<()>
+fn send(c: &mut Line, alloc: Global) -> Option<()>
     requires { c.old.conn.slots ≡ 1 }
 {
     let payload = Payload::copy_of(alloc, b"hello").ok()?;
@@ -103,7 +119,7 @@ fn send<E: End>(c: &mut Channel<E>, alloc: Global) -> Option<()>
     Some(())
 }
 
-fn pull<E: End>(c: &mut Channel<E>, map: &PortMap) -> Option<Pulled> {
+fn pull(c: &mut Line, map: &PortMap) -> Option<Pulled> {
     if !c.is_open() {
         return None;
     }
@@ -111,7 +127,7 @@ fn pull<E: End>(c: &mut Channel<E>, map: &PortMap) -> Option<Pulled> {
     c.pull(map).ok()
 }
 
-fn write<E: End>(c: &mut Channel<E>) -> Option<Put> {
+fn write(c: &mut Line) -> Option<Put> {
     if !c.is_open() || c.unwritten() == 0 {
         return None;
     }
@@ -119,18 +135,19 @@ fn write<E: End>(c: &mut Channel<E>) -> Option<Put> {
 }
 
 // Pulls the map and the datagram, and writes both.
-fn sends<E: End>(c: &mut Channel<E>, map: &PortMap) -> Option<(Pulled, Pulled, Put)> {
-    Some((pull(c, map)?, pull(c, map)?, write(c)?))
+fn sends(c: &mut Line, alloc: Global) -> Option<(Pulled, Pulled, Put)> {
+    let map = PortMap::new(alloc).ok()?;
+    Some((pull(c, &map)?, pull(c, &map)?, write(c)?))
 }
 
-fn receive<E: End>(c: &mut Channel<E>) -> Option<Got> {
+fn receive(c: &mut Line) -> Option<Got> {
     if !c.is_open() || c.untaken() > 0 {
         return None;
     }
     Some(c.receive())
 }
 
-fn take<E: End>(c: &mut Channel<E>) -> Option<Taken> {
+fn take(c: &mut Line) -> Option<Taken> {
     if !c.is_open() {
         return None;
     }
@@ -148,7 +165,7 @@ fn found(verdict: Verdict) -> Found
 }
 
 // Passes the frame that waits, and answers its verdict.
-fn pass<E: End>(c: &mut Channel<E>) -> Option<Verdict> {
+fn pass(c: &mut Line) -> Option<Verdict> {
     c.reserve().ok()?;
     let verdict = c.verdict()?;
     c.pass(found(verdict));
@@ -156,7 +173,7 @@ fn pass<E: End>(c: &mut Channel<E>) -> Option<Verdict> {
 }
 
 // The sender, the ports and the number of bytes of the datagram that waits.
-fn datagram<E: End>(c: &Channel<E>) -> Option<(u32, u16, u16, u32)> {
+fn datagram(c: &Line) -> Option<(u32, u16, u16, u32)> {
     c.waiting()?;
     let datagram = c.datagram().ok()?;
     Some((
@@ -168,17 +185,17 @@ fn datagram<E: End>(c: &Channel<E>) -> Option<(u32, u16, u16, u32)> {
 }
 
 // Takes a frame, and passes it.
-fn takes<E: End>(c: &mut Channel<E>) -> Option<Came> {
+fn takes(c: &mut Line) -> Option<Came> {
     Some((take(c)?, datagram(c)?, pass(c)?))
 }
 
 // What comes of the two frames at the other channel.
-fn gets<E: End>(c: &mut Channel<E>) -> Option<[Came; 2]> {
+fn gets(c: &mut Line) -> Option<[Came; 2]> {
     receive(c)?;
     Some([takes(c)?, takes(c)?])
 }
 
-fn cut<E: End>(c: &mut Channel<E>) -> Option<()> {
+fn cut(c: &mut Line) -> Option<()> {
     if !c.is_open() {
         return None;
     }
@@ -189,7 +206,7 @@ fn cut<E: End>(c: &mut Channel<E>) -> Option<()> {
 }
 
 // Reads from a stream that the other host has shut, ends it, and answers whether it is still open.
-fn end<E: End>(c: &mut Channel<E>) -> Option<bool> {
+fn end(c: &mut Line) -> Option<bool> {
     if !c.is_open() || c.untaken() > 0 {
         return None;
     }
@@ -200,84 +217,56 @@ fn end<E: End>(c: &mut Channel<E>) -> Option<bool> {
     Some(c.is_open())
 }
 
-// Opens the stream at both channels, and has the first one send.
-fn starts<E: End>(a: &mut Channel<E>, b: &mut Channel<E>, alloc: Global) -> Option<()>
+// What went over from the first channel to the second, and whether the second one's stream is open after a cut at the first one.
+fn carried(a: &mut Line, b: &mut Line, alloc: Global) -> Option<Carried>
     requires first { a.old.streams.is_open ≡ false }
     requires second { b.old.streams.is_open ≡ false }
     requires slots { a.old.conn.slots ≡ 1 }
 {
     open(a)?;
     open(b)?;
-    send(a, alloc)
-}
-
-// What went over, and whether the second channel's stream is open after a cut at the first one.
-fn carried<E: End>(a: &mut Channel<E>, b: &mut Channel<E>, map: &PortMap) -> Option<Carried> {
-    let sent = sends(a, map)?;
+    send(a, alloc)?;
+    let sent = sends(a, alloc)?;
     let came = gets(b)?;
     cut(a)?;
     Some((sent, came, end(b)?))
 }
 
-// What went over between two channels of which nothing has happened.
-fn carried_first<E: End>(a: &mut Channel<E>, b: &mut Channel<E>, alloc: Global) -> Option<Carried>
-    requires first { a.old.streams.is_open ≡ false }
-    requires second { b.old.streams.is_open ≡ false }
-    requires slots { a.old.conn.slots ≡ 1 }
-{
-    starts(a, b, alloc)?;
-    let map = PortMap::new(alloc).ok()?;
-    carried(a, b, &map)
-}
-
-fn carry<W: Wire, R: Threads + Wait + Net>(rt: &R, alloc: Global, wire: &mut W) -> Option<Carried> {
-    let mut both = prepared(rt, alloc, wire)?;
-    carried_first(&mut both.first, &mut both.second, alloc)
+fn carry<R: Threads + Wait + Net>(rt: &R, alloc: Global) -> Option<Carried> {
+    let mut both = prepared(rt, alloc)?;
+    carried(&mut both.first, &mut both.second, alloc)
 }
 
 #[test]
-fn a_datagram_goes_over(rt: HostRuntime) -> Result<(), Fail> {
-    let alloc = rt.alloc();
-    let mut wire = MemWire::new(alloc, Vec::new(alloc), Vec::new(alloc));
+fn a_datagram_goes_over(rt: HostRuntime) {
     let sent = (Pulled::Map, Pulled::Data, Put::Took(8293));
     let map = (Taken::Frame, (1, 0, 0, 8192), Verdict::Map);
     let to_socket = Verdict::Deliver { dport: 4001 };
     let data = (Taken::Frame, (1, 4000, 4001, 5), to_socket);
-    assert_eq!(rt;
-        carry(&rt, alloc, &mut wire),
-        Some((sent, [map, data], false))
-    );
-    Ok(())
+    assert_eq!(rt; carry(&rt, rt.alloc()), Some((sent, [map, data], false)));
 }
 
 // What a channel that met another one reads before and after it cuts the stream.
-fn met<W: Wire>(a: &mut Channel<W::End>, b: &mut Channel<W::End>) -> Option<(Got, bool)>
+fn met(a: &mut Line, b: &mut Line) -> Option<(Got, bool)>
     requires first { a.old.streams.is_open ≡ false }
     requires second { b.old.streams.is_open ≡ false }
     requires numbers { numbers b.old.streams.list ≡ numbers a.old.streams.list }
-    requires pairs { AtEach W.End.means.meets a.old.streams.list b.old.streams.list }
+    requires pairs { AtEach memory_means.meets a.old.streams.list b.old.streams.list }
 {
     open(a)?;
     open(b)?;
-    meet::<W>(a, b);
+    meet::<MemWire>(a, b);
     let came = receive(b)?;
     cut(a)?;
     Some((came, end(b)?))
 }
 
-fn meeting<W: Wire, R: Threads + Wait + Net>(
-    rt: &R,
-    alloc: Global,
-    wire: &mut W,
-) -> Option<(Got, bool)> {
-    let mut both = prepared(rt, alloc, wire)?;
-    met::<W>(&mut both.first, &mut both.second)
+fn meeting<R: Threads + Wait + Net>(rt: &R, alloc: Global) -> Option<(Got, bool)> {
+    let mut both = prepared(rt, alloc)?;
+    met(&mut both.first, &mut both.second)
 }
 
 #[test]
-fn two_channels_meet(rt: HostRuntime) -> Result<(), Fail> {
-    let alloc = rt.alloc();
-    let mut wire = MemWire::new(alloc, Vec::new(alloc), Vec::new(alloc));
-    assert_eq!(rt; meeting(&rt, alloc, &mut wire), Some((Got::Nothing, false)));
-    Ok(())
+fn two_channels_meet(rt: HostRuntime) {
+    assert_eq!(rt; meeting(&rt, rt.alloc()), Some((Got::Nothing, false)));
 }

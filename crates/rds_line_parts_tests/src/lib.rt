@@ -4,6 +4,8 @@
 #[cfg(test)]
 mod delivering;
 #[cfg(test)]
+mod parts;
+#[cfg(test)]
 mod putting;
 #[cfg(test)]
 mod relieving;

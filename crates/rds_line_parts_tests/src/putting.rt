@@ -1,5 +1,5 @@
 //! Datagrams that are put into a slot's mailbox.
-ghost use Rattle.std.specs.Prelude.{◌≡◌, ◌<◌, length, IfOk};
+ghost use Rattle.std.specs.Prelude.{◌≡◌, ◌<◌, ◌+◌, length, OnOk};
 ghost use Rattle.std.specs.Arc.{arc_value};
 
 use rds_line_parts::{Boxes, SlotBox};
@@ -28,24 +28,29 @@ impl Drop for Socket {
 }
 
 impl Socket {
-    fn new(alloc: Global) -> Result<(Socket, SlotBox), Memory> {
+    // A socket, whose box goes behind the others.
+    fn new(boxes: &mut Vec<SlotBox>, alloc: Global) -> Result<Socket, Memory>
+        ensures { OnOk result (length boxes.new.items ≡ length boxes.old.items + 1) }
+    {
         let (mail, put, get) = Mail::new(alloc)?;
         let mail = Arc::new(alloc, mail)?;
-        let held = SlotBox::new(Arc::try_clone(&mail)?, put);
-        Ok((Socket { mail, get }, held))
+        let socket = Socket { mail, get };
+        boxes.push(SlotBox::new(Arc::try_clone(&socket.mail)?, put))?;
+        Ok(socket)
     }
 
-    // Whether the next datagram comes to this port.
-    fn gets(&mut self, rt: &impl Wait, dport: u16) -> bool {
-        self.mail
-            .get(rt, &mut self.get)
-            .is_some_and(|datagram| datagram.dport == dport)
+    // Whether the next datagram comes to port 4001.
+    fn gets(&mut self, rt: &impl Wait) -> bool {
+        match self.mail.get(rt, &mut self.get) {
+            Some(datagram) => datagram.dport == 4001,
+            None => false,
+        }
     }
 }
 
 // Puts `hello` to port 4001 into the box of slot 1.
-fn put(boxes: &mut Boxes, rt: &impl Wait, alloc: Global) -> Result<(), Memory>
-    requires { 1 < length boxes.old }
+fn put(boxes: Vec<SlotBox>, rt: &impl Wait, alloc: Global) -> Result<(), Memory>
+    requires { 1 < length boxes.items }
 {
     let payload = Payload::copy_of(alloc, b"hello")?;
     let datagram = Datagram {
@@ -54,16 +59,20 @@ fn put(boxes: &mut Boxes, rt: &impl Wait, alloc: Global) -> Result<(), Memory>
         dport: 4001,
         payload,
     };
-    boxes.put(rt, 1, datagram)
+    Boxes::new(boxes).put(rt, 1, datagram)
+}
+
+// Whether the first socket gets the datagram that was put, and whether the second does, asked twice.
+fn got(rt: &impl Wait, alloc: Global) -> Result<[bool; 3], Memory> {
+    let mut boxes = Vec::new(alloc);
+    let mut first = Socket::new(&mut boxes, alloc)?;
+    let mut second = Socket::new(&mut boxes, alloc)?;
+    put(boxes, rt, alloc)?;
+    Ok([first.gets(rt), second.gets(rt), second.gets(rt)])
 }
 
 #[test]
 fn a_datagram_goes_into_the_box_of_its_slot_once(rt: HostRuntime) -> Result<(), Fail> {
-    let (mut first, held) = Socket::new(rt.alloc())?;
-    let (mut second, other) = Socket::new(rt.alloc())?;
-    let mut boxes = Boxes::new(Vec::from_array(rt.alloc(), [held, other])?);
-    put(&mut boxes, &rt, rt.alloc())?;
-    assert!(rt; !first.gets(&rt, 4001));
-    assert!(rt; second.gets(&rt, 4001) && !second.gets(&rt, 4001));
+    assert_eq!(rt; got(&rt, rt.alloc())?, [false, true, false]);
     Ok(())
 }

@@ -1,24 +1,16 @@
 //! Bytes that acknowledgements free.
-ghost use Rattle.std.specs.Prelude.{◌≡◌, ℕ, ◌+◌, ◌≤◌, OnOk, IfOk};
+ghost use Rattle.std.specs.Prelude.{◌≡◌, ℕ, ◌+◌, ◌≤◌, OnOk};
 ghost use Rattle.rds_conn.specs.Connection.{freed_bytes_of};
 ghost use Rattle.rds_meter.specs.Places.{part, freed_word};
 ghost use Rattle.rds_model.specs.Alive.{alive_bytes};
 
+use crate::parts::words;
 use rds_conn::{Conn, ConnError};
 use rds_line_parts::{LineWords, relieve};
-use rds_meter::Meter;
 use rds_model::{MIN_ENTRIES, Order};
-use rds_wire::{Memory, Payload};
+use rds_wire::Payload;
 use std::alloc::Global;
-use std::sync::Arc;
 use std::test::Fail;
-
-fn words_of(alloc: Global) -> Result<LineWords, Memory>
-    ensures { IfOk result (λ w. (slot : ℕ) → part (freed_word slot) w.view.steps ≡ 0) }
-{
-    let (meter, seat) = Meter::new(alloc, 1)?;
-    Ok(LineWords::new(Arc::new(alloc, meter)?, seat))
-}
 
 // Sends five bytes from the socket of slot 0, and takes them back.
 fn take_back(conn: &mut Conn, alloc: Global) -> Result<(), ConnError>
@@ -59,9 +51,13 @@ fn freed_by(words: &mut LineWords, alloc: Global) -> Result<u64, ConnError>
     Ok(freed_after(&mut conn, words))
 }
 
+fn freed(alloc: Global) -> Result<u64, ConnError> {
+    let mut words = words(alloc)?;
+    freed_by(&mut words, alloc)
+}
+
 #[test]
 fn freed_bytes_go_to_the_meter(rt: HostRuntime) -> Result<(), Fail> {
-    let mut words = words_of(rt.alloc())?;
-    assert_eq!(rt; freed_by(&mut words, rt.alloc())?, 5);
+    assert_eq!(rt; freed(rt.alloc())?, 5);
     Ok(())
 }

@@ -1,17 +1,19 @@
 //! Two lines' streams over a wire in memory.
 ghost use Rattle.std.specs.Prelude.{◌≡◌, false, [], ◌∷◌, IfSome};
+ghost use Rattle.rds_link.specs.Memory.{memory_means};
 ghost use Rattle.rds_line_streams.specs.Meeting.{AtEach};
 ghost use Rattle.rds_line_streams.specs.Streams.{IsUnused, numbers};
 
 use rds_line_streams::*;
-use rds_link::{End, Got, MemWire, Put, Wire};
+use rds_link::{End, Got, MemEnd, MemWire, Put, Wire};
 use std::alloc::Global;
 use std::net::Net;
 use std::sync::Wait;
 use std::test::*;
 use std::thread::Threads;
 
-type Both<E> = (Streams<E>, Streams<E>);
+// A line over the wire in memory.
+type Line = Streams<MemEnd>;
 
 // A line's streams, with the numbers 1 and 3.
 fn two<E: End>(alloc: Global, first: E, second: E) -> Option<Streams<E>>
@@ -26,23 +28,39 @@ fn two<E: End>(alloc: Global, first: E, second: E) -> Option<Streams<E>>
     Some(Streams::new(streams))
 }
 
-// The streams of two lines.
-fn prepared<W: Wire, R: Threads + Wait + Net>(
+// The streams of two lines over this wire.
+fn joined<W: Wire, R: Threads + Wait + Net>(
     rt: &R,
     alloc: Global,
     wire: &mut W,
-) -> Option<Both<W::End>>
+) -> Option<(Streams<W::End>, Streams<W::End>)>
     ensures numbers { IfSome result (λ both. numbers both.1.list ≡ numbers both.0.list) }
     ensures pairs { IfSome result (λ both. AtEach W.End.means.meets both.0.list both.1.list) }
     ensures closed { IfSome result (λ both. (both.0.is_open ≡ false) × (both.1.is_open ≡ false)) }
 {
-    let (a, b) = wire.open(rt, 1, 2, 1).ok()?;
-    let (c, d) = wire.open(rt, 1, 2, 3).ok()?;
-    Some((two(alloc, a, c)?, two(alloc, b, d)?))
+    let Ok((a, b)) = wire.open(rt, 1, 2, 1) else {
+        return None;
+    };
+    let Ok((c, d)) = wire.open(rt, 1, 2, 3) else {
+        return None;
+    };
+    let first = two(alloc, a, c)?;
+    let second = two(alloc, b, d)?;
+    Some((first, second))
+}
+
+// The streams of two lines.
+fn prepared<R: Threads + Wait + Net>(rt: &R, alloc: Global) -> Option<(Line, Line)>
+    ensures numbers { IfSome result (λ both. numbers both.1.list ≡ numbers both.0.list) }
+    ensures pairs { IfSome result (λ both. AtEach memory_means.meets both.0.list both.1.list) }
+    ensures closed { IfSome result (λ both. (both.0.is_open ≡ false) × (both.1.is_open ≡ false)) }
+{
+    let mut wire = MemWire::new(alloc, Vec::new(alloc), Vec::new(alloc));
+    joined(rt, alloc, &mut wire)
 }
 
 // What two lines answer that open the next stream, move five bytes over it and end it.
-fn carried<E: End>(a: &mut Streams<E>, b: &mut Streams<E>, buf: &mut [u8; 8]) -> Option<[Got; 3]>
+fn carried(a: &mut Line, b: &mut Line, buf: &mut [u8; 8]) -> Option<[Got; 3]>
     requires first { a.old.is_open ≡ false }
     requires second { b.old.is_open ≡ false }
 {
@@ -50,31 +68,22 @@ fn carried<E: End>(a: &mut Streams<E>, b: &mut Streams<E>, buf: &mut [u8; 8]) ->
     b.open_next()?;
     a.send(b"hello");
     let came = b.receive(buf);
-    let none = b.receive(&mut [0; 8]);
+    let none = b.receive(buf);
     a.end_current();
-    let over = b.receive(&mut [0; 8]);
-    Some([came, none, over])
+    Some([came, none, b.receive(buf)])
 }
 
-fn carry<W: Wire, R: Threads + Wait + Net>(
-    rt: &R,
-    alloc: Global,
-    wire: &mut W,
-    buf: &mut [u8; 8],
-) -> Option<[Got; 3]> {
-    let (mut a, mut b) = prepared(rt, alloc, wire)?;
+fn carry<R: Threads + Wait + Net>(rt: &R, alloc: Global, buf: &mut [u8; 8]) -> Option<[Got; 3]> {
+    let (mut a, mut b) = prepared(rt, alloc)?;
     carried(&mut a, &mut b, buf)
 }
 
 #[test]
-fn bytes_go_over_the_open_stream(rt: HostRuntime) -> Result<(), Fail> {
-    let alloc = rt.alloc();
-    let mut wire = MemWire::new(alloc, Vec::new(alloc), Vec::new(alloc));
+fn bytes_go_over_the_open_stream(rt: HostRuntime) {
     let mut buf = [0; 8];
-    let answers = carry(&rt, alloc, &mut wire, &mut buf);
-    assert_eq!(rt; answers, Some([Got::Bytes(5), Got::Nothing, Got::Over]));
-    assert_eq!(rt; &buf[..5], b"hello".as_slice());
-    Ok(())
+    let answers = carry(&rt, rt.alloc(), &mut buf);
+    let expected = [Got::Bytes(5), Got::Nothing, Got::Over];
+    assert_eq!(rt; (answers, buf), (Some(expected), *b"hello\0\0\0"));
 }
 
 // What a line's read answers once the other line has sent three bytes and both have met.
@@ -91,53 +100,40 @@ fn met<W: Wire>(a: &mut Streams<W::End>, b: &mut Streams<W::End>) -> Option<(Put
     Some((sent, a.receive(&mut [0; 8])))
 }
 
-fn meeting<W: Wire, R: Threads + Wait + Net>(
-    rt: &R,
-    alloc: Global,
-    wire: &mut W,
-) -> Option<(Put, Got)> {
-    let (mut a, mut b) = prepared(rt, alloc, wire)?;
-    met::<W>(&mut a, &mut b)
+fn meeting<R: Threads + Wait + Net>(rt: &R, alloc: Global) -> Option<(Put, Got)> {
+    let (mut a, mut b) = prepared(rt, alloc)?;
+    met::<MemWire>(&mut a, &mut b)
 }
 
 #[test]
-fn two_lines_meet(rt: HostRuntime) -> Result<(), Fail> {
-    let alloc = rt.alloc();
-    let mut wire = MemWire::new(alloc, Vec::new(alloc), Vec::new(alloc));
-    assert_eq!(rt;
-        meeting(&rt, alloc, &mut wire),
-        Some((Put::Took(3), Got::Bytes(3)))
-    );
-    Ok(())
+fn two_lines_meet(rt: HostRuntime) {
+    let answers = meeting(&rt, rt.alloc());
+    assert_eq!(rt; answers, Some((Put::Took(3), Got::Bytes(3))));
 }
 
-// The streams that a line has open, one after another, and whether one is left.
-fn opened<E: End>(a: &mut Streams<E>) -> Option<([Option<u32>; 3], bool)>
-    requires { a.old.is_open ≡ false }
+// The streams that a line has open, one after another, whether one is left, and how many there are.
+fn opened(mut a: Line) -> Option<([Option<u32>; 3], bool, usize)>
+    requires { a.is_open ≡ false }
 {
     let none = a.current();
     a.open_next()?;
     let first = a.current();
     a.end_current();
     let second = a.open_next();
-    Some(([none, first, second], a.has_next()))
+    Some(([none, first, second], a.has_next(), a.into_streams().len()))
 }
 
-fn opening<W: Wire, R: Threads + Wait + Net>(
+fn opening<R: Threads + Wait + Net>(
     rt: &R,
     alloc: Global,
-    wire: &mut W,
 ) -> Option<([Option<u32>; 3], bool, usize)> {
-    let (mut a, _b) = prepared(rt, alloc, wire)?;
-    let (numbers, left) = opened(&mut a)?;
-    Some((numbers, left, a.into_streams().len()))
+    let (a, _b) = prepared(rt, alloc)?;
+    opened(a)
 }
 
 #[test]
-fn streams_open_in_order(rt: HostRuntime) -> Result<(), Fail> {
-    let alloc = rt.alloc();
-    let mut wire = MemWire::new(alloc, Vec::new(alloc), Vec::new(alloc));
+fn streams_open_in_order(rt: HostRuntime) {
+    let answers = opening(&rt, rt.alloc());
     let numbers = [None, Some(1), Some(3)];
-    assert_eq!(rt; opening(&rt, alloc, &mut wire), Some((numbers, false, 2)));
-    Ok(())
+    assert_eq!(rt; answers, Some((numbers, false, 2)));
 }

@@ -1,17 +1,16 @@
-use Rattle.std.proofs.Common.{ℕ, List, sym, ap, subst, ◌∙◌}
+use Rattle.std.proofs.Common.{sym, ap, subst, ◌∙◌}
+use Rattle.rds_link.specs.Memory.{memory_means}
 use Rattle.rds_line_streams.specs.Meeting.{AtEach}
 use Rattle.rds_line_streams.specs.Streams.{numbers}
 use Rattle.rds_line_channel_tests.proofs.carrying.met.Goals as goal
 
 pub meet-requires-clause-numbers : goal.meet-requires-clause-numbers
-meet-requires-clause-numbers g c =
-    ap (λ (l : List (ℕ × g.row.W-End.Denot)). numbers l) c.open-2.ensures.list
-    ∙ (c.requires.numbers ∙ sym (ap (λ (l : List (ℕ × g.row.W-End.Denot)). numbers l) c.open.ensures.list))
+meet-requires-clause-numbers c =
+    ap (λ l. numbers l) c.open-2.ensures.list ∙ (c.requires.numbers ∙ sym (ap (λ l. numbers l) c.open.ensures.list))
 
 pub meet-requires-clause-pairs : goal.meet-requires-clause-pairs
-meet-requires-clause-pairs g c =
-    let meets = g.W.End.End.means.meets in
+meet-requires-clause-pairs c =
     let first = c.args.a.now.streams.list in
     let second = c.open-2.new.c.streams.list in
-    subst (λ (l : List (ℕ × g.row.W-End.Denot)). AtEach meets l second) (sym c.open.ensures.list)
-    (subst (λ (l : List (ℕ × g.row.W-End.Denot)). AtEach meets first l) (sym c.open-2.ensures.list) c.requires.pairs)
+    subst (λ l. AtEach memory_means.meets l second) (sym c.open.ensures.list)
+    (subst (λ l. AtEach memory_means.meets first l) (sym c.open-2.ensures.list) c.requires.pairs)
