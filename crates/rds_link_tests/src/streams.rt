@@ -4,7 +4,7 @@ ghost use Rattle.rds_link.specs.Ends.{Remains};
 ghost use Rattle.rds_link.specs.Memory.{memory_means};
 
 use rds_link::*;
-use std::alloc::{AllocError, Global};
+use std::alloc::Global;
 use std::net::Net;
 use std::sync::Wait;
 use std::test::*;
@@ -54,27 +54,26 @@ fn send_all<E: End, R: Wait>(rt: &R, end: &mut E, bytes: &[u8]) {
     }
 }
 
-// Reads in pieces of 1 to 4,096, until so many bytes have come or the stream is over.
-fn get_all<E: End, R: Wait>(
-    rt: &R,
-    end: &mut E,
-    got: &mut Vec<u8>,
-    wanted: usize,
-) -> Result<(), AllocError> {
+// Reads in pieces of 1 to 4,096, until so many bytes have come or the stream is over. Whether there was memory for all.
+fn get_all<E: End, R: Wait>(rt: &R, end: &mut E, got: &mut Vec<u8>, wanted: usize) -> bool {
     let mut state = 3;
     let mut buf = [0u8; 4096];
     for _ in rt.forever() {
-        if got.len() >= wanted {
-            return Ok(());
-        }
         let count = next(&mut state) % 4096 + 1;
+        if got.len() >= wanted {
+            return true;
+        }
         match end.read(&mut buf[..count]) {
-            Got::Bytes(came) => got.extend_from_slice(&buf[..came])?,
+            Got::Bytes(came) => {
+                if got.extend_from_slice(&buf[..came]).is_err() {
+                    return false;
+                }
+            }
             Got::Nothing => end.rest(rt),
-            Got::Over => return Ok(()),
+            Got::Over => return true,
         }
     }
-    Ok(())
+    true
 }
 
 // Sends the bytes from one thread to another, and cuts the stream behind them if asked to. Whether what came is a
@@ -98,7 +97,7 @@ fn carries<E: End + Send, R: Threads + Wait + Sync>(
         },
         move || get_all(rt, b, came, MEGABYTE),
     );
-    read.is_ok() && sent.starts_with(&got) && (cuts || got.len() == sent.len())
+    read && sent.starts_with(&got) && (cuts || got.len() == sent.len())
 }
 
 #[test]
