@@ -262,7 +262,8 @@ fn refuses_three<W: Wire, R: Threads + Wait + Net>(rt: &R, wire: &mut W) -> bool
 // The same of a wire in memory whose openings with these numbers fail.
 fn fails_to_open<R: Threads + Wait + Net>(rt: &R, alloc: Global, fail: Vec<u32>) -> bool {
     let mut wire = MemWire::new(alloc, fail, Vec::new(alloc));
-    refuses_three(rt, &mut wire) && wire.can_fail() && wire.tells()
+    let refuses = refuses_three(rt, &mut wire) && wire.faults() == 3;
+    refuses && wire.can_fail() && wire.tells()
 }
 
 #[test]
