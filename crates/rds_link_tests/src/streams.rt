@@ -1,10 +1,10 @@
 //! Streams in memory, mostly from two threads.
-ghost use Rattle.std.specs.Prelude.{◌≡◌, ◌<◌, true};
+ghost use Rattle.std.specs.Prelude.{◌≡◌, ◌<◌, ◌≤◌, true, length};
 ghost use Rattle.rds_link.specs.Ends.{Remains};
 ghost use Rattle.rds_link.specs.Memory.{memory_means};
 
 use rds_link::*;
-use std::alloc::{AllocError, Global};
+use std::alloc::Global;
 use std::net::Net;
 use std::sync::Wait;
 use std::test::*;
@@ -27,70 +27,77 @@ fn fill(bytes: &mut [u8]) {
     }
 }
 
-// Writes the bytes in pieces of 1 to `most`, until they are taken or the stream is over.
-fn send_all<E: End, R: Wait>(rt: &R, end: &mut E, bytes: &[u8], most: usize)
-    requires { 0 < most }
+// Writes a piece of the bytes of at most this size, and gives what is left of them: nothing once the stream is over.
+fn send_piece<'a, E: End, R: Wait>(rt: &R, end: &mut E, bytes: &'a [u8], most: usize) -> &'a [u8]
+    requires some { 0 < length bytes.now }
+    requires most { 0 < most }
 {
+    match end.write(&bytes[..most.min(bytes.len())]) {
+        Put::Took(taken) => &bytes[taken..],
+        Put::Full => {
+            end.rest(rt);
+            bytes
+        }
+        Put::Over => &[],
+    }
+}
+
+// Writes the bytes in pieces of 1 to 9,000, until they are taken or the stream is over.
+fn send_all<E: End, R: Wait>(rt: &R, end: &mut E, bytes: &[u8]) {
     let mut state = 2;
     let mut rest = bytes;
     for _ in rt.forever() {
         if rest.is_empty() {
             return;
         }
-        let count = (next(&mut state) % most + 1).min(rest.len());
-        match end.write(&rest[..count]) {
-            Put::Took(taken) => rest = &rest[taken..],
-            Put::Full => end.rest(rt),
-            Put::Over => return,
-        }
+        rest = send_piece(rt, end, rest, next(&mut state) % 9000 + 1);
     }
 }
 
-// Reads in pieces of 1 to 4,096, until so many bytes have come or the stream is over.
-fn get_all<E: End, R: Wait>(
-    rt: &R,
-    end: &mut E,
-    got: &mut Vec<u8>,
-    wanted: usize,
-) -> Result<(), AllocError> {
+// Reads in pieces of 1 to 4,096, until so many bytes have come or the stream is over. Whether there was memory for all.
+fn get_all<E: End, R: Wait>(rt: &R, end: &mut E, got: &mut Vec<u8>, wanted: usize) -> bool {
     let mut state = 3;
     let mut buf = [0u8; 4096];
     for _ in rt.forever() {
-        if got.len() >= wanted {
-            return Ok(());
-        }
         let count = next(&mut state) % 4096 + 1;
+        if got.len() >= wanted {
+            return true;
+        }
         match end.read(&mut buf[..count]) {
-            Got::Bytes(came) => got.extend_from_slice(&buf[..came])?,
+            Got::Bytes(came) => {
+                if got.extend_from_slice(&buf[..came]).is_err() {
+                    return false;
+                }
+            }
             Got::Nothing => end.rest(rt),
-            Got::Over => return Ok(()),
+            Got::Over => return true,
         }
     }
-    Ok(())
+    true
 }
 
 // Sends the bytes from one thread to another, and cuts the stream behind them if asked to. Whether what came is a
 // beginning of them, and all of them where nothing was cut.
 fn carries<E: End + Send, R: Threads + Wait + Sync>(
     rt: &R,
-    ends: &mut (E, E),
-    got: &mut Vec<u8>,
+    ends: (E, E),
+    mut got: Vec<u8>,
     sent: &[u8],
     cuts: bool,
 ) -> bool {
-    let (a, b) = (&mut ends.0, &mut ends.1);
-    let came = &mut *got;
+    let (mut a, mut b) = ends;
+    let (a, b, came) = (&mut a, &mut b, &mut got);
     let (_, read) = thread::join(
         rt,
         move || {
-            send_all(rt, a, sent, 9000);
+            send_all(rt, a, sent);
             if cuts {
                 a.shut();
             }
         },
         move || get_all(rt, b, came, MEGABYTE),
     );
-    read.is_ok() && sent.starts_with(got) && (cuts || got.len() == sent.len())
+    read && sent.starts_with(&got) && (cuts || got.len() == sent.len())
 }
 
 #[test]
@@ -98,7 +105,7 @@ fn a_megabyte_in_random_pieces_arrives_as_it_was_sent(rt: HostRuntime) -> Result
     let alloc = rt.alloc();
     let mut sent = vec![in alloc; 0u8; MEGABYTE]?;
     fill(&mut sent);
-    assert!(rt; is_carried(&rt, alloc, &sent, false)?);
+    assert!(rt; is_carried(&rt, alloc, &sent, false));
     Ok(())
 }
 
@@ -107,30 +114,39 @@ fn is_carried<R: Threads + Wait + Net + Sync>(
     alloc: Global,
     sent: &[u8],
     cuts: bool,
-) -> Result<bool, Fail> {
+) -> bool {
     let mut wire = MemWire::new(alloc, Vec::new(alloc), Vec::new(alloc));
-    let mut ends = wire.open(rt, 1, 2, 1)?;
-    Ok(carries(rt, &mut ends, &mut Vec::new(alloc), sent, cuts))
+    let Ok(ends) = wire.open(rt, 1, 2, 1) else {
+        return false;
+    };
+    carries(rt, ends, Vec::new(alloc), sent, cuts)
 }
 
 #[test]
-fn cuts_at_every_byte_of_a_frame_leave_a_prefix(rt: HostRuntime) -> Result<(), Fail> {
+fn cuts_at_every_byte_of_a_frame_leave_a_prefix(rt: HostRuntime) {
     let mut frame = [0u8; 60];
     fill(&mut frame);
     for count in 0..=60 {
-        assert!(rt; is_carried(&rt, rt.alloc(), &frame[..count], true)?);
+        assert!(rt; is_carried(&rt, rt.alloc(), &frame[..count], true));
     }
-    Ok(())
 }
 
-fn shutting(mut end: MemEnd) -> MemEnd
-    ensures { Remains memory_means end result }
+fn shutting<E: End>(mut end: E) -> E
+    ensures { Remains E.means end result }
 {
     end.shut();
     end
 }
 
-// What the ends of a stream answer once both have been shut at once and have met.
+// What the ends of a stream answer once they have met.
+fn met<W: Wire>(a: &mut W::End, b: &mut W::End) -> (Got, Put)
+    requires { W.End.means.meets a.old b.old }
+{
+    W::meet(a, b);
+    (a.read(&mut [0; 8]), b.write(&[1]))
+}
+
+// The same once both have been shut at once.
 fn race<R: Threads + Sync>(rt: &R, a: MemEnd, b: MemEnd) -> (Got, Put)
     requires { memory_means.meets a b }
 {
@@ -143,8 +159,7 @@ fn race<R: Threads + Sync>(rt: &R, a: MemEnd, b: MemEnd) -> (Got, Put)
             ensures { Remains memory_means b result }
         { shutting(b) },
     );
-    MemWire::meet(&mut a, &mut b);
-    (a.read(&mut [0; 8]), b.write(&[1]))
+    met::<MemWire>(&mut a, &mut b)
 }
 
 fn raced<R: Threads + Wait + Net + Sync>(rt: &R, wire: &mut MemWire) -> Option<(Got, Put)> {
@@ -155,13 +170,12 @@ fn raced<R: Threads + Wait + Net + Sync>(rt: &R, wire: &mut MemWire) -> Option<(
 }
 
 #[test]
-fn both_ends_shut_at_once(rt: HostRuntime) -> Result<(), Fail> {
+fn both_ends_shut_at_once(rt: HostRuntime) {
     let alloc = rt.alloc();
     let mut wire = MemWire::new(alloc, Vec::new(alloc), Vec::new(alloc));
     for _ in 0..20 {
-        assert_eq!(rt; raced(&rt, &mut wire), Some((Got::Over, Put::Over)));
+        assert!(rt; raced(&rt, &mut wire) == Some((Got::Over, Put::Over)));
     }
-    Ok(())
 }
 
 // Opens a stream and gives both of its ends back, and answers whether it could: then as many ends are out as before.
@@ -177,11 +191,10 @@ fn is_given_back<W: Wire, R: Threads + Wait + Net>(rt: &R, wire: &mut W) -> bool
 }
 
 #[test]
-fn both_ends_are_given_back(rt: HostRuntime) -> Result<(), Fail> {
+fn both_ends_are_given_back(rt: HostRuntime) {
     let alloc = rt.alloc();
     let mut wire = MemWire::new(alloc, Vec::new(alloc), Vec::new(alloc));
     assert!(rt; is_given_back(&rt, &mut wire));
-    Ok(())
 }
 
 // The answers to a write, a read of what came and a read of nothing.
@@ -193,63 +206,94 @@ fn answers<E: End>(a: &mut E, b: &mut E) -> (Put, Got, Got) {
     (sent, came, b.read(&mut buf))
 }
 
-// These answers of an end whose call with this number fails, and how many faults it has had.
-fn failing<R: Threads + Wait + Net>(
+// These answers of an end of a stream, and how many faults the wire counts once it has the end back.
+fn answered<W: Wire, R: Threads + Wait + Net>(
     rt: &R,
-    alloc: Global,
-    number: u32,
-) -> Result<((Put, Got, Got), u64), Fail> {
-    let mut wire = MemWire::new(alloc, Vec::new(alloc), vec![in alloc; number]?);
+    wire: &mut W,
+) -> Result<((Put, Got, Got), u64), WireError> {
     let (mut a, mut b) = wire.open(rt, 1, 2, 1)?;
     let all = answers(&mut a, &mut b);
     wire.give_back(rt, b);
-    Ok((all, wire.faults()))
+    Ok((all, wire.counts().faults))
+}
+
+// Whether these are the answers and the faults of an end whose call with this number fails.
+fn is_failing<R: Threads + Wait + Net>(
+    rt: &R,
+    alloc: Global,
+    number: u32,
+    answers: (Put, Got, Got),
+    faults: u64,
+) -> bool {
+    let Ok(fail) = Vec::from_array(alloc, [number]) else {
+        return false;
+    };
+    let mut wire = MemWire::new(alloc, Vec::new(alloc), fail);
+    answered(rt, &mut wire) == Ok((answers, faults))
 }
 
 #[test]
-fn every_call_of_an_end_fails_in_turn(rt: HostRuntime) -> Result<(), Fail> {
+fn every_call_of_an_end_fails_in_turn(rt: HostRuntime) {
     let alloc = rt.alloc();
     let over = (Put::Over, Got::Over, Got::Over);
-    assert_eq!(rt; failing(&rt, alloc, 1)?, (over, 1));
+    assert!(rt; is_failing(&rt, alloc, 1, over, 1));
     let over = (Put::Took(5), Got::Over, Got::Over);
-    assert_eq!(rt; failing(&rt, alloc, 2)?, (over, 1));
+    assert!(rt; is_failing(&rt, alloc, 2, over, 1));
     let over = (Put::Took(5), Got::Bytes(2), Got::Over);
-    assert_eq!(rt; failing(&rt, alloc, 3)?, (over, 1));
+    assert!(rt; is_failing(&rt, alloc, 3, over, 1));
     let none = (Put::Took(5), Got::Bytes(2), Got::Nothing);
-    assert_eq!(rt; failing(&rt, alloc, 4)?, (none, 0));
-    Ok(())
+    assert!(rt; is_failing(&rt, alloc, 4, none, 0));
 }
 
-fn refused<R: Threads + Wait + Net>(rt: &R, wire: &mut MemWire) -> bool {
-    matches!(wire.open(rt, 1, 2, 1), Err(WireError::Fault))
+// Whether an opening fails.
+fn refused<W: Wire, R: Threads + Wait + Net>(rt: &R, wire: &mut W) -> bool {
+    match wire.open(rt, 1, 2, 1) {
+        Ok((_a, _b)) => false,
+        Err(error) => error == WireError::Fault,
+    }
+}
+
+// Whether the first, the second and the fourth opening fail, and not the third.
+fn refuses_three<W: Wire, R: Threads + Wait + Net>(rt: &R, wire: &mut W) -> bool {
+    let first = refused(rt, wire) && refused(rt, wire);
+    first && !refused(rt, wire) && refused(rt, wire) && wire.counts().faults == 3
+}
+
+// The same of a wire in memory whose openings with these numbers fail.
+fn fails_to_open<R: Threads + Wait + Net>(rt: &R, alloc: Global, fail: Vec<u32>) -> bool {
+    let mut wire = MemWire::new(alloc, fail, Vec::new(alloc));
+    let refuses = refuses_three(rt, &mut wire) && wire.faults() == 3;
+    refuses && wire.can_fail() && wire.tells()
 }
 
 #[test]
 fn openings_fail_by_their_numbers(rt: HostRuntime) -> Result<(), Fail> {
-    let alloc = rt.alloc();
-    let mut wire = MemWire::new(alloc, vec![in alloc; 1, 2, 4]?, Vec::new(alloc));
-    assert!(rt; refused(&rt, &mut wire) && refused(&rt, &mut wire));
-    assert!(rt; !refused(&rt, &mut wire) && refused(&rt, &mut wire));
-    assert_eq!(rt; wire.counts().faults, 3);
-    assert!(rt; wire.can_fail());
-    assert!(rt; wire.tells() && OpenGate.at(0, 0));
+    let fail = vec![in rt.alloc(); 1, 2, 4]?;
+    assert!(rt; fails_to_open(&rt, rt.alloc(), fail));
+    assert!(rt; OpenGate.at(0, 0));
     Ok(())
 }
 
-fn overfilled<R: Threads + Wait + Net>(rt: &R, wire: &mut MemWire) -> Result<(Put, Put), Fail> {
+// The answers of an end of a stream to two writes, and how many answers `Full` the wire counts once it has the end back.
+fn written_twice<W: Wire, R: Threads + Wait + Net>(
+    rt: &R,
+    wire: &mut W,
+    piece: &[u8],
+) -> Result<(Put, Put, u64), WireError>
+    requires { 0 < length piece.now }
+{
     let (mut a, _b) = wire.open(rt, 1, 2, 1)?;
-    let piece = [7; ROOM + 1];
-    let answers = (a.write(&piece), a.write(&piece));
+    let first = a.write(piece);
+    let second = a.write(piece);
     wire.give_back(rt, a);
-    Ok(answers)
+    Ok((first, second, wire.counts().fulls))
 }
 
 #[test]
-fn a_full_stream_takes_no_byte_more(rt: HostRuntime) -> Result<(), Fail> {
+fn a_full_stream_takes_no_byte_more(rt: HostRuntime) {
     let alloc = rt.alloc();
     let mut wire = MemWire::new(alloc, Vec::new(alloc), Vec::new(alloc));
-    assert_eq!(rt; overfilled(&rt, &mut wire)?, (Put::Took(ROOM), Put::Full));
-    assert_eq!(rt; wire.counts().fulls, 1);
+    let answers = written_twice(&rt, &mut wire, &[7; ROOM + 1]);
+    assert!(rt; answers == Ok((Put::Took(ROOM), Put::Full, 1)));
     assert!(rt; !wire.can_fail());
-    Ok(())
 }

@@ -1,5 +1,6 @@
 //! One thread puts and gets.
-ghost use Rattle.std.specs.Prelude.{◌≡◌};
+ghost use Rattle.std.specs.Prelude.{◌≡◌, true};
+ghost use Rattle.rds_mail.specs.Passes.{after_put};
 
 use rds_mail::{Asked, GetPass, Mail, PutPass};
 use rds_model::Order;
@@ -9,18 +10,18 @@ use std::process::Abort;
 use std::sync::Wait;
 use std::test::Fail;
 
-fn puts_two<R: Abort + Wait>(
+// Puts an item, and tells whether there was memory for it.
+pub(crate) fn is_put<T: Drop, R: Wait>(
     rt: &R,
-    mail: &Mail<u32>,
-    first: &mut PutPass<u32>,
-    second: &mut PutPass<u32>,
-)
-    requires first { first.old.mail ≡ mail.now.line }
-    requires second { second.old.mail ≡ mail.now.line }
-    ensures { second.new.mail ≡ mail.now.line }
+    mail: &Mail<T>,
+    put: &mut PutPass<T>,
+    item: T,
+) -> bool
+    requires { put.old.mail ≡ mail.now.line }
+    ensures put { result ≡ true → put.new ≡ after_put put.old item }
+    ensures mail { put.new.mail ≡ mail.now.line }
 {
-    assert!(rt; mail.put(rt, first, 5).is_ok());
-    assert!(rt; mail.put(rt, second, 6).is_ok());
+    mail.put(rt, put, item).is_ok()
 }
 
 // Gets the item of one putter, and by a note the item of the other.
@@ -33,11 +34,11 @@ fn gets_two<R: Abort + Wait>(
     requires other { other.old.mail ≡ mail.now.line }
     requires get { get.old.mail ≡ mail.now.line }
 {
-    assert_eq!(rt; mail.get(rt, get), Some(5));
+    let first = mail.get(rt, get);
     let note = mail.note(other);
     mail.learn(get, note);
-    assert_eq!(rt; mail.get(rt, get), Some(6));
-    assert_eq!(rt; mail.get(rt, get), None);
+    let second = mail.get(rt, get);
+    assert!(rt; first == Some(5) && second == Some(6) && mail.get(rt, get).is_none());
 }
 
 fn come_in_order<R: Abort + Wait>(
@@ -49,9 +50,9 @@ fn come_in_order<R: Abort + Wait>(
     requires put { put.old.mail ≡ mail.now.line }
     requires get { get.old.mail ≡ mail.now.line }
 {
-    assert_eq!(rt; mail.get(rt, get), None);
+    assert!(rt; mail.get(rt, get).is_none());
     let mut other = mail.split(put);
-    puts_two(rt, mail, put, &mut other);
+    assert!(rt; is_put(rt, mail, put, 5) && is_put(rt, mail, &mut other, 6));
     gets_two(rt, mail, &mut other, get);
 }
 
@@ -73,11 +74,13 @@ fn hello(alloc: Global) -> Result<Asked, Memory> {
 }
 
 // Puts an order, and a cut behind it.
-fn puts_orders<R: Abort + Wait>(rt: &R, mail: &Mail<Asked>, put: &mut PutPass<Asked>, hello: Asked)
+fn puts_orders<R: Wait>(rt: &R, alloc: Global, mail: &Mail<Asked>, put: &mut PutPass<Asked>) -> bool
     requires { put.old.mail ≡ mail.now.line }
 {
-    assert!(rt; mail.put(rt, put, hello).is_ok());
-    assert!(rt; mail.put(rt, put, Asked::new(Order::Cut)).is_ok());
+    let Ok(hello) = hello(alloc) else {
+        return false;
+    };
+    is_put(rt, mail, put, hello) && is_put(rt, mail, put, Asked::new(Order::Cut))
 }
 
 fn gets_hello<R: Abort + Wait>(rt: &R, mail: &Mail<Asked>, get: &mut GetPass<Asked>)
@@ -99,9 +102,8 @@ fn gets_hello<R: Abort + Wait>(rt: &R, mail: &Mail<Asked>, get: &mut GetPass<Ask
 
 #[test]
 fn orders_are_items(rt: HostRuntime) -> Result<(), Fail> {
-    let hello = hello(rt.alloc())?;
     let (mail, mut put, mut get) = Mail::<Asked>::new(rt.alloc())?;
-    puts_orders(&rt, &mail, &mut put, hello);
+    assert!(rt; puts_orders(&rt, rt.alloc(), &mail, &mut put));
     gets_hello(&rt, &mail, &mut get);
     Ok(())
 }

@@ -2,22 +2,38 @@
 use rds_model::{Entry, Journal, JournalError, Target, laws};
 use std::test::Fail;
 
-#[test]
-fn entries_stand_in_the_order_of_pushing(rt: HostRuntime) -> Result<(), Fail> {
-    let mut journal = Journal::new(rt.alloc(), 4)?;
-    assert!(rt; journal.is_empty());
-    assert!(rt; journal.reserve(2).is_ok());
+// Pushes two entries, and tells whether there was room for them.
+fn pushes_two(journal: &mut Journal) -> bool {
+    if journal.reserve(2).is_err() {
+        return false;
+    }
     journal.push(Entry::Open { stream: 7 });
     journal.push(Entry::Cancel {
         slot: 3,
         target: Target::All,
     });
-    assert_eq!(rt; journal.len(), 2);
-    assert!(rt; matches!(journal.at(0), Some(Entry::Open { stream: 7 })));
-    assert!(rt; matches!(journal.at(1), Some(Entry::Cancel { slot: 3, .. })));
-    assert!(rt; journal.at(2).is_none());
-    assert_eq!(rt; journal.reserve(3), Err(JournalError::Spent { entries: 2 }));
-    assert!(rt; journal.reserve(2).is_ok());
+    true
+}
+
+// Whether a journal has these two entries, in this order, and no more.
+fn has_two(journal: &Journal) -> bool {
+    let first = matches!(journal.at(0), Some(Entry::Open { stream: 7 }));
+    let second = matches!(journal.at(1), Some(Entry::Cancel { slot: 3, .. }));
+    first && second && journal.at(2).is_none() && journal.len() == 2
+}
+
+// Whether a journal of two entries has room for just two more.
+fn has_room_for_two(journal: &mut Journal) -> bool {
+    let spent = Err(JournalError::Spent { entries: 2 });
+    journal.reserve(3) == spent && journal.reserve(2).is_ok()
+}
+
+#[test]
+fn entries_stand_in_the_order_of_pushing(rt: HostRuntime) -> Result<(), Fail> {
+    let mut journal = Journal::new(rt.alloc(), 4)?;
+    assert!(rt; journal.is_empty() && pushes_two(&mut journal));
+    assert!(rt; has_two(&journal));
+    assert!(rt; has_room_for_two(&mut journal));
     Ok(())
 }
 

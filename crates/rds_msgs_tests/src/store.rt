@@ -30,14 +30,21 @@ fn accept(store: &mut Store, num: u64, slot: u16, dport: u16) -> Result<(), Memo
     Ok(())
 }
 
-/// Messages 1 to 5: of slot 0 to ports 400, 500 and 400, of slot 1 to port 400, and a pong. Two are pulled.
+/// Appends messages 1 to 5: of slot 0 to ports 400, 500 and 400, of slot 1 to port 400, and a pong.
+fn fill(store: &mut Store) -> Result<(), Memory>
+    requires { All (λ (k : Msg). k.num < 1) store.old.messages }
+{
+    accept(store, 1, 0, 400)?;
+    accept(store, 2, 0, 500)?;
+    accept(store, 3, 1, 400)?;
+    accept(store, 4, 0, 400)?;
+    accept(store, 5, NO_SLOT, 900)
+}
+
+/// A store of these messages, two of which are pulled.
 fn five(alloc: Global) -> Result<Store, Memory> {
     let mut store = Store::new(alloc, 2)?;
-    accept(&mut store, 1, 0, 400)?;
-    accept(&mut store, 2, 0, 500)?;
-    accept(&mut store, 3, 1, 400)?;
-    accept(&mut store, 4, 0, 400)?;
-    accept(&mut store, 5, NO_SLOT, 900)?;
+    fill(&mut store)?;
     pull(&mut store);
     pull(&mut store);
     Ok(store)
@@ -53,45 +60,73 @@ fn pull(store: &mut Store) -> u64 {
     num
 }
 
-fn cancelling<L: Ledger>(rt: &impl Abort, alloc: Global, blank: Blank) -> Result<(), Fail>
-    requires name { blank.name ≡ L.name }
-    requires parts { blank.parts ≡ L.parts }
-    requires whole { 0 < L.parts }
-{
-    let mut steps = Steps::<L>::new(blank);
-    let mut store = five(alloc)?;
+/// Whether these are the messages of slot 0 to port 400.
+fn covers(alloc: Global, store: &Store, numbers: &[u64]) -> bool {
     let mut out = Vec::new(alloc);
-    store.covered(0, &Target::Port(400), &mut out)?;
-    assert_eq!(rt; out.as_slice(), [1, 4].as_slice());
-    assert_eq!(rt; store.cancel(0, 400, &mut steps), 8);
-    assert_eq!(rt; pull(&mut store), 3, "2 stays pulled");
-    assert_eq!(rt; store.cancel_all(1, &mut steps), 4);
-    assert_eq!(rt; pull(&mut store), 5);
-    assert_eq!(rt; store.len(), 2);
-    Ok(())
+    store.covered(0, &Target::Port(400), &mut out).is_ok() && out.as_slice() == numbers
 }
 
-fn acknowledging<L: Ledger>(rt: &impl Abort, alloc: Global, blank: Blank) -> Result<(), Fail>
+/// Cancels these messages and then those of slot 1: how many bytes each time, and which message is pulled next.
+fn cancels<L: Ledger>(store: &mut Store, steps: &mut Steps<L>) -> [u64; 4] {
+    let port = store.cancel(0, 400, steps);
+    let third = pull(store);
+    let slot = store.cancel_all(1, steps);
+    [port, third, slot, pull(store)]
+}
+
+fn cancelling<L: Ledger>(rt: &impl Abort, alloc: Global, store: &mut Store, blank: Blank)
     requires name { blank.name ≡ L.name }
     requires parts { blank.parts ≡ L.parts }
     requires whole { 0 < L.parts }
 {
     let mut steps = Steps::<L>::new(blank);
-    let mut store = five(alloc)?;
-    assert!(rt; store.pop_acked(0, &mut steps).is_none());
-    assert_eq!(rt; store.pop_acked(2, &mut steps).map(|m| m.num), Some(1));
-    assert_eq!(rt; pull(&mut store), 3, "2 stays pulled");
+    assert!(rt; covers(alloc, store, &[1, 4]));
+    assert!(rt;
+        cancels(store, &mut steps) == [8, 3, 4, 5],
+        "2 stays pulled"
+    );
+    assert!(rt; store.len() == 2);
+}
+
+/// Takes out the first message where it is acknowledged, and gives its number, or 0 where it stays.
+fn pop<L: Ledger>(store: &mut Store, upto: u64, steps: &mut Steps<L>) -> u64 {
+    let Some(m) = store.pop_acked(upto, steps) else {
+        return 0;
+    };
+    m.num
+}
+
+/// What leaves where 0 messages and then 2 are acknowledged, and what is pulled next, before and after a reset.
+fn acknowledges<L: Ledger>(store: &mut Store, steps: &mut Steps<L>) -> [u64; 4] {
+    let none = pop(store, 0, steps);
+    let first = pop(store, 2, steps);
+    let third = pull(store);
     store.reset();
-    assert_eq!(rt; pull(&mut store), 2);
-    Ok(())
+    [none, first, third, pull(store)]
+}
+
+fn acknowledging<L: Ledger>(rt: &impl Abort, store: &mut Store, blank: Blank)
+    requires name { blank.name ≡ L.name }
+    requires parts { blank.parts ≡ L.parts }
+    requires whole { 0 < L.parts }
+{
+    let mut steps = Steps::<L>::new(blank);
+    assert!(rt;
+        acknowledges(store, &mut steps) == [0, 1, 3, 2],
+        "2 stays pulled"
+    );
 }
 
 #[test]
 fn cancelled_messages_leave(rt: HostRuntime) -> Result<(), Fail> {
-    cancelling::<Brand>(&rt, rt.alloc(), Blank::new(1))
+    let mut store = five(rt.alloc())?;
+    cancelling::<Brand>(&rt, rt.alloc(), &mut store, Blank::new(1));
+    Ok(())
 }
 
 #[test]
 fn acknowledged_messages_leave(rt: HostRuntime) -> Result<(), Fail> {
-    acknowledging::<Brand>(&rt, rt.alloc(), Blank::new(1))
+    let mut store = five(rt.alloc())?;
+    acknowledging::<Brand>(&rt, &mut store, Blank::new(1));
+    Ok(())
 }
