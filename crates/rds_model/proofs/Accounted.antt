@@ -81,6 +81,7 @@ module _ (sport dport : ℕ) (a b : List Entry) (peers : ArePeers a b) where
         slot = k;
         stream = x.stream;
         frame = x.frame;
+        numbered = x.is;
         read = subst (λ (o : Outcome). Contains b (Read x.stream x.frame o)) is (at_moment x.at);
         listed = among (is_delivery_to k) n acc x (ap (is_delivery_to k) is ∙ eq-eqb k k refl);
       })

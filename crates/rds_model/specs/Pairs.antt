@@ -88,11 +88,12 @@ pub record IsDeliveredOnce (sport dport : ℕ) (a b : List Entry) : Type 0 where
       Contains (delivered sport dport b) n ⊎ Contains (dropped sport dport b) n
       ⊎ Contains (taken_by_port_0 sport dport b) n ⊎ Contains (taken_back sport dport a) n
 
--- a number of the pair was delivered to a slot, by a read of the journal
+-- a number of the pair was delivered to a slot, by a read of its frame in the journal
 pub record IsDeliveredAt (sport dport n : ℕ) (b : List Entry) : Type 0 where
   pub slot : ℕ
   pub stream : ℕ
   pub frame : Frame
+  pub numbered : number frame ≡ n
   pub read : Contains b (Read stream frame (outcome.Slot slot))
   pub listed : Contains (delivered_to slot sport dport b) n
 
