@@ -5,25 +5,7 @@ use Rattle.std.specs.List.{flat_map, AllPairs}
 use Rattle.std.proofs.lemmas.Bool.{ne_eqb, eqb-true}
 use Rattle.std.proofs.lemmas.List.{append-nil}
 use Rattle.rds_model.specs.declared.entry.Entry.{Entry}
-use Rattle.rds_model.specs.declared.entry.Entry.TheVariants.{Accept, Read}
-use Rattle.rds_model.specs.Past.{accepted}
-use Rattle.rds_report.specs.declared.item.Item.{Item}
 use Rattle.rds_report.specs.FinalState.{FinalJournal, FinalHost, past_with}
-use Rattle.rds_report.specs.Items.{accepted_items, read_items}
-
--- the items of what a host sent, where such numbers were taken back and never arrived
-abbrev pub sent_items : (from to : ℕ) → (ℕ → Bool) → List Entry → List Item
-sent_items from to lost [] = []
-sent_items from to lost (Accept slot sport dport payload ∷ past) =
-    sent_items from to lost past ++ accepted_items from to sport dport (lost (suc (accepted past)))
-sent_items from to lost (_ ∷ past) = sent_items from to lost past
-
--- the items of what came to a host and went to no socket
-abbrev pub came_items : (from to : ℕ) → List Entry → List Item
-came_items from to [] = []
-came_items from to (Read stream frame outcome ∷ past) =
-    came_items from to past ++ read_items to frame.header.dport from frame.header.sport outcome
-came_items from to (_ ∷ past) = came_items from to past
 
 -- lists of which each differs from those after it
 

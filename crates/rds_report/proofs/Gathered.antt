@@ -7,15 +7,32 @@ use Rattle.rds_model.specs.declared.entry.Entry.{Entry}
 use Rattle.rds_model.specs.declared.entry.Entry.TheVariants.{Accept, Cancel, Open, Pull, Read, Shut, Bad}
 use Rattle.rds_model.specs.Past.{accepted}
 use Rattle.rds_report.specs.declared.item.Item.{Item}
-use Rattle.rds_report.specs.Items.{journal_items, arrival_items, accepted_items}
+use Rattle.rds_report.specs.Items.{came_items, arrival_items, sent_items, accepted_items}
+
+came_one : (from to : ℕ) (e : Entry) (past : List Entry) →
+    came_items from to past ++ arrival_items from to e ≡ came_items from to (e ∷ past)
+came_one from to (Read stream frame outcome) past = refl
+came_one from to (Accept slot sport dport payload) past = append-nil (came_items from to past)
+came_one from to (Cancel slot target) past = append-nil (came_items from to past)
+came_one from to (Open stream) past = append-nil (came_items from to past)
+came_one from to (Pull stream frame) past = append-nil (came_items from to past)
+came_one from to (Shut stream) past = append-nil (came_items from to past)
+came_one from to (Bad stream header cause) past = append-nil (came_items from to past)
+
+pub came_more : (from to : ℕ) (e : Entry) (past : List Entry) (old now : List Item) → now ≡ old ++ came_items from to past →
+    now ++ arrival_items from to e ≡ old ++ came_items from to (e ∷ past)
+came_more from to e past old now is =
+    ap (λ (l : List Item). l ++ arrival_items from to e) is
+    ∙ append_assoc old (came_items from to past) (arrival_items from to e)
+    ∙ ap (λ (l : List Item). old ++ l) (came_one from to e past)
 
 -- an acceptance
-pub journal_accept : (host peer : ℕ) (lost : ℕ → Bool) (slot sport dport : ℕ) (payload : List ℕ) (past : List Entry) (old now : List Item) →
-    now ≡ old ++ journal_items host peer lost past →
-    now ++ accepted_items host peer sport dport (lost (suc (accepted past))) ≡ old ++ journal_items host peer lost (Accept slot sport dport payload ∷ past)
-journal_accept host peer lost slot sport dport payload past old now is =
-    ap (λ (l : List Item). l ++ accepted_items host peer sport dport (lost (suc (accepted past)))) is
-    ∙ append_assoc old (journal_items host peer lost past) (accepted_items host peer sport dport (lost (suc (accepted past))))
+pub sent_accept : (from to : ℕ) (lost : ℕ → Bool) (slot sport dport : ℕ) (payload : List ℕ) (past : List Entry) (old now : List Item) →
+    now ≡ old ++ sent_items from to lost past →
+    now ++ accepted_items from to sport dport (lost (suc (accepted past))) ≡ old ++ sent_items from to lost (Accept slot sport dport payload ∷ past)
+sent_accept from to lost slot sport dport payload past old now is =
+    ap (λ (l : List Item). l ++ accepted_items from to sport dport (lost (suc (accepted past)))) is
+    ∙ append_assoc old (sent_items from to lost past) (accepted_items from to sport dport (lost (suc (accepted past))))
 
 -- any other entry
 pub accepted_other : (e : Entry) (past : List Entry) → ((slot sport dport : ℕ) (payload : List ℕ) → e ≡ Accept slot sport dport payload → ⊥) →
@@ -28,24 +45,16 @@ accepted_other (Pull stream frame) past other = refl
 accepted_other (Shut stream) past other = refl
 accepted_other (Bad stream header cause) past other = refl
 
-journal_one : (host peer : ℕ) (lost : ℕ → Bool) (e : Entry) (past : List Entry) →
+pub sent_other : (from to : ℕ) (lost : ℕ → Bool) (e : Entry) (past : List Entry) →
     ((slot sport dport : ℕ) (payload : List ℕ) → e ≡ Accept slot sport dport payload → ⊥) →
-    journal_items host peer lost past ++ arrival_items peer host e ≡ journal_items host peer lost (e ∷ past)
-journal_one host peer lost (Accept slot sport dport payload) past other = absurd (other slot sport dport payload refl)
-journal_one host peer lost (Read stream frame outcome) past other = refl
-journal_one host peer lost (Cancel slot target) past other = refl
-journal_one host peer lost (Open stream) past other = refl
-journal_one host peer lost (Pull stream frame) past other = refl
-journal_one host peer lost (Shut stream) past other = refl
-journal_one host peer lost (Bad stream header cause) past other = refl
-
-pub journal_other : (host peer : ℕ) (lost : ℕ → Bool) (e : Entry) (past : List Entry) →
-    ((slot sport dport : ℕ) (payload : List ℕ) → e ≡ Accept slot sport dport payload → ⊥) → (old now : List Item) →
-    now ≡ old ++ journal_items host peer lost past → now ++ arrival_items peer host e ≡ old ++ journal_items host peer lost (e ∷ past)
-journal_other host peer lost e past other old now is =
-    ap (λ (l : List Item). l ++ arrival_items peer host e) is
-    ∙ append_assoc old (journal_items host peer lost past) (arrival_items peer host e)
-    ∙ ap (λ (l : List Item). old ++ l) (journal_one host peer lost e past other)
+    sent_items from to lost (e ∷ past) ≡ sent_items from to lost past
+sent_other from to lost (Accept slot sport dport payload) past other = absurd (other slot sport dport payload refl)
+sent_other from to lost (Read stream frame outcome) past other = refl
+sent_other from to lost (Cancel slot target) past other = refl
+sent_other from to lost (Open stream) past other = refl
+sent_other from to lost (Pull stream frame) past other = refl
+sent_other from to lost (Shut stream) past other = refl
+sent_other from to lost (Bad stream header cause) past other = refl
 
 -- the element of a turn of a loop
 pub take_item : {X : Type 0} (xs : List X) (i : ℕ) (x : X) → i < length xs → x ≡ get_or xs i x → take (i + 1) xs ≡ take i xs ++ x ∷ []

@@ -12,3 +12,5 @@ pub mod Pairs
 pub mod Words
 pub mod Counted
 pub mod Totalled
+pub mod Parted
+pub mod Parting

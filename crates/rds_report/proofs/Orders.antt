@@ -10,13 +10,13 @@ use Rattle.rds_report.specs.Report.{Group, is_before, with_group, ascending}
 use Rattle.rds_report.specs.ItemReport.{is_same}
 
 -- by two numbers, and where they are equal by p
-abbrev lex : ℕ → ℕ → Bool → Bool
+abbrev pub lex : ℕ → ℕ → Bool → Bool
 lex x y p = if not (x == y) then nat_lt x y else p
 
 lex_less : (x y : ℕ) (p : Bool) → x < y → lex x y p ≡ true
 lex_less x y p less = ap (λ (b : Bool). if not b then nat_lt x y else p) (ne_eqb x y (λ e. omega arith)) ∙ lt-ltb x y less
 
-lex_more : (x y : ℕ) (p : Bool) → y < x → lex x y p ≡ false
+pub lex_more : (x y : ℕ) (p : Bool) → y < x → lex x y p ≡ false
 lex_more x y p more = ap (λ (b : Bool). if not b then nat_lt x y else p) (ne_eqb x y (λ e. omega arith)) ∙ le-ltb x y (omega arith)
 
 lex_same : (x y : ℕ) (p : Bool) → x ≡ y → lex x y p ≡ p

@@ -4,21 +4,20 @@ use Rattle.std.specs.List.{list_any, flat_map}
 use Rattle.std.proofs.lemmas.Bool.{true≢false}
 use Rattle.std.proofs.lemmas.List.Folds.{list_any-append}
 use Rattle.rds_model.specs.declared.entry.Entry.{Entry}
-use Rattle.rds_model.specs.declared.entry.Entry.TheVariants.{Accept, Read}
+use Rattle.rds_model.specs.declared.entry.Entry.TheVariants.{Accept}
 use Rattle.rds_model.specs.Past.{accepted}
 use Rattle.rds_report.specs.declared.item.Item.{Item}
 use Rattle.rds_report.specs.Hosts.{IsAddress}
 use Rattle.rds_report.specs.FinalState.{FinalJournal, FinalHost, past_of}
-use Rattle.rds_report.specs.Report.{Group, accepted_groups, ascending, groups, group_text}
+use Rattle.rds_report.specs.Report.{Group, accepted_groups}
 use Rattle.rds_report.specs.Views.{AreSides, AreFinalHosts}
-use Rattle.rds_report.specs.Items.{seen, accepted_items, arrival_items, journal_items, socket_items, is_lost, side_items, host_items, items}
-use Rattle.rds_report.specs.ItemReport.{is_same, is_of, of_pair, is_accepted, pair_lines, accepted_pairs, groups_text, AreKnown}
-use Rattle.rds_report.proofs.Orders.{has, rising_one, rising_ascending, has_ascending, same_is}
+use Rattle.rds_report.specs.Items.{seen, accepted_items, sent_items, came_items, socket_items, is_lost, side_items, host_items, items}
+use Rattle.rds_report.specs.ItemReport.{is_same, is_of, of_pair, is_accepted, accepted_pairs}
+use Rattle.rds_report.proofs.Orders.{has, same_is}
 use Rattle.rds_report.proofs.Chunks.{accepting, pairs_append}
 use Rattle.rds_report.proofs.Selected.{of_kind, kindless_came, kindless_sockets}
-use Rattle.rds_report.proofs.Chosen.{came_items, sides_once, ends_once}
+use Rattle.rds_report.proofs.Chosen.{sides_once}
 use Rattle.rds_report.proofs.Sides.{AllSidesOnce}
-use Rattle.rds_report.proofs.Tallied.{pair_is}
 
 -- the pairs that have an accepted item
 
@@ -53,33 +52,24 @@ or_false false = refl
 has_none : (g : Group) (xs : List Item) → of_kind is_accepted xs ≡ [] → has g (accepted_pairs xs) ≡ false
 has_none g xs is = ap (λ (l : List Item). has g (map (λ (i : Item). seen i.group) l)) is
 
-has_arrival : (g : Group) (from to : ℕ) (e : Entry) → has g (accepted_pairs (arrival_items from to e)) ≡ false
-has_arrival g from to (Read stream frame o) =
-    has_none g (came_items from to (Read stream frame o ∷ [])) (kindless_came is_accepted refl refl from to (Read stream frame o ∷ []))
-has_arrival g from to _ = refl
-
-has_journal : (g : Group) (host peer : ℕ) (lost : ℕ → Bool) (past : List Entry) →
-    has g (accepted_pairs (journal_items host peer lost past)) ≡ has g (accepted_groups host peer past)
-has_journal g host peer lost [] = refl
-has_journal g host peer lost (Accept slot sport dport payload ∷ past) =
-    has_append g (journal_items host peer lost past) (accepted_items host peer sport dport (lost (suc (accepted past))))
-    ∙ ap (λ (b : Bool). b || has g (accepted_pairs (accepted_items host peer sport dport (lost (suc (accepted past)))))) (has_journal g host peer lost past)
-    ∙ ap (λ (b : Bool). has g (accepted_groups host peer past) || b) (one (lost (suc (accepted past))))
-    ∙ swap (has g (accepted_groups host peer past)) (is_same g (record { to = peer; dport = dport; from = host; sport = sport }))
+has_sent : (g : Group) (from to : ℕ) (lost : ℕ → Bool) (past : List Entry) → has g (accepted_pairs (sent_items from to lost past)) ≡ has g (accepted_groups from to past)
+has_sent g from to lost [] = refl
+has_sent g from to lost (Accept slot sport dport payload ∷ past) =
+    has_append g (sent_items from to lost past) (accepted_items from to sport dport (lost (suc (accepted past))))
+    ∙ ap (λ (b : Bool). b || has g (accepted_pairs (accepted_items from to sport dport (lost (suc (accepted past)))))) (has_sent g from to lost past)
+    ∙ ap (λ (b : Bool). has g (accepted_groups from to past) || b) (one (lost (suc (accepted past))))
+    ∙ swap (has g (accepted_groups from to past)) (is_same g (record { to = to; dport = dport; from = from; sport = sport }))
   where
-    one : (b : Bool) → has g (accepted_pairs (accepted_items host peer sport dport b)) ≡ is_same g (record { to = peer; dport = dport; from = host; sport = sport })
-    one true = or_false (is_same g (record { to = peer; dport = dport; from = host; sport = sport }))
-    one false = or_false (is_same g (record { to = peer; dport = dport; from = host; sport = sport }))
+    one : (b : Bool) → has g (accepted_pairs (accepted_items from to sport dport b)) ≡ is_same g (record { to = to; dport = dport; from = from; sport = sport })
+    one true = or_false (is_same g (record { to = to; dport = dport; from = from; sport = sport }))
+    one false = or_false (is_same g (record { to = to; dport = dport; from = from; sport = sport }))
 
     swap : (x y : Bool) → (x || y) ≡ (y || x)
     swap true true = refl
     swap true false = refl
     swap false true = refl
     swap false false = refl
-has_journal g host peer lost (e ∷ past) =
-    has_append g (journal_items host peer lost past) (arrival_items peer host e)
-    ∙ ap (λ (b : Bool). has g (accepted_pairs (journal_items host peer lost past)) || b) (has_arrival g peer host e)
-    ∙ or_false (has g (accepted_pairs (journal_items host peer lost past))) ∙ has_journal g host peer lost past
+has_sent g from to lost (_ ∷ past) = has_sent g from to lost past
 
 has_spread : {X : Type 0} (g : Group) (f : X → List Item) (h : X → List Group) → ((x : X) → has g (accepted_pairs (f x)) ≡ has g (h x)) → (xs : List X) →
     has g (accepted_pairs (flat_map f xs)) ≡ has g (flat_map h xs)
@@ -100,7 +90,12 @@ pub has_items : (g : Group) (ends : List FinalHost) → has g (accepted_pairs (i
 has_items g ends = has_spread g (host_items ends) end_groups at_end ends
   where
     at_side : (addr : ℕ) (s : FinalJournal) → has g (accepted_pairs (side_items ends addr s)) ≡ has g (side_groups addr s)
-    at_side addr s = has_journal g addr s.peer (is_lost s.past (past_of s.peer addr ends)) s.past
+    at_side addr s =
+        has_append g (sent_items addr s.peer (is_lost s.past (past_of s.peer addr ends)) s.past) (came_items s.peer addr s.past)
+        ∙ ap (λ (b : Bool). has g (accepted_pairs (sent_items addr s.peer (is_lost s.past (past_of s.peer addr ends)) s.past)) || b)
+        (has_none g (came_items s.peer addr s.past) (kindless_came is_accepted refl refl s.peer addr s.past))
+        ∙ or_false (has g (accepted_pairs (sent_items addr s.peer (is_lost s.past (past_of s.peer addr ends)) s.past)))
+        ∙ has_sent g addr s.peer (is_lost s.past (past_of s.peer addr ends)) s.past
 
     at_end : (e : FinalHost) → has g (accepted_pairs (host_items ends e)) ≡ has g (end_groups e)
     at_end e =
@@ -131,7 +126,7 @@ known_spread g h (x ∷ xs) known in' = go (has g (h x)) refl (known_spread g h 
     go true is ih = known 0 x (omega arith) is
     go false is ih = ih (ap (λ (b : Bool). b || has g (flat_map h xs)) (sym is) ∙ sym (list_any-append (is_same g) (h x) (flat_map h xs)) ∙ in')
 
-known_groups : (ends : List FinalHost) → AreFinalHosts ends → (g : Group) → has g (flat_map end_groups ends) ≡ true → IsAddress g.to × IsAddress g.from
+pub known_groups : (ends : List FinalHost) → AreFinalHosts ends → (g : Group) → has g (flat_map end_groups ends) ≡ true → IsAddress g.to × IsAddress g.from
 known_groups ends are g =
     known_spread g end_groups ends (λ k d below.
     let e = get_or ends k d in
@@ -142,26 +137,3 @@ known_groups ends are g =
 pub all_once : (ends : List FinalHost) → ((k : ℕ) (d : FinalHost) → k < length ends → AreSides (get_or ends k d).sides) → AllSidesOnce ends
 all_once [] h = tt
 all_once (e ∷ ends) h = (sides_once e.sides (h 0 e (omega arith)).once, all_once ends (λ k d l. h (suc k) d (omega arith)))
-
-flat_map_same : (f h : Group → List ℕ) → ((g : Group) → f g ≡ h g) → (gs : List Group) → flat_map f gs ≡ flat_map h gs
-flat_map_same f h same [] = refl
-flat_map_same f h same (g ∷ gs) = ap (λ (t : List ℕ). t ++ flat_map f gs) (same g) ∙ ap (λ (t : List ℕ). h g ++ t) (flat_map_same f h same gs)
-
--- the items in another order, where those of each pair are in their order
-module _ (ends : List FinalHost) (are : AreFinalHosts ends) (sorted : List Item) (stable : (g : Group) → of_pair g sorted ≡ of_pair g (items ends)) where
-  members : (g : Group) → has g (accepted_pairs sorted) ≡ has g (flat_map end_groups ends)
-  members g = has_pairs g sorted ∙ ap (list_any accepting) (stable g) ∙ sym (has_pairs g (items ends)) ∙ has_items g ends
-
-  pub sorted_known : AreKnown sorted
-  sorted_known g in' = known_groups ends are g (sym (members g) ∙ in')
-
-  pub sorted_groups : ascending (accepted_pairs sorted) ≡ groups ends
-  sorted_groups =
-      rising_one (ascending (accepted_pairs sorted)) (groups ends) (rising_ascending (accepted_pairs sorted)) (rising_ascending (flat_map end_groups ends))
-      (λ g. has_ascending g (accepted_pairs sorted) ∙ members g ∙ sym (has_ascending g (flat_map end_groups ends)))
-
-  pub sorted_text : groups_text sorted ≡ flat_map (group_text ends) (groups ends)
-  sorted_text =
-      flat_map_same (λ g. pair_lines g (of_pair g sorted)) (group_text ends)
-      (λ g. ap (pair_lines g) (stable g) ∙ pair_is ends (ends_once ends are.once) (all_once ends are.sides) g) (ascending (accepted_pairs sorted))
-      ∙ ap (flat_map (group_text ends)) sorted_groups

@@ -14,9 +14,8 @@ use Rattle.rds_report.specs.declared.item.What.TheVariants.{Accepted, Received, 
 use Rattle.rds_report.specs.declared.item.Item.{Item}
 use Rattle.rds_report.specs.FinalState.{FinalSocket}
 use Rattle.rds_report.specs.Report.{Group}
-use Rattle.rds_report.specs.Items.{item, accepted_items, read_items, socket_items}
+use Rattle.rds_report.specs.Items.{item, accepted_items, sent_items, read_items, came_items, socket_items}
 use Rattle.rds_report.specs.ItemReport.{is_of, of_pair}
-use Rattle.rds_report.proofs.Chosen.{sent_items, came_items}
 
 -- items of another pair
 

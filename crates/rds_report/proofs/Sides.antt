@@ -1,59 +1,17 @@
 -- The items of a kind and a pair among those of all journals and sockets.
-use Rattle.std.proofs.Common.{◌≡◌, ℕ, suc, Bool, true, false, ◌==◌, List, [], ◌∷◌, ◌++◌, refl, sym, ap, ◌∙◌}
+use Rattle.std.proofs.Common.{◌≡◌, ℕ, Bool, true, false, ◌==◌, List, [], ◌∷◌, ◌++◌, refl, ap, ◌∙◌}
 use Rattle.std.specs.Bool.{⊤}
 use Rattle.std.specs.List.{flat_map}
 use Rattle.std.proofs.lemmas.Bool.{eqb-true}
 use Rattle.std.proofs.lemmas.List.{append-nil}
 use Rattle.rds_model.specs.declared.entry.Entry.{Entry}
-use Rattle.rds_model.specs.declared.entry.Entry.TheVariants.{Accept, Read}
-use Rattle.rds_model.specs.Past.{accepted}
 use Rattle.rds_report.specs.declared.item.What.{What}
 use Rattle.rds_report.specs.declared.item.Item.{Item}
 use Rattle.rds_report.specs.FinalState.{FinalSocket, FinalJournal, FinalHost, past_with, past_of, sockets_of}
 use Rattle.rds_report.specs.Report.{Group}
-use Rattle.rds_report.specs.Items.{accepted_items, read_items, arrival_items, journal_items, socket_items, is_lost, side_items, host_items, items}
+use Rattle.rds_report.specs.Items.{sent_items, came_items, socket_items, is_lost, side_items, host_items, items}
 use Rattle.rds_report.proofs.Selected.{other_to, other_from, none_sent, none_came, none_sockets, of_kind, chosen, chosen_append, chosen_spread}
-use Rattle.rds_report.proofs.Chosen.{sent_items, came_items, SidesOnce, EndsOnce, one_side, Own, one_end}
-
--- of the items of a journal those of what was sent or those of what came are chosen
-
-module _ (kind : What → Bool) (g : Group) where
-  module _ (no_came : (from to : ℕ) (past : List Entry) → chosen kind g (came_items from to past) ≡ []) where
-    no_arrival : (from to : ℕ) (e : Entry) → chosen kind g (arrival_items from to e) ≡ []
-    no_arrival from to (Read stream frame o) = no_came from to (Read stream frame o ∷ [])
-    no_arrival from to _ = refl
-
-    pub journal_sent : (host peer : ℕ) (lost : ℕ → Bool) (past : List Entry) →
-        chosen kind g (journal_items host peer lost past) ≡ chosen kind g (sent_items host peer lost past)
-    journal_sent host peer lost [] = refl
-    journal_sent host peer lost (Accept slot sport dport payload ∷ past) =
-        let own = accepted_items host peer sport dport (lost (suc (accepted past))) in
-        chosen_append kind g (journal_items host peer lost past) own
-        ∙ ap (λ (l : List Item). l ++ chosen kind g own) (journal_sent host peer lost past)
-        ∙ sym (chosen_append kind g (sent_items host peer lost past) own)
-    journal_sent host peer lost (e ∷ past) =
-        chosen_append kind g (journal_items host peer lost past) (arrival_items peer host e)
-        ∙ ap (λ (l : List Item). chosen kind g (journal_items host peer lost past) ++ l) (no_arrival peer host e)
-        ∙ append-nil (chosen kind g (journal_items host peer lost past)) ∙ journal_sent host peer lost past
-
-  module _ (no_sent : (from to : ℕ) (lost : ℕ → Bool) (past : List Entry) → chosen kind g (sent_items from to lost past) ≡ []) where
-    pub journal_came : (host peer : ℕ) (lost : ℕ → Bool) (past : List Entry) →
-        chosen kind g (journal_items host peer lost past) ≡ chosen kind g (came_items peer host past)
-    journal_came host peer lost [] = refl
-    journal_came host peer lost (Accept slot sport dport payload ∷ past) =
-        let own = accepted_items host peer sport dport (lost (suc (accepted past))) in
-        let none : chosen kind g own ≡ [] = no_sent host peer (λ n. lost (suc (accepted past))) (Accept slot sport dport payload ∷ []) in
-        chosen_append kind g (journal_items host peer lost past) own
-        ∙ ap (λ (l : List Item). chosen kind g (journal_items host peer lost past) ++ l) none
-        ∙ append-nil (chosen kind g (journal_items host peer lost past)) ∙ journal_came host peer lost past
-    journal_came host peer lost (Read stream frame o ∷ past) =
-        let own = read_items host frame.header.dport peer frame.header.sport o in
-        chosen_append kind g (journal_items host peer lost past) own
-        ∙ ap (λ (l : List Item). l ++ chosen kind g own) (journal_came host peer lost past)
-        ∙ sym (chosen_append kind g (came_items peer host past) own)
-    journal_came host peer lost (_ ∷ past) =
-        chosen_append kind g (journal_items host peer lost past) []
-        ∙ append-nil (chosen kind g (journal_items host peer lost past)) ∙ journal_came host peer lost past
+use Rattle.rds_report.proofs.Chosen.{SidesOnce, EndsOnce, one_side, Own, one_end}
 
 -- each host has at most one journal with a peer
 abbrev pub AllSidesOnce : List FinalHost → Type 0
@@ -73,6 +31,10 @@ module _ (kind : What → Bool) (g : Group) (all : List FinalHost) where
       chosen_append kind g (flat_map (side_items all e.addr) e.sides) (flat_map (socket_items e.addr) e.sockets)
       ∙ ap (λ (l : List Item). l ++ chosen kind g (flat_map (socket_items e.addr) e.sockets)) (chosen_spread kind g (side_items all e.addr) e.sides)
 
+  side_parts : (addr : ℕ) (s : FinalJournal) →
+      at_side addr s ≡ chosen kind g (sent_items addr s.peer (is_lost s.past (past_of s.peer addr all)) s.past) ++ chosen kind g (came_items s.peer addr s.past)
+  side_parts addr s = chosen_append kind g (sent_items addr s.peer (is_lost s.past (past_of s.peer addr all)) s.past) (came_items s.peer addr s.past)
+
   no_sides : (addr : ℕ) → ((s : FinalJournal) → at_side addr s ≡ []) → (sides : List FinalJournal) → flat_map (at_side addr) sides ≡ []
   no_sides addr none [] = refl
   no_sides addr none (s ∷ sides) = ap (λ (l : List Item). l ++ flat_map (at_side addr) sides) (none s) ∙ no_sides addr none sides
@@ -83,7 +45,9 @@ module _ (kind : What → Bool) (g : Group) (all : List FinalHost) where
     sent_at past = chosen kind g (sent_items g.from g.to (is_lost past (past_of g.to g.from all)) past)
 
     only_sent : (addr : ℕ) (s : FinalJournal) → at_side addr s ≡ chosen kind g (sent_items addr s.peer (is_lost s.past (past_of s.peer addr all)) s.past)
-    only_sent addr s = journal_sent kind g no_came addr s.peer (is_lost s.past (past_of s.peer addr all)) s.past
+    only_sent addr s =
+        side_parts addr s ∙ ap (λ (l : List Item). chosen kind g (sent_items addr s.peer (is_lost s.past (past_of s.peer addr all)) s.past) ++ l) (no_came s.peer addr s.past)
+        ∙ append-nil (chosen kind g (sent_items addr s.peer (is_lost s.past (past_of s.peer addr all)) s.past))
 
     only_sides : (e : FinalHost) → at_end e ≡ flat_map (at_side e.addr) e.sides
     only_sides e = end_parts e ∙ ap (λ (l : List Item). flat_map (at_side e.addr) e.sides ++ l) (no_sockets e.addr e.sockets) ∙ append-nil (flat_map (at_side e.addr) e.sides)
@@ -115,7 +79,8 @@ module _ (kind : What → Bool) (g : Group) (all : List FinalHost) where
 
   module _ (no_sent : (from to : ℕ) (lost : ℕ → Bool) (past : List Entry) → chosen kind g (sent_items from to lost past) ≡ []) where
     only_came : (addr : ℕ) (s : FinalJournal) → at_side addr s ≡ chosen kind g (came_items s.peer addr s.past)
-    only_came addr s = journal_came kind g no_sent addr s.peer (is_lost s.past (past_of s.peer addr all)) s.past
+    only_came addr s =
+        side_parts addr s ∙ ap (λ (l : List Item). l ++ chosen kind g (came_items s.peer addr s.past)) (no_sent addr s.peer (is_lost s.past (past_of s.peer addr all)) s.past)
 
     module _ (no_sockets : (to : ℕ) (sockets : List FinalSocket) → chosen kind g (flat_map (socket_items to) sockets) ≡ []) where
       abbrev came_at : List Entry → List Item

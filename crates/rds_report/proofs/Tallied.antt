@@ -18,11 +18,11 @@ use Rattle.rds_report.specs.declared.item.What.TheVariants.{Accepted, Received, 
 use Rattle.rds_report.specs.declared.item.Item.{Item}
 use Rattle.rds_report.specs.FinalState.{FinalSocket, FinalHost, past_of, sockets_of}
 use Rattle.rds_report.specs.Report.{Group, Counts, of_group, received, unread, counts, counts_line, data_line, group_text, pair_text}
-use Rattle.rds_report.specs.Items.{item, accepted_items, read_items, socket_items, is_lost, items}
+use Rattle.rds_report.specs.Items.{item, accepted_items, sent_items, read_items, came_items, socket_items, is_lost, items}
 use Rattle.rds_report.specs.ItemReport.{is_of, of_pair, is_accepted, is_received, is_unread, is_dropped, is_port0, is_cancelled_item, tally, data_lines, pair_lines}
 use Rattle.rds_report.proofs.Counted.{same_counts}
 use Rattle.rds_report.proofs.Selected.{eq_comm, of_kind, chosen, chosen_append, none_chosen, kindless_sent, kindless_came, kindless_sockets, kindless_map}
-use Rattle.rds_report.proofs.Chosen.{sent_items, came_items, EndsOnce}
+use Rattle.rds_report.proofs.Chosen.{EndsOnce}
 use Rattle.rds_report.proofs.Sides.{AllSidesOnce, all_sent, all_came, all_kept}
 
 -- an item between the hosts of a pair is of the pair where its ports are

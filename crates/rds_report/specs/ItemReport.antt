@@ -1,13 +1,14 @@
 -- Private: needed by the proofs of `report` and `summary` only. The report of items. Source: this project's own.
-use Rattle.std.specs.Prelude.{◌≡◌, ℕ, ⊤, ◌==◌, if◌then◌else◌, ◌&&◌, Bool, true, false, List, [], ◌∷◌, ◌++◌, length, filter, map, codes}
+use Rattle.std.specs.Prelude.{◌≡◌, ℕ, zero, suc, ⊤, ◌==◌, if◌then◌else◌, ◌&&◌, Bool, true, false, List, [], ◌∷◌, ◌++◌, length, filter, map, codes}
 use Rattle.std.specs.List.{flat_map, list_any}
 use Rattle.rds_text.specs.Words.{hex}
 use Rattle.rds_report.specs.declared.item.What.{What}
 use Rattle.rds_report.specs.declared.item.What.TheVariants.{Accepted, Received, Unread, Dropped, Port0, Cancelled}
 use Rattle.rds_report.specs.declared.item.Item.{Item}
-use Rattle.rds_report.specs.Hosts.{IsAddress}
+use Rattle.rds_report.specs.FinalState.{FinalHost}
+use Rattle.rds_report.specs.Hosts.{IsAddress, address_of}
 use Rattle.rds_text.specs.Lines.{text_line}
-use Rattle.rds_report.specs.Report.{Group, Counts, is_before, ascending, pair_text, counts_line}
+use Rattle.rds_report.specs.Report.{Group, Counts, is_before, ascending, groups, group_text, pair_text, counts_line}
 use Rattle.rds_report.specs.Items.{seen}
 
 -- two pairs are one
@@ -95,3 +96,15 @@ AreNotBefore g (i ∷ items) = (is_before (seen i.group) g ≡ false) × AreNotB
 abbrev pub IsUp : List Item → Type 0
 IsUp [] = ⊤
 IsUp (i ∷ items) = AreNotBefore (seen i.group) items × IsUp items
+
+-- the pairs to the host at an address that have a datagram that was accepted, and the part of the report on them
+abbrev pub groups_to : List FinalHost → ℕ → List Group
+groups_to hosts to = filter (λ (g : Group). g.to == to) (groups hosts)
+
+abbrev pub part : List FinalHost → ℕ → List ℕ
+part hosts to = flat_map (group_text hosts) (groups_to hosts to)
+
+-- the parts on what went to the first n hosts
+abbrev pub parts : List FinalHost → (n : ℕ) → List ℕ
+parts hosts zero = []
+parts hosts (suc n) = parts hosts n ++ part hosts (address_of n)

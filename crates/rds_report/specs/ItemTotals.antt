@@ -1,6 +1,6 @@
 -- Private: it serves the contracts of the private functions that count items, add them up and print the counts.
 -- Source: this project's own.
-use Rattle.std.specs.Prelude.{ℕ, ◌+◌, ◌==◌, if◌then◌else◌, List, [], ◌∷◌, length, codes}
+use Rattle.std.specs.Prelude.{◌≡◌, ℕ, zero, suc, ◌+◌, ◌==◌, if◌then◌else◌, List, [], ◌∷◌, length, map, codes}
 use Rattle.std.specs.List.{flat_map, sum_by}
 use Rattle.std.specs.Fmt.{decimal}
 use Rattle.rds_text.specs.Lines.{phrase}
@@ -8,8 +8,13 @@ use Rattle.rds_report.specs.declared.counts.Counts.{Counts as Fates}
 use Rattle.rds_report.specs.declared.item.What.{What}
 use Rattle.rds_report.specs.declared.item.What.TheVariants.{Received}
 use Rattle.rds_report.specs.declared.item.Item.{Item}
-use Rattle.rds_report.specs.Report.{Counts, ascending}
-use Rattle.rds_report.specs.ItemReport.{accepted_pairs, count_of, is_accepted, of_pair}
+use Rattle.rds_model.specs.declared.order.Datagram.{Datagram}
+use Rattle.rds_report.specs.declared.totals.Totals.{Totals}
+use Rattle.rds_report.specs.FinalState.{FinalHost}
+use Rattle.rds_report.specs.Hosts.{address_of}
+use Rattle.rds_report.specs.Report.{Counts, ascending, counts, received}
+use Rattle.rds_report.specs.Summary.{plus, total}
+use Rattle.rds_report.specs.ItemReport.{accepted_pairs, count_of, groups_to, is_accepted, of_pair}
 
 -- counts as the report has them
 abbrev pub seen_counts : Fates → Counts
@@ -51,3 +56,24 @@ with_accepted items = if count_of is_accepted items == 0 then [] else items
 -- the items of each pair that has an item that was accepted
 abbrev pub grouped : List Item → List Item
 grouped items = flat_map (λ g. of_pair g items) (ascending (accepted_pairs items))
+
+-- the counts of all port pairs to the host at an address together, and how many payload bytes were handed out there
+abbrev pub counts_to : List FinalHost → ℕ → Counts
+counts_to hosts to = total (map (counts hosts) (groups_to hosts to))
+
+abbrev pub bytes_to : List FinalHost → ℕ → ℕ
+bytes_to hosts to = sum_by (λ (d : Datagram). length d.payload) (flat_map (received hosts) (groups_to hosts to))
+
+-- the same of the first n hosts
+abbrev pub counts_below : List FinalHost → (n : ℕ) → Counts
+counts_below hosts zero = total []
+counts_below hosts (suc n) = plus (counts_below hosts n) (counts_to hosts (address_of n))
+
+abbrev pub bytes_below : List FinalHost → (n : ℕ) → ℕ
+bytes_below hosts zero = 0
+bytes_below hosts (suc n) = bytes_below hosts n + bytes_to hosts (address_of n)
+
+-- the totals are these counts and bytes
+pub record AreTotals (t : Totals) (c : Counts) (n : ℕ) : Type 0 where
+  pub counts : seen_counts t.counts ≡ c
+  pub bytes : t.bytes ≡ n

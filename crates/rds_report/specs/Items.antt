@@ -1,6 +1,6 @@
 -- Private: needed by the proofs of `report` and `summary` only. The items of the report: each datagram, once for each thing
 -- that is counted of it. Source: this project's own.
-use Rattle.std.specs.Prelude.{ℕ, suc, ◌==◌, ◌&&◌, not, Bool, true, false, Option, Some, None, List, [], ◌∷◌, ◌++◌, map}
+use Rattle.std.specs.Prelude.{ℕ, suc, ◌==◌, ◌&&◌, not, Bool, true, false, Option, Some, None, List, [], ◌∷◌, ◌++◌, filter, map}
 use Rattle.std.specs.List.{flat_map, list_any}
 use Rattle.rds_model.specs.declared.order.Datagram.{Datagram}
 use Rattle.rds_model.specs.declared.entry.Entry.{Entry}
@@ -47,12 +47,19 @@ abbrev pub arrival_items : (from to : ℕ) → Entry → List Item
 arrival_items from to (Read stream frame outcome) = read_items to frame.header.dport from frame.header.sport outcome
 arrival_items from to _ = []
 
--- the items of a journal of a host, in the order of its entries, where such numbers were taken back and never arrived
-abbrev pub journal_items : (host peer : ℕ) → (ℕ → Bool) → List Entry → List Item
-journal_items host peer lost [] = []
-journal_items host peer lost (Accept slot sport dport payload ∷ past) =
-    journal_items host peer lost past ++ accepted_items host peer sport dport (lost (suc (accepted past)))
-journal_items host peer lost (e ∷ past) = journal_items host peer lost past ++ arrival_items peer host e
+-- the items of what a host sent, where such numbers were taken back and never arrived
+abbrev pub sent_items : (from to : ℕ) → (ℕ → Bool) → List Entry → List Item
+sent_items from to lost [] = []
+sent_items from to lost (Accept slot sport dport payload ∷ past) =
+    sent_items from to lost past ++ accepted_items from to sport dport (lost (suc (accepted past)))
+sent_items from to lost (_ ∷ past) = sent_items from to lost past
+
+-- the items of what came to a host and went to no socket
+abbrev pub came_items : (from to : ℕ) → List Entry → List Item
+came_items from to [] = []
+came_items from to (Read stream frame outcome ∷ past) =
+    came_items from to past ++ read_items to frame.header.dport from frame.header.sport outcome
+came_items from to (_ ∷ past) = came_items from to past
 
 -- the items of a socket of the host at an address
 abbrev pub socket_items : ℕ → FinalSocket → List Item
@@ -85,7 +92,8 @@ passes_number _ n = false
 
 -- the items of a journal of a host
 abbrev pub side_items : List FinalHost → ℕ → FinalJournal → List Item
-side_items hosts addr s = journal_items addr s.peer (is_lost s.past (past_of s.peer addr hosts)) s.past
+side_items hosts addr s =
+    sent_items addr s.peer (is_lost s.past (past_of s.peer addr hosts)) s.past ++ came_items s.peer addr s.past
 
 -- the items of a host
 abbrev pub host_items : List FinalHost → FinalHost → List Item
@@ -94,3 +102,11 @@ host_items hosts host = flat_map (side_items hosts host.addr) host.sides ++ flat
 -- all items
 abbrev pub items : List FinalHost → List Item
 items hosts = flat_map (host_items hosts) hosts
+
+-- an item is of a pair to the host at an address
+abbrev pub is_to : ℕ → Item → Bool
+is_to to i = i.group.to == to
+
+-- the items of the pairs to that host
+abbrev pub items_to : ℕ → List FinalHost → List Item
+items_to to hosts = filter (is_to to) (items hosts)

@@ -1,11 +1,11 @@
-ghost use Rattle.std.specs.Prelude.{◌≡◌, ◌++◌, ℕ, Bool, IfOk, OnOk, map, option_copied};
+ghost use Rattle.std.specs.Prelude.{◌≡◌, ◌++◌, ℕ, Bool, IfOk, OnOk, filter, map, option_copied};
 ghost use Rattle.std.specs.List.{flat_map};
 ghost use Rattle.rds_model.specs.declared.order.Datagram.{Datagram as Message};
 ghost use Rattle.rds_model.specs.Past.{accepted};
 ghost use Rattle.rds_report.specs.declared.item.What.TheVariants as what;
 ghost use Rattle.rds_report.specs.FinalState.{past_of, past_with};
 ghost use Rattle.rds_report.specs.Views.{host_view, host_views, side_view, socket_view};
-ghost use Rattle.rds_report.specs.Items.{flags, item, items as items_of, host_items, side_items, journal_items, accepted_items, read_items, arrival_items, socket_items, past_in};
+ghost use Rattle.rds_report.specs.Items.{flags, is_lost, is_to, item, items_to as items_of, host_items, side_items, sent_items, came_items, accepted_items, read_items, arrival_items, socket_items, past_in};
 
 use crate::flags::flag;
 use crate::item::{Group, Item, What};
@@ -15,31 +15,54 @@ use rds_model::{Datagram, Entry, Journal, Outcome};
 use rds_wire::Memory;
 use std::alloc::Global;
 
-/// All items of the report.
-pub fn items(alloc: Global, hosts: &[HostEnd]) -> Result<Vec<Item>, Memory>
-    ensures { IfOk result (λ found. found.items ≡ items_of (host_views hosts.now)) }
+/// The items of the port pairs to the host at an address.
+pub fn items_to(alloc: Global, hosts: &[HostEnd], to: u32) -> Result<Vec<Item>, Memory>
+    ensures { IfOk result (λ found. found.items ≡ items_of to (host_views hosts.now)) }
 {
     let mut items = Vec::new(alloc);
     for host in hosts {
-        add_journals(alloc, &mut items, hosts, host)?;
-        add_sockets(&mut items, host.addr, &host.kept)?;
+        add_host(alloc, &mut items, hosts, host, to)?;
     }
     Ok(items)
 }
 
-// The items of the journals of a host.
-fn add_journals(
+// The items of a host of the pairs to the host at an address.
+fn add_host(
     alloc: Global,
     items: &mut Vec<Item>,
     hosts: &[HostEnd],
     host: &HostEnd,
+    to: u32,
 ) -> Result<(), Memory>
-    ensures { OnOk result (items.new.items ≡ items.old.items ++ flat_map (side_items (host_views hosts.now) host.now.addr) (map side_view host.now.journals.items)) }
+    ensures { OnOk result (items.new.items ≡ items.old.items ++ filter (is_to to) (host_items (host_views hosts.now) (host_view host.now))) }
 {
     for (peer, journal) in &host.journals {
-        let back = journal_of(hosts, *peer, host.addr);
-        let lost = lost(alloc, journal, back)?;
-        add_journal(items, host.addr, *peer, journal, &lost)?;
+        add_journal(alloc, items, hosts, host.addr, *peer, journal, to)?;
+    }
+    if host.addr == to {
+        add_sockets(items, to, &host.kept)?;
+    }
+    Ok(())
+}
+
+// The items of a host's journal of its connection with a peer, of the pairs to the host at an address.
+fn add_journal(
+    alloc: Global,
+    items: &mut Vec<Item>,
+    hosts: &[HostEnd],
+    host: u32,
+    peer: u32,
+    journal: &Journal,
+    to: u32,
+) -> Result<(), Memory>
+    ensures { OnOk result (items.new.items ≡ items.old.items ++ filter (is_to to) (side_items (host_views hosts.now) host (record { peer = peer; past = journal.now.past }))) }
+{
+    if peer == to {
+        let back = journal_of(hosts, peer, host);
+        add_sent(alloc, items, host, peer, journal, back)?;
+    }
+    if host == to {
+        add_came(items, peer, host, journal)?;
     }
     Ok(())
 }
@@ -67,16 +90,31 @@ fn journal_with(journals: &[(u32, Journal)], peer: u32) -> Option<&Journal>
     None
 }
 
-// The items of a journal of a host, where such numbers are lost, counted from 1.
-fn add_journal(
+// The items of what a host sent, by its journal and that of the peer.
+fn add_sent(
+    alloc: Global,
     items: &mut Vec<Item>,
-    host: u32,
-    peer: u32,
+    from: u32,
+    to: u32,
+    journal: &Journal,
+    back: Option<&Journal>,
+) -> Result<(), Memory>
+    ensures { OnOk result (items.new.items ≡ items.old.items ++ sent_items from to (is_lost journal.now.past (past_in (option_copied back.entry))) journal.now.past) }
+{
+    let lost = lost(alloc, journal, back)?;
+    add_acceptances(items, from, to, journal, &lost)
+}
+
+// The items of what a host sent, where such numbers are lost, counted from 1.
+fn add_acceptances(
+    items: &mut Vec<Item>,
+    from: u32,
+    to: u32,
     journal: &Journal,
     lost: &[bool],
 ) -> Result<(), Memory>
     ensures { (test : ℕ → Bool) → lost.now ≡ flags test (accepted journal.now.past) →
-        OnOk result (items.new.items ≡ items.old.items ++ journal_items host peer test journal.now.past) }
+        OnOk result (items.new.items ≡ items.old.items ++ sent_items from to test journal.now.past) }
 {
     let mut n = 0u32;
     for i in 0..journal.len() {
@@ -85,15 +123,13 @@ fn add_journal(
         };
         if let Entry::Accept { sport, dport, .. } = entry {
             let group = Group {
-                to: peer,
+                to,
                 dport: *dport,
-                from: host,
+                from,
                 sport: *sport,
             };
             add_accepted(items, group, flag(lost, n))?;
             n += 1;
-        } else {
-            add_read(items, peer, host, entry)?;
         }
     }
     Ok(())
@@ -112,6 +148,19 @@ fn add_accepted(items: &mut Vec<Item>, group: Group, is_lost: bool) -> Result<()
             group,
             what: What::Cancelled,
         })?;
+    }
+    Ok(())
+}
+
+// The items of what came from a peer to a host and went to no socket.
+fn add_came(items: &mut Vec<Item>, from: u32, to: u32, journal: &Journal) -> Result<(), Memory>
+    ensures { OnOk result (items.new.items ≡ items.old.items ++ came_items from to journal.now.past) }
+{
+    for i in 0..journal.len() {
+        let Some(entry) = journal.at(i) else {
+            unreachable!()
+        };
+        add_read(items, from, to, entry)?;
     }
     Ok(())
 }

@@ -8,12 +8,12 @@ use crate::item::{Item, What};
 /// How many of a group's items are of each kind.
 #[derive(Clone, Copy)]
 pub struct Counts {
-    pub accepted: u64,
-    pub received: u64,
-    pub unread: u64,
-    pub dropped: u64,
-    pub port0: u64,
-    pub cancelled: u64,
+    pub accepted: u128,
+    pub received: u128,
+    pub unread: u128,
+    pub dropped: u128,
+    pub port0: u128,
+    pub cancelled: u128,
 }
 
 impl Counts {
@@ -53,7 +53,7 @@ impl Counts {
 
     /// The counts of the items of both.
     pub fn plus(self, more: Counts) -> Counts
-        requires { count_all (seen_counts self) + count_all (seen_counts more) < 2 ^ 64 }
+        requires { count_all (seen_counts self) + count_all (seen_counts more) < 2 ^ 128 }
         ensures { seen_counts result ≡ together (seen_counts self) (seen_counts more) }
     {
         Counts {
@@ -67,7 +67,7 @@ impl Counts {
     }
 
     /// The accepted datagrams that are in none of the other counts.
-    pub fn pending(&self) -> u64
+    pub fn pending(&self) -> u128
         ensures { result ≡ self.now.accepted - (self.now.received + self.now.unread + self.now.dropped + self.now.port0 + self.now.cancelled) }
     {
         self.accepted
@@ -79,56 +79,56 @@ impl Counts {
     }
 }
 
-fn accepted(items: &[Item]) -> u64
+fn accepted(items: &[Item]) -> u128
     ensures { result ≡ count_of is_accepted items.now }
 {
     items
         .iter()
         .filter(|item| matches!(item.what, What::Accepted))
-        .count() as u64
+        .count() as u128
 }
 
-fn received(items: &[Item]) -> u64
+fn received(items: &[Item]) -> u128
     ensures { result ≡ count_of is_received items.now }
 {
     items
         .iter()
         .filter(|item| matches!(item.what, What::Received(_)))
-        .count() as u64
+        .count() as u128
 }
 
-fn unread(items: &[Item]) -> u64
+fn unread(items: &[Item]) -> u128
     ensures { result ≡ count_of is_unread items.now }
 {
     items
         .iter()
         .filter(|item| matches!(item.what, What::Unread))
-        .count() as u64
+        .count() as u128
 }
 
-fn dropped(items: &[Item]) -> u64
+fn dropped(items: &[Item]) -> u128
     ensures { result ≡ count_of is_dropped items.now }
 {
     items
         .iter()
         .filter(|item| matches!(item.what, What::Dropped))
-        .count() as u64
+        .count() as u128
 }
 
-fn port0(items: &[Item]) -> u64
+fn port0(items: &[Item]) -> u128
     ensures { result ≡ count_of is_port0 items.now }
 {
     items
         .iter()
         .filter(|item| matches!(item.what, What::Port0))
-        .count() as u64
+        .count() as u128
 }
 
-fn cancelled(items: &[Item]) -> u64
+fn cancelled(items: &[Item]) -> u128
     ensures { result ≡ count_of is_cancelled_item items.now }
 {
     items
         .iter()
         .filter(|item| matches!(item.what, What::Cancelled))
-        .count() as u64
+        .count() as u128
 }

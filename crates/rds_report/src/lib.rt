@@ -19,5 +19,5 @@ mod totals;
 
 pub use addresses::{FIRST_ADDRESS, address, host_of};
 pub use final_state::{HostEnd, Kept};
-pub use reporting::report;
+pub use reporting::{report, report_parts};
 pub use summing::summary;

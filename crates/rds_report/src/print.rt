@@ -108,7 +108,7 @@ pub fn print_fates(text: &mut String, counts: Counts) -> Result<(), Memory>
 }
 
 // Prints two counts, each behind its words.
-fn print_two(text: &mut String, first: &str, m: u64, second: &str, n: u64) -> Result<(), Memory>
+fn print_two(text: &mut String, first: &str, m: u128, second: &str, n: u128) -> Result<(), Memory>
     ensures { OnOk result (string_bytes text.new ≡ string_bytes text.old ++ phrase (first.now ∷ decimal m ∷ second.now ∷ decimal n ∷ [])) }
 {
     write!(text, "{first}{m}{second}{n}")?;

@@ -1,12 +1,19 @@
-ghost use Rattle.std.specs.Prelude.{◌≡◌, ◌++◌, ℕ, List, OnOk, string_bytes};
+ghost use Rattle.std.specs.Prelude.{◌≡◌, ◌++◌, ℕ, List, IfOk, OnOk, string_bytes};
+ghost use Rattle.std.specs.List.{flat_map};
+ghost use Rattle.rds_report.specs.Hosts.{address_of};
 ghost use Rattle.rds_report.specs.Views.{AreFinalHosts, host_views};
 ghost use Rattle.rds_text.specs.Lines.{end_line};
+ghost use Rattle.rds_report.specs.ItemReport.{part};
 ghost use Rattle.rds_report.specs.Report.{report as text_of};
 
+use crate::addresses::address;
 use crate::grouping::sort;
 use crate::{HostEnd, collect, print};
+use rayon::prelude::*;
+use rds_text::MAX_HOSTS;
 use rds_wire::Memory;
 use std::alloc::Global;
+use std::thread::Threads;
 
 /// The report over what the hosts have in the end: a group for each port pair with an accepted datagram, in ascending
 /// order of receiving host, receiving port, sending host and sending port, and `end ok`. It is exact where each address is
@@ -17,9 +24,52 @@ pub fn report(alloc: Global, text: &mut String, hosts: &[HostEnd]) -> Result<(),
         OnOk result (string_bytes text.new ≡ string_bytes text.old ++ text_of (host_views hosts.now)) }
     ensures end { OnOk result ((lines : List ℕ) × (string_bytes text.new ≡ lines ++ end_line)) }
 {
-    let mut items = collect::items(alloc, hosts)?;
-    sort(&mut items)?;
-    print::print_groups(text, &items)?;
+    for host in 0..MAX_HOSTS {
+        add_part(alloc, text, hosts, address(host))?;
+    }
     writeln!(text, "end ok")?;
     Ok(())
+}
+
+/// The same report, in texts that are to be written one behind another: one for each of the `MAX_HOSTS` hosts, each made by a thread
+/// of its own, and the last line.
+pub fn report_parts<R: Threads + Sync>(
+    rt: &R,
+    alloc: Global,
+    hosts: &[HostEnd],
+) -> Result<Vec<String>, Memory>
+    ensures { AreFinalHosts (host_views hosts.now) →
+        IfOk result (λ texts. flat_map string_bytes texts.items ≡ text_of (host_views hosts.now)) }
+{
+    let parts: Result<Vec<String>, Memory> = (0..MAX_HOSTS)
+        .into_par_iter()
+        .with_min_len(1)
+        .map(
+            |host: u8| -> Result<String, Memory>
+                ensures { AreFinalHosts (host_views hosts.entry.now) → IfOk result (λ text. string_bytes text ≡ part (host_views hosts.entry.now) (address_of host)) }
+            { part_text(alloc, hosts, host) },
+        )
+        .collect(rt, alloc)?;
+    let mut parts = parts?;
+    parts.push(format!(in alloc; "end ok\n")?)?;
+    Ok(parts)
+}
+
+// The part of the report on what went to a host, counted from 0.
+fn part_text(alloc: Global, hosts: &[HostEnd], host: u8) -> Result<String, Memory>
+    ensures { AreFinalHosts (host_views hosts.now) → IfOk result (λ text. string_bytes text ≡ part (host_views hosts.now) (address_of host)) }
+{
+    let mut text = String::new(alloc);
+    add_part(alloc, &mut text, hosts, address(host))?;
+    Ok(text)
+}
+
+// The part of the report on what went to the host at an address.
+fn add_part(alloc: Global, text: &mut String, hosts: &[HostEnd], to: u32) -> Result<(), Memory>
+    ensures { AreFinalHosts (host_views hosts.now) →
+        OnOk result (string_bytes text.new ≡ string_bytes text.old ++ part (host_views hosts.now) to) }
+{
+    let mut items = collect::items_to(alloc, hosts, to)?;
+    sort(&mut items)?;
+    print::print_groups(text, &items)
 }

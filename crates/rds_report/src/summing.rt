@@ -1,12 +1,14 @@
-ghost use Rattle.std.specs.Prelude.{◌≡◌, ◌++◌, ℕ, List, OnOk, string_bytes};
+ghost use Rattle.std.specs.Prelude.{◌≡◌, ◌<◌, ◌^◌, ◌++◌, ℕ, List, IfOk, OnOk, string_bytes};
 ghost use Rattle.rds_text.specs.Lines.{end_line};
 ghost use Rattle.rds_report.specs.Views.{AreFinalHosts, host_views};
-ghost use Rattle.rds_report.specs.ItemTotals.{seen_counts};
-ghost use Rattle.rds_report.specs.Summary.{summary as summary_of, summary_line};
+ghost use Rattle.rds_report.specs.ItemTotals.{AreTotals, bytes_to, count_all, counts_to, seen_counts};
+ghost use Rattle.rds_report.specs.Summary.{all_counts, received_bytes, summary as summary_of, summary_line};
 
+use crate::addresses::address;
 use crate::grouping::sort;
 use crate::totals::Totals;
 use crate::{HostEnd, collect, print};
+use rds_text::MAX_HOSTS;
 use rds_wire::Memory;
 use std::alloc::Global;
 
@@ -25,12 +27,32 @@ pub fn summary(
         OnOk result (string_bytes text.new ≡ string_bytes text.old ++ summary_of (host_views hosts.now) seed sends) }
     ensures end { OnOk result ((lines : List ℕ) × (string_bytes text.new ≡ lines ++ end_line)) }
 {
-    let mut items = collect::items(alloc, hosts)?;
-    sort(&mut items)?;
-    let totals = Totals::of(&items);
+    let totals = all_totals(alloc, hosts)?;
     print_totals(text, seed, sends, totals)?;
     writeln!(text, "end ok")?;
     Ok(())
+}
+
+// The totals over all port pairs.
+fn all_totals(alloc: Global, hosts: &[HostEnd]) -> Result<Totals, Memory>
+    ensures { AreFinalHosts (host_views hosts.now) → IfOk result (λ t. AreTotals t (all_counts (host_views hosts.now)) (received_bytes (host_views hosts.now))) }
+{
+    let mut totals = Totals::none();
+    for host in 0..MAX_HOSTS {
+        totals = totals.with(totals_to(alloc, hosts, address(host))?);
+    }
+    Ok(totals)
+}
+
+// The totals over the port pairs to the host at an address.
+fn totals_to(alloc: Global, hosts: &[HostEnd], to: u32) -> Result<Totals, Memory>
+    ensures exact { AreFinalHosts (host_views hosts.now) → IfOk result (λ t. AreTotals t (counts_to (host_views hosts.now) to) (bytes_to (host_views hosts.now) to)) }
+    ensures few { IfOk result (λ t. count_all (seen_counts t.counts) < 2 ^ 64) }
+    ensures small { IfOk result (λ t. t.bytes < 2 ^ 96) }
+{
+    let mut items = collect::items_to(alloc, hosts, to)?;
+    sort(&mut items)?;
+    Ok(Totals::of(&items))
 }
 
 // Prints the line of totals.

@@ -20,6 +20,8 @@ impl Totals {
         requires up { IsUp items.now }
         ensures counts { seen_counts result.counts ≡ tally (grouped items.now) }
         ensures bytes { result.bytes ≡ bytes_of (grouped items.now) }
+        ensures few { count_all (seen_counts result.counts) ≤ length items.now }
+        ensures small { result.bytes ≤ length items.now * 2 ^ 32 }
     {
         let mut totals = Totals::none();
         let mut rest = items;
@@ -32,7 +34,8 @@ impl Totals {
         totals
     }
 
-    fn none() -> Totals
+    /// The totals of no items.
+    pub fn none() -> Totals
         ensures counts { seen_counts result.counts ≡ tally [] }
         ensures bytes { result.bytes ≡ 0 }
     {
@@ -42,9 +45,22 @@ impl Totals {
         }
     }
 
+    /// These totals and others together.
+    pub fn with(self, more: Totals) -> Totals
+        requires counts { count_all (seen_counts self.counts) + count_all (seen_counts more.counts) < 2 ^ 128 }
+        requires bytes { self.bytes + more.bytes < 2 ^ 128 }
+        ensures counts { seen_counts result.counts ≡ together (seen_counts self.counts) (seen_counts more.counts) }
+        ensures bytes { result.bytes ≡ self.bytes + more.bytes }
+    {
+        Totals {
+            counts: self.counts.plus(more.counts),
+            bytes: self.bytes + more.bytes,
+        }
+    }
+
     // With the items of one more group, unless none was accepted.
     fn plus(self, items: &[Item]) -> Totals
-        requires counts { count_all (seen_counts self.counts) + length items.now < 2 ^ 64 }
+        requires counts { count_all (seen_counts self.counts) + length items.now < 2 ^ 128 }
         requires bytes { self.bytes + length items.now * 2 ^ 32 < 2 ^ 128 }
         ensures counts { seen_counts result.counts ≡ together (seen_counts self.counts) (tally (with_accepted items.now)) }
         ensures bytes { result.bytes ≡ self.bytes + bytes_of (with_accepted items.now) }

@@ -183,3 +183,16 @@ end ok
     assert_eq!(rt; text.as_str(), lines);
     Ok(())
 }
+
+#[test]
+fn the_parts_of_a_report(rt: HostRuntime) -> Result<(), Fail> {
+    let mut text = String::new(rt.alloc());
+    let mut joined = String::new(rt.alloc());
+    let hosts = vec![in rt.alloc(); sender(rt.alloc())?, receiver(rt.alloc())?]?;
+    report(rt.alloc(), &mut text, &hosts)?;
+    for part in report_parts(&rt, rt.alloc(), &hosts)? {
+        joined.push_str(part.as_str())?;
+    }
+    assert_eq!(rt; joined.as_str(), text.as_str());
+    Ok(())
+}

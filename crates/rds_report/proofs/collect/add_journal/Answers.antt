@@ -1,47 +1,48 @@
-use Rattle.std.proofs.Common.{◌≡◌, ◌≤◌, ◌+◌, ◌∙◌, ◌++◌, ◌∷◌, suc, Bool, List, arith, sym, ap}
+use Rattle.std.proofs.Common.{◌≡◌, ◌∙◌, ◌++◌, List, [], filter, ap, sym}
+use Rattle.std.proofs.lemmas.List.{append-nil}
 use Rattle.rds_model.specs.declared.entry.Entry.{Entry}
-use Rattle.rds_model.specs.declared.entry.Entry.TheVariants.{Accept}
-use Rattle.rds_model.specs.Past.{accepted}
-use Rattle.rds_report.specs.Items.{journal_items, accepted_items}
-use Rattle.rds_report.specs.TakenBackWalk.{before}
-use Rattle.rds_report.proofs.Steps.{before_more, accepted_before}
-use Rattle.rds_report.proofs.Gathered.{journal_accept, journal_other, accepted_other}
+use Rattle.rds_report.specs.declared.item.Item.{Item}
+use Rattle.rds_report.specs.FinalState.{FinalJournal}
+use Rattle.rds_report.specs.Views.{host_views}
+use Rattle.rds_report.specs.Items.{is_lost, is_to, came_items, sent_items}
+use Rattle.rds_report.proofs.Parted.{came_gone, came_kept, journal_kept, sent, sent_gone, sent_kept}
 use Rattle.rds_report.proofs.collect.add_journal.Goals as goal
-use Rattle.rds_report.proofs.collect.add_journal.Goals.{in-Accept+in_ok-add_accepted, in_default-entry+in_ok-add_read}
+use Rattle.rds_report.proofs.collect.add_journal.Goals.{then-peer-to+in_ok-add_sent, else-peer-to}
 
-pub loop-i-preserved : goal.loop-i-preserved
-loop-i-preserved c =
-    let all = c.args.journal.now.past in
-    let past = before c.loop-i.i all in
-    let more : before (c.loop-i.i + 1) all ≡ c.in-Some.entry.now ∷ past = before_more all c.loop-i.i c.in-Some.entry.now (sym c.in-Some.ensures) in
-    let known = c.loop-i.invariant.number in
-    let few = c.loop-i.invariant.few in
-    elim c.match-entry.branch [
-      | in-Accept+in_ok-add_accepted w ↦
-          let a = w.in-Accept in
-          let this : before (c.loop-i.i + 1) all ≡ Accept a.slot a.sport a.dport a.payload ∷ past = more ∙ ap (λ (e : Entry). e ∷ past) a.is in
-          let one : accepted (before (c.loop-i.i + 1) all) ≡ suc (accepted past) = ap accepted this in
-          let most : accepted (before (c.loop-i.i + 1) all) ≤ accepted all = accepted_before (c.loop-i.i + 1) all in
-          let next : c.loop-i.n + 1 ≡ suc (accepted past) = omega (arith, known) in
-          record {
-            number = omega (arith, w.n-is, known, one);
-            few = omega (arith, w.n-is, few);
-            added = λ test is.
-                ap (λ v. v.items) w.items-is ∙ w.in_ok-add_accepted.ensures
-                ∙ ap (λ (b : Bool). c.loop-i.items.items ++ accepted_items c.args.host c.args.peer a.sport a.dport b)
-                (w.flag.ensures test (accepted all) is (omega (arith, most, one, known)) ∙ ap test next)
-                ∙ journal_accept c.args.host c.args.peer test a.slot a.sport a.dport a.payload past c.args.items.now.items c.loop-i.items.items (c.loop-i.invariant.added test is)
-                ∙ ap (λ (p : List Entry). c.args.items.now.items ++ journal_items c.args.host c.args.peer test p) (sym this);
-          }
-      | in_default-entry+in_ok-add_read w ↦
-          let other = w.in_default-entry.not-Accept in
-          let same : accepted (before (c.loop-i.i + 1) all) ≡ accepted past = ap accepted more ∙ accepted_other c.in-Some.entry.now past other in
-          record {
-            number = omega (arith, w.n-is, known, same);
-            few = omega (arith, w.n-is, few);
-            added = λ test is.
-                ap (λ v. v.items) w.items-is ∙ w.in_ok-add_read.ensures
-                ∙ journal_other c.args.host c.args.peer test c.in-Some.entry.now past other c.args.items.now.items c.loop-i.items.items (c.loop-i.invariant.added test is)
-                ∙ ap (λ (p : List Entry). c.args.items.now.items ++ journal_items c.args.host c.args.peer test p) (sym more);
-          }
-    ]
+pub returns-in_ok-add_came : goal.returns-in_ok-add_came
+returns-in_ok-add_came c =
+    let ends = host_views c.args.hosts.now in
+    let s : FinalJournal = record { peer = c.args.peer; past = c.args.journal.now.past } in
+    let first : (a : List Item) × ((c.if-peer-to.items.items ≡ c.args.items.now.items ++ a) × (filter (is_to c.args.to) (sent ends c.args.host c.args.to s) ≡ a)) =
+    elim c.if-peer-to.branch [
+      | then-peer-to+in_ok-add_sent w ↦ (
+        sent ends c.args.host c.args.to s,
+        (
+          ap (λ v. v.items) w.items-is ∙ w.in_ok-add_sent.ensures
+              ∙ ap (λ (back : List Entry). c.args.items.now.items ++ sent_items c.args.host c.args.peer (is_lost s.past back) s.past) w.journal_of-back.ensures,
+          sent_kept ends c.args.host c.args.to s w.if-peer-to.true,
+        ),
+      )
+      | else-peer-to w ↦ ([], (ap (λ v. v.items) w.items-is ∙ sym (append-nil c.args.items.now.items), sent_gone ends c.args.host c.args.to s w.if-peer-to.false))
+    ] in
+    journal_kept ends c.args.host c.args.to s c.args.items.now.items c.if-peer-to.items.items c.add_came.new.items.items first.0 (came_items c.args.peer c.args.host s.past)
+    first.1.0 c.in_ok-add_came.ensures first.1.1 (came_kept ends c.args.host c.args.to s c.if-host-to.true)
+
+pub returns-else-host-to : goal.returns-else-host-to
+returns-else-host-to c =
+    let ends = host_views c.args.hosts.now in
+    let s : FinalJournal = record { peer = c.args.peer; past = c.args.journal.now.past } in
+    let first : (a : List Item) × ((c.if-peer-to.items.items ≡ c.args.items.now.items ++ a) × (filter (is_to c.args.to) (sent ends c.args.host c.args.to s) ≡ a)) =
+    elim c.if-peer-to.branch [
+      | then-peer-to+in_ok-add_sent w ↦ (
+        sent ends c.args.host c.args.to s,
+        (
+          ap (λ v. v.items) w.items-is ∙ w.in_ok-add_sent.ensures
+              ∙ ap (λ (back : List Entry). c.args.items.now.items ++ sent_items c.args.host c.args.peer (is_lost s.past back) s.past) w.journal_of-back.ensures,
+          sent_kept ends c.args.host c.args.to s w.if-peer-to.true,
+        ),
+      )
+      | else-peer-to w ↦ ([], (ap (λ v. v.items) w.items-is ∙ sym (append-nil c.args.items.now.items), sent_gone ends c.args.host c.args.to s w.if-peer-to.false))
+    ] in
+    journal_kept ends c.args.host c.args.to s c.args.items.now.items c.if-peer-to.items.items c.if-peer-to.items.items first.0 []
+    first.1.0 (sym (append-nil c.if-peer-to.items.items)) first.1.1 (came_gone ends c.args.host c.args.to s c.if-host-to.false)

@@ -1,0 +1,7 @@
+use Rattle.std.proofs.Common.{◌≡◌, ◌++◌}
+use Rattle.rds_report.specs.Items.{came_items}
+use Rattle.rds_report.specs.TakenBackWalk.{before}
+use Rattle.rds_report.proofs.collect.add_came.Given as goal
+
+abbrev pub invariant-loop-i : goal.invariant-loop-i
+invariant-loop-i l = l.items.items ≡ l.fn.items.items ++ came_items l.from l.to (before l.i l.journal.past)
