@@ -5,8 +5,10 @@ ghost use Rattle.rds_run.specs.RunStatus.{IsEndOfScript, memory_seen};
 ghost use Rattle.rds_run.specs.declared.status.Status.TheVariants as status;
 
 use crate::status::Status;
+use rayon::prelude::*;
 use rds_link::{Gate, MemWire, Sink, Wire};
 use rds_model::MAX_ENTRIES;
+use rds_report::HostEnd;
 use rds_script::Script;
 use rds_threads::{Form, RunEnd, run};
 use std::alloc::Global;
@@ -70,11 +72,21 @@ where
         BUDGET,
         sink,
     ) {
-        RunEnd::Ok { .. } => Status::Written,
+        RunEnd::Ok { ends } => written(rt, ends),
         RunEnd::WireFault { .. } => Status::WireFault,
         RunEnd::Spent { .. } => Status::Spent,
         RunEnd::Unfinished { .. } => Status::Unfinished,
         RunEnd::WriteFault => Status::WriteFault,
         RunEnd::Memory => Status::Memory,
     }
+}
+
+// The status of a run whose text was written. What its hosts have is let go of, that of each host in a thread of its own.
+fn written<R: Threads + Sync>(rt: &R, ends: Vec<HostEnd>) -> Status
+    ensures { result ≡ status.Written }
+{
+    ends.into_par_iter()
+        .with_min_len(1)
+        .for_each(rt, |end: HostEnd| drop(end));
+    Status::Written
 }

@@ -1,5 +1,6 @@
 //! What a run writes at its end.
 ghost use Rattle.std.specs.Prelude.{◌≡◌, ◌<◌, IfOk, OnErr, string_bytes};
+ghost use Rattle.std.specs.List.{flat_map};
 ghost use Rattle.rds_model.specs.Past.{newest_stream};
 ghost use Rattle.rds_report.specs.Views.{AreFinalHosts, host_views};
 ghost use Rattle.rds_text.specs.Lines.{spent_line as line_of_spent};
@@ -10,14 +11,16 @@ ghost use Rattle.rds_threads.specs.declared.form.RunEnd.TheVariants as ended;
 use crate::form::{Form, RunEnd};
 use rds_link::{Sink, write_all};
 use rds_model::Journal;
-use rds_report::{HostEnd, report, summary};
+use rds_report::{HostEnd, report_parts, summary};
 use rds_rounds::last_stream;
 use rds_text::{HostName, spent_line};
 use rds_wire::Memory;
 use std::alloc::Global;
+use std::thread::Threads;
 
 /// Writes the text of a run that came to its end.
-pub(crate) fn end_by_report<K: Sink>(
+pub(crate) fn end_by_report<K: Sink, R: Threads + Sync>(
+    rt: &R,
     alloc: Global,
     form: Form,
     ends: Vec<HostEnd>,
@@ -29,21 +32,28 @@ pub(crate) fn end_by_report<K: Sink>(
         (text_of_form form (host_views ends.items)) (ended.Ok ends)) }
     ensures memory { OnErr result (K.held sink.new ≡ K.held sink.old) }
 {
-    let text = text_of(alloc, form, &ends)?;
-    Ok(write(sink, text.as_str(), RunEnd::Ok { ends }))
+    let texts = texts_of(rt, alloc, form, &ends)?;
+    Ok(write_texts(sink, &texts, RunEnd::Ok { ends }))
 }
 
-// The text of a run that came to its end.
-fn text_of(alloc: Global, form: Form, ends: &[HostEnd]) -> Result<String, Memory>
+// The text of a run that came to its end, in texts that are written one behind another.
+fn texts_of<R: Threads + Sync>(
+    rt: &R,
+    alloc: Global,
+    form: Form,
+    ends: &[HostEnd],
+) -> Result<Vec<String>, Memory>
     requires { AreFinalHosts (host_views ends.now) }
-    ensures { IfOk result (λ text. string_bytes text ≡ text_of_form form (host_views ends.now)) }
+    ensures { IfOk result (λ texts. flat_map string_bytes texts.items ≡ text_of_form form (host_views ends.now)) }
 {
-    let mut text = String::new(alloc);
     match form {
-        Form::Report => report(alloc, &mut text, ends)?,
-        Form::Summary { seed, sends } => summary(alloc, &mut text, ends, seed, sends)?,
+        Form::Report => report_parts(rt, alloc, ends),
+        Form::Summary { seed, sends } => {
+            let mut text = String::new(alloc);
+            summary(alloc, &mut text, ends, seed, sends)?;
+            Ok(vec![in alloc; text]?)
+        }
     }
-    Ok(text)
 }
 
 /// Writes the line of a run some of whose datagrams aren't acknowledged.
@@ -133,4 +143,18 @@ fn write<K: Sink>(sink: &mut K, text: &str, end: RunEnd) -> RunEnd
         Ok(()) => end,
         Err(_) => RunEnd::WriteFault,
     }
+}
+
+// Writes the whole of texts, one behind another, and answers how that ended.
+fn write_texts<K: Sink>(sink: &mut K, texts: &[String], end: RunEnd) -> RunEnd
+    ensures { Writes
+        record { held_before = K.held sink.old; held_after = K.held sink.new; faults_before = K.faults sink.old; faults_after = K.faults sink.new }
+        (flat_map string_bytes texts.now) end result }
+{
+    for text in texts {
+        if write_all(sink, text.as_bytes()).is_err() {
+            return RunEnd::WriteFault;
+        }
+    }
+    end
 }

@@ -26,9 +26,10 @@ use rds_rounds::{Lines, Rounds};
 use rds_wire::Memory;
 use std::alloc::Global;
 use std::sync::Wait;
+use std::thread::Threads;
 
 /// Writes what a run that ended so has to write.
-pub(crate) fn end_run<K: Sink, W: Wire, R: Wait>(
+pub(crate) fn end_run<K: Sink, W: Wire, R: Threads + Wait + Sync>(
     rt: &R,
     alloc: Global,
     wire: &mut W,
@@ -60,7 +61,7 @@ pub(crate) fn end_run<K: Sink, W: Wire, R: Wait>(
     match end {
         Rounds::Done => {
             let ends = host_ends(rt, alloc, wire, callers, lines)?;
-            end_by_report(alloc, form, ends, sink)
+            end_by_report(rt, alloc, form, ends, sink)
         }
         Rounds::Unfinished {
             count,

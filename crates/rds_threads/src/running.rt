@@ -107,7 +107,7 @@ where
 }
 
 // What a run comes to whose callers have done their commands.
-fn finish<K: Sink, W: Wire, R: Wait>(
+fn finish<K: Sink, W: Wire, R: Threads + Wait + Sync>(
     rt: &R,
     alloc: Global,
     wire: &mut W,
