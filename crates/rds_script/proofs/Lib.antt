@@ -9,6 +9,7 @@ pub mod Counting
 pub mod Places
 pub mod NameLemmas
 pub mod Spelled
+pub mod Exact
 pub mod Causes
 pub mod OneLine
 pub mod OneAnswer

@@ -19,9 +19,9 @@ abbrev pub With : Type 0
 With = Value × List (List ℕ)
 
 -- the value stands in the place, and these words come after it
-record Taken (hosts : ℕ) (first : List ℕ) (p : Place) (w : List ℕ) (ws : List (List ℕ)) (x : With) : Type 0 where
-  stands : Stands hosts first p w x.0
-  rest : x.1 ≡ ws
+pub record Taken (hosts : ℕ) (first : List ℕ) (p : Place) (w : List ℕ) (ws : List (List ℕ)) (x : With) : Type 0 where
+  pub stands : Stands hosts first p w x.0
+  pub rest : x.1 ≡ ws
 
 module _ (hosts : ℕ) (first w : List ℕ) (ws : List (List ℕ)) where
   -- ---- the first of the words in its place
@@ -101,7 +101,7 @@ module _ (hosts : ℕ) (first w : List ℕ) (ws : List (List ℕ)) where
   unfolding peer_at
   peer_failed h = rw (host_failed h) refl
 
-  number_taken : (low high : ℕ) (x : With) → number_at low high (w ∷ ws) ≡ Ok x → Taken hosts first (a_number low high) w ws x
+  pub number_taken : (low high : ℕ) (x : With) → number_at low high (w ∷ ws) ≡ Ok x → Taken hosts first (a_number low high) w ws x
   unfolding number_at
   number_taken low high x e =
       let o = or_ok (λ n. (the_number n, ws)) (option_and_then (in_range low high) (numeral_of w)) cause.Number x e in
@@ -180,6 +180,24 @@ module _ (hosts : ℕ) (first w : List ℕ) (ws : List (List ℕ)) where
 -- ---- all words of a line
 
 module _ (hosts : ℕ) (first : List ℕ) where
+  no_value : (p : Place) (x : With) → value_at hosts first p [] ≡ Ok x → ⊥
+  unfolding host_value peer_at number_at payload_at host_of numeral_of payload_of
+  no_value a_host x e = cc
+  no_value another_host x e = cc
+  no_value (a_number low high) x e = cc
+  no_value a_payload x e = cc
+
+  -- words that give a value for each place are as many as the places
+  pub counted : (ps : List Place) (ws : List (List ℕ)) (vs : List Value) → values_at hosts first ps ws ≡ Ok vs → length ws ≡ length ps
+  counted [] [] vs e = refl
+  counted [] (w ∷ ws) vs e = absurd cc
+  counted (p ∷ ps) [] vs e = let x = bind_ok (value_at hosts first p []) _ vs e in absurd (no_value p x.0 x.1)
+  counted (p ∷ ps) (w ∷ ws) vs e =
+      let x = bind_ok (value_at hosts first p (w ∷ ws)) _ vs e in
+      let t = taken hosts first w ws p x.0 x.1 in
+      let y = bind_ok (values_at hosts first ps x.0.1) _ vs x.2 in
+      omega (arith, counted ps ws y.0 (ap (values_at hosts first ps) (sym t.rest) ∙ y.1))
+
   pub fills : (ps : List Place) (ws : List (List ℕ)) (vs : List Value) → length ws ≡ length ps → values_at hosts first ps ws ≡ Ok vs → Fills hosts first ps ws vs
   fills [] [] vs len e = subst (Fills hosts first [] []) (ok_is e) tt
   fills [] (w ∷ ws) vs len e = absurd (omega arith)
@@ -202,7 +220,8 @@ module _ (hosts : ℕ) (first : List ℕ) where
   fills_length ps ws vs h = absurd h
 
   pub leftmost_fails : (ps : List Place) (ws : List (List ℕ)) (c : Cause) → length ws ≡ length ps → values_at hosts first ps ws ≡ Err c → LeftmostFails hosts first ps ws c
-  leftmost_fails [] ws c len e = absurd cc
+  leftmost_fails [] [] c len e = absurd cc
+  leftmost_fails [] (w ∷ ws) c len e = absurd (omega arith)
   leftmost_fails (p ∷ ps) [] c len e = absurd (omega arith)
   leftmost_fails (p ∷ ps) (w ∷ ws) c len e =
       elim (bind_err (value_at hosts first p (w ∷ ws)) _ c e) [

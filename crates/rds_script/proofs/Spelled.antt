@@ -1,5 +1,5 @@
 -- A line of a name: what reading its words gives is what they spell.
-use Rattle.std.proofs.Common.{◌≡◌, ℕ, ◌≤◌, true, false, List, [], ◌∷◌, length, drop, Option, Some, Result, Ok, Err, refl, sym, ap, subst, ◌∙◌, inl, inr, codes}
+use Rattle.std.proofs.Common.{◌≡◌, ℕ, ◌≤◌, true, false, List, [], ◌∷◌, length, Option, Some, Result, Ok, Err, refl, sym, ap, subst, ◌∙◌, arith, inl, inr, codes}
 use Rattle.std.specs.Prelude.{IsSomeAnd}
 use Rattle.rds_script.specs.declared.cause.Cause.{Cause}
 use Rattle.rds_script.specs.declared.script.Command.{Command}
@@ -9,7 +9,7 @@ use Rattle.rds_script.specs.Line.{Place, a_number, Value, the_number, Fills, pla
 use Rattle.rds_script.specs.Refusal.{LeftmostFails, WordFails}
 use Rattle.rds_script.specs.Reading.{name_word, places_of, is_hosts, as_number, command_of, number_at, values_at, command_at}
 use Rattle.rds_script.proofs.Binds.{bind_ok, bind_err, ok_is}
-use Rattle.rds_script.proofs.Places.{With, again, fills, fills_again, fills_length, leftmost_fails, leftmost_failed}
+use Rattle.rds_script.proofs.Places.{With, number_taken, again, fills, fills_again, fills_length, leftmost_fails, leftmost_failed}
 use Rattle.rds_script.proofs.NameLemmas.{places-of, named_by, named, made, hosts_made}
 
 -- ---- names
@@ -108,15 +108,20 @@ module _ (hosts : ℕ) (w : List ℕ) (args : List (List ℕ)) where
 module _ (w : List ℕ) (args : List (List ℕ)) where
   pub hosts_spelled : (x : With) → w ≡ codes "hosts" → length args ≡ 1 → number_at 2 8 args ≡ Ok x → SpellsHosts (w ∷ args) (as_number x.0)
   hosts_spelled x w-is len e =
-      let f = fills 0 (first_of args) (places_of Hosts) args (x.0 ∷ []) len (rw e refl) in
+      let f = fills 0 (first_of args) (places_of Hosts) args (x.0 ∷ []) len (value args len e) in
       let v-is = hosts_made 0 (first_of args) args x.0 f in
       (w-is, fills_row 0 w args Hosts w-is (the_number (as_number x.0) ∷ []) (subst (λ (v : Value). Fills 0 (first_of args) (places_of Hosts) args (v ∷ [])) v-is f))
+    where
+      value : (ws : List (List ℕ)) → length ws ≡ 1 → number_at 2 8 ws ≡ Ok x → values_at 0 (first_of ws) (places_of Hosts) ws ≡ Ok (x.0 ∷ [])
+      value [] len e = absurd (omega arith)
+      value (w ∷ []) len e = let t = number_taken 0 w w [] 2 8 x e in rw (e, t.rest) refl
+      value (v ∷ w ∷ ws) len e = absurd (omega arith)
 
   -- reading a line that spells the hosts
   pub record IsHostsLine (m : ℕ) : Type 0 where
     pub word : w ≡ codes "hosts"
     pub len : length args ≡ 1
-    pub read : number_at 2 8 args ≡ Ok (the_number m, drop 1 args)
+    pub read : number_at 2 8 args ≡ Ok (the_number m, [])
     pub range : (2 ≤ m) × (m ≤ 8)
 
   pub hosts_read : (m : ℕ) → SpellsHosts (w ∷ args) m → IsHostsLine m
@@ -134,7 +139,7 @@ module _ (w : List ℕ) (args : List (List ℕ)) where
       in_range (x ∷ []) f = (f.0.from, f.0.to)
       in_range (x ∷ y ∷ ws) f = absurd f.1
 
-      number : (ws : List (List ℕ)) → Fills 0 (first_of ws) (places_of Hosts) ws (the_number m ∷ []) → number_at 2 8 ws ≡ Ok (the_number m, drop 1 ws)
+      number : (ws : List (List ℕ)) → Fills 0 (first_of ws) (places_of Hosts) ws (the_number m ∷ []) → number_at 2 8 ws ≡ Ok (the_number m, [])
       number [] f = absurd f
       number (x ∷ []) f = again 0 x x [] (a_number 2 8) (the_number m) f.0
       number (x ∷ y ∷ ws) f = absurd f.1

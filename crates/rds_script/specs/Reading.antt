@@ -115,8 +115,14 @@ value_at hosts first another_host line = peer_at hosts first line
 value_at hosts first (a_number low high) line = number_at low high line
 value_at hosts first a_payload line = payload_at line
 
+-- no words
+abbrev pub end_at : List (List ℕ) → Result (List Value) Cause
+end_at [] = Ok []
+end_at (word ∷ words) = Err cause.Words
+
+-- all words: one in each place, and none after them
 abbrev pub values_at : ℕ → List ℕ → List Place → List (List ℕ) → Result (List Value) Cause
-values_at hosts first [] line = Ok []
+values_at hosts first [] line = end_at line
 values_at hosts first (p ∷ ps) line = do
   v ← value_at hosts first p line
   vs ← values_at hosts first ps v.1
@@ -219,6 +225,10 @@ with_command s number c =
 unfoldable pub hosts_at : Meaning → ℕ → List (List ℕ) → Result Meaning Cause
 hosts_at s number line = number_at 2 8 line >>= λ v. Ok (record s { hosts = as_number v.0; hosts_line = number })
 
+-- what the words after this name give, if they are as many as the name wants
+abbrev pub exact : {X : Type 0} → Name → List (List ℕ) → Result X Cause → Result X Cause
+exact name line read = if length line == length (places_of name) then read else Err cause.Words
+
 -- the line of this name, which has as many words as it wants
 unfoldable pub named : Meaning → ℕ → Name → List (List ℕ) → Result Meaning Cause
 named s number name line = if is_hosts name then hosts_at s number line else (command_at s.hosts name line >>= with_command s number)
@@ -226,7 +236,7 @@ named s number name line = if is_hosts name then hosts_at s number line else (co
 unfoldable pub counted : Meaning → ℕ → Name → List (List ℕ) → Result Meaning Cause
 counted s number name line =
     if beq (is_hosts name) (s.hosts == 0)
-    then (if length line == length (places_of name) then named s number name line else Err cause.Words)
+    then exact name line (named s number name line)
     else Err cause.Command
 
 abbrev pub command_line : Meaning → ℕ → List (List ℕ) → Result Meaning Cause

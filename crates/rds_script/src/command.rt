@@ -3,27 +3,42 @@
 ghost use Rattle.std.specs.Prelude.{◌≡◌, [], ◌∷◌, false};
 ghost use Rattle.rds_script.specs.Text.{words};
 ghost use Rattle.rds_script.specs.Line.{first_of, the_number};
-ghost use Rattle.rds_script.specs.Reading.{Gives, GivesOrMemory, values_at, places_of, command_at, is_hosts};
+ghost use Rattle.rds_script.specs.Reading.{Gives, GivesOrMemory, values_at, places_of, command_at, exact, is_hosts};
 ghost use Rattle.rds_script.specs.declared.name.Name.TheVariants as names;
 
 use crate::fault::Fault;
+use crate::line::has_words;
 use crate::name::Name;
 use crate::payload::{Room, payload_at};
-use crate::place::{host_at, number_at, peer_at, port_at};
+use crate::place::{end_at, host_at, number_at, peer_at, port_at};
 use crate::{Cause, Command};
 
 /// The most bytes that a socket's buffer may have.
 const MAX_BUFFER: u32 = 16_777_216;
 
-/// The command of this name, from the other words of its line, which are as many as the name wants. A payload gets its bytes
-/// from the room that all payloads of the script share.
-#[tactic(auto, unfolding(crate::specs::Reading::command_at))]
+/// The command of this name, from the other words of its line. Only where they give none are they counted, since a wrong
+/// number of words comes before what is wrong with one of them.
 pub(crate) fn command_of(
     room: &mut Room,
     hosts: u8,
     name: Name,
     rest: &[u8],
 ) -> Result<Command, Fault>
+    requires { is_hosts name ≡ false }
+    ensures { GivesOrMemory (λ c. c) result
+        (exact name (words rest.now) (command_at hosts name (words rest.now))) }
+{
+    match command_at(room, hosts, name, rest) {
+        Ok(command) => Ok(command),
+        Err(_) if !has_words(rest, name.places()) => Err(Fault::Refused(Cause::Words)),
+        Err(fault) => Err(fault),
+    }
+}
+
+/// The command of this name, from the other words of its line. A payload gets its bytes from the room that all payloads of
+/// the script share.
+#[tactic(auto, unfolding(crate::specs::Reading::command_at))]
+fn command_at(room: &mut Room, hosts: u8, name: Name, rest: &[u8]) -> Result<Command, Fault>
     requires { is_hosts name ≡ false }
     ensures { GivesOrMemory (λ c. c) result (command_at hosts name (words rest.now)) }
 {
@@ -66,7 +81,10 @@ pub(crate) fn command_of(
             let (host, to) = pair(hosts, rest)?;
             Ok(Command::Cut { host, to })
         }
-        Name::Drain => Ok(Command::Drain),
+        Name::Drain => {
+            end_at(rest)?;
+            Ok(Command::Drain)
+        }
     }
 }
 
@@ -76,7 +94,8 @@ fn socket(hosts: u8, rest: &[u8]) -> Result<(u8, u16), Cause>
         (values_at hosts (first_of (words rest.now)) (places_of names.Recv) (words rest.now)) }
 {
     let (host, rest) = host_at(hosts, rest)?;
-    let (port, _) = port_at(rest)?;
+    let (port, rest) = port_at(rest)?;
+    end_at(rest)?;
     Ok((host, port))
 }
 
@@ -86,7 +105,8 @@ fn pair(hosts: u8, rest: &[u8]) -> Result<(u8, u8), Cause>
         (values_at hosts (first_of (words rest.now)) (places_of names.Open) (words rest.now)) }
 {
     let (host, rest) = host_at(hosts, rest)?;
-    let (peer, _) = peer_at(hosts, host, rest)?;
+    let (peer, rest) = peer_at(hosts, host, rest)?;
+    end_at(rest)?;
     Ok((host, peer))
 }
 
@@ -98,7 +118,8 @@ fn binding(hosts: u8, rest: &[u8]) -> Result<(u8, u16, u32, u32), Cause>
     let (host, rest) = host_at(hosts, rest)?;
     let (port, rest) = port_at(rest)?;
     let (sndbuf, rest) = number_at(1, MAX_BUFFER, rest)?;
-    let (rcvbuf, _) = number_at(2, MAX_BUFFER, rest)?;
+    let (rcvbuf, rest) = number_at(2, MAX_BUFFER, rest)?;
+    end_at(rest)?;
     Ok((host, port, sndbuf, rcvbuf))
 }
 
@@ -110,7 +131,8 @@ fn cancel(hosts: u8, rest: &[u8]) -> Result<Command, Cause>
     let (host, rest) = host_at(hosts, rest)?;
     let (port, rest) = port_at(rest)?;
     let (to, rest) = host_at(hosts, rest)?;
-    let (dport, _) = port_at(rest)?;
+    let (dport, rest) = port_at(rest)?;
+    end_at(rest)?;
     Ok(Command::Cancel {
         host,
         port,
@@ -126,7 +148,8 @@ fn movement(hosts: u8, rest: &[u8]) -> Result<Command, Cause>
 {
     let (host, rest) = host_at(hosts, rest)?;
     let (to, rest) = peer_at(hosts, host, rest)?;
-    let (bytes, _) = number_at(1, u32::MAX, rest)?;
+    let (bytes, rest) = number_at(1, u32::MAX, rest)?;
+    end_at(rest)?;
     Ok(Command::Move { host, to, bytes })
 }
 
@@ -139,7 +162,8 @@ fn send(room: &mut Room, hosts: u8, rest: &[u8]) -> Result<Command, Fault>
     let (port, rest) = port_at(rest)?;
     let (to, rest) = host_at(hosts, rest)?;
     let (dport, rest) = port_at(rest)?;
-    let payload = payload_at(room, rest)?;
+    let (payload, rest) = payload_at(room, rest)?;
+    end_at(rest)?;
     Ok(Command::Send {
         host,
         port,

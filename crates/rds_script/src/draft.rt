@@ -33,6 +33,7 @@ impl Draft {
     ghost use Rattle.rds_script.specs.Grammar.{meaning, nothing};
     ghost use Rattle.rds_script.specs.Reading as reading;
     ghost use Rattle.rds_script.specs.Reading.{Becomes};
+    ghost use Rattle.rds_script.specs.declared.name.Name.TheVariants as names;
 
     pub(crate) fn new(alloc: Global) -> Draft
         ensures { meaning result.script ≡ nothing }
@@ -77,18 +78,6 @@ impl Draft {
         if name.is_hosts() != (self.script.hosts == 0) {
             return Err(Fault::Refused(Cause::Command));
         }
-        if !has_words(rest, name.places()) {
-            return Err(Fault::Refused(Cause::Words));
-        }
-        self.read_words(number, name, rest)
-    }
-
-    /// Reads a line with as many words as its name wants.
-    #[tactic(auto, unfolding(crate::specs::Reading::named))]
-    fn read_words(&mut self, number: u32, name: Name, rest: &[u8]) -> Result<(), Fault>
-        ensures { Becomes result (reading.named (meaning self.old.script) number name (words rest.now))
-            (meaning self.new.script) }
-    {
         if name.is_hosts() {
             return self.read_hosts(number, rest);
         }
@@ -98,9 +87,12 @@ impl Draft {
 
     #[tactic(auto, unfolding(crate::specs::Reading::hosts_at))]
     fn read_hosts(&mut self, number: u32, rest: &[u8]) -> Result<(), Fault>
-        ensures { Becomes result (reading.hosts_at (meaning self.old.script) number (words rest.now))
-            (meaning self.new.script) }
+        ensures { Becomes result (reading.exact names.Hosts (words rest.now)
+            (reading.hosts_at (meaning self.old.script) number (words rest.now))) (meaning self.new.script) }
     {
+        if !has_words(rest, 1) {
+            return Err(Fault::Refused(Cause::Words));
+        }
         let (hosts, _) = number_at(2, 8, rest)?;
         self.script.hosts = hosts as u8;
         self.script.hosts_line = number;

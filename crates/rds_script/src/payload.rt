@@ -1,6 +1,6 @@
 //! The three forms of a payload.
 
-ghost use Rattle.std.specs.Prelude.{◌≡◌, ◌≤◌, drop, IfOk, Ok};
+ghost use Rattle.std.specs.Prelude.{◌≡◌, ◌≤◌, IfOk, Ok};
 ghost use Rattle.rds_script.specs.Text.{words};
 ghost use Rattle.rds_script.specs.Line.{the_bytes};
 ghost use Rattle.rds_script.specs.Reading as reading;
@@ -75,14 +75,15 @@ fn tables(alloc: Global, table: &[u8], count: usize) -> Result<Vec<u8>, Memory>
     Ok(bytes)
 }
 
-/// The payload that the first word of a line's rest stands for.
+/// The payload that the first word of a line's rest stands for, and the rest after it.
 #[tactic(auto, unfolding(crate::specs::Reading::payload_at))]
-pub(crate) fn payload_at(room: &mut Room, line: &[u8]) -> Result<Payload, Fault>
-    ensures { GivesOrMemory (λ p. (the_bytes p, drop 1 (words line.now))) result
+pub(crate) fn payload_at<'a>(room: &mut Room, line: &'a [u8]) -> Result<(Payload, &'a [u8]), Fault>
+    ensures { GivesOrMemory (λ r. (the_bytes r.0, words r.1.now)) result
         (reading.payload_at (words line.now)) }
 {
-    let (word, _) = first_word(line);
-    payload_of(room, word)
+    let (word, rest) = first_word(line);
+    let payload = payload_of(room, word)?;
+    Ok((payload, rest))
 }
 
 #[tactic(auto, unfolding(crate::specs::Reading::payload_of))]

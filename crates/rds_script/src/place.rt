@@ -115,3 +115,13 @@ pub(crate) fn port_at(line: &[u8]) -> Result<(u16, &[u8]), Cause>
     let (port, rest) = number_at(0, 65_535, line)?;
     Ok((port as u16, rest))
 }
+
+/// The end of a line: no word is left.
+pub(crate) fn end_at(line: &[u8]) -> Result<(), Cause>
+    ensures { Gives (λ _. []) result (reading.end_at (words line.now)) }
+{
+    if !first_word(line).0.is_empty() {
+        return Err(Cause::Words);
+    }
+    Ok(())
+}
