@@ -1,5 +1,5 @@
 -- The value of decimal digits.
-use Rattle.std.proofs.Common.{◌≡◌, ℕ, zero, suc, ◌+◌, ◌-◌, ◌*◌, ◌^◌, ◌<◌, ◌≤◌, true, List, [], ◌∷◌, length, take, get_or, refl, sym, ap, ◌∙◌, arith, lit<}
+use Rattle.std.proofs.Common.{◌≡◌, ℕ, ◌+◌, ◌-◌, ◌*◌, ◌^◌, ◌<◌, ◌≤◌, true, List, [], ◌∷◌, length, take, get_or, refl, sym, ap, ◌∙◌, arith, lit<}
 use Rattle.std.specs.List.{list_all}
 use Rattle.std.specs.Char.{is_ascii_digit, digit_value}
 use Rattle.std.specs.Str.Parse.{AllDigits, digits_value}
@@ -8,6 +8,7 @@ use Rattle.std.proofs.lemmas.Bool.{and_parts, and_from, leb-true}
 use Rattle.std.proofs.lemmas.Bool.Decides.{nat_tests}
 use Rattle.std.proofs.lemmas.Int.Digits.{digits_value-lt, digits_value_more}
 use Rattle.std.proofs.lemmas.List.{length-take}
+use Rattle.std.proofs.lemmas.List.Folds.{list_all_more}
 
 -- a decimal digit, and its value
 pub record IsDigit (c : ℕ) : Type 0 where
@@ -36,26 +37,20 @@ pub are_digits : (w : List ℕ) → AllDigits 10 w → list_all is_ascii_digit w
 are_digits [] h = refl
 are_digits (c ∷ w) h = and_from _ _ (is_digit c h.0) (are_digits w h.1)
 
-pub digit_at : (w : List ℕ) (i : ℕ) → list_all is_ascii_digit w ≡ true → i < length w → IsDigit (get_or w i 0)
-digit_at [] i e lt = absurd (omega arith)
-digit_at (c ∷ w) zero e lt = digit_is c (and_parts _ _ e).0
-digit_at (c ∷ w) (suc i) e lt = digit_at w i (and_parts _ _ e).1 (omega arith)
-
-digits-take : (w : List ℕ) (i : ℕ) → AllDigits 10 w → AllDigits 10 (take i w)
-digits-take w zero h = tt
-digits-take [] (suc i) h = tt
-digits-take (c ∷ w) (suc i) h = (h.0, digits-take w i h.1)
-
--- nine digits stay below ten to the ninth
-pub value_below : (w : List ℕ) (i : ℕ) → list_all is_ascii_digit w ≡ true → i < 10 → digits_value 10 (take i w) < 1000000000
+-- the value of fewer than ten digits stays below ten to the ninth
+pub value_below : (w : List ℕ) (i : ℕ) → list_all is_ascii_digit (take i w) ≡ true → i < 10 → digits_value 10 (take i w) < 1000000000
 value_below w i e lt =
-    let b = digits_value-lt 10 (take i w) (digits-take w i (all_digits w e)) in
+    let b = digits_value-lt 10 (take i w) (all_digits (take i w) e) in
     let l = length-take i w in
     let p : 10 ^ length (take i w) ≤ 10 ^ 9 = pow-le-pow_right (lit< tt) {i = length (take i w)} {j = 9} (omega (arith, l)) in
     omega (arith, b, p)
 
 -- one digit more
-pub value_more : (w : List ℕ) (i d : ℕ) → list_all is_ascii_digit w ≡ true → i < length w → d ≡ get_or w i 0 - 48 → digits_value 10 (take i w) * 10 + d ≡ digits_value 10 (take (i + 1) w)
+pub value_more : (w : List ℕ) (i d : ℕ) → is_ascii_digit (get_or w i 0) ≡ true → i < length w → d ≡ get_or w i 0 - 48 → digits_value 10 (take i w) * 10 + d ≡ digits_value 10 (take (i + 1) w)
 value_more w i d e lt d-is =
-    let one = digit_at w i e lt in
+    let one = digit_is (get_or w i 0) e in
     sym (digits_value_more 10 w i lt ∙ ap (λ (x : ℕ). digits_value 10 (take i w) * 10 + x) (one.value ∙ sym d-is))
+
+-- the digits so far and one more
+pub all_more : (w : List ℕ) (i : ℕ) → list_all is_ascii_digit (take i w) ≡ true → is_ascii_digit (get_or w i 0) ≡ true → i < length w → list_all is_ascii_digit (take (i + 1) w) ≡ true
+all_more w i all one lt = list_all_more is_ascii_digit w i 0 lt ∙ and_from _ _ all one

@@ -37,12 +37,22 @@ fn without_return(line: &[u8]) -> &[u8]
     }
 }
 
-/// Whether each byte is a tab or a printable character of ASCII.
+/// Whether each byte is a tab or a printable character of ASCII. It looks at all of them, so that it can look at many at
+/// once.
 pub(crate) fn is_text_line(line: &[u8]) -> bool
     ensures { result ≡ list_all is_text line.now }
 {
-    line.iter()
-        .all(|b| *b == b'\t' || (*b >= 0x20 && *b <= 0x7e))
+    let mut all = true;
+    for byte in line {
+        all &= is_text_byte(*byte);
+    }
+    all
+}
+
+fn is_text_byte(byte: u8) -> bool
+    ensures { result ≡ is_text byte }
+{
+    byte == b'\t' || (byte >= 0x20 && byte <= 0x7e)
 }
 
 /// How many blanks a line begins with.

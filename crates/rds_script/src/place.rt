@@ -57,38 +57,17 @@ pub(crate) fn peer_at(hosts: u8, host: u8, line: &[u8]) -> Result<(u8, &[u8]), C
 pub(crate) fn number_of(word: &[u8]) -> Option<u64>
     ensures { result ≡ reading.numeral_of word.now }
 {
-    if !is_number(word) {
+    if word.is_empty() || word.len() > 10 {
         return None;
     }
-    Some(value_of(word))
-}
-
-/// Whether a word is 1 to 10 decimal digits.
-fn is_number(word: &[u8]) -> bool
-    ensures test { result ≡ reading.is_numeral word.now }
-    ensures few { OnTrue result (length word.now ≤ 10) }
-    ensures digits { OnTrue result (IsTrue (list_all is_ascii_digit word.now)) }
-{
-    !word.is_empty() && word.len() <= 10 && are_digits(word)
-}
-
-fn are_digits(word: &[u8]) -> bool
-    ensures { result ≡ list_all is_ascii_digit word.now }
-{
-    word.iter().all(|b| b.is_ascii_digit())
-}
-
-/// The value of decimal digits, few enough that it fits.
-fn value_of(digits: &[u8]) -> u64
-    requires few { length digits.now ≤ 10 }
-    requires digits { IsTrue (list_all is_ascii_digit digits.now) }
-    ensures { result ≡ digits_value 10 digits.now }
-{
     let mut value = 0;
-    for digit in digits {
+    for digit in word {
+        if !digit.is_ascii_digit() {
+            return None;
+        }
         value = value * 10 + u64::from(*digit - b'0');
     }
-    value
+    Some(value)
 }
 
 /// A number from `low` to `high`.
