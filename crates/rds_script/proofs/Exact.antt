@@ -1,6 +1,7 @@
 -- Words that are counted only where they give no value.
 use Rattle.std.proofs.Common.{◌≡◌, ℕ, Bool, true, false, cond, eqb, not, List, length, Result, Ok, Err, refl, sym, ◌∙◌}
 use Rattle.std.specs.Bool.{beq}
+use Rattle.std.specs.Result.{is_err}
 use Rattle.std.proofs.lemmas.Bool.{eq-eqb}
 use Rattle.rds_script.specs.declared.cause.Cause.{Cause}
 use Rattle.rds_script.specs.declared.cause.Cause.TheVariants as cause
@@ -10,7 +11,7 @@ use Rattle.rds_script.specs.declared.script.Command.{Command}
 use Rattle.rds_script.specs.declared.name.Name.{Name}
 use Rattle.rds_script.specs.declared.name.Name.TheVariants.{Hosts}
 use Rattle.rds_script.specs.Line.{first_of}
-use Rattle.rds_script.specs.Reading.{◌>>=◌, Fails, is_hosts, places_of, values_at, command_at, with_command, hosts_at, exact, named, counted}
+use Rattle.rds_script.specs.Reading.{◌>>=◌, GivesOrMemory, Fails, is_hosts, places_of, values_at, command_at, with_command, hosts_at, exact, named, counted}
 use Rattle.rds_script.specs.Grammar.{Meaning}
 use Rattle.rds_script.proofs.Binds.{bind_ok}
 use Rattle.rds_script.proofs.Places as places
@@ -23,6 +24,14 @@ module _ (hosts : ℕ) (n : Name) (ws : List (List ℕ)) where
   exact_read c e =
       let x = bind_ok (values_at hosts (first_of ws) (places_of n) ws) _ c e in
       rw (eq-eqb _ _ (places.counted hosts (first_of ws) (places_of n) ws x.0 x.1)) e
+
+  pub exact_found : (r : Result Command Fault) → is_err r ≡ false → GivesOrMemory (λ c. c) r (command_at hosts n ws) → GivesOrMemory (λ c. c) r (exact n ws (command_at hosts n ws))
+  exact_found (Ok c) e h = exact_read c h
+  exact_found (Err f) e h = absurd cc
+
+  -- words that are as many as the name wants
+  pub exact_counted : (r : Result Command Fault) (read : Result Command Cause) → length ws ≡ length (places_of n) → GivesOrMemory (λ c. c) r read → GivesOrMemory (λ c. c) r (exact n ws read)
+  exact_counted r read len h = rw (eq-eqb _ _ len) h
 
   -- a step after words that are counted
   pub exact_then : {A B : Type 0} (r : Result A Cause) (f : A → Result B Cause) → (exact n ws r >>= f) ≡ exact n ws (r >>= f)

@@ -28,11 +28,11 @@ pub(crate) fn command_of(
     ensures { GivesOrMemory (λ c. c) result
         (exact name (words rest.now) (command_at hosts name (words rest.now))) }
 {
-    match command_at(room, hosts, name, rest) {
-        Ok(command) => Ok(command),
-        Err(_) if !has_words(rest, name.places()) => Err(Fault::Refused(Cause::Words)),
-        Err(fault) => Err(fault),
+    let command = command_at(room, hosts, name, rest);
+    if command.is_err() && !has_words(rest, name.places()) {
+        return Err(Fault::Refused(Cause::Words));
     }
+    command
 }
 
 /// The command of this name, from the other words of its line. A payload gets its bytes from the room that all payloads of
@@ -67,7 +67,15 @@ fn command_at(room: &mut Room, hosts: u8, name: Name, rest: &[u8]) -> Result<Com
             let (host, port) = socket(hosts, rest)?;
             Ok(Command::Recv { host, port })
         }
-        Name::Cancel => Ok(cancel(hosts, rest)?),
+        Name::Cancel => {
+            let (host, port, to, dport) = two_sockets(hosts, rest)?;
+            Ok(Command::Cancel {
+                host,
+                port,
+                to,
+                dport,
+            })
+        }
         Name::Close => {
             let (host, port) = socket(hosts, rest)?;
             Ok(Command::Close { host, port })
@@ -76,7 +84,10 @@ fn command_at(room: &mut Room, hosts: u8, name: Name, rest: &[u8]) -> Result<Com
             let (host, to) = pair(hosts, rest)?;
             Ok(Command::Open { host, to })
         }
-        Name::Move => Ok(movement(hosts, rest)?),
+        Name::Move => {
+            let (host, to, bytes) = pair_and_bytes(hosts, rest)?;
+            Ok(Command::Move { host, to, bytes })
+        }
         Name::Cut => {
             let (host, to) = pair(hosts, rest)?;
             Ok(Command::Cut { host, to })
@@ -124,33 +135,28 @@ fn binding(hosts: u8, rest: &[u8]) -> Result<(u8, u16, u32, u32), Cause>
 }
 
 /// A host and a port, and another host and port.
-#[tactic(auto, unfolding(crate::specs::Reading::command_at))]
-fn cancel(hosts: u8, rest: &[u8]) -> Result<Command, Cause>
-    ensures { Gives (λ c. c) result (command_at hosts names.Cancel (words rest.now)) }
+fn two_sockets(hosts: u8, rest: &[u8]) -> Result<(u8, u16, u8, u16), Cause>
+    ensures { Gives (λ r. the_number r.0 ∷ the_number r.1 ∷ the_number r.2 ∷ the_number r.3 ∷ [])
+        result (values_at hosts (first_of (words rest.now)) (places_of names.Cancel) (words rest.now)) }
 {
     let (host, rest) = host_at(hosts, rest)?;
     let (port, rest) = port_at(rest)?;
     let (to, rest) = host_at(hosts, rest)?;
     let (dport, rest) = port_at(rest)?;
     end_at(rest)?;
-    Ok(Command::Cancel {
-        host,
-        port,
-        to,
-        dport,
-    })
+    Ok((host, port, to, dport))
 }
 
 /// A host, another host and a number of bytes.
-#[tactic(auto, unfolding(crate::specs::Reading::command_at))]
-fn movement(hosts: u8, rest: &[u8]) -> Result<Command, Cause>
-    ensures { Gives (λ c. c) result (command_at hosts names.Move (words rest.now)) }
+fn pair_and_bytes(hosts: u8, rest: &[u8]) -> Result<(u8, u8, u32), Cause>
+    ensures { Gives (λ r. the_number r.0 ∷ the_number r.1 ∷ the_number r.2 ∷ []) result
+        (values_at hosts (first_of (words rest.now)) (places_of names.Move) (words rest.now)) }
 {
     let (host, rest) = host_at(hosts, rest)?;
     let (to, rest) = peer_at(hosts, host, rest)?;
     let (bytes, rest) = number_at(1, u32::MAX, rest)?;
     end_at(rest)?;
-    Ok(Command::Move { host, to, bytes })
+    Ok((host, to, bytes))
 }
 
 /// A host and a port, another host and port, and a payload.
