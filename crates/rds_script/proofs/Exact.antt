@@ -25,6 +25,7 @@ module _ (hosts : ℕ) (n : Name) (ws : List (List ℕ)) where
       let x = bind_ok (values_at hosts (first_of ws) (places_of n) ws) _ c e in
       rw (eq-eqb _ _ (places.counted hosts (first_of ws) (places_of n) ws x.0 x.1)) e
 
+  -- the same, where the answer is no fault
   pub exact_found : (r : Result Command Fault) → is_err r ≡ false → GivesOrMemory (λ c. c) r (command_at hosts n ws) → GivesOrMemory (λ c. c) r (exact n ws (command_at hosts n ws))
   exact_found (Ok c) e h = exact_read c h
   exact_found (Err f) e h = absurd cc

@@ -1,10 +1,6 @@
 //! What the first word of a line's rest stands for, in the place of a host or a number, and the rest after it.
 
-ghost use Rattle.std.specs.Prelude.{◌≡◌, ◌+◌, ◌≤◌, [], ◌∷◌, IfOk, IfSome, IsTrue, length};
-ghost use Rattle.std.specs.Bool.{OnTrue};
-ghost use Rattle.std.specs.List.{list_all};
-ghost use Rattle.std.specs.Char.{is_ascii_digit};
-ghost use Rattle.std.specs.Str.Parse.{digits_value};
+ghost use Rattle.std.specs.Prelude.{◌≡◌, ◌+◌, ◌≤◌, [], ◌∷◌, IfOk, IfSome};
 ghost use Rattle.rds_script.specs.Text.{words};
 ghost use Rattle.rds_script.specs.Line.{first_of, the_number};
 ghost use Rattle.rds_script.specs.Reading as reading;
