@@ -24,4 +24,4 @@ pub mod Alive
 pub mod Counted
 pub mod Lacking
 pub mod Held
-pub mod Writing
+pub mod Fronts

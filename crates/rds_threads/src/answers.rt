@@ -9,6 +9,7 @@ ghost use Rattle.rds_threads.specs.Texts.{fault_line, text_of as text_of_form, u
 ghost use Rattle.rds_threads.specs.declared.form.RunEnd.TheVariants as ended;
 
 use crate::form::{Form, RunEnd};
+use crate::writing::write_texts;
 use rds_link::{Sink, write_all};
 use rds_model::Journal;
 use rds_report::{HostEnd, report_parts, summary};
@@ -33,7 +34,10 @@ pub(crate) fn end_by_report<K: Sink, R: Threads + Sync>(
     ensures memory { OnErr result (K.held sink.new ≡ K.held sink.old) }
 {
     let texts = texts_of(rt, alloc, form, &ends)?;
-    Ok(write_texts(sink, &texts, RunEnd::Ok { ends }))
+    match write_texts(sink, &texts) {
+        Ok(()) => Ok(RunEnd::Ok { ends }),
+        Err(_) => Ok(RunEnd::WriteFault),
+    }
 }
 
 // The text of a run that came to its end, in texts that are written one behind another.
@@ -143,18 +147,4 @@ fn write<K: Sink>(sink: &mut K, text: &str, end: RunEnd) -> RunEnd
         Ok(()) => end,
         Err(_) => RunEnd::WriteFault,
     }
-}
-
-// Writes the whole of texts, one behind another, and answers how that ended.
-fn write_texts<K: Sink>(sink: &mut K, texts: &[String], end: RunEnd) -> RunEnd
-    ensures { Writes
-        record { held_before = K.held sink.old; held_after = K.held sink.new; faults_before = K.faults sink.old; faults_after = K.faults sink.new }
-        (flat_map string_bytes texts.now) end result }
-{
-    for text in texts {
-        if write_all(sink, text.as_bytes()).is_err() {
-            return RunEnd::WriteFault;
-        }
-    }
-    end
 }

@@ -8,6 +8,7 @@ mod giving;
 mod leaving;
 mod running;
 mod taking;
+mod writing;
 
 pub use form::{Form, RunEnd};
 pub use running::run;
