@@ -72,7 +72,10 @@ where
         BUDGET,
         sink,
     ) {
-        RunEnd::Ok { ends } => written(rt, ends),
+        RunEnd::Ok { ends } => {
+            let_go(rt, ends);
+            Status::Written
+        }
         RunEnd::WireFault { .. } => Status::WireFault,
         RunEnd::Spent { .. } => Status::Spent,
         RunEnd::Unfinished { .. } => Status::Unfinished,
@@ -81,12 +84,9 @@ where
     }
 }
 
-// The status of a run whose text was written. What its hosts have is let go of, that of each host in a thread of its own.
-fn written<R: Threads + Sync>(rt: &R, ends: Vec<HostEnd>) -> Status
-    ensures { result ≡ status.Written }
-{
+// Lets go of what the hosts of a run have, that of each host in a thread of its own.
+fn let_go<R: Threads + Sync>(rt: &R, ends: Vec<HostEnd>) {
     ends.into_par_iter()
         .with_min_len(1)
         .for_each(rt, |end: HostEnd| drop(end));
-    Status::Written
 }
