@@ -1,4 +1,4 @@
-use Rattle.rds_link_tests.proofs.streams.race.Goals as goal
+use Rattle.rds_link_threads_tests.proofs.shutting.race.Goals as goal
 
 -- each end met the other before it was shut, and meets it still
 pub met-requires : goal.met-requires
