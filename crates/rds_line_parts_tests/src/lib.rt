@@ -9,5 +9,3 @@ mod parts;
 mod putting;
 #[cfg(test)]
 mod relieving;
-#[cfg(test)]
-mod streams;

@@ -73,6 +73,6 @@ fn got(rt: &impl Wait, alloc: Global) -> Result<[bool; 3], Memory> {
 
 #[test]
 fn a_datagram_goes_into_the_box_of_its_slot_once(rt: HostRuntime) -> Result<(), Fail> {
-    assert_eq!(rt; got(&rt, rt.alloc())?, [false, true, false]);
+    assert!(rt; got(&rt, rt.alloc())? == [false, true, false]);
     Ok(())
 }

@@ -1,0 +1,5 @@
+//! Tests of a line's streams.
+#![tactic(auto)]
+
+#[cfg(test)]
+mod streams;
