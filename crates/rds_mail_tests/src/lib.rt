@@ -1,11 +1,9 @@
-//! Tests of mailboxes.
+//! Tests of mailboxes in one thread.
 #![tactic(auto)]
 
 #[cfg(test)]
 mod gathering;
 #[cfg(test)]
-mod polled;
+mod ringing;
 #[cfg(test)]
 mod single;
-#[cfg(test)]
-mod threads;

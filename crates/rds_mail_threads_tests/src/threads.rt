@@ -102,7 +102,7 @@ fn each_threads_items_come_in_order(rt: HostRuntime) -> Result<(), Fail> {
     );
     let (second, rest) = rest;
     let (get, next) = rest;
-    assert_eq!(rt; next, (EACH, 2 * EACH));
+    assert!(rt; next == (EACH, 2 * EACH));
     ends(&rt, mail, (first, second), get);
     Ok(())
 }

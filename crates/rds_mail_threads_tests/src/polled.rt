@@ -1,36 +1,18 @@
 //! A task that waits for an item.
 ghost use Rattle.std.specs.Prelude.{◌≡◌};
 
-use crate::single::is_put;
 use futures::Future;
 use futures::executor::block_on;
 use futures::task::{Context, Poll};
 use futures::test::MockTask;
-use rds_mail::{Bell, GetPass, Mail, PutPass};
+use rds_mail::{GetPass, Mail, PutPass};
 use rds_wire::Memory;
-use std::alloc::AllocGlobal;
-use std::process::Abort;
+use std::alloc::{AllocGlobal, Global};
 use std::random::RandomSource;
 use std::sync::Wait;
 use std::test::Fail;
 use std::thread;
 use std::thread::Threads;
-
-// A bell wakes a task that registered, once it is rung.
-fn wakes<R: Abort + Wait>(rt: &R, task: &MockTask) {
-    let bell = Bell::new();
-    let registered = task.enter(|cx| bell.register(rt, cx));
-    assert!(rt; registered.is_ok() && !task.is_woken());
-    bell.ring(rt);
-    assert!(rt; task.is_woken());
-}
-
-#[test]
-fn a_bell_wakes_the_task_that_registered(rt: HostRuntime) -> Result<(), Fail> {
-    let task = MockTask::new(&rt)?;
-    wakes(&rt, &task);
-    Ok(())
-}
 
 // The next item of a mailbox.
 #[derive(Drop)]
@@ -54,32 +36,36 @@ impl<R: Wait> Future for Next<'_, R> {
 fn puts_one(rt: &impl Wait, mail: &Mail<u32>, mut put: PutPass<u32>)
     requires { put.mail ≡ mail.now.line }
 {
-    let _ = is_put(rt, mail, &mut put, 7);
+    let _ = mail.put(rt, &mut put, 7);
     mail.bell().ring(rt);
 }
 
-// A task polls a mailbox before and after an item is put.
-fn polls<R: Abort + Wait>(
+// Whether a task that polls a mailbox is woken once an item is put, and gets it then and not before.
+fn polls<R: Wait>(
     rt: &R,
     task: &MockTask,
     mail: &Mail<u32>,
     put: PutPass<u32>,
     get: GetPass<u32>,
-)
+) -> bool
     requires put { put.mail ≡ mail.now.line }
     requires get { get.mail ≡ mail.now.line }
 {
     let mut next = Next { rt, mail, get };
-    assert!(rt; task.poll(&mut next) == Poll::Pending && !task.is_woken());
+    let sleeps = task.poll(&mut next) == Poll::Pending && !task.is_woken();
     puts_one(rt, mail, put);
-    assert!(rt; task.is_woken() && task.poll(&mut next) == Poll::Ready(Ok(7)));
+    sleeps && task.is_woken() && task.poll(&mut next) == Poll::Ready(Ok(7))
+}
+
+fn is_polled<R: Wait>(rt: &R, alloc: Global, task: &MockTask) -> Result<bool, Memory> {
+    let (mail, put, get) = Mail::<u32>::new(alloc)?;
+    Ok(polls(rt, task, &mail, put, get))
 }
 
 #[test]
 fn a_mailbox_is_polled(rt: HostRuntime) -> Result<(), Fail> {
     let task = MockTask::new(&rt)?;
-    let (mail, put, get) = Mail::<u32>::new(rt.alloc())?;
-    polls(&rt, &task, &mail, put, get);
+    assert!(rt; is_polled(&rt, rt.alloc(), &task)?);
     Ok(())
 }
 
