@@ -51,7 +51,7 @@ fn refusal(fault: Malformed) -> Refused {
 #[test]
 fn a_malformed_header_ends_its_stream(rt: HostRuntime) {
     for (header, fault) in &malformed() {
-        assert_eq!(rt; refused(rt.alloc(), header), Ok(refusal(*fault)));
+        assert!(rt; refused(rt.alloc(), header) == Ok(refusal(*fault)));
     }
 }
 
@@ -86,7 +86,7 @@ fn judged(alloc: Global, header: &Header) -> Result<Option<Verdict>, ConnError> 
 #[test]
 fn an_odd_frame_has_its_verdict(rt: HostRuntime) {
     for (header, verdict) in &odd() {
-        assert_eq!(rt; judged(rt.alloc(), header), Ok(Some(*verdict)));
+        assert!(rt; judged(rt.alloc(), header) == Ok(Some(*verdict)));
     }
 }
 
@@ -120,5 +120,5 @@ fn a_header_cut_short_leaves_nothing(rt: HostRuntime) {
         used: 47,
         waiting: false,
     };
-    assert_eq!(rt; cut_short(rt.alloc()), Ok((took, Some(1), true)));
+    assert!(rt; cut_short(rt.alloc()) == Ok((took, Some(1), true)));
 }

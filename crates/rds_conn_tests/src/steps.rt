@@ -59,16 +59,17 @@ pub fn opened(alloc: Global, stream: u32) -> Result<Kept, ConnError> {
 
 /// Sends `hello` from port 4000 to port 4001.
 pub fn send(conn: &mut Conn, alloc: Global) -> Result<(), ConnError> {
-    let payload = Payload::copy_of(alloc, b"hello")?;
     conn.reserve()?;
-    if conn.slots() > 0 {
-        conn.order_uncounted(Order::Send {
-            slot: 0,
-            sport: 4000,
-            dport: 4001,
-            payload,
-        });
+    if conn.slots() == 0 {
+        return Ok(());
     }
+    let payload = Payload::copy_of(alloc, b"hello")?;
+    conn.order_uncounted(Order::Send {
+        slot: 0,
+        sport: 4000,
+        dport: 4001,
+        payload,
+    });
     Ok(())
 }
 
