@@ -56,7 +56,23 @@ fn get_all<R: Wait>(
     Ok(())
 }
 
-// Whether the bytes come as they were sent, from one thread to another.
+// Sends the bytes from one thread to another. Whether there was memory for what came.
+fn carried<R: Threads + Wait + Sync>(
+    rt: &R,
+    a: &mut TcpEnd,
+    b: &mut TcpEnd,
+    bytes: &[u8],
+    came: &mut Vec<u8>,
+) -> bool {
+    let (_, read) = thread::join(
+        rt,
+        move || send_all(rt, a, bytes),
+        move || get_all(rt, b, came, bytes.len()),
+    );
+    read.is_ok()
+}
+
+// Whether the bytes come as they were sent.
 fn carries<R: Threads + Wait + Sync>(
     rt: &R,
     alloc: Global,
@@ -65,13 +81,7 @@ fn carries<R: Threads + Wait + Sync>(
     bytes: &[u8],
 ) -> bool {
     let mut got = Vec::new(alloc);
-    let came = &mut got;
-    let (_, read) = thread::join(
-        rt,
-        move || send_all(rt, a, bytes),
-        move || get_all(rt, b, came, bytes.len()),
-    );
-    read.is_ok() && got.as_slice() == bytes
+    carried(rt, a, b, bytes, &mut got) && got.as_slice() == bytes
 }
 
 // Whether many bytes come as they were sent, both ways.
@@ -103,43 +113,60 @@ fn many_bytes_come_in_order_both_ways(rt: HostRuntime) -> Result<(), Fail> {
     Ok(())
 }
 
-// What an end reads once its stream is over, and how many faults it had. The other end is shut or, without a shut, let go.
+// Writes, shuts the end if asked to, and lets it go.
+fn let_go(mut end: TcpEnd, shuts: bool) {
+    end.write(b"hello");
+    if shuts {
+        end.shut();
+    }
+}
+
+// How many faults an end had once its stream is over. The other end is shut or, without a shut, let go.
 fn over<R: Threads + Wait + Net>(
     rt: &R,
-    alloc: Global,
     wire: &mut TcpWire,
+    got: &mut Vec<u8>,
     shuts: bool,
-) -> Option<(usize, u64)> {
-    let Ok((mut a, mut b)) = wire.open(rt, 1, 2, 1) else {
+) -> Option<u64> {
+    let Ok((a, mut b)) = wire.open(rt, 1, 2, 1) else {
         return None;
     };
-    a.write(b"hello");
-    if shuts {
-        a.shut();
-    }
-    drop(a);
-    let mut got = Vec::new(alloc);
-    get_all(rt, &mut b, &mut got, 100).ok()?;
+    let_go(a, shuts);
+    let read = get_all(rt, &mut b, got, 100);
     wire.give_back(rt, b);
-    Some((got.len(), wire.faults()))
+    read.ok()?;
+    Some(wire.faults())
 }
 
 #[test]
-fn a_cut_is_no_fault_of_the_other_end(rt: HostRuntime) -> Result<(), Fail> {
+fn a_cut_is_no_fault_of_the_other_end(rt: HostRuntime) {
+    let mut got = Vec::new(rt.alloc());
     let mut wire = TcpWire::new(&rt, rt.alloc());
-    let cut = over(&rt, rt.alloc(), &mut wire, true);
-    assert_eq!(rt; cut.map(|seen| seen.1), Some(0));
+    assert!(rt; over(&rt, &mut wire, &mut got, true) == Some(0));
     wire.finish(&rt);
-    Ok(())
 }
 
 #[test]
-fn a_stream_that_ends_without_a_shut_is_one_fault(rt: HostRuntime) -> Result<(), Fail> {
+fn a_stream_that_ends_without_a_shut_is_one_fault(rt: HostRuntime) {
+    let mut got = Vec::new(rt.alloc());
     let mut wire = TcpWire::new(&rt, rt.alloc());
-    let ended = over(&rt, rt.alloc(), &mut wire, false);
-    assert_eq!(rt; ended.map(|seen| seen.1), Some(1));
+    assert!(rt; over(&rt, &mut wire, &mut got, false) == Some(1));
     wire.finish(&rt);
-    Ok(())
+}
+
+// Writes until there was no room for more than 500 times.
+fn fill_up<R: Wait>(rt: &R, end: &mut TcpEnd) {
+    let mut fulls = 0u32;
+    for _ in rt.forever() {
+        if end.write(&[7; ROOM]) != Put::Full {
+            continue;
+        }
+        end.rest(rt);
+        fulls = fulls.saturating_add(1);
+        if fulls > 500 {
+            return;
+        }
+    }
 }
 
 // Writes until there is no room, while nobody reads, and finishes.
@@ -147,25 +174,14 @@ fn overfill<R: Threads + Wait + Net>(rt: &R, wire: &mut TcpWire) -> bool {
     let Ok((mut a, _b)) = wire.open(rt, 1, 2, 1) else {
         return false;
     };
-    let mut fulls = 0u32;
-    for _ in rt.forever() {
-        if a.write(&[7; ROOM]) != Put::Full {
-            continue;
-        }
-        a.rest(rt);
-        fulls = fulls.saturating_add(1);
-        if fulls > 500 {
-            break;
-        }
-    }
+    fill_up(rt, &mut a);
     wire.give_back(rt, a);
     wire.fulls() > 500
 }
 
 #[test]
-fn an_end_whose_peer_never_reads_can_be_finished(rt: HostRuntime) -> Result<(), Fail> {
+fn an_end_whose_peer_never_reads_can_be_finished(rt: HostRuntime) {
     let mut wire = TcpWire::new(&rt, rt.alloc());
     assert!(rt; overfill(&rt, &mut wire));
     wire.finish(&rt);
-    Ok(())
 }
