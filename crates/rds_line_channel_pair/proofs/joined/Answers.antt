@@ -1,7 +1,7 @@
 use Rattle.std.proofs.Common.{◌≡◌, ℕ, zero, suc, Some, List, [], ◌∷◌, slice_get, sym, subst}
 use Rattle.std.proofs.lemmas.Option.{same_Some}
 use Rattle.rds_line_streams.specs.Meeting.{AtEach}
-use Rattle.rds_line_channel_tests.proofs.carrying.joined.Goals as goal
+use Rattle.rds_line_channel_pair.proofs.joined.Goals as goal
 
 -- what holds of two ends holds at each place of two lists that have one each
 one_each : {E : Type 0} (Holds : E → E → Type 0) (n : ℕ) (x y : E) → Holds x y → AtEach Holds ((n, x) ∷ []) ((n, y) ∷ [])

@@ -1,7 +1,7 @@
 use Rattle.std.proofs.Common.{ℕ, zero, suc, All, List, [], ◌∷◌, sym, ap, subst, ◌∙◌, arith}
 use Rattle.rds_line_streams.specs.Streams.{AreNumbered, IsUnused}
 use Rattle.rds_line_channel.specs.Channel.{ChannelView}
-use Rattle.rds_line_channel_tests.proofs.carrying.channel.Goals as goal
+use Rattle.rds_line_channel_pair.proofs.channel.Goals as goal
 
 -- the number of one stream is above 0
 one_number : {E : Type 0} (end : E) → AreNumbered ((1, end) ∷ [])
