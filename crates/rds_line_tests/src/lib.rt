@@ -2,8 +2,4 @@
 #![tactic(auto)]
 
 #[cfg(test)]
-mod driving;
-#[cfg(test)]
 mod talking;
-#[cfg(test)]
-mod threads;
