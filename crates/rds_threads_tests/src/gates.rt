@@ -1,9 +1,8 @@
 //! A worker writes the frame of a caller's command while that caller waits at its gate for its next one.
-use crate::CountingWire;
-use crate::written::written;
+use crate::written::writes;
 use rds_link::Gate;
+use rds_test_wires::CountingWire;
 use std::sync::atomic::{AtomicBool, AtomicUsize, Ordering};
-use std::test::Fail;
 use std::thread;
 
 const SCRIPT: &[u8] =
@@ -50,15 +49,13 @@ impl Gate for Counted<'_> {
 }
 
 #[test]
-fn frames_are_written_while_the_caller_waits(rt: HostRuntime) -> Result<(), Fail> {
+fn frames_are_written_while_the_caller_waits(rt: HostRuntime) {
     let taken = AtomicUsize::new(0);
     let gate = Counted {
         taken: &taken,
         is_late: AtomicBool::new(false),
     };
     let mut wire = CountingWire::new(rt.alloc(), &taken);
-    let sink = written(&rt, rt.alloc(), SCRIPT, &mut wire, &gate, 1);
-    assert_eq!(rt; sink.expect(&rt, "memory").held(), TEXT);
+    assert!(rt; writes(&rt, rt.alloc(), SCRIPT, &mut wire, &gate, 1, TEXT));
     assert!(rt; !gate.is_late.load(Ordering::SeqCst));
-    Ok(())
 }

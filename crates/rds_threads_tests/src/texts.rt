@@ -1,8 +1,6 @@
 //! Tests by whole texts.
-use rds_link::{Gate, MemSink, MemWire, OpenGate};
-use rds_model::MAX_ENTRIES;
-use rds_script::read;
-use rds_threads::{Form, run};
+use crate::written::{writes, written};
+use rds_link::{Gate, MemWire, OpenGate};
 use std::alloc::Global;
 use std::net::Net;
 use std::sync::Wait;
@@ -34,75 +32,60 @@ A:4000>C:4002 accepted 1 received 1 unread 0 dropped 0 port0 0 cancelled 0 pendi
 B:4001>C:4002 accepted 1 received 1 unread 0 dropped 0 port0 0 cancelled 0 pending 0\n data=6263\n\
 end ok\n";
 
-// What a run of the script writes over streams in memory, of which these openings and these calls of each end fail.
-fn written<G: Gate + Sync, R: Threads + Wait + Net + Sync>(
+// How many quiet rounds a run over streams in memory has at most.
+const ROUNDS: u64 = 20_000_000;
+
+// Whether a run of the script writes this text over streams in memory, of which these openings fail.
+fn writes_in_memory<G: Gate + Sync, R: Threads + Wait + Net + Sync>(
     rt: &R,
     alloc: Global,
     script: &[u8],
     fail_open: Vec<u32>,
-    fail_end: Vec<u32>,
     gate: &G,
-) -> Option<MemSink> {
-    let script = read(alloc, script).ok()?;
-    let mut wire = MemWire::new(alloc, fail_open, fail_end);
-    let mut sink = MemSink::new(alloc, Vec::new(alloc));
-    run(
-        rt,
-        alloc,
-        &script,
-        &mut wire,
-        gate,
-        Form::Report,
-        MAX_ENTRIES,
-        20_000_000,
-        &mut sink,
-    );
-    Some(sink)
+    text: &[u8],
+) -> bool {
+    let mut wire = MemWire::new(alloc, fail_open, Vec::new(alloc));
+    writes(rt, alloc, script, &mut wire, gate, ROUNDS, text)
 }
 
 #[test]
-fn a_datagram_is_received(rt: HostRuntime) -> Result<(), Fail> {
-    let alloc = rt.alloc();
-    let none = Vec::new(alloc);
-    let sink = written(&rt, alloc, HELLO, none, Vec::new(alloc), &OpenGate);
-    assert_eq!(rt; sink.expect(&rt, "memory").held(), HELLO_TEXT);
-    Ok(())
+fn a_datagram_is_received(rt: HostRuntime) {
+    let none = Vec::new(rt.alloc());
+    assert!(rt; writes_in_memory(&rt, rt.alloc(), HELLO, none, &OpenGate, HELLO_TEXT));
 }
 
 #[test]
-fn three_hosts_send_to_each_other(rt: HostRuntime) -> Result<(), Fail> {
-    let alloc = rt.alloc();
-    let none = Vec::new(alloc);
-    let sink = written(&rt, alloc, THREE, none, Vec::new(alloc), &OpenGate);
-    assert_eq!(rt; sink.expect(&rt, "memory").held(), THREE_TEXT);
-    Ok(())
+fn three_hosts_send_to_each_other(rt: HostRuntime) {
+    let none = Vec::new(rt.alloc());
+    assert!(rt; writes_in_memory(&rt, rt.alloc(), THREE, none, &OpenGate, THREE_TEXT));
 }
 
 #[test]
 fn no_stream_can_be_opened(rt: HostRuntime) -> Result<(), Fail> {
-    let alloc = rt.alloc();
-    let all = vec![in alloc; 1, 2, 3]?;
-    let sink = written(&rt, alloc, HELLO, all, Vec::new(alloc), &OpenGate);
+    let all = vec![in rt.alloc(); 1, 2, 3]?;
     let line = b"wire fault A B after k=0\n".as_slice();
-    assert_eq!(rt; sink.expect(&rt, "memory").held(), line);
+    assert!(rt; writes_in_memory(&rt, rt.alloc(), HELLO, all, &OpenGate, line));
     Ok(())
 }
 
 // Whether a run whose ends fail at their call number `call` writes the report, or that no stream is left after the last one.
-fn ends_well<R: Threads + Wait + Net + Sync>(rt: &R, alloc: Global, call: u32) -> Option<bool> {
-    let mut fail = Vec::new(alloc);
-    fail.push(call).ok()?;
-    let sink = written(rt, alloc, HELLO, Vec::new(alloc), fail, &OpenGate)?;
+fn ends_well<R: Threads + Wait + Net + Sync>(rt: &R, alloc: Global, call: u32) -> bool {
+    let Ok(fail) = Vec::from_array(alloc, [call]) else {
+        return false;
+    };
+    let mut wire = MemWire::new(alloc, Vec::new(alloc), fail);
+    let Some(sink) = written(rt, alloc, HELLO, &mut wire, &OpenGate, ROUNDS) else {
+        return false;
+    };
     let line = b"wire fault A B after k=3\n".as_slice();
-    Some(sink.held() == HELLO_TEXT || sink.held() == line)
+    sink.held() == HELLO_TEXT || sink.held() == line
 }
 
 #[test]
-fn ends_that_fail_once(rt: HostRuntime) -> Result<(), Fail> {
+fn ends_that_fail_once(rt: HostRuntime) {
     for call in 1..=60 {
-        assert_eq!(rt; ends_well(&rt, rt.alloc(), call), Some(true));
+        assert!(rt; ends_well(&rt, rt.alloc(), call));
     }
-    Ok(())
 }
 
 // A gate that lets neither caller go on before the other has come, or a long time has passed.
@@ -133,16 +116,13 @@ impl Gate for Meeting {
 }
 
 #[test]
-fn both_callers_wait_at_once(rt: HostRuntime) -> Result<(), Fail> {
-    let alloc = rt.alloc();
+fn both_callers_wait_at_once(rt: HostRuntime) {
     let gate = Meeting {
         low: AtomicBool::new(false),
         high: AtomicBool::new(false),
         late: AtomicBool::new(false),
     };
-    let none = Vec::new(alloc);
-    let sink = written(&rt, alloc, HELLO, none, Vec::new(alloc), &gate);
-    assert_eq!(rt; sink.expect(&rt, "memory").held(), HELLO_TEXT);
+    let none = Vec::new(rt.alloc());
+    assert!(rt; writes_in_memory(&rt, rt.alloc(), HELLO, none, &gate, HELLO_TEXT));
     assert!(rt; !gate.late.load(Ordering::SeqCst));
-    Ok(())
 }

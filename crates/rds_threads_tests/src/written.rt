@@ -1,3 +1,4 @@
+//! What a run of a script writes.
 use rds_link::{Gate, MemSink, Wire};
 use rds_model::MAX_ENTRIES;
 use rds_script::read;
@@ -34,4 +35,23 @@ where
         &mut sink,
     );
     Some(sink)
+}
+
+/// Whether such a run writes this text.
+pub(crate) fn writes<W: Wire, G: Gate + Sync, R: Threads + Wait + Net + Sync>(
+    rt: &R,
+    alloc: Global,
+    script: &[u8],
+    wire: &mut W,
+    gate: &G,
+    budget: u64,
+    text: &[u8],
+) -> bool
+where
+    W::End: Send,
+{
+    let Some(sink) = written(rt, alloc, script, wire, gate, budget) else {
+        return false;
+    };
+    sink.held() == text
 }

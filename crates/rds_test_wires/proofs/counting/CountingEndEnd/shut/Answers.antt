@@ -1,0 +1,4 @@
+use Rattle.rds_test_wires.proofs.counting.CountingEndEnd.shut.Goals as goal
+
+pub returns-clause-meets : goal.returns-clause-meets
+returns-clause-meets c = λ other. c.shut.ensures.meets other.own

@@ -1,4 +1,0 @@
-use Rattle.rds_threads_tests.proofs.counting.CountingEndEnd.read.Goals as goal
-
-pub returns-clause-meets : goal.returns-clause-meets
-returns-clause-meets c = λ other. c.read.ensures.meets other.own

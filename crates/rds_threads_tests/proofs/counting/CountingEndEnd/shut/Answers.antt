@@ -1,4 +1,0 @@
-use Rattle.rds_threads_tests.proofs.counting.CountingEndEnd.shut.Goals as goal
-
-pub returns-clause-meets : goal.returns-clause-meets
-returns-clause-meets c = λ other. c.shut.ensures.meets other.own
