@@ -2,7 +2,6 @@ use rds_link::{MemSink, MemSource, MemWire, OpenGate};
 use rds_run::*;
 use std::alloc::Global;
 use std::net::Net;
-use std::process::Abort;
 use std::sync::Wait;
 use std::test::*;
 use std::thread::Threads;
@@ -25,12 +24,17 @@ fn main_of<R: Threads + Wait + Net + Sync>(
     rds_main(rt, alloc, words, source, sink, &mut tcp, &OpenGate)
 }
 
-// Adds each of the words.
-fn add_words(alloc: Global, all: &mut Vec<String>, words: &[&str]) -> Result<(), Fail> {
+// Whether there was memory to add each of the words.
+fn add_words(alloc: Global, all: &mut Vec<String>, words: &[&str]) -> bool {
     for word in words {
-        all.push(String::from_str(alloc, word)?)?;
+        let Ok(text) = String::from_str(alloc, word) else {
+            return false;
+        };
+        if all.push(text).is_err() {
+            return false;
+        }
     }
-    Ok(())
+    true
 }
 
 // The program's answer for these words, each of which is a text of its own.
@@ -40,14 +44,16 @@ fn answer<R: Threads + Wait + Net + Sync>(
     words: &[&str],
     source: &mut MemSource,
     sink: &mut MemSink,
-) -> Result<u8, Fail> {
+) -> Option<u8> {
     let mut all = Vec::new(alloc);
-    add_words(alloc, &mut all, words)?;
-    Ok(main_of(rt, alloc, &all, source, sink))
+    if !add_words(alloc, &mut all, words) {
+        return None;
+    }
+    Some(main_of(rt, alloc, &all, source, sink))
 }
 
-// The program answers these words by the status, and the sink then holds the text.
-fn assert_held<R: Threads + Wait + Net + Sync + Abort>(
+// Whether the program answers these words by the status, and the sink then holds the text.
+fn is_held<R: Threads + Wait + Net + Sync>(
     rt: &R,
     alloc: Global,
     words: &[&str],
@@ -55,76 +61,106 @@ fn assert_held<R: Threads + Wait + Net + Sync + Abort>(
     sink: &mut MemSink,
     status: u8,
     text: &str,
-) -> Result<(), Fail> {
-    assert_eq!(rt; answer(rt, alloc, words, source, sink)?, status);
-    assert_eq!(rt; sink.held(), text.as_bytes());
-    Ok(())
+) -> bool {
+    answer(rt, alloc, words, source, sink) == Some(status) && sink.held() == text.as_bytes()
 }
 
-// The program answers these words and this script by the status and the text.
-fn assert_answer<R: Threads + Wait + Net + Sync + Abort>(
+// Whether the program answers these words and the bytes of this script by the status and the text.
+fn is_answer_to<R: Threads + Wait + Net + Sync>(
+    rt: &R,
+    alloc: Global,
+    words: &[&str],
+    script: Vec<u8>,
+    status: u8,
+    text: &str,
+) -> bool {
+    let mut source = MemSource::new(script, Vec::new(alloc));
+    let mut sink = MemSink::new(alloc, Vec::new(alloc));
+    is_held(rt, alloc, words, &mut source, &mut sink, status, text)
+}
+
+// Whether the program answers these words and this script by the status and the text.
+fn is_answer<R: Threads + Wait + Net + Sync>(
     rt: &R,
     alloc: Global,
     words: &[&str],
     script: &str,
     status: u8,
     text: &str,
-) -> Result<(), Fail> {
-    let mut source = MemSource::new(script.as_bytes().to_vec(alloc)?, Vec::new(alloc));
-    let mut sink = MemSink::new(alloc, Vec::new(alloc));
-    assert_held(rt, alloc, words, &mut source, &mut sink, status, text)
+) -> bool {
+    let Ok(script) = script.as_bytes().to_vec(alloc) else {
+        return false;
+    };
+    is_answer_to(rt, alloc, words, script, status, text)
 }
 
-// Adds the lines of a script of eight hosts with so many cuts.
-fn add_cuts(script: &mut String, cuts: u32) -> Result<(), Fail> {
-    script.push_str("hosts 8\n")?;
-    for _ in 0..cuts {
-        script.push_str("cut A B\n")?;
+// Whether there was memory to add the lines of a script of eight hosts with so many cuts.
+fn add_cuts(script: &mut String, cuts: u32) -> bool {
+    if script.push_str("hosts 8\n").is_err() {
+        return false;
     }
-    Ok(())
+    for _ in 0..cuts {
+        if script.push_str("cut A B\n").is_err() {
+            return false;
+        }
+    }
+    true
 }
 
-// The program answers these words and a script of eight hosts with so many cuts by the status and the text.
-fn assert_answer_to_cuts<R: Threads + Wait + Net + Sync + Abort>(
+// Whether the program answers these words and a script of eight hosts with so many cuts by the status and the text.
+fn is_answer_to_cuts<R: Threads + Wait + Net + Sync>(
     rt: &R,
     alloc: Global,
     words: &[&str],
     cuts: u32,
     status: u8,
     text: &str,
-) -> Result<(), Fail> {
+) -> bool {
     let mut script = String::new(alloc);
-    add_cuts(&mut script, cuts)?;
-    assert_answer(rt, alloc, words, script.as_str(), status, text)
+    add_cuts(&mut script, cuts) && is_answer(rt, alloc, words, script.as_str(), status, text)
 }
 
 #[test]
-fn no_words_are_answered_by_the_usage_line(rt: HostRuntime) -> Result<(), Fail> {
-    assert_answer(&rt, rt.alloc(), &[], BINDS, 2, USAGE)
+fn no_words_are_answered_by_the_usage_line(rt: HostRuntime) {
+    assert!(rt; is_answer(&rt, rt.alloc(), &[], BINDS, 2, USAGE));
+}
+
+// Whether a source whose reads with these numbers fail is answered by its fault.
+fn is_read_fault<R: Threads + Wait + Net + Sync>(rt: &R, alloc: Global, fail: Vec<u32>) -> bool {
+    let Ok(text) = BINDS.as_bytes().to_vec(alloc) else {
+        return false;
+    };
+    let mut source = MemSource::new(text, fail);
+    let mut sink = MemSink::new(alloc, Vec::new(alloc));
+    is_held(rt, alloc, &["play"], &mut source, &mut sink, 3, READ_FAULT)
 }
 
 #[test]
 fn a_failing_source(rt: HostRuntime) -> Result<(), Fail> {
-    let alloc = rt.alloc();
-    let fail = vec![in alloc; 1]?;
-    let text = BINDS.as_bytes().to_vec(alloc)?;
-    let mut source = MemSource::new(text, fail);
-    let mut sink = MemSink::new(alloc, Vec::new(alloc));
-    assert_held(&rt, alloc, &["play"], &mut source, &mut sink, 3, READ_FAULT)
+    let fail = vec![in rt.alloc(); 1]?;
+    assert!(rt; is_read_fault(&rt, rt.alloc(), fail));
+    Ok(())
+}
+
+// Whether a sink whose writes with these numbers fail is answered by its fault.
+fn is_write_fault<R: Threads + Wait + Net + Sync>(rt: &R, alloc: Global, fail: Vec<u32>) -> bool {
+    let Ok(text) = BINDS.as_bytes().to_vec(alloc) else {
+        return false;
+    };
+    let mut source = MemSource::new(text, Vec::new(alloc));
+    let mut sink = MemSink::new(alloc, fail);
+    is_held(rt, alloc, &["play"], &mut source, &mut sink, 4, "")
 }
 
 #[test]
 fn a_failing_sink(rt: HostRuntime) -> Result<(), Fail> {
-    let alloc = rt.alloc();
-    let fail = vec![in alloc; 1]?;
-    let text = BINDS.as_bytes().to_vec(alloc)?;
-    let mut source = MemSource::new(text, Vec::new(alloc));
-    let mut sink = MemSink::new(alloc, fail);
-    assert_held(&rt, alloc, &["play"], &mut source, &mut sink, 4, "")
+    let fail = vec![in rt.alloc(); 1]?;
+    assert!(rt; is_write_fault(&rt, rt.alloc(), fail));
+    Ok(())
 }
 
 #[test]
-fn words_of_no_command_that_runs(rt: HostRuntime) -> Result<(), Fail> {
+fn words_of_no_command_that_runs(rt: HostRuntime) {
     let lines: [&[&str]; 12] = [
         &["Play"],
         &["play", "hello.rds"],
@@ -140,18 +176,17 @@ fn words_of_no_command_that_runs(rt: HostRuntime) -> Result<(), Fail> {
         &["gen", "1", "18446744073709551616"],
     ];
     for words in lines {
-        assert_answer(&rt, rt.alloc(), words, BINDS, 2, USAGE)?;
+        assert!(rt; is_answer(&rt, rt.alloc(), words, BINDS, 2, USAGE));
     }
-    Ok(())
 }
 
 #[test]
-fn a_lone_pair_of_dashes_after_play(rt: HostRuntime) -> Result<(), Fail> {
-    assert_answer(&rt, rt.alloc(), &["play", "--"], "hosts 2\n", 0, "end ok\n")
+fn a_lone_pair_of_dashes_after_play(rt: HostRuntime) {
+    assert!(rt; is_answer(&rt, rt.alloc(), &["play", "--"], "hosts 2\n", 0, "end ok\n"));
 }
 
 #[test]
-fn a_run_over_each_wire(rt: HostRuntime) -> Result<(), Fail> {
+fn a_run_over_each_wire(rt: HostRuntime) {
     let lines: [&[&str]; 4] = [
         &["run"],
         &["run", "--wire", "memory"],
@@ -159,53 +194,54 @@ fn a_run_over_each_wire(rt: HostRuntime) -> Result<(), Fail> {
         &["run", "--wire", "tcp"],
     ];
     for words in lines {
-        assert_answer(&rt, rt.alloc(), words, BINDS, 0, "end ok\n")?;
+        assert!(rt; is_answer(&rt, rt.alloc(), words, BINDS, 0, "end ok\n"));
     }
-    Ok(())
 }
 
 #[test]
-fn streams_that_are_not_too_many(rt: HostRuntime) -> Result<(), Fail> {
+fn streams_that_are_not_too_many(rt: HostRuntime) {
     let words = ["run", "--wire", "tcp"];
-    assert_answer_to_cuts(&rt, rt.alloc(), &words, 12, 0, "end ok\n")
+    assert!(rt; is_answer_to_cuts(&rt, rt.alloc(), &words, 12, 0, "end ok\n"));
 }
 
 #[test]
-fn too_many_streams(rt: HostRuntime) -> Result<(), Fail> {
+fn too_many_streams(rt: HostRuntime) {
     let words = ["run", "--wire", "tcp"];
-    assert_answer_to_cuts(&rt, rt.alloc(), &words, 13, 9, "too many streams 97\n")
+    assert!(rt; is_answer_to_cuts(&rt, rt.alloc(), &words, 13, 9, "too many streams 97\n"));
 }
 
 #[test]
-fn more_streams_in_memory(rt: HostRuntime) -> Result<(), Fail> {
-    assert_answer_to_cuts(&rt, rt.alloc(), &["run"], 13, 0, "end ok\n")
+fn more_streams_in_memory(rt: HostRuntime) {
+    assert!(rt; is_answer_to_cuts(&rt, rt.alloc(), &["run"], 13, 0, "end ok\n"));
 }
 
 #[test]
-fn a_run_of_three_hosts(rt: HostRuntime) -> Result<(), Fail> {
+fn a_run_of_three_hosts(rt: HostRuntime) {
     let script = "hosts 3\nbind A 7 9 9\nbind C 8 9 9\nsend A 7 C 8 x:01\n";
     let text =
         "A:7>C:8 accepted 1 received 1 unread 0 dropped 0 port0 0 cancelled 0 pending 0\n data=01\nend ok\n";
-    assert_answer(&rt, rt.alloc(), &["run"], script, 0, text)
+    assert!(rt; is_answer(&rt, rt.alloc(), &["run"], script, 0, text));
 }
 
 #[test]
-fn a_generated_script(rt: HostRuntime) -> Result<(), Fail> {
+fn a_generated_script(rt: HostRuntime) {
     let text =
         "seed 1 sends 5 hosts 8 sockets 32 cuts 0 accepted 5 received 5 unread 0 dropped 0 port0 0 cancelled 0 bytes 10\nend ok\n";
-    assert_answer(&rt, rt.alloc(), &["gen", "5", "1"], "", 0, text)
+    assert!(rt; is_answer(&rt, rt.alloc(), &["gen", "5", "1"], "", 0, text));
 }
 
 #[test]
-fn refused_scripts(rt: HostRuntime) -> Result<(), Fail> {
-    assert_answer(&rt, rt.alloc(), &["play"], "", 1, "bad line 0: empty\n")?;
+fn refused_scripts(rt: HostRuntime) {
+    assert!(rt; is_answer(&rt, rt.alloc(), &["play"], "", 1, "bad line 0: empty\n"));
     let script = "hosts 2\nbind A 70000 1 2\n";
-    assert_answer(
-        &rt,
-        rt.alloc(),
-        &["play"],
-        script,
-        1,
-        "bad line 2: number\n",
-    )
+    assert!(rt;
+        is_answer(
+            &rt,
+            rt.alloc(),
+            &["play"],
+            script,
+            1,
+            "bad line 2: number\n"
+        )
+    );
 }

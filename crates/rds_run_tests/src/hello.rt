@@ -3,7 +3,7 @@ use rds_link::{MemSink, MemSource, OpenGate};
 use rds_run::rds_main;
 use rds_tcp::TcpWire;
 use std::alloc::Global;
-use std::net::{Net, TcpListener, TcpStream};
+use std::net::Net;
 use std::sync::Wait;
 use std::test::*;
 use std::thread::Threads;
@@ -22,30 +22,27 @@ fn add_words(alloc: Global, words: &mut Vec<String>) -> Result<(), Fail> {
     Ok(())
 }
 
-// The program's answer, over a wire of its own.
-fn answer<
-    R: Threads
-        + Wait
-        + Net<Listener = TcpListener, Stream = TcpStream>
-        + Copy
-        + Send
-        + Sync
-        + 'static,
->(rt: &R, alloc: Global, words: &[String], source: &mut MemSource, sink: &mut MemSink) -> u8 {
-    let mut wire = TcpWire::new(rt, alloc);
-    let status = rds_main(rt, alloc, words, source, sink, &mut wire, &OpenGate);
-    wire.finish(rt);
-    status
+// Whether the program answers these words and the bytes of the script by the report.
+fn is_answered<R: Threads + Wait + Net + Sync>(
+    rt: &R,
+    alloc: Global,
+    words: &[String],
+    script: Vec<u8>,
+    wire: &mut TcpWire,
+) -> bool {
+    let mut source = MemSource::new(script, Vec::new(alloc));
+    let mut sink = MemSink::new(alloc, Vec::new(alloc));
+    let status = rds_main(rt, alloc, words, &mut source, &mut sink, wire, &OpenGate);
+    status == 0 && sink.held() == REPORT.as_bytes()
 }
 
 #[test]
 fn a_datagram_goes_over_tcp(rt: HostRuntime) -> Result<(), Fail> {
-    let alloc = rt.alloc();
-    let mut words = Vec::new(alloc);
-    add_words(alloc, &mut words)?;
-    let mut source = MemSource::new(HELLO.as_bytes().to_vec(alloc)?, Vec::new(alloc));
-    let mut sink = MemSink::new(alloc, Vec::new(alloc));
-    assert_eq!(&rt; answer(&rt, alloc, &words, &mut source, &mut sink), 0);
-    assert_eq!(&rt; sink.held(), REPORT.as_bytes());
+    let mut words = Vec::new(rt.alloc());
+    add_words(rt.alloc(), &mut words)?;
+    let script = HELLO.as_bytes().to_vec(rt.alloc())?;
+    let mut wire = TcpWire::new(&rt, rt.alloc());
+    assert!(rt; is_answered(&rt, rt.alloc(), &words, script, &mut wire));
+    wire.finish(&rt);
     Ok(())
 }
