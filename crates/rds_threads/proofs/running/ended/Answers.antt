@@ -5,11 +5,11 @@ use Rattle.rds_threads.proofs.Held.{of_any}
 use Rattle.rds_threads.proofs.running.ended.Goals as goal
 
 pub finish-requires-clause-hosts : goal.finish-requires-clause-hosts
-finish-requires-clause-hosts g c =
+finish-requires-clause-hosts g c = λ κs within.
     (c.args.limit, c.args.script.now.hosts, c.play-callers.ensures.hosts c.args.limit c.args.script.now.hosts c.in_ok-callers.ensures.hosts)
 
 pub finish-requires-clause-parties : goal.finish-requires-clause-parties
-finish-requires-clause-parties g c =
+finish-requires-clause-parties g c = λ κs within.
     (c.args.script.now.hosts, c.requires.script.hosts_low, rw c.in-Ok.is at c.play-callers.ensures.parties)
 
 pub returns-clause-end : goal.returns-clause-end

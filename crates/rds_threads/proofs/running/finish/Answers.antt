@@ -21,7 +21,7 @@ last_rounds-end-requires g c =
     )
 
 pub end_run-requires-clause-done : goal.end_run-requires-clause-done
-end_run-requires-clause-done g c =
+end_run-requires-clause-done g c = λ κs within.
     let limit = c.requires.hosts.0 in
     let hosts = c.requires.hosts.1 in
     let old = rows_of c.args.lines.items in
@@ -38,7 +38,7 @@ end_run-requires-clause-done g c =
 
 -- refused where a line isn't told of all orders
 pub end_run-requires-clause-settled : goal.end_run-requires-clause-settled
-end_run-requires-clause-settled g c = λ quiet.
+end_run-requires-clause-settled g c = λ κs within quiet.
     let old = rows_of c.args.lines.items in
     let told = rows_of c.tell_all.new.lines.items in
     let callers = c.requires.parties.2.callers_count in
@@ -51,7 +51,7 @@ end_run-requires-clause-settled g c = λ quiet.
 
 -- refused where a line isn't drained
 pub end_run-requires-clause-drained : goal.end_run-requires-clause-drained
-end_run-requires-clause-drained g c = c.last_rounds-end.ensures.drained
+end_run-requires-clause-drained g c = λ κs within. c.last_rounds-end.ensures.drained
 
 pub returns-clause-end : goal.returns-clause-end
 returns-clause-end g c = λ limit hosts commands before after are did counted.
@@ -69,10 +69,10 @@ returns-clause-end g c = λ limit hosts commands before after are did counted.
     (c.counted_keeps.ensures.same commands before after old told counted kept) c.last_rounds-end.ensures.rows)
 
 pub end_run-requires-clause-owe : goal.end_run-requires-clause-owe
-end_run-requires-clause-owe g c = c.last_rounds-end.ensures.owes
+end_run-requires-clause-owe g c = λ κs within. c.last_rounds-end.ensures.owes
 
 pub end_run-requires-clause-closed : goal.end_run-requires-clause-closed
-end_run-requires-clause-closed g c = c.last_rounds-end.ensures.closed
+end_run-requires-clause-closed g c = λ κs within. c.last_rounds-end.ensures.closed
 
 pub returns-clause-out : goal.returns-clause-out
 returns-clause-out g c =
