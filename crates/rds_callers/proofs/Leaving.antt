@@ -8,7 +8,7 @@ use Rattle.std.proofs.lemmas.List.Elements.{All-push}
 use Rattle.rds_fmap.specs.Readers.{ReaderView}
 use Rattle.rds_parts.specs.Lanes.{Ascend}
 use Rattle.rds_parts.specs.PlaceLaws.{there}
-use Rattle.rds_report.specs.declared.final_state.Kept.{Kept}
+use Rattle.rds_final.specs.declared.final_state.Kept.{Kept}
 use Rattle.rds_socket.specs.Holding.{Holding}
 use Rattle.rds_callers.specs.Places.{Place, Vacant, Bound, Ended, Spare, holding_of, somes}
 use Rattle.rds_callers.specs.Ends.{IsEndOf, AreEndsOf, AreLeft, IsLeft, HasLeft, HasItsPort, HaveTheirPorts, used_name, kept_name}

@@ -2,7 +2,7 @@
 use Rattle.std.specs.Prelude.{◌≡◌, ◌≢◌, ◌⊎◌, ◌+◌, ◌<◌, ◌≤◌, ℕ, List, [], length, Ok, Some, slice_get, slice_set}
 use Rattle.rds_model.specs.declared.order.Datagram.{Datagram}
 use Rattle.rds_fmap.specs.Readers.{ReaderView}
-use Rattle.rds_report.specs.Hosts.{address_of}
+use Rattle.rds_final.specs.Hosts.{address_of}
 use Rattle.rds_script.specs.declared.script.Command.{Command}
 use Rattle.rds_script.specs.declared.script.Command.TheVariants as script
 use Rattle.rds_parts.specs.Ports.{first_port, port_after}

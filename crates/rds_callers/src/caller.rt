@@ -8,8 +8,8 @@ ghost use Rattle.rds_callers.specs.Places.{ArePlaces, PlacesKeep, vacant_places}
 ghost use Rattle.rds_callers.specs.States.{AreSlots, shown_all, vacant_states};
 
 use crate::state::State;
+use rds_final::address;
 use rds_fmap::Reader;
-use rds_report::address;
 use rds_script::Command;
 use rds_socket::Vacant;
 use rds_wire::Memory;

@@ -6,8 +6,8 @@ ghost use Rattle.rds_callers.specs.States.{AreSlots, shown_all};
 
 use crate::caller::Caller;
 use crate::state::State;
+use rds_final::Kept;
 use rds_fmap::Reader;
-use rds_report::Kept;
 use rds_socket::Closed;
 use rds_wire::Memory;
 use std::alloc::Global;

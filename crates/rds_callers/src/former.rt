@@ -6,10 +6,10 @@ ghost use Rattle.rds_parts.specs.Ports.{HasClaimedOnly};
 ghost use Rattle.rds_callers.specs.Ends.{IsEndOf};
 
 use crate::tenant::told;
+use rds_final::Kept;
 use rds_fmap::Reader;
 use rds_mail::{Asked, Note};
 use rds_model::Datagram;
-use rds_report::Kept;
 use rds_socket::Closed;
 use rds_wire::Memory;
 use std::alloc::Global;

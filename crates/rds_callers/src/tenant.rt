@@ -5,10 +5,10 @@ ghost use Rattle.rds_callers.specs.Tenants.{IsAllowed};
 
 use crate::former::FormerTenant;
 use rds_bindtab::BindNote;
+use rds_final::Kept;
 use rds_fmap::Reader;
 use rds_mail::{Asked, Note};
 use rds_model::Datagram;
-use rds_report::Kept;
 use rds_socket::{CancelError, Closed, SendError, Socket};
 use rds_wire::{Memory, Payload};
 use std::alloc::Global;

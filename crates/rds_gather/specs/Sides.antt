@@ -1,5 +1,5 @@
 -- What a host's journal of a line is beside. Source: this project's own.
-use Rattle.rds_report.specs.FinalState.{FinalJournal}
+use Rattle.rds_final.specs.FinalState.{FinalJournal}
 use Rattle.rds_line.specs.Line.{LineView, line_past}
 
 -- the peer of a line and what its journal has

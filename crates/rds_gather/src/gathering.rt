@@ -1,5 +1,5 @@
 ghost use Rattle.std.specs.Prelude.{◌≡◌, ◌-◌, IfOk, OnOk, map};
-ghost use Rattle.rds_report.specs.Views.{side_view};
+ghost use Rattle.rds_final.specs.Views.{side_view};
 ghost use Rattle.rds_host.specs.Held.{ends_in};
 ghost use Rattle.rds_host.specs.Passes.{AreAllPasses};
 ghost use Rattle.rds_host.specs.Ties.{AreOfHost};
@@ -15,10 +15,10 @@ use crate::orders::join_all_orders;
 use crate::owners::find_owners;
 use crate::receipts::join_all_receipts;
 use crate::slots::take_slots;
+use rds_final::{HostEnd, Kept};
 use rds_fmap::{Reader, Writer};
 use rds_line::Line;
 use rds_link::Wire;
-use rds_report::{HostEnd, Kept};
 use rds_socket::Closed;
 use rds_wire::Memory;
 use std::alloc::Global;

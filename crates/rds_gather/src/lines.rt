@@ -1,6 +1,6 @@
 //! Lines that are taken apart.
 ghost use Rattle.std.specs.Prelude.{◌≡◌, ◌-◌, ◌∷◌, ◌++◌, [], All, IfOk, OnOk, map};
-ghost use Rattle.rds_report.specs.Views.{side_view};
+ghost use Rattle.rds_final.specs.Views.{side_view};
 ghost use Rattle.rds_host.specs.Held.{ends_in, ends_of};
 ghost use Rattle.rds_line.specs.Keeps.{KeepsLine};
 ghost use Rattle.rds_line.specs.Line.{line_past};

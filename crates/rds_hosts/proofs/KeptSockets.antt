@@ -5,7 +5,7 @@ use Rattle.std.proofs.lemmas.List.{map-append}
 use Rattle.rds_text.specs.Ports.{below}
 use Rattle.rds_model.specs.declared.order.Datagram.{Datagram}
 use Rattle.rds_history.specs.Events.{Event}
-use Rattle.rds_report.specs.FinalState.{FinalSocket as Kept}
+use Rattle.rds_final.specs.FinalState.{FinalSocket as Kept}
 use Rattle.rds_history.specs.History.{socket, sockets}
 use Rattle.rds_history.specs.Sockets.{bound_port, handed_out}
 use Rattle.rds_hosts.specs.declared.host.Arrived.{Arrived}

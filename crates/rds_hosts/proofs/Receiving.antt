@@ -7,7 +7,7 @@ use Rattle.std.proofs.lemmas.List.Sums.{sum_by-cons}
 use Rattle.rds_wire.specs.declared.memory.Memory.{Memory}
 use Rattle.rds_model.specs.declared.order.Datagram.{Datagram}
 use Rattle.rds_history.specs.Events.{Event, Received}
-use Rattle.rds_report.specs.Hosts.{host_at}
+use Rattle.rds_final.specs.Hosts.{host_at}
 use Rattle.rds_text.specs.Lines.{recv_line}
 use Rattle.rds_history.specs.Sockets.{next_slot, arrived_datagrams, handed_out, queue, queued}
 use Rattle.rds_history.specs.Transcript.{lines}

@@ -3,7 +3,7 @@ use Rattle.std.specs.Prelude.{◌≡◌, ℕ, ◌+◌, ◌-◌, [], ◌∷◌, �
 use Rattle.rds_wire.specs.declared.frame.Frame.{Frame}
 use Rattle.rds_model.specs.Deliveries.{datagram_from}
 use Rattle.rds_text.specs.Lines.{recv_line}
-use Rattle.rds_report.specs.Hosts.{address_of}
+use Rattle.rds_final.specs.Hosts.{address_of}
 use Rattle.rds_hosts.specs.declared.host.Arrived.{Arrived}
 use Rattle.rds_hosts.specs.declared.host.ScriptSocket.{ScriptSocket}
 

@@ -1,13 +1,13 @@
 ghost use Rattle.std.specs.Prelude.{◌≡◌, ℕ, IfOk, List, map};
 ghost use Rattle.rds_history.specs.Events.{Event};
 ghost use Rattle.rds_history.specs.History.{sockets};
-ghost use Rattle.rds_report.specs.Views.{socket_view};
+ghost use Rattle.rds_final.specs.Views.{socket_view};
 ghost use Rattle.rds_hosts.specs.declared.host.Arrived.{Arrived as ArrivedAt};
 ghost use Rattle.rds_hosts.specs.Telling.{TellsHost};
 
 use crate::host::{Arrived, ScriptHost, ScriptSocket};
+use rds_final::Kept;
 use rds_model::Datagram;
-use rds_report::Kept;
 use rds_wire::Memory;
 use std::alloc::Global;
 use std::collections::VecDeque;

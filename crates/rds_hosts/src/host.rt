@@ -3,7 +3,7 @@ ghost use Rattle.std.specs.BTreeMap as tree;
 ghost use Rattle.std.specs.Ordering.{nat_cmp};
 ghost use Rattle.rds_text.specs.declared.host.TheConstants.{MAX_HOSTS};
 ghost use Rattle.rds_model.specs.declared.entry.TheConstants.{MAX_SLOTS};
-ghost use Rattle.rds_report.specs.Hosts.{address_of};
+ghost use Rattle.rds_final.specs.Hosts.{address_of};
 
 use rds_cong::PortMap;
 use rds_model::Datagram;

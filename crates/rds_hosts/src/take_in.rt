@@ -8,8 +8,8 @@ ghost use Rattle.rds_hosts.specs.Receiving.{TakesIn};
 ghost use Rattle.rds_hosts.specs.Telling.{TellsHost};
 
 use crate::host::{Arrived, ScriptHost, ScriptSocket};
+use rds_final::address;
 use rds_model::Datagram;
-use rds_report::address;
 use rds_wire::{Frame, Memory};
 
 impl ScriptHost {

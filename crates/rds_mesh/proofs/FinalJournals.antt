@@ -8,9 +8,9 @@ use Rattle.std.proofs.lemmas.List.Elements.{filter-append}
 use Rattle.rds_text.specs.Ports.{below}
 use Rattle.rds_model.specs.declared.entry.Entry.{Entry}
 use Rattle.rds_model.specs.Log.{Log}
-use Rattle.rds_report.specs.FinalState.{FinalJournal}
-use Rattle.rds_report.specs.Hosts.{address_of}
-use Rattle.rds_report.specs.Views.{side_view}
+use Rattle.rds_final.specs.FinalState.{FinalJournal}
+use Rattle.rds_final.specs.Hosts.{address_of}
+use Rattle.rds_final.specs.Views.{side_view}
 use Rattle.rds_pair.specs.declared.step.PairEnd.TheVariants.{First, Second}
 use Rattle.rds_joint.specs.Ends.{JointEnds, blank, of_end}
 use Rattle.rds_mesh.specs.Places.{triangle}

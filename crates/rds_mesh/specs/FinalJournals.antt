@@ -3,9 +3,9 @@ use Rattle.std.specs.Prelude.{◌≡◌, ℕ, ◌<◌, ◌==◌, not, List, Vec,
 use Rattle.std.specs.Global.{Global}
 use Rattle.rds_text.specs.Ports.{below}
 use Rattle.rds_model.specs.Log.{Log}
-use Rattle.rds_report.specs.FinalState.{FinalJournal}
-use Rattle.rds_report.specs.Hosts.{address_of}
-use Rattle.rds_report.specs.Views.{side_view}
+use Rattle.rds_final.specs.FinalState.{FinalJournal}
+use Rattle.rds_final.specs.Hosts.{address_of}
+use Rattle.rds_final.specs.Views.{side_view}
 use Rattle.rds_joint.specs.Ends.{JointEnds}
 use Rattle.rds_mesh.specs.Ends.{MeshView, end_at, joint_of}
 

@@ -5,9 +5,9 @@ ghost use Rattle.rds_mesh.specs.FinalJournals.{AreJointsOf, AreJournals, HoldJou
 ghost use Rattle.rds_mesh.specs.Places.{triangle};
 
 use crate::mesh::Mesh;
+use rds_final::address;
 use rds_joint::Joint;
 use rds_model::Journal;
-use rds_report::address;
 use rds_wire::Memory;
 use std::alloc::Global;
 

@@ -4,9 +4,9 @@ ghost use Rattle.rds_model.specs.declared.journal.TheConstants.{MIN_ENTRIES, MAX
 ghost use Rattle.rds_mesh.specs.Ends.{AreNew};
 
 use crate::place::{end_of, place};
+use rds_final::address;
 use rds_joint::Joint;
 use rds_model::{Journal, MAX_SLOTS, Target, Verdict};
-use rds_report::address;
 use rds_wire::{Frame, Memory};
 use std::alloc::Global;
 use std::marker::Model;

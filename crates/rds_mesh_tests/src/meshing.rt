@@ -1,10 +1,10 @@
 ghost use Rattle.std.specs.Prelude.{◌≡◌, ◌≢◌, ◌<◌, OnOk};
 
 use rds_cong::PortMap;
+use rds_final::address;
 use rds_mesh::{Mesh, PairError};
 use rds_model::{Entry, Journal, Order, Outcome};
 use rds_msgs::Steps;
-use rds_report::address;
 use rds_wire::{Memory, Payload};
 use std::alloc::Global;
 use std::marker::Brand;

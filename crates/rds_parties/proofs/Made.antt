@@ -12,7 +12,7 @@ use Rattle.rds_link.specs.Ends.{Means}
 use Rattle.rds_line_streams.specs.Streams.{AreNumbered, IsUnused}
 use Rattle.rds_line.specs.Line.{LineView}
 use Rattle.rds_parts.specs.Lanes.{Ascend}
-use Rattle.rds_report.specs.Hosts.{address_of}
+use Rattle.rds_final.specs.Hosts.{address_of}
 use Rattle.rds_script.specs.declared.script.Placed.{Placed}
 use Rattle.rds_callers.specs.Places.{CallerView}
 use Rattle.rds_host.specs.Held.{ends_in, ends_of, ends_of_all}

@@ -3,7 +3,7 @@ use Rattle.std.specs.Prelude.{◌≡◌, ◌≢◌, ◌⊎◌, ℕ, ◌==◌, �
 use Rattle.rds_model.specs.declared.entry.TheConstants.{MAX_SLOTS}
 use Rattle.rds_fmap.specs.Readers.{ReaderView}
 use Rattle.rds_parts.specs.Lanes.{Lane, peers_of}
-use Rattle.rds_report.specs.Hosts.{address_of}
+use Rattle.rds_final.specs.Hosts.{address_of}
 use Rattle.rds_script.specs.declared.script.Placed.{Placed}
 use Rattle.rds_socket.specs.Holding.{Holding}
 use Rattle.rds_callers.specs.Commands.{binds, commander}

@@ -2,7 +2,7 @@
 ghost use Rattle.std.specs.Prelude.{◌≡◌, ◌≤◌, ◌<◌, ℕ, suc, All, IfOk, List, filter, length, map};
 ghost use Rattle.rds_model.specs.declared.entry.TheConstants.{MAX_SLOTS};
 ghost use Rattle.rds_model.specs.declared.journal.TheConstants.{MAX_ENTRIES, MIN_ENTRIES};
-ghost use Rattle.rds_report.specs.Hosts.{address_of};
+ghost use Rattle.rds_final.specs.Hosts.{address_of};
 ghost use Rattle.rds_script.specs.Script.{IsScript};
 ghost use Rattle.rds_line_streams.specs.Streams.{AreNumbered, IsUnused};
 ghost use Rattle.rds_host.specs.Held.{ends_of_all};
@@ -18,12 +18,12 @@ ghost use Rattle.rds_settling.specs.Tied.{AreTied};
 
 use crate::streams::Ends;
 use rds_callers::{Caller, host_of, is_bind};
+use rds_final::address;
 use rds_fmap::Writer;
 use rds_host::make;
 use rds_line::Line;
 use rds_link::End;
 use rds_model::MAX_SLOTS;
-use rds_report::address;
 use rds_rounds::Lines;
 use rds_script::{Placed, Script};
 use rds_settling::laws::tied_keeps;

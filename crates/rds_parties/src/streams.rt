@@ -9,8 +9,8 @@ ghost use Rattle.rds_parties.specs.Preparing.{AreAllCounted, AreAllPrepared, Are
 ghost use Rattle.rds_parties.specs.Streams.{AreAllUnlessRisen, AreNumbersOf, streams_between};
 
 use crate::counts::{MORE_STREAMS, cuts_between};
+use rds_final::address;
 use rds_link::{End, Wire, WireError};
-use rds_report::address;
 use rds_rounds::Wanted;
 use rds_script::Script;
 use rds_wire::Memory;

@@ -6,7 +6,7 @@ ghost use Rattle.rds_history.specs.Events.{Event};
 ghost use Rattle.rds_history.specs.History.{course, final_hosts};
 ghost use Rattle.rds_history.specs.Transcript.{lines};
 ghost use Rattle.rds_text.specs.Lines.{end_line};
-ghost use Rattle.rds_report.specs.Report.{report as text_of_report};
+ghost use Rattle.rds_final.specs.Report.{report as text_of_report};
 ghost use Rattle.rds_play.specs.Following.{FollowsCourse};
 ghost use Rattle.rds_world.specs.Telling.{Tells, state};
 

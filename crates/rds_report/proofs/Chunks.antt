@@ -7,8 +7,8 @@ use Rattle.std.proofs.lemmas.List.{map-append, append-nil, take-append-drop}
 use Rattle.std.proofs.lemmas.List.Elements.{filter-append}
 use Rattle.std.proofs.lemmas.List.Folds.{list_any-append}
 use Rattle.rds_report.specs.declared.item.Item.{Item}
-use Rattle.rds_report.specs.Hosts.{IsAddress}
-use Rattle.rds_report.specs.Report.{Group, is_before, ascending}
+use Rattle.rds_final.specs.Hosts.{IsAddress}
+use Rattle.rds_final.specs.Report.{Group, is_before, ascending}
 use Rattle.rds_report.specs.Items.{seen}
 use Rattle.rds_report.specs.ItemReport.{is_same, is_of, is_accepted, count_of, of_pair, accepted_pairs, pair_lines, lines_of, groups_text, AreKnown, AreNotBefore, IsUp}
 use Rattle.rds_report.specs.ItemTotals.{grouped, with_accepted}

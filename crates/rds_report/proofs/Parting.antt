@@ -7,10 +7,10 @@ use Rattle.std.proofs.lemmas.Grind.{flat_map-append}
 use Rattle.rds_wire.specs.declared.memory.Memory.{Memory}
 use Rattle.rds_text.specs.declared.host.TheConstants.{MAX_HOSTS}
 use Rattle.rds_report.specs.declared.item.Item.{Item}
-use Rattle.rds_report.specs.Hosts.{IsAddress, address_of}
-use Rattle.rds_report.specs.FinalState.{FinalHost}
-use Rattle.rds_report.specs.Report.{Group, is_before, ascending, groups, group_text}
-use Rattle.rds_report.specs.Views.{AreFinalHosts}
+use Rattle.rds_final.specs.Hosts.{IsAddress, address_of}
+use Rattle.rds_final.specs.FinalState.{FinalHost}
+use Rattle.rds_final.specs.Report.{Group, is_before, ascending, groups, group_text}
+use Rattle.rds_final.specs.Views.{AreFinalHosts}
 use Rattle.rds_report.specs.Items.{is_to, items, items_to}
 use Rattle.rds_report.specs.ItemReport.{is_same, is_of, of_pair, pair_lines, accepted_pairs, groups_text, AreKnown, groups_to, part, parts}
 use Rattle.rds_report.proofs.Orders.{Above, Rising, lex_more, has, has_ascending, rising_ascending, rising_one, same_itself}

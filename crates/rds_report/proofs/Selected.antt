@@ -12,8 +12,8 @@ use Rattle.rds_model.specs.Past.{accepted}
 use Rattle.rds_report.specs.declared.item.What.{What}
 use Rattle.rds_report.specs.declared.item.What.TheVariants.{Accepted, Received, Unread, Dropped, Port0, Cancelled}
 use Rattle.rds_report.specs.declared.item.Item.{Item}
-use Rattle.rds_report.specs.FinalState.{FinalSocket}
-use Rattle.rds_report.specs.Report.{Group}
+use Rattle.rds_final.specs.FinalState.{FinalSocket}
+use Rattle.rds_final.specs.Report.{Group}
 use Rattle.rds_report.specs.Items.{item, accepted_items, sent_items, read_items, came_items, socket_items}
 use Rattle.rds_report.specs.ItemReport.{is_of, of_pair}
 

@@ -9,10 +9,10 @@ use Rattle.rds_model.specs.declared.order.Datagram.{Datagram}
 use Rattle.rds_report.specs.declared.item.What.{What}
 use Rattle.rds_report.specs.declared.item.What.TheVariants.{Accepted, Received, Unread, Dropped, Port0, Cancelled}
 use Rattle.rds_report.specs.declared.item.Item.{Item}
-use Rattle.rds_report.specs.FinalState.{FinalHost}
-use Rattle.rds_report.specs.Hosts.{address_of}
-use Rattle.rds_report.specs.Report.{Group, Counts, counts, groups, received}
-use Rattle.rds_report.specs.Views.{AreFinalHosts}
+use Rattle.rds_final.specs.FinalState.{FinalHost}
+use Rattle.rds_final.specs.Hosts.{address_of}
+use Rattle.rds_final.specs.Report.{Group, Counts, counts, groups, received}
+use Rattle.rds_final.specs.Views.{AreFinalHosts}
 use Rattle.rds_report.specs.Items.{items, items_to}
 use Rattle.rds_report.specs.ItemReport.{groups_to, of_pair, is_received, tally}
 use Rattle.rds_report.specs.ItemTotals.{bytes_below, bytes_of, bytes_to, counts_below, counts_to, grouped, payload_bytes}

@@ -5,10 +5,10 @@ use Rattle.rds_text.specs.Words.{hex}
 use Rattle.rds_report.specs.declared.item.What.{What}
 use Rattle.rds_report.specs.declared.item.What.TheVariants.{Accepted, Received, Unread, Dropped, Port0, Cancelled}
 use Rattle.rds_report.specs.declared.item.Item.{Item}
-use Rattle.rds_report.specs.FinalState.{FinalHost}
-use Rattle.rds_report.specs.Hosts.{IsAddress, address_of}
+use Rattle.rds_final.specs.FinalState.{FinalHost}
+use Rattle.rds_final.specs.Hosts.{IsAddress, address_of}
 use Rattle.rds_text.specs.Lines.{text_line}
-use Rattle.rds_report.specs.Report.{Group, Counts, is_before, ascending, groups, group_text, pair_text, counts_line}
+use Rattle.rds_final.specs.Report.{Group, Counts, is_before, ascending, groups, group_text, pair_text, counts_line}
 use Rattle.rds_report.specs.Items.{seen}
 
 -- two pairs are one

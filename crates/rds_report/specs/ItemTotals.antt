@@ -10,9 +10,9 @@ use Rattle.rds_report.specs.declared.item.What.TheVariants.{Received}
 use Rattle.rds_report.specs.declared.item.Item.{Item}
 use Rattle.rds_model.specs.declared.order.Datagram.{Datagram}
 use Rattle.rds_report.specs.declared.totals.Totals.{Totals}
-use Rattle.rds_report.specs.FinalState.{FinalHost}
-use Rattle.rds_report.specs.Hosts.{address_of}
-use Rattle.rds_report.specs.Report.{Counts, ascending, counts, received}
+use Rattle.rds_final.specs.FinalState.{FinalHost}
+use Rattle.rds_final.specs.Hosts.{address_of}
+use Rattle.rds_final.specs.Report.{Counts, ascending, counts, received}
 use Rattle.rds_report.specs.Summary.{plus, total}
 use Rattle.rds_report.specs.ItemReport.{accepted_pairs, count_of, groups_to, is_accepted, of_pair}
 

@@ -15,8 +15,8 @@ use Rattle.rds_report.specs.declared.item.Group.{Group as Key}
 use Rattle.rds_report.specs.declared.item.What.{What}
 use Rattle.rds_report.specs.declared.item.What.TheVariants.{Accepted, Received, Unread, Dropped, Port0, Cancelled}
 use Rattle.rds_report.specs.declared.item.Item.{Item}
-use Rattle.rds_report.specs.FinalState.{FinalSocket, FinalJournal, FinalHost, past_of}
-use Rattle.rds_report.specs.Report.{Group}
+use Rattle.rds_final.specs.FinalState.{FinalSocket, FinalJournal, FinalHost, past_of}
+use Rattle.rds_final.specs.Report.{Group}
 
 -- whether each number from 1 to m passes a test
 abbrev pub flags : (ℕ → Bool) → ℕ → List Bool

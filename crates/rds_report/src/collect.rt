@@ -3,14 +3,14 @@ ghost use Rattle.std.specs.List.{flat_map};
 ghost use Rattle.rds_model.specs.declared.order.Datagram.{Datagram as Message};
 ghost use Rattle.rds_model.specs.Past.{accepted};
 ghost use Rattle.rds_report.specs.declared.item.What.TheVariants as what;
-ghost use Rattle.rds_report.specs.FinalState.{past_of, past_with};
-ghost use Rattle.rds_report.specs.Views.{host_view, host_views, side_view, socket_view};
+ghost use Rattle.rds_final.specs.FinalState.{past_of, past_with};
+ghost use Rattle.rds_final.specs.Views.{host_view, host_views, side_view, socket_view};
 ghost use Rattle.rds_report.specs.Items.{flags, is_lost, is_to, item, items_to as items_of, host_items, side_items, sent_items, came_items, accepted_items, read_items, arrival_items, socket_items, past_in};
 
 use crate::flags::flag;
 use crate::item::{Group, Item, What};
 use crate::lost::lost;
-use crate::{HostEnd, Kept};
+use rds_final::{HostEnd, Kept};
 use rds_model::{Datagram, Entry, Journal, Outcome};
 use rds_wire::Memory;
 use std::alloc::Global;

@@ -1,6 +1,6 @@
 ghost use Rattle.std.specs.Prelude.{◌≡◌, OnOk};
 ghost use Rattle.std.specs.List.{prefix_len};
-ghost use Rattle.rds_report.specs.Report.{Group as Pair};
+ghost use Rattle.rds_final.specs.Report.{Group as Pair};
 ghost use Rattle.rds_report.specs.Items.{seen};
 ghost use Rattle.rds_report.specs.ItemReport.{IsUp, is_of, of_pair};
 

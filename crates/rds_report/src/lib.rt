@@ -2,11 +2,9 @@
 #![tactic(auto)]
 
 mod acknowledgements;
-mod addresses;
 mod cancellations;
 mod collect;
 mod counts;
-mod final_state;
 mod flags;
 mod grouping;
 mod item;
@@ -17,7 +15,5 @@ mod summing;
 mod taken;
 mod totals;
 
-pub use addresses::{FIRST_ADDRESS, address, host_of};
-pub use final_state::{HostEnd, Kept};
 pub use reporting::{report, report_parts};
 pub use summing::summary;

@@ -2,8 +2,8 @@ ghost use Rattle.std.specs.Prelude.{◌≡◌, ◌++◌, ◌∷◌, [], ◌==◌
 ghost use Rattle.std.specs.List.{flat_map};
 ghost use Rattle.rds_report.specs.declared.item.Item.{Item as Piece};
 ghost use Rattle.std.specs.Fmt.{decimal};
-ghost use Rattle.rds_report.specs.Hosts.{IsAddress};
-ghost use Rattle.rds_report.specs.Report.{pair_text, counts_line};
+ghost use Rattle.rds_final.specs.Hosts.{IsAddress};
+ghost use Rattle.rds_final.specs.Report.{pair_text, counts_line};
 ghost use Rattle.rds_text.specs.Lines.{phrase};
 ghost use Rattle.rds_report.specs.Items.{seen};
 ghost use Rattle.rds_report.specs.ItemReport.{AreKnown, IsUp, groups_text, lines_of, data_lines, count_of, is_accepted};
@@ -11,8 +11,8 @@ ghost use Rattle.rds_report.specs.ItemTotals.{fates, seen_counts};
 
 use crate::counts::Counts;
 use crate::grouping::run_length;
-use crate::host_of;
 use crate::item::{Group, Item, What};
+use rds_final::host_of;
 use rds_text::{Hex, HostName};
 use rds_wire::Memory;
 

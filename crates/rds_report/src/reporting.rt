@@ -1,15 +1,15 @@
 ghost use Rattle.std.specs.Prelude.{◌≡◌, ◌++◌, ℕ, List, IfOk, OnOk, string_bytes};
 ghost use Rattle.std.specs.List.{flat_map};
-ghost use Rattle.rds_report.specs.Hosts.{address_of};
-ghost use Rattle.rds_report.specs.Views.{AreFinalHosts, host_views};
+ghost use Rattle.rds_final.specs.Hosts.{address_of};
+ghost use Rattle.rds_final.specs.Views.{AreFinalHosts, host_views};
 ghost use Rattle.rds_text.specs.Lines.{end_line};
 ghost use Rattle.rds_report.specs.ItemReport.{part};
-ghost use Rattle.rds_report.specs.Report.{report as text_of};
+ghost use Rattle.rds_final.specs.Report.{report as text_of};
 
-use crate::addresses::address;
 use crate::grouping::sort;
-use crate::{HostEnd, collect, print};
+use crate::{collect, print};
 use rayon::prelude::*;
+use rds_final::{HostEnd, address};
 use rds_text::MAX_HOSTS;
 use rds_wire::Memory;
 use std::alloc::Global;

@@ -1,13 +1,13 @@
 ghost use Rattle.std.specs.Prelude.{◌≡◌, ◌<◌, ◌^◌, ◌++◌, ℕ, List, IfOk, OnOk, string_bytes};
 ghost use Rattle.rds_text.specs.Lines.{end_line};
-ghost use Rattle.rds_report.specs.Views.{AreFinalHosts, host_views};
+ghost use Rattle.rds_final.specs.Views.{AreFinalHosts, host_views};
 ghost use Rattle.rds_report.specs.ItemTotals.{AreTotals, bytes_to, count_all, counts_to, seen_counts};
 ghost use Rattle.rds_report.specs.Summary.{all_counts, received_bytes, summary as summary_of, summary_line};
 
-use crate::addresses::address;
 use crate::grouping::sort;
 use crate::totals::Totals;
-use crate::{HostEnd, collect, print};
+use crate::{collect, print};
+use rds_final::{HostEnd, address};
 use rds_text::MAX_HOSTS;
 use rds_wire::Memory;
 use std::alloc::Global;

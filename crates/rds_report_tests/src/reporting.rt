@@ -1,3 +1,4 @@
+use rds_final::*;
 use rds_model::{Datagram, Entry, Journal, Outcome, Target};
 use rds_report::*;
 use rds_wire::{Frame, Header, Payload};

@@ -2,8 +2,8 @@
 use Rattle.std.proofs.Common.{◌≡◌, ◌≢◌, ◌⊎◌, inl, inr, ℕ, Bool, true, false, List, [], Vec, refl, subst}
 use Rattle.std.specs.Global.{Global}
 use Rattle.rds_script.specs.Grammar.{Meaning}
-use Rattle.rds_report.specs.Views.{host_views}
-use Rattle.rds_report.specs.declared.final_state.HostEnd.{HostEnd}
+use Rattle.rds_final.specs.Views.{host_views}
+use Rattle.rds_final.specs.declared.final_state.HostEnd.{HostEnd}
 use Rattle.rds_threads.specs.Ends.{IsEndOfRun, Written}
 use Rattle.rds_threads.specs.declared.form.Form.{Form}
 use Rattle.rds_threads.specs.declared.form.RunEnd.{RunEnd}

@@ -6,7 +6,7 @@ use Rattle.rds_model.specs.declared.entry.Entry.{Entry}
 use Rattle.rds_model.specs.declared.journal.TheConstants.{MAX_ENTRIES}
 use Rattle.rds_script.specs.Grammar.{Meaning}
 use Rattle.rds_text.specs.Lines.{spent_line}
-use Rattle.rds_report.specs.FinalState.{FinalHost}
+use Rattle.rds_final.specs.FinalState.{FinalHost}
 use Rattle.rds_parties.specs.Streams.{prepared_streams}
 use Rattle.rds_threads.specs.Causes.{AreLackingStream, AreUnacknowledged, IsFullJournal}
 use Rattle.rds_threads.specs.Counted.{AreEndsClosed, EndsOweNothing}

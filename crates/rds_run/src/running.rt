@@ -6,9 +6,9 @@ ghost use Rattle.rds_run.specs.declared.status.Status.TheVariants as status;
 
 use crate::status::Status;
 use rayon::prelude::*;
+use rds_final::HostEnd;
 use rds_link::{Gate, MemWire, Sink, Wire};
 use rds_model::MAX_ENTRIES;
-use rds_report::HostEnd;
 use rds_script::Script;
 use rds_threads::{Form, RunEnd, run};
 use std::alloc::Global;

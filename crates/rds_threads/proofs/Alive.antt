@@ -5,8 +5,8 @@ use Rattle.rds_fmap.specs.Readers.{WriterView}
 use Rattle.rds_line.specs.Line.{LineView}
 use Rattle.rds_gather.specs.Sides.{line_side}
 use Rattle.rds_callers.specs.Places.{CallerView}
-use Rattle.rds_report.specs.Views.{host_view, host_views}
-use Rattle.rds_report.specs.declared.final_state.HostEnd.{HostEnd}
+use Rattle.rds_final.specs.Views.{host_view, host_views}
+use Rattle.rds_final.specs.declared.final_state.HostEnd.{HostEnd}
 use Rattle.rds_rounds.specs.Causes.{alive_in_line, alive_in_row, alive_in_rows}
 use Rattle.rds_threads.specs.Causes.{alive_in_end, alive_in_ends, alive_in_side}
 use Rattle.rds_threads.specs.Settled.{AreLeftOf}

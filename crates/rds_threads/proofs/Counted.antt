@@ -7,9 +7,9 @@ use Rattle.rds_model.specs.declared.entry.Entry.{Entry}
 use Rattle.rds_line.specs.Line.{LineView, line_past}
 use Rattle.rds_gather.specs.Sides.{line_side}
 use Rattle.rds_callers.specs.Places.{CallerView}
-use Rattle.rds_report.specs.FinalState.{FinalHost, FinalJournal}
-use Rattle.rds_report.specs.Views.{host_view, host_views}
-use Rattle.rds_report.specs.declared.final_state.HostEnd.{HostEnd}
+use Rattle.rds_final.specs.FinalState.{FinalHost, FinalJournal}
+use Rattle.rds_final.specs.Views.{host_view, host_views}
+use Rattle.rds_final.specs.declared.final_state.HostEnd.{HostEnd}
 use Rattle.rds_threads.specs.Counted.{IsCountedEnd, OfEachJournal}
 use Rattle.rds_threads.specs.Ends.{Writes, Written}
 use Rattle.rds_threads.specs.Settled.{AreLeftOf}

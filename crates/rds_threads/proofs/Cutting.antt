@@ -13,7 +13,7 @@ use Rattle.rds_fmap.specs.Readers.{ReaderView}
 use Rattle.rds_parts.specs.Lanes.{IsLaneAt, Lane, peers_of}
 use Rattle.rds_socket.specs.Binds.{BindAnyFits, BindFits}
 use Rattle.rds_socket.specs.Holding.{Holding, Open}
-use Rattle.rds_report.specs.Hosts.{address_of}
+use Rattle.rds_final.specs.Hosts.{address_of}
 use Rattle.rds_script.specs.declared.script.Command.{Command}
 use Rattle.rds_script.specs.declared.script.Command.TheVariants as script
 use Rattle.rds_script.specs.declared.script.Placed.{Placed}

@@ -6,8 +6,8 @@ use Rattle.rds_views.specs.Views.{total}
 use Rattle.rds_meter.specs.Shared.{HasStored}
 use Rattle.rds_model.specs.Deliveries.{put_bytes}
 use Rattle.rds_fmap.specs.Readers.{ReaderView, WriterView}
-use Rattle.rds_report.specs.FinalState.{FinalJournal}
-use Rattle.rds_report.specs.Hosts.{address_of}
+use Rattle.rds_final.specs.FinalState.{FinalJournal}
+use Rattle.rds_final.specs.Hosts.{address_of}
 use Rattle.rds_rounds.specs.Grid.{peer_at}
 use Rattle.rds_script.specs.declared.script.Placed.{Placed}
 use Rattle.rds_socket.specs.Holding.{Holding}

@@ -14,7 +14,7 @@ use Rattle.rds_model.specs.Past.{Moment, now, before, Accepted, datagram, number
 use Rattle.rds_model.specs.Pairs.{is_between, delivered_to}
 use Rattle.rds_model.specs.Fifo.{Carries}
 use Rattle.rds_model.specs.Deliveries.{datagram_from, delivered_datagrams}
-use Rattle.rds_report.specs.Hosts.{address_of}
+use Rattle.rds_final.specs.Hosts.{address_of}
 use Rattle.rds_history.specs.Sound.{as_sent, is_of_ports, of_ports}
 
 -- a datagram that host h accepted, by its number in the journal

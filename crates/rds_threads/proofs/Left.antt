@@ -9,9 +9,9 @@ use Rattle.rds_wire.specs.declared.memory.Memory.{Memory}
 use Rattle.rds_fmap.specs.Readers.{WriterView}
 use Rattle.rds_line.specs.Line.{LineView}
 use Rattle.rds_gather.specs.Sides.{line_side}
-use Rattle.rds_report.specs.Hosts.{address_of}
-use Rattle.rds_report.specs.Views.{host_view, side_view, socket_view}
-use Rattle.rds_report.specs.declared.final_state.HostEnd.{HostEnd}
+use Rattle.rds_final.specs.Hosts.{address_of}
+use Rattle.rds_final.specs.Views.{host_view, side_view, socket_view}
+use Rattle.rds_final.specs.declared.final_state.HostEnd.{HostEnd}
 use Rattle.rds_callers.specs.Places.{CallerView, Place}
 use Rattle.rds_gather.specs.Grounded.{AreMapsGrounded}
 use Rattle.rds_settling.specs.Tied.{holdings}

@@ -11,9 +11,9 @@ use Rattle.rds_model.specs.Alive.{alive_numbers}
 use Rattle.rds_model.specs.Honest.{IsHonest}
 use Rattle.rds_model.specs.Legal.{IsLegal}
 use Rattle.rds_model.specs.Pairs.{IsAllAccounted}
-use Rattle.rds_report.specs.FinalState.{FinalHost, FinalJournal, FinalSocket, past_of, past_with, sockets_of}
-use Rattle.rds_report.specs.Hosts.{address_of}
-use Rattle.rds_report.specs.Report.{Group, accepted_groups, ascending, counts, is_before, pending, with_group}
+use Rattle.rds_final.specs.FinalState.{FinalHost, FinalJournal, FinalSocket, past_of, past_with, sockets_of}
+use Rattle.rds_final.specs.Hosts.{address_of}
+use Rattle.rds_final.specs.Report.{Group, accepted_groups, ascending, counts, is_before, pending, with_group}
 use Rattle.rds_rounds.specs.Grid.{IsAt, others, peer_at}
 use Rattle.rds_script.specs.declared.script.Placed.{Placed}
 use Rattle.rds_threads.specs.Ends.{AreDrainedHosts, AreEnds, NonePending}

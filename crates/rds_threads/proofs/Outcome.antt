@@ -5,10 +5,10 @@ use Rattle.std.proofs.lemmas.List.Elements.{All-map, All-weaker}
 use Rattle.std.proofs.lemmas.Option.{slice_get-map}
 use Rattle.rds_fmap.specs.Readers.{ReaderView, WriterView}
 use Rattle.rds_parts.specs.Lanes.{IsLaneAt, Lane}
-use Rattle.rds_report.specs.FinalState.{FinalJournal, FinalSocket}
-use Rattle.rds_report.specs.Views.{socket_view}
-use Rattle.rds_report.specs.declared.final_state.HostEnd.{HostEnd}
-use Rattle.rds_report.specs.declared.final_state.Kept.{Kept}
+use Rattle.rds_final.specs.FinalState.{FinalJournal, FinalSocket}
+use Rattle.rds_final.specs.Views.{socket_view}
+use Rattle.rds_final.specs.declared.final_state.HostEnd.{HostEnd}
+use Rattle.rds_final.specs.declared.final_state.Kept.{Kept}
 use Rattle.rds_wire.specs.declared.memory.Memory.{Memory}
 use Rattle.rds_script.specs.declared.script.Placed.{Placed}
 use Rattle.rds_socket.specs.Holding.{Holding}
@@ -17,7 +17,7 @@ use Rattle.rds_line.specs.Line.{LineView}
 use Rattle.rds_line.specs.Seats.{WasAlwaysTold}
 use Rattle.rds_parties.specs.Obeyed.{after_binds}
 use Rattle.rds_parties.specs.Parties.{HasLed}
-use Rattle.rds_report.specs.Hosts.{address_of}
+use Rattle.rds_final.specs.Hosts.{address_of}
 use Rattle.rds_rounds.specs.Grid.{peer_at}
 use Rattle.rds_gather.specs.Cuts.{AreCutsDone, AreCutsOfSlots}
 use Rattle.rds_gather.specs.Grounded.{AreMapsGrounded}

@@ -5,9 +5,9 @@ use Rattle.std.proofs.lemmas.Option.{same_Some, slice_get-map}
 use Rattle.std.specs.Prelude.{unwrap_or}
 use Rattle.rds_bindtab.specs.Seats.{PortSeat, telling_of}
 use Rattle.rds_fmap.specs.Readers.{ReaderView, WriterView}
-use Rattle.rds_report.specs.Views.{socket_view}
-use Rattle.rds_report.specs.declared.final_state.HostEnd.{HostEnd}
-use Rattle.rds_report.specs.declared.final_state.Kept.{Kept}
+use Rattle.rds_final.specs.Views.{socket_view}
+use Rattle.rds_final.specs.declared.final_state.HostEnd.{HostEnd}
+use Rattle.rds_final.specs.declared.final_state.Kept.{Kept}
 use Rattle.rds_wire.specs.declared.memory.Memory.{Memory}
 use Rattle.rds_socket.specs.Holding.{Holding}
 use Rattle.rds_line.specs.Line.{LineView}

@@ -13,9 +13,9 @@ use Rattle.rds_wire.specs.declared.frame.Frame.{Frame}
 use Rattle.rds_model.specs.Pairs.{IsAllAccounted, IsDeliveredAt, accepted_for, delivered_to, dropped, taken_back, taken_by_port_0}
 use Rattle.rds_model.specs.Past.{accepted}
 use Rattle.rds_model.specs.Streams.{was_passed}
-use Rattle.rds_report.specs.FinalState.{FinalSocket}
-use Rattle.rds_report.specs.Hosts.{address_of}
-use Rattle.rds_report.specs.Report.{Counts, Group, of_group, pending}
+use Rattle.rds_final.specs.FinalState.{FinalSocket}
+use Rattle.rds_final.specs.Hosts.{address_of}
+use Rattle.rds_final.specs.Report.{Counts, Group, of_group, pending}
 use Rattle.rds_history.specs.Sound.{is_of_ports, of_ports}
 use Rattle.rds_threads.specs.Reliable.{HandsOutSent, WentToSocket, all_handed}
 use Rattle.rds_threads.proofs.AtMost.{accepted_few, all_at_most}

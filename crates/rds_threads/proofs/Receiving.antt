@@ -8,11 +8,11 @@ use Rattle.rds_model.specs.declared.entry.Entry.{Entry}
 use Rattle.rds_model.specs.declared.order.Datagram.{Datagram}
 use Rattle.rds_model.specs.Deliveries.{delivered_datagrams}
 use Rattle.rds_model.specs.Pairs.{IsDeliveredOnce}
-use Rattle.rds_report.specs.FinalState.{FinalHost, FinalJournal, FinalSocket}
-use Rattle.rds_report.specs.Hosts.{address_of}
-use Rattle.rds_report.specs.Views.{host_view, side_view, socket_view}
-use Rattle.rds_report.specs.declared.final_state.HostEnd.{HostEnd}
-use Rattle.rds_report.specs.declared.final_state.Kept.{Kept}
+use Rattle.rds_final.specs.FinalState.{FinalHost, FinalJournal, FinalSocket}
+use Rattle.rds_final.specs.Hosts.{address_of}
+use Rattle.rds_final.specs.Views.{host_view, side_view, socket_view}
+use Rattle.rds_final.specs.declared.final_state.HostEnd.{HostEnd}
+use Rattle.rds_final.specs.declared.final_state.Kept.{Kept}
 use Rattle.rds_history.specs.Sound.{is_of_ports, of_ports}
 use Rattle.rds_fmap.specs.Readers.{ReaderView, WriterView}
 use Rattle.rds_socket.specs.Holding.{Holding}

@@ -11,10 +11,10 @@ use Rattle.rds_model.specs.Pairs.{IsDeliveredOnce}
 use Rattle.rds_fmap.specs.Readers.{WriterView}
 use Rattle.rds_line.specs.Line.{LineView, line_past}
 use Rattle.rds_gather.specs.Sides.{line_side}
-use Rattle.rds_report.specs.FinalState.{FinalHost, FinalJournal}
-use Rattle.rds_report.specs.Hosts.{IsAddress, address_of}
-use Rattle.rds_report.specs.Views.{AreFinalHosts, AreSides, host_view, host_views, socket_view}
-use Rattle.rds_report.specs.declared.final_state.HostEnd.{HostEnd}
+use Rattle.rds_final.specs.FinalState.{FinalHost, FinalJournal}
+use Rattle.rds_final.specs.Hosts.{IsAddress, address_of}
+use Rattle.rds_final.specs.Views.{AreFinalHosts, AreSides, host_view, host_views, socket_view}
+use Rattle.rds_final.specs.declared.final_state.HostEnd.{HostEnd}
 use Rattle.rds_callers.specs.Places.{CallerView}
 use Rattle.rds_script.specs.declared.script.Placed.{Placed}
 use Rattle.rds_rounds.specs.Done.{AreDone}

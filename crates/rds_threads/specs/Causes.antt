@@ -4,7 +4,7 @@ use Rattle.rds_model.specs.declared.entry.Entry.{Entry}
 use Rattle.rds_model.specs.Alive.{alive_numbers}
 use Rattle.rds_model.specs.Past.{newest_stream, open_stream}
 use Rattle.rds_model.specs.Sums.{opens}
-use Rattle.rds_report.specs.FinalState.{FinalHost, FinalJournal}
+use Rattle.rds_final.specs.FinalState.{FinalHost, FinalJournal}
 use Rattle.rds_script.specs.declared.script.Placed.{Placed}
 use Rattle.rds_rounds.specs.Sound.{AreSoundJournals}
 use Rattle.rds_parties.specs.Streams.{streams_between}

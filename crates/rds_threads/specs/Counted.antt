@@ -4,8 +4,8 @@ use Rattle.rds_link.specs.Streaming.{HasRisen, HasRisenBy}
 use Rattle.rds_link.specs.declared.wire.WireCounts.{WireCounts}
 use Rattle.rds_model.specs.declared.entry.Entry.{Entry}
 use Rattle.rds_model.specs.Past.{open_stream}
-use Rattle.rds_report.specs.FinalState.{FinalHost, FinalJournal}
-use Rattle.rds_report.specs.Views.{host_views}
+use Rattle.rds_final.specs.FinalState.{FinalHost, FinalJournal}
+use Rattle.rds_final.specs.Views.{host_views}
 use Rattle.rds_rounds.specs.Causes.{OwesNothing}
 use Rattle.rds_threads.specs.declared.form.RunEnd.{RunEnd}
 use Rattle.rds_threads.specs.declared.form.RunEnd.TheVariants as ended

@@ -3,10 +3,10 @@ use Rattle.std.specs.Prelude.{◌≡◌, ◌⊎◌, ◌≤◌, ℕ, suc, All, Bo
 use Rattle.rds_link.specs.Streaming.{HasRisen, SinkGained, SinkGainedFront}
 use Rattle.rds_model.specs.declared.entry.Entry.{Entry}
 use Rattle.rds_model.specs.Honest.{IsHonest}
-use Rattle.rds_report.specs.FinalState.{FinalHost, FinalJournal}
-use Rattle.rds_report.specs.Hosts.{address_of}
-use Rattle.rds_report.specs.Report.{Group, counts, groups, pending}
-use Rattle.rds_report.specs.Views.{host_views}
+use Rattle.rds_final.specs.FinalState.{FinalHost, FinalJournal}
+use Rattle.rds_final.specs.Hosts.{address_of}
+use Rattle.rds_final.specs.Report.{Group, counts, groups, pending}
+use Rattle.rds_final.specs.Views.{host_views}
 use Rattle.rds_text.specs.Lines.{spent_line}
 use Rattle.rds_script.specs.declared.script.Placed.{Placed}
 use Rattle.rds_rounds.specs.Drained.{AreDrained}

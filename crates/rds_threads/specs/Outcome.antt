@@ -7,8 +7,8 @@ use Rattle.rds_model.specs.declared.order.Datagram.{Datagram}
 use Rattle.rds_views.specs.Views.{total}
 use Rattle.rds_fmap.specs.Readers.{ReaderView}
 use Rattle.rds_parts.specs.Lanes.{IsLaneAt, Lane}
-use Rattle.rds_report.specs.FinalState.{FinalJournal, FinalSocket}
-use Rattle.rds_report.specs.Hosts.{address_of}
+use Rattle.rds_final.specs.FinalState.{FinalJournal, FinalSocket}
+use Rattle.rds_final.specs.Hosts.{address_of}
 use Rattle.rds_script.specs.declared.script.Command.{Command}
 use Rattle.rds_script.specs.declared.script.Command.TheVariants.{Bind, BindAny, Cut}
 use Rattle.rds_script.specs.declared.script.Placed.{Placed}

@@ -10,7 +10,7 @@ use Rattle.rds_model.specs.declared.order.Datagram.{Datagram}
 use Rattle.rds_model.specs.Deliveries.{delivered_datagrams}
 use Rattle.rds_model.specs.Pairs.{IsDeliveredOnce, delivered_to}
 use Rattle.rds_model.specs.Past.{datagram}
-use Rattle.rds_report.specs.FinalState.{FinalHost, FinalJournal, FinalSocket}
+use Rattle.rds_final.specs.FinalState.{FinalHost, FinalJournal, FinalSocket}
 use Rattle.rds_history.specs.Sound.{as_sent, of_ports}
 
 -- what a socket handed out, and then what it left unread

@@ -5,11 +5,11 @@ use Rattle.rds_fmap.specs.Readers.{ReaderView, WriterView}
 use Rattle.rds_model.specs.declared.order.Datagram.{Datagram}
 use Rattle.rds_socket.specs.Holding.{Open}
 use Rattle.rds_parts.specs.Lanes.{IsLaneAt, Lane}
-use Rattle.rds_report.specs.FinalState.{FinalSocket}
-use Rattle.rds_report.specs.Hosts.{address_of}
-use Rattle.rds_report.specs.Views.{host_view, side_view, socket_view}
-use Rattle.rds_report.specs.declared.final_state.HostEnd.{HostEnd}
-use Rattle.rds_report.specs.declared.final_state.Kept.{Kept}
+use Rattle.rds_final.specs.FinalState.{FinalSocket}
+use Rattle.rds_final.specs.Hosts.{address_of}
+use Rattle.rds_final.specs.Views.{host_view, side_view, socket_view}
+use Rattle.rds_final.specs.declared.final_state.HostEnd.{HostEnd}
+use Rattle.rds_final.specs.declared.final_state.Kept.{Kept}
 use Rattle.rds_line.specs.Keeps.{cuts_among, uncut}
 use Rattle.rds_line.specs.Line.{LineView, line_past}
 use Rattle.rds_line.specs.Seats.{WasAlwaysTold}

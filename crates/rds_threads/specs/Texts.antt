@@ -1,8 +1,8 @@
 -- What a run writes: the text of its form, or a line that stands in place of it. Source: this project's own.
 use Rattle.std.specs.Prelude.{ℕ, List, [], ◌∷◌, codes}
 use Rattle.std.specs.Fmt.{decimal}
-use Rattle.rds_report.specs.FinalState.{FinalHost}
-use Rattle.rds_report.specs.Report.{report}
+use Rattle.rds_final.specs.FinalState.{FinalHost}
+use Rattle.rds_final.specs.Report.{report}
 use Rattle.rds_report.specs.Summary.{summary}
 use Rattle.rds_text.specs.Lines.{text_line}
 use Rattle.rds_text.specs.Words.{host_name}

@@ -2,7 +2,7 @@
 ghost use Rattle.std.specs.Prelude.{◌≡◌, ◌<◌, IfOk, OnErr, string_bytes};
 ghost use Rattle.std.specs.List.{flat_map};
 ghost use Rattle.rds_model.specs.Past.{newest_stream};
-ghost use Rattle.rds_report.specs.Views.{AreFinalHosts, host_views};
+ghost use Rattle.rds_final.specs.Views.{AreFinalHosts, host_views};
 ghost use Rattle.rds_text.specs.Lines.{spent_line as line_of_spent};
 ghost use Rattle.rds_threads.specs.Ends.{Writes};
 ghost use Rattle.rds_threads.specs.Texts.{fault_line, text_of as text_of_form, unfinished_line};
@@ -10,9 +10,10 @@ ghost use Rattle.rds_threads.specs.declared.form.RunEnd.TheVariants as ended;
 
 use crate::form::{Form, RunEnd};
 use crate::writing::write_texts;
+use rds_final::HostEnd;
 use rds_link::{Sink, write_all};
 use rds_model::Journal;
-use rds_report::{HostEnd, report_parts, summary};
+use rds_report::{report_parts, summary};
 use rds_rounds::last_stream;
 use rds_text::{HostName, spent_line};
 use rds_wire::Memory;

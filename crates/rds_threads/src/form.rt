@@ -1,5 +1,5 @@
+use rds_final::HostEnd;
 use rds_model::Journal;
-use rds_report::HostEnd;
 
 /// What a run writes.
 #[derive(Clone, Copy, Debug, PartialEq, Eq)]

@@ -4,8 +4,8 @@ ghost use Rattle.rds_text.specs.declared.host.TheConstants.{MAX_HOSTS};
 ghost use Rattle.rds_host.specs.Held.{ends_in, ends_of_all};
 ghost use Rattle.rds_gather.specs.Grounded.{AreMapsGrounded};
 ghost use Rattle.rds_gather.specs.Sides.{line_side};
-ghost use Rattle.rds_report.specs.declared.final_state.HostEnd.{HostEnd as EndView};
-ghost use Rattle.rds_report.specs.Views.{AreFinalHosts, host_view, host_views, side_view, socket_view};
+ghost use Rattle.rds_final.specs.declared.final_state.HostEnd.{HostEnd as EndView};
+ghost use Rattle.rds_final.specs.Views.{AreFinalHosts, host_view, host_views, side_view, socket_view};
 ghost use Rattle.rds_rounds.specs.Causes.{AreClosed, OweNothing, alive_in_rows};
 ghost use Rattle.rds_rounds.specs.Done.{AreDone};
 ghost use Rattle.rds_rounds.specs.Drained.{AreDrainedLines};
@@ -21,12 +21,12 @@ ghost use Rattle.rds_threads.specs.Settled.{AreAllCut, AreAllSent, AreKeptOf, Ar
 
 use crate::giving::end_row;
 use rds_callers::Caller;
+use rds_final::{HostEnd, address};
 use rds_fmap::Writer;
 use rds_gather::gather;
 use rds_line::Line;
 use rds_link::{End, Wire};
 use rds_model::laws::{accounted_of_all, fifo_of_all};
-use rds_report::{HostEnd, address};
 use rds_rounds::Lines;
 use rds_settling::laws::tied_ends;
 use rds_settling::settle_slots;

@@ -5,12 +5,12 @@ use Rattle.std.proofs.lemmas.List.{map-append}
 use Rattle.std.proofs.lemmas.List.Elements.{All-nil, All-cons, All-append, All-map, All-filter, All-get_or, filter-append}
 use Rattle.std.proofs.lemmas.List.Quantifiers.{all_pairs_push}
 use Rattle.rds_text.specs.Ports.{below}
-use Rattle.rds_report.specs.FinalState.{FinalJournal, FinalHost}
+use Rattle.rds_final.specs.FinalState.{FinalJournal, FinalHost}
 use Rattle.rds_history.specs.Events.{Event}
 use Rattle.rds_history.specs.History.{final_hosts, final_host}
-use Rattle.rds_report.specs.Hosts.{address_of, IsAddress}
+use Rattle.rds_final.specs.Hosts.{address_of, IsAddress}
 use Rattle.rds_history.specs.Journals.{journal}
-use Rattle.rds_report.specs.Views.{AreFinalHosts, AreSides}
+use Rattle.rds_final.specs.Views.{AreFinalHosts, AreSides}
 
 below_less : (n m : ℕ) → n ≤ m → All (λ k. k < m) (below n)
 below_less zero m few = All-nil (λ k. k < m)

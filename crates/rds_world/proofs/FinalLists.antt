@@ -7,10 +7,10 @@ use Rattle.std.proofs.lemmas.List.Elements.{All-nil, All-cons, All-append, All-h
 use Rattle.rds_text.specs.Ports.{below}
 use Rattle.rds_model.specs.declared.entry.Entry.{Entry}
 use Rattle.rds_model.specs.Log.{Log}
-use Rattle.rds_report.specs.declared.final_state.HostEnd.{HostEnd}
-use Rattle.rds_report.specs.FinalState.{FinalHost, FinalJournal, FinalSocket}
-use Rattle.rds_report.specs.Hosts.{address_of}
-use Rattle.rds_report.specs.Views.{host_views, host_view}
+use Rattle.rds_final.specs.declared.final_state.HostEnd.{HostEnd}
+use Rattle.rds_final.specs.FinalState.{FinalHost, FinalJournal, FinalSocket}
+use Rattle.rds_final.specs.Hosts.{address_of}
+use Rattle.rds_final.specs.Views.{host_views, host_view}
 use Rattle.rds_mesh.specs.Ends.{MeshView}
 use Rattle.rds_mesh.specs.FinalJournals.{HoldJournals, journal_with}
 use Rattle.rds_history.specs.Events.{Event}

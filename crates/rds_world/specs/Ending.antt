@@ -4,7 +4,7 @@ use Rattle.std.specs.Global.{Global}
 use Rattle.rds_model.specs.Log.{Log}
 use Rattle.rds_history.specs.Events.{Event}
 use Rattle.rds_history.specs.History.{final_host}
-use Rattle.rds_report.specs.Views.{side_view}
+use Rattle.rds_final.specs.Views.{side_view}
 
 -- for each of the hosts there is a list of its journals, as the past has them
 abbrev pub JournalsTell : (hosts : ℕ) → List Event → List (Vec (ℕ × Log) Global) → Type 0

@@ -3,14 +3,14 @@ ghost use Rattle.rds_text.specs.declared.host.TheConstants.{MAX_HOSTS};
 ghost use Rattle.rds_history.specs.Events.{Event};
 ghost use Rattle.rds_history.specs.History.{final_hosts};
 ghost use Rattle.rds_history.specs.Transcript.{lines};
-ghost use Rattle.rds_report.specs.Views.{AreFinalHosts, host_views};
+ghost use Rattle.rds_final.specs.Views.{AreFinalHosts, host_views};
 ghost use Rattle.rds_world.specs.Ending.{JournalsTell};
 ghost use Rattle.rds_world.specs.Telling.{HostsTell, Tells, state};
 
 use crate::world::World;
+use rds_final::{HostEnd, address};
 use rds_hosts::ScriptHost;
 use rds_model::Journal;
-use rds_report::{HostEnd, address};
 use rds_wire::Memory;
 use std::alloc::Global;
 

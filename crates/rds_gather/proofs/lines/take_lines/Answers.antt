@@ -6,8 +6,8 @@ use Rattle.rds_fmap.specs.Readers.{WriterView}
 use Rattle.rds_model.specs.declared.entry.Entry.{Entry}
 use Rattle.rds_model.specs.declared.order.Order.{Order}
 use Rattle.rds_mail.specs.Passes.{Getter}
-use Rattle.rds_report.specs.FinalState.{FinalJournal}
-use Rattle.rds_report.specs.Views.{side_view}
+use Rattle.rds_final.specs.FinalState.{FinalJournal}
+use Rattle.rds_final.specs.Views.{side_view}
 use Rattle.rds_line.specs.Keeps.{KeepsLine}
 use Rattle.rds_line.specs.Line.{LineView, line_past}
 use Rattle.rds_gather.specs.Columns.{rows_left}

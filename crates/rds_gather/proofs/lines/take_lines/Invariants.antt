@@ -1,5 +1,5 @@
 use Rattle.std.proofs.Common.{◌≡◌, ◌-◌, All, map, is_ok, true}
-use Rattle.rds_report.specs.Views.{side_view}
+use Rattle.rds_final.specs.Views.{side_view}
 use Rattle.rds_host.specs.Held.{ends_in}
 use Rattle.rds_line.specs.Keeps.{KeepsLine}
 use Rattle.rds_gather.specs.Columns.{rows_left}

@@ -4,8 +4,8 @@ use Rattle.std.proofs.lemmas.List.{length_push}
 use Rattle.std.proofs.lemmas.Iterator.Adapters.{YieldsList-from_vec}
 use Rattle.std.proofs.lemmas.Iterator.Consumers.{YieldsList-end, YieldsList-turn}
 use Rattle.rds_model.specs.Log.{Log}
-use Rattle.rds_report.specs.FinalState.{FinalJournal}
-use Rattle.rds_report.specs.Views.{side_view}
+use Rattle.rds_final.specs.FinalState.{FinalJournal}
+use Rattle.rds_final.specs.Views.{side_view}
 use Rattle.rds_mesh.specs.Ends.{end_at}
 use Rattle.rds_mesh.specs.FinalJournals.{HoldJournals, journal_with, journals_below}
 use Rattle.rds_mesh.proofs.FinalJournals.{AreHalfway, first_past, halfway_end, halfway_more, halfway_start, other_more, second_past, side_push}

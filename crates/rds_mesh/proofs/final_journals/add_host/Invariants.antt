@@ -1,5 +1,5 @@
 use Rattle.std.proofs.Common.{◌≡◌, length, map, vec_len}
-use Rattle.rds_report.specs.Views.{side_view}
+use Rattle.rds_final.specs.Views.{side_view}
 use Rattle.rds_mesh.specs.Ends.{MeshView}
 use Rattle.rds_mesh.specs.FinalJournals.{AreJointsOf, HoldJournals, journals_below}
 use Rattle.rds_mesh.proofs.FinalJournals.{AreHalfway}

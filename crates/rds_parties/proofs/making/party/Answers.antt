@@ -1,5 +1,5 @@
 use Rattle.std.proofs.Common.{◌≡◌, ℕ, List, ap, length, ◌∙◌, map, sym, subst, arith}
-use Rattle.rds_report.specs.Hosts.{address_of}
+use Rattle.rds_final.specs.Hosts.{address_of}
 use Rattle.rds_callers.specs.Places.{Place}
 use Rattle.rds_host.specs.Lines.{AreNewLines}
 use Rattle.rds_host.specs.Slots.{AreNewSlots}

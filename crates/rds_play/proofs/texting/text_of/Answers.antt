@@ -1,8 +1,8 @@
 use Rattle.std.proofs.Common.{◌≡◌, ℕ, Global, String, List, ◌++◌, sym, ◌∙◌, ap, subst}
 use Rattle.std.specs.Prelude.{string_bytes}
-use Rattle.rds_report.specs.FinalState.{FinalHost}
-use Rattle.rds_report.specs.Report.{report}
-use Rattle.rds_report.specs.Views.{AreFinalHosts, host_views}
+use Rattle.rds_final.specs.FinalState.{FinalHost}
+use Rattle.rds_final.specs.Report.{report}
+use Rattle.rds_final.specs.Views.{AreFinalHosts, host_views}
 use Rattle.rds_script.specs.Grammar.{meaning}
 use Rattle.rds_history.specs.Events.{Event}
 use Rattle.rds_history.specs.History.{course, final_hosts}

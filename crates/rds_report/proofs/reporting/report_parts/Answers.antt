@@ -2,12 +2,12 @@ use Rattle.std.proofs.Common.{◌≡◌, ◌-◌, [], ◌∷◌, subst, ◌∙�
 use Rattle.std.specs.List.{AllZip, flat_map, range_with_len}
 use Rattle.std.proofs.lemmas.Grind.{flat_map-append}
 use Rattle.rds_text.specs.declared.host.TheConstants.{MAX_HOSTS}
-use Rattle.rds_report.specs.Report.{group_text, groups}
+use Rattle.rds_final.specs.Report.{group_text, groups}
 use Rattle.rds_report.specs.ItemReport.{part}
-use Rattle.rds_report.specs.Views.{AreFinalHosts, host_views}
+use Rattle.rds_final.specs.Views.{AreFinalHosts, host_views}
 use Rattle.rayon.proofs.ListFacts.{AllZip-weaken}
 use Rattle.rds_wire.specs.declared.memory.Memory.{Memory}
-use Rattle.rds_report.specs.Hosts.{address_of}
+use Rattle.rds_final.specs.Hosts.{address_of}
 use Rattle.rds_report.proofs.Parting.{all_parts, joined}
 use Rattle.rds_report.proofs.reporting.report_parts.Goals as goal
 

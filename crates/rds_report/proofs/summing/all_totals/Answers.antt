@@ -1,6 +1,6 @@
 use Rattle.std.proofs.Common.{arith, ◌≡◌, ◌∙◌, ap}
 use Rattle.rds_text.specs.declared.host.TheConstants.{MAX_HOSTS}
-use Rattle.rds_report.specs.Views.{host_views}
+use Rattle.rds_final.specs.Views.{host_views}
 use Rattle.rds_report.specs.ItemTotals.{bytes_below, counts_below}
 use Rattle.rds_report.proofs.Totalled.{bytes_all, counts_all}
 use Rattle.rds_report.proofs.summing.all_totals.Goals as goal

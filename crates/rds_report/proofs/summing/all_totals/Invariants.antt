@@ -1,6 +1,6 @@
 use Rattle.std.proofs.Common.{◌≤◌, ◌*◌, ◌^◌}
 use Rattle.rds_text.specs.declared.host.TheConstants.{MAX_HOSTS}
-use Rattle.rds_report.specs.Views.{AreFinalHosts, host_views}
+use Rattle.rds_final.specs.Views.{AreFinalHosts, host_views}
 use Rattle.rds_report.specs.ItemTotals.{AreTotals, bytes_below, count_all, counts_below, seen_counts}
 use Rattle.rds_report.proofs.summing.all_totals.Given as goal
 

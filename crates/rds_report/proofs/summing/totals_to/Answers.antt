@@ -1,7 +1,7 @@
 use Rattle.std.proofs.Common.{◌≡◌, ◌∙◌, List, ap}
 use Rattle.rds_report.specs.declared.item.Item.{Item}
-use Rattle.rds_report.specs.Report.{Group}
-use Rattle.rds_report.specs.Views.{host_views}
+use Rattle.rds_final.specs.Report.{Group}
+use Rattle.rds_final.specs.Views.{host_views}
 use Rattle.rds_report.specs.Items.{items_to}
 use Rattle.rds_report.specs.ItemReport.{of_pair, tally}
 use Rattle.rds_report.specs.ItemTotals.{bytes_of, grouped}

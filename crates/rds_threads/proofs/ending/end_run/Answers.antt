@@ -2,7 +2,7 @@ use Rattle.std.proofs.Common.{◌≡◌, Bool, true, refl, sym, ap, subst, ◌�
 use Rattle.rds_link.specs.Streaming.{HasRisen, HasRisenBy}
 use Rattle.rds_link.specs.declared.wire.WireCounts.{WireCounts}
 use Rattle.rds_model.specs.Past.{newest_stream}
-use Rattle.rds_report.specs.Views.{host_views}
+use Rattle.rds_final.specs.Views.{host_views}
 use Rattle.rds_rounds.specs.Grid.{rows_of}
 use Rattle.rds_threads.specs.Causes.{AreUnacknowledged}
 use Rattle.rds_rounds.specs.declared.rounds.Rounds.TheVariants as rounds

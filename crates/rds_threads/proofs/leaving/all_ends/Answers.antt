@@ -4,8 +4,8 @@ use Rattle.std.proofs.lemmas.List.{length_push, take_all}
 use Rattle.std.proofs.lemmas.Iterator.{YieldsList-from_zip}
 use Rattle.std.proofs.lemmas.Iterator.Adapters.{YieldsList-from_vec}
 use Rattle.std.proofs.lemmas.Iterator.Consumers.{YieldsList-end, YieldsList-turn}
-use Rattle.rds_report.specs.Hosts.{address_of}
-use Rattle.rds_report.specs.declared.final_state.HostEnd.{HostEnd}
+use Rattle.rds_final.specs.Hosts.{address_of}
+use Rattle.rds_final.specs.declared.final_state.HostEnd.{HostEnd}
 use Rattle.rds_rounds.specs.Grid.{rows_of}
 use Rattle.rds_threads.proofs.Held.{first_more}
 use Rattle.rds_threads.proofs.Left.{AreLeftBelow, added, all_left, left_of, zipped_all, zipped_at}

@@ -6,8 +6,8 @@ use Rattle.rds_gather.specs.Grounded.{AreMapsGrounded}
 use Rattle.rds_gather.specs.Joined.{AreJoined, AreLooksOfJournals}
 use Rattle.rds_gather.specs.Owned.{AreFound, AreOwned}
 use Rattle.rds_gather.specs.Sides.{line_side}
-use Rattle.rds_report.specs.Views.{host_view, socket_view}
-use Rattle.rds_report.specs.declared.final_state.HostEnd.{HostEnd}
+use Rattle.rds_final.specs.Views.{host_view, socket_view}
+use Rattle.rds_final.specs.declared.final_state.HostEnd.{HostEnd}
 use Rattle.rds_settling.specs.Tied.{AreSlotsTold, holdings}
 use Rattle.rds_threads.specs.Reliable.{HasReceived}
 use Rattle.rds_threads.specs.Settled.{AreAllCut, AreAllSent, AreKeptOf, HaveAllFound, HaveAllGone, HaveAllLooked}

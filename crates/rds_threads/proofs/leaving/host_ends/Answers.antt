@@ -1,8 +1,8 @@
 use Rattle.std.proofs.Common.{◌≡◌, None, Vec, arith}
 use Rattle.std.specs.Global.{Global}
 use Rattle.std.proofs.lemmas.List.{length-map}
-use Rattle.rds_report.specs.Views.{AreFinalHosts, host_views}
-use Rattle.rds_report.specs.declared.final_state.HostEnd.{HostEnd}
+use Rattle.rds_final.specs.Views.{AreFinalHosts, host_views}
+use Rattle.rds_final.specs.declared.final_state.HostEnd.{HostEnd}
 use Rattle.rds_model.specs.Past.{open_stream}
 use Rattle.rds_rounds.specs.Causes.{OwesNothing, alive_in_rows}
 use Rattle.rds_rounds.specs.Grid.{rows_of}

@@ -5,9 +5,9 @@ use Rattle.std.proofs.lemmas.Iterator.Adapters.{YieldsList-from_vec}
 use Rattle.std.proofs.lemmas.Iterator.Consumers.{YieldsList-turn}
 use Rattle.rds_text.specs.Ports.{below}
 use Rattle.rds_history.specs.History.{final_host}
-use Rattle.rds_report.specs.declared.final_state.HostEnd.{HostEnd}
-use Rattle.rds_report.specs.Hosts.{address_of}
-use Rattle.rds_report.specs.Views.{host_view, host_views, side_view, socket_view}
+use Rattle.rds_final.specs.declared.final_state.HostEnd.{HostEnd}
+use Rattle.rds_final.specs.Hosts.{address_of}
+use Rattle.rds_final.specs.Views.{host_view, host_views, side_view, socket_view}
 use Rattle.rds_world.proofs.FinalLists.{ends_more, end_told, zipped_at}
 use Rattle.rds_world.proofs.ending.ends.Goals as goal
 

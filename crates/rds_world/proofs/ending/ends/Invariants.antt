@@ -2,7 +2,7 @@ use Rattle.std.proofs.Common.{◌≡◌, List, length, map, vec_len}
 use Rattle.rds_text.specs.Ports.{below}
 use Rattle.rds_history.specs.Events.{Event}
 use Rattle.rds_history.specs.History.{final_host}
-use Rattle.rds_report.specs.Views.{host_views}
+use Rattle.rds_final.specs.Views.{host_views}
 use Rattle.rds_world.specs.Ending.{JournalsTell}
 use Rattle.rds_world.specs.Telling.{HostsTell}
 use Rattle.rds_world.proofs.ending.ends.Given as goal

@@ -4,9 +4,9 @@ use Rattle.std.proofs.lemmas.Iterator.Adapters.{YieldsList-from_vec}
 use Rattle.std.proofs.lemmas.Iterator.Consumers.{YieldsList-end}
 use Rattle.rds_model.specs.declared.order.Datagram.{Datagram}
 use Rattle.rds_hosts.specs.declared.host.Arrived.{Arrived}
-use Rattle.rds_report.specs.declared.final_state.Kept.{Kept}
-use Rattle.rds_report.specs.FinalState.{FinalSocket as Left}
-use Rattle.rds_report.specs.Views.{socket_view}
+use Rattle.rds_final.specs.declared.final_state.Kept.{Kept}
+use Rattle.rds_final.specs.FinalState.{FinalSocket as Left}
+use Rattle.rds_final.specs.Views.{socket_view}
 use Rattle.rds_hosts.proofs.KeptSockets.{map_push, left_by, sockets_left}
 use Rattle.rds_hosts.proofs.host.ScriptHost.into_kept.Goals as goal
 

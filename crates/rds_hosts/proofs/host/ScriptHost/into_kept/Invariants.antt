@@ -1,5 +1,5 @@
 use Rattle.std.proofs.Common.{◌≡◌, map}
-use Rattle.rds_report.specs.Views.{socket_view}
+use Rattle.rds_final.specs.Views.{socket_view}
 use Rattle.rds_hosts.proofs.KeptSockets.{left_by}
 use Rattle.rds_hosts.proofs.host.ScriptHost.into_kept.Given as goal
 

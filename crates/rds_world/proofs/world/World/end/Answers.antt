@@ -1,5 +1,5 @@
 use Rattle.std.proofs.Common.{◌≤◌, ◌≡◌, sym, subst, arith}
-use Rattle.rds_report.specs.Views.{AreFinalHosts, host_views}
+use Rattle.rds_final.specs.Views.{AreFinalHosts, host_views}
 use Rattle.rds_history.specs.History.{final_hosts}
 use Rattle.rds_world.specs.Telling.{state}
 use Rattle.rds_world.proofs.Addressed.{are_ends}

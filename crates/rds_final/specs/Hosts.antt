@@ -1,7 +1,7 @@
 -- Hosts by their letters and addresses. Source: this project's own.
 use Rattle.std.specs.Prelude.{ℕ, ◌+◌, ◌-◌, ◌≤◌, ◌<◌}
 use Rattle.rds_text.specs.declared.host.TheConstants.{MAX_HOSTS}
-use Rattle.rds_report.specs.declared.addresses.TheConstants.{FIRST_ADDRESS}
+use Rattle.rds_final.specs.declared.addresses.TheConstants.{FIRST_ADDRESS}
 
 -- the address of a host, counted from 0: 10.0.0.1, 10.0.0.2 and so on
 abbrev pub address_of : ℕ → ℕ

@@ -2,10 +2,10 @@
 use Rattle.std.specs.Prelude.{◌≢◌, ℕ, List, map}
 use Rattle.std.specs.List.{All, AllPairs}
 use Rattle.rds_model.specs.Log.{Log}
-use Rattle.rds_report.specs.declared.final_state.Kept.{Kept}
-use Rattle.rds_report.specs.declared.final_state.HostEnd.{HostEnd}
-use Rattle.rds_report.specs.Hosts.{IsAddress}
-use Rattle.rds_report.specs.FinalState.{FinalSocket, FinalJournal, FinalHost}
+use Rattle.rds_final.specs.declared.final_state.Kept.{Kept}
+use Rattle.rds_final.specs.declared.final_state.HostEnd.{HostEnd}
+use Rattle.rds_final.specs.Hosts.{IsAddress}
+use Rattle.rds_final.specs.FinalState.{FinalSocket, FinalJournal, FinalHost}
 
 abbrev pub socket_view : Kept → FinalSocket
 socket_view k = record { slot = k.slot; port = k.port; got = k.got.items; unread = k.unread.items }

@@ -8,8 +8,8 @@ use Rattle.rds_model.specs.declared.entry.Entry.TheVariants.{Accept}
 use Rattle.rds_model.specs.Streams.{was_passed}
 use Rattle.rds_model.specs.Pairs.{accepted_for, dropped, taken_by_port_0, taken_back}
 use Rattle.rds_text.specs.Words.{host_name, hex}
-use Rattle.rds_report.specs.Hosts.{host_at}
-use Rattle.rds_report.specs.FinalState.{FinalSocket, FinalJournal, FinalHost, past_of, sockets_of}
+use Rattle.rds_final.specs.Hosts.{host_at}
+use Rattle.rds_final.specs.FinalState.{FinalSocket, FinalJournal, FinalHost, past_of, sockets_of}
 use Rattle.rds_text.specs.Lines.{text_line, phrase}
 
 -- a port pair: from port sport of the host at `from` to port dport of the host at `to`

@@ -1,0 +1,4 @@
+pub mod Hosts
+pub mod FinalState
+pub mod Report
+pub mod Views
