@@ -1,4 +1,4 @@
-ghost use Rattle.std.specs.Prelude.{◌≡◌, ℕ, Err, OnErr, OnOk};
+ghost use Rattle.std.specs.Prelude.{◌≡◌, ◌<◌, ◌+◌, ℕ, Err, OnErr, OnOk, length};
 ghost use Rattle.rds_model.specs.declared.journal.JournalError.TheVariants as errors;
 ghost use Rattle.rds_line.specs.Line.{IsFull, IsOpenOrLast, line_past};
 ghost use Rattle.rds_line.specs.Steps.{StaysQuiet};
@@ -17,6 +17,7 @@ impl<E: End, M: MapWriter> Line<E, M> {
         ensures open { OnOk result (IsOpenOrLast self.new) }
         ensures same { OnErr result (self.new ≡ self.old) }
         ensures spent { (entries : ℕ) → result ≡ Err (errors.Spent entries) → IsFull entries self.new }
+        ensures full { self.old.channel.conn.log.limit < length (line_past self.old) + 2 → result ≡ Err (errors.Spent (length (line_past self.old))) }
     {
         self.channel.reserve()?;
         if !self.channel.is_open() && self.channel.open_next() {

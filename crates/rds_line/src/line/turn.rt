@@ -1,4 +1,4 @@
-ghost use Rattle.std.specs.Prelude.{◌≡◌, ◌⊎◌, ◌<◌, nat_lt, ℕ, true, Err, IfOk, OnOk, length, sum};
+ghost use Rattle.std.specs.Prelude.{◌≡◌, ◌⊎◌, ◌<◌, ◌+◌, nat_lt, ℕ, true, Err, IfOk, OnOk, length, sum};
 ghost use Rattle.rds_model.specs.declared.journal.JournalError.TheVariants as errors;
 ghost use Rattle.rds_line.specs.Line.{IsFull, line_past, pulls_in};
 ghost use Rattle.rds_line.specs.Stays.{LineStays};
@@ -28,6 +28,7 @@ impl<E: End, M: MapWriter> Line<E, M> {
             TakesOrder self.old.orders self.new.orders ⊎ ((self.new.channel.streams.is_open ≡ true)
             ⊎ (self.new.channel.streams.opened < length self.new.channel.streams.list)) }
         ensures spent { (entries : ℕ) → result ≡ turn.Spent entries → IsFull entries self.new }
+        ensures full { self.old.channel.conn.log.limit < length (line_past self.old) + 2 → result ≡ turn.Spent (length (line_past self.old)) }
         ensures freed { (result ≡ turn.Moved) ⊎ ((result ≡ turn.Idle) ⊎ (result ≡ turn.Over)) → sum self.new.channel.conn.freed ≡ 0 }
     {
         let before = self.channel.journal().len();
@@ -47,6 +48,7 @@ impl<E: End, M: MapWriter> Line<E, M> {
         ensures pulls { (pulls_in (line_past self.new) ≡ pulls_in (line_past self.old)) ⊎ PullsOwn self.old self.new }
         ensures did { IfOk result (Did E.means self.old self.new) }
         ensures spent { (entries : ℕ) → result ≡ Err (errors.Spent entries) → IsFull entries self.new }
+        ensures full { self.old.channel.conn.log.limit < length (line_past self.old) + 2 → result ≡ Err (errors.Spent (length (line_past self.old))) }
         ensures freed { OnOk result (sum self.new.channel.conn.freed ≡ 0) }
     {
         self.open_next()?;
