@@ -6,4 +6,5 @@ pub mod Kept
 pub mod Staying
 pub mod Told
 pub mod ToldLines
+pub mod ToldPorts
 pub mod Standing

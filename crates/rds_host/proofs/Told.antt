@@ -16,10 +16,10 @@ use Rattle.rds_host.specs.Settled.{AreSlotsToldMore, IsToldMore}
 use Rattle.rds_host.specs.Telling.{IsTold}
 use Rattle.rds_host.proofs.Staying.{begins_through}
 
-has_more : {V : Type 0} (P : V → Type 0) (views more : List V) → Begins views more → Has views P → Has more P
+pub has_more : {V : Type 0} (P : V → Type 0) (views more : List V) → Begins views more → Has views P → Has more P
 has_more P views more begins h = (h.0, h.1, subst (λ l. At l h.0 h.1) (sym begins.1) (at_longer views begins.0 h.0 h.1 h.2), h.3)
 
-has_last : {V : Type 0} (P : V → Type 0) (views : List V) (v : V) → P v → Has (views ++ v ∷ []) P
+pub has_last : {V : Type 0} (P : V → Type 0) (views : List V) (v : V) → P v → Has (views ++ v ∷ []) P
 has_last P views v holds = (length views, v, at_last views v (length views) refl, holds)
 
 -- what was told stays told, and what is told now is told

@@ -27,13 +27,14 @@ use Rattle.rds_host.proofs.Told.{told_still, told_now, appended_at, ahead, behin
 
 module _ {E : Type 0} where
   line_told_same : (line : LineView E WriterView) → IsLineToldMore line line
-  line_told_same line = record { rest = refl; told = same_list line.orders.told; table = refl }
+  line_told_same line = record { rest = refl; told = same_list line.orders.told; table = refl; ports = same_list line.ports.view.told }
 
   line_told_through : (old middle new : LineView E WriterView) → IsLineToldMore old middle → IsLineToldMore middle new → IsLineToldMore old new
   line_told_through old middle new first second = record {
     rest = second.rest ∙ ap (λ (l : LineView E WriterView). record l { orders = record l.orders { told = new.orders.told }; ports = new.ports }) first.rest;
     told = begins_through old.orders.told middle.orders.told new.orders.told first.told second.told;
     table = second.table ∙ first.table;
+    ports = begins_through old.ports.view.told middle.ports.view.told new.ports.view.told first.ports second.ports;
   }
 
   pub lines_told_same : (lines : List (LineView E WriterView)) → AreLinesToldMore lines lines
@@ -195,14 +196,15 @@ module _ {E : Type 0} where
   -- the next line and the slot are told of each other
   told_next : (n : ℕ) (old h : Holding ReaderView) (lines told : List (LineView E WriterView)) (line : LineView E WriterView) (lane : Lane ReaderView) (box : Putter Datagram) (seat : PortSeat)
       → slice_get told n ≡ Some line → IsLaneAt h.routes n lane → IsBoxOf line.boxes h.words.slot box → seat.table ≡ line.ports.table
+      → Begins line.ports.view.told seat.view.told
       → ToldUpTo n old h lines told → ToldUpTo (n + 1) old (heard h box) lines (set told n (noted line lane.pass seat))
-  told_next n old h lines told line lane box seat at at_lane at_box table up =
+  told_next n old h lines told line lane box seat at at_lane at_box table ports up =
       let new = noted line lane.pass seat in
       let stands = at_set told n new (slice_get_within told n line at) in
       let longer : Begins h.inbox.get.told (h.inbox.get.told ++ account_of box ∷ []) = (account_of box ∷ [], refl) in
       record {
         slot = slot_told_through old h (heard h box) up.slot (record { rest = refl; told = longer });
-        lines_stay = lines_told_through lines told (set told n new) up.lines_stay (lines_told_set told n line new at (record { rest = refl; told = (account_of lane.pass ∷ [], refl); table = table }));
+        lines_stay = lines_told_through lines told (set told n new) up.lines_stay (lines_told_set told n line new at (record { rest = refl; told = (account_of lane.pass ∷ [], refl); table = table; ports = ports }));
         orders = λ place other route small at_place at_route.
             ⊎_elim
             (λ (here : place ≡ n).
@@ -229,21 +231,22 @@ module _ {E : Type 0} where
 
   pub told_more : (n : ℕ) (old h after : Holding ReaderView) (lines told : List (LineView E WriterView)) (line new : LineView E WriterView) (lane : Lane ReaderView) (box : Putter Datagram)
       → slice_get told n ≡ Some line → IsLaneAt h.routes n lane → IsBoxOf line.boxes h.words.slot box → new.ports.table ≡ line.ports.table
-      → new ≡ noted line lane.pass new.ports → after ≡ heard h box
+      → Begins line.ports.view.told new.ports.view.told → new ≡ noted line lane.pass new.ports → after ≡ heard h box
       → ToldUpTo n old h lines told → ToldUpTo (n + 1) old after lines (set told n new)
-  told_more n old h after lines told line new lane box at at_lane at_box table is_line is_slot up =
+  told_more n old h after lines told line new lane box at at_lane at_box table ports is_line is_slot up =
       subst (λ (x : Holding ReaderView). ToldUpTo (n + 1) old x lines (set told n new)) (sym is_slot)
       (subst (λ (l : LineView E WriterView). ToldUpTo (n + 1) old (heard h box) lines (set told n l)) (sym is_line)
-      (told_next n old h lines told line lane box new.ports at at_lane at_box table up))
+      (told_next n old h lines told line lane box new.ports at at_lane at_box table ports up))
 
   -- what the calls on a line leave it with
   pub line_noted : (line first second new : LineView E WriterView) (note pass : Putter Order) (seat : PortSeat) → note ≡ pass → first ≡ record line { orders = after_note line.orders note }
-      → second ≡ record first { ports = seat } → seat.table ≡ first.ports.table → new ≡ second → (new ≡ noted line pass new.ports) × (new.ports.table ≡ line.ports.table)
+      → second ≡ record first { ports = seat } → seat.table ≡ first.ports.table → new ≡ second
+      → (new ≡ noted line pass new.ports) × ((new.ports.table ≡ line.ports.table) × (new.ports ≡ seat))
   line_noted line first second new note pass seat is heard_first heard_second table same =
       let full : new ≡ noted line pass seat =
       same ∙ (heard_second ∙ (ap (λ (l : LineView E WriterView). record l { ports = seat }) heard_first ∙ ap (λ (p : Putter Order). noted line p seat) is)) in
       let ports : new.ports ≡ seat = ap (λ (l : LineView E WriterView). l.ports) full in
-      (full ∙ ap (noted line pass) (sym ports), ap (λ (p : PortSeat). p.table) ports ∙ (table ∙ ap (λ (l : LineView E WriterView). l.ports.table) heard_first))
+      (full ∙ ap (noted line pass) (sym ports), (ap (λ (p : PortSeat). p.table) ports ∙ (table ∙ ap (λ (l : LineView E WriterView). l.ports.table) heard_first), ports))
 
   pub none_settled : (lines : List (LineView E WriterView)) → AreSettled [] [] lines lines
   none_settled lines = record {

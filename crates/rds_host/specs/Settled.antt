@@ -20,11 +20,12 @@ module _ {R : Type 0} where
     pub each : (slot : ℕ) (h after : Holding R) → slice_get old slot ≡ Some h → slice_get new slot ≡ Some after → IsToldMore h after
 
 module _ {E M : Type 0} where
-  -- the orders of a line were told more, its seat at the port table may have been told of ports, and nothing else of it changed
+  -- the orders of a line were told more, its seat at the port table may have been told of more ports, and nothing else of it changed
   pub record IsLineToldMore (old new : LineView E M) : Type 0 where
     pub rest : new ≡ record old { orders = record old.orders { told = new.orders.told }; ports = new.ports }
     pub told : Begins old.orders.told new.orders.told
     pub table : new.ports.table ≡ old.ports.table
+    pub ports : Begins old.ports.view.told new.ports.view.told
 
   -- the same lines, place by place, each of which may have been told more
   pub record AreLinesToldMore (old new : List (LineView E M)) : Type 0 where

@@ -6,7 +6,7 @@ ghost use Rattle.rds_socket.specs.Holding.{Holding};
 ghost use Rattle.rds_line.specs.Line.{LineView};
 ghost use Rattle.rds_host.specs.Keeping.{LinesKeep, SlotsKeep};
 ghost use Rattle.rds_host.specs.Settled.{AreLinesToldMore, AreSettled, AreSlotsToldMore, CanTell};
-ghost use Rattle.rds_host.specs.Telling.{AreBoxesTold, AreOrdersTold, slots_of};
+ghost use Rattle.rds_host.specs.Telling.{AreBoxesTold, AreOrdersTold, ArePortsTold, slots_of};
 ghost use Rattle.rds_host.specs.Ties.{AreOfHost};
 
 use rds_fmap::{Reader, Writer};
@@ -28,6 +28,7 @@ pub fn settle<E: End>(
     requires boxes { All (λ h. All (λ line. h.words.slot < length line.boxes) lines.old) (slots_of sockets.old closed.old) }
     ensures orders { (place : ℕ) (line : LineView E WriterView) → slice_get lines.new place ≡ Some line → AreOrdersTold (slots_of sockets.new closed.new) place line }
     ensures boxes { (slot : ℕ) (h : Holding ReaderView) → slice_get (slots_of sockets.new closed.new) slot ≡ Some h → AreBoxesTold h lines.new }
+    ensures ports { ArePortsTold (map (λ s. s.own) sockets.new) lines.new }
     ensures slots { AreSlotsToldMore (slots_of sockets.old closed.old) (slots_of sockets.new closed.new) }
     ensures slots_keep { SlotsKeep (slots_of sockets.old closed.old) (slots_of sockets.new closed.new) }
     ensures lines { AreLinesToldMore lines.old lines.new }
@@ -40,7 +41,8 @@ pub fn settle<E: End>(
 // Tells sockets and lines of each other.
 fn settle_sockets<E: End>(sockets: &mut [Socket<Reader>], lines: &mut [Line<E, Writer>])
     requires { CanTell (map (λ s. s.own) sockets.old) lines.old }
-    ensures { AreSettled (map (λ s. s.own) sockets.old) (map (λ s. s.own) sockets.new) lines.old lines.new }
+    ensures told { AreSettled (map (λ s. s.own) sockets.old) (map (λ s. s.own) sockets.new) lines.old lines.new }
+    ensures ports { ArePortsTold (map (λ s. s.own) sockets.new) lines.new }
 {
     for i in 0..sockets.len() {
         settle_socket(&mut sockets[i], lines);
@@ -64,7 +66,8 @@ fn settle_closed<E: End>(
 
 fn settle_socket<E: End>(socket: &mut Socket<Reader>, lines: &mut [Line<E, Writer>])
     requires { CanTell (socket.old.own ∷ []) lines.old }
-    ensures { AreSettled (socket.old.own ∷ []) (socket.new.own ∷ []) lines.old lines.new }
+    ensures told { AreSettled (socket.old.own ∷ []) (socket.new.own ∷ []) lines.old lines.new }
+    ensures ports { ArePortsTold (socket.new.own ∷ []) lines.new }
 {
     let slot = socket.slot();
     for i in 0..lines.len() {

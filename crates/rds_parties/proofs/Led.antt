@@ -17,7 +17,8 @@ use Rattle.rds_callers.specs.Commands.{binds}
 use Rattle.rds_callers.specs.Places.{CallerView}
 use Rattle.rds_rounds.specs.Grid.{EachRow}
 use Rattle.rds_script.specs.declared.script.Placed.{Placed}
-use Rattle.rds_settling.specs.Tied.{IsPortTold, LinesLearnPorts}
+use Rattle.rds_host.specs.Telling.{IsPortTold}
+use Rattle.rds_settling.specs.Tied.{LinesLearnPorts}
 use Rattle.rds_parties.specs.Leading.{AllPortsTold, AreLeading}
 use Rattle.rds_parties.specs.Obeyed.{HasObeyed, after_binds, leading_binds}
 use Rattle.rds_parties.specs.Parties.{HaveLed, HaveNotLooked, HaveObeyed}

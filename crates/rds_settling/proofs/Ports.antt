@@ -12,9 +12,10 @@ use Rattle.rds_socket.specs.Holding.{Open}
 use Rattle.rds_line.specs.Line.{LineView}
 use Rattle.rds_line.specs.Stays.{AreSameBoxes}
 use Rattle.rds_host.specs.Keeping.{LineKeeps, LinesKeep}
+use Rattle.rds_host.specs.Telling.{IsPortTold}
 use Rattle.rds_callers.specs.Places.{Bound, Ended, Place, Spare, Vacant, bind_note, holding_of}
 use Rattle.rds_settling.specs.Steps.{AreAtTable, ArePortsToldTo, after_port}
-use Rattle.rds_settling.specs.Tied.{ArePortsTold, AreTied, IsPortTold, LineLearnsPorts, LinesLearnPorts}
+use Rattle.rds_settling.specs.Tied.{ArePortsTold, AreTied, LineLearnsPorts, LinesLearnPorts}
 use Rattle.rds_settling.proofs.Listening.{below_at, held_at, set_at, set_length, some_at}
 use Rattle.rds_settling.proofs.Told.{at_append, at_end, stood_at}
 use Rattle.rds_settling.proofs.Tying.{boxes_same}

@@ -9,9 +9,8 @@ use Rattle.rds_parts.specs.Lanes.{IsLaneAt, Lane}
 use Rattle.rds_line_parts.specs.Boxes.{IsBoxOf}
 use Rattle.rds_socket.specs.Holding.{Holding, Open}
 use Rattle.rds_line.specs.Line.{LineView}
-use Rattle.rds_host.specs.Telling.{IsTold}
+use Rattle.rds_host.specs.Telling.{IsPortTold, IsTold}
 use Rattle.rds_callers.specs.Places.{Bound, Ended, IsUsed, Place, Spare, Vacant, holding_of}
-use Rattle.rds_settling.specs.Tied.{IsPortTold}
 
 module _ {E : Type 0} where
   -- no slot is vacant, and the route at this place of each is to the line

@@ -1,13 +1,11 @@
 -- A host of a run: the slots of its caller, and its lines. Source: this project's own.
 use Rattle.std.specs.Prelude.{◌≡◌, ℕ, List, Some, length, map, slice_get}
-use Rattle.rds_views.specs.Views.{Has}
 use Rattle.rds_model.specs.declared.order.Datagram.{Datagram}
-use Rattle.rds_bindtab.specs.Seats.{PortSeat, telling_of}
 use Rattle.rds_fmap.specs.Readers.{ReaderView, WriterView}
 use Rattle.rds_socket.specs.Holding.{Holding, Open}
 use Rattle.rds_line.specs.Line.{LineView}
 use Rattle.rds_host.specs.Passes.{AreAllPasses}
-use Rattle.rds_host.specs.Telling.{AreBoxesTold, AreOrdersTold}
+use Rattle.rds_host.specs.Telling.{AreBoxesTold, AreOrdersTold, IsPortTold}
 use Rattle.rds_host.specs.Ties.{AreOfHost}
 use Rattle.rds_callers.specs.Places.{Bound, Place, holding_of, with_holding}
 
@@ -26,10 +24,6 @@ PlaceHears old new = (new ≡ with_holding old (holding_of new)) × SlotHears (h
 pub record PlacesHear (old new : List Place) : Type 0 where
   pub count : length new ≡ length old
   pub each : (slot : ℕ) (p q : Place) → slice_get old slot ≡ Some p → slice_get new slot ≡ Some q → PlaceHears p q
-
--- a seat at the port table was told of the port that another holds
-abbrev pub IsPortTold : (seat holder : PortSeat) → Type 0
-IsPortTold seat holder = Has seat.view.told (λ t. t ≡ telling_of holder.view)
 
 module _ {E : Type 0} where
   -- the slots and the lines are of one host, and have all putters of its queues

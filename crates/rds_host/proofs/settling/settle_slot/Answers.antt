@@ -9,6 +9,7 @@ use Rattle.rds_socket.specs.Holding.{Holding}
 use Rattle.rds_line.specs.Line.{LineView}
 use Rattle.rds_host.proofs.Told.{heard}
 use Rattle.rds_host.proofs.ToldLines.{all_told, line_noted, none_told, told_more, fit_box, fit_hear, fit_orders, fit_route}
+use Rattle.rds_host.proofs.ToldPorts.{same_told}
 use Rattle.rds_host.proofs.settling.settle_slot.Goals as goal
 
 pub order_note-requires : goal.order_note-requires
@@ -72,7 +73,7 @@ loop-i-preserved g c =
     let told : c.hear.new.self ≡ heard c.loop-i.closed c.inbox_note.result =
     c.hear.ensures.told ∙ ap (λ (h : Holding ReaderView). heard h c.inbox_note.result) c.order_note.ensures.same in
     told_more i c.args.closed.now c.loop-i.closed c.hear.new.self c.args.lines.now c.loop-i.lines line c.inbox_note.new.self note.0 c.inbox_note.result
-    at note.1 put new.1 new.0 told up
+    at note.1 put new.1.0 (same_told line.ports c.inbox_note.new.self.ports (new.1.1 ∙ ap (λ (l : LineView g.row.E.Denot WriterView). l.ports) c.hear_orders.ensures)) new.0 told up
 
 pub returns : goal.returns
 returns g c = all_told c.loop-i.i c.args.closed.now c.loop-i.closed c.args.lines.now c.loop-i.lines (omega arith) c.loop-i.invariant

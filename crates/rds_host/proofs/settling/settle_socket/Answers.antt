@@ -8,8 +8,11 @@ use Rattle.rds_fmap.specs.Readers.{ReaderView, WriterView}
 use Rattle.rds_line_parts.specs.Boxes.{IsBoxOf}
 use Rattle.rds_socket.specs.Holding.{Holding, Open}
 use Rattle.rds_line.specs.Line.{LineView}
+use Rattle.rds_model.specs.Honest.{Begins}
+use Rattle.rds_host.specs.Telling.{IsPortTold}
 use Rattle.rds_host.proofs.Told.{heard}
 use Rattle.rds_host.proofs.ToldLines.{all_told, line_noted, none_told, told_more, fit_box, fit_hear, fit_orders, fit_port, fit_route}
+use Rattle.rds_host.proofs.ToldPorts.{PortUpTo, all_heard, next_heard, none_heard, port_begins, port_heard}
 use Rattle.rds_host.proofs.settling.settle_socket.Goals as goal
 
 pub order_note-requires : goal.order_note-requires
@@ -17,7 +20,7 @@ order_note-requires g c =
     let i = c.loop-i.i in
     let line = get_or c.loop-i.lines i c.index-lines-i.result in
     let at : slice_get c.loop-i.lines i ≡ Some line = slice_get-get_or c.loop-i.lines i c.index-lines-i.result (omega arith) in
-    fit_route i c.args.socket.now.own c.loop-i.socket.own c.args.lines.now c.loop-i.lines c.requires c.loop-i.invariant i line at
+    fit_route i c.args.socket.now.own c.loop-i.socket.own c.args.lines.now c.loop-i.lines c.requires c.loop-i.invariant.0 i line at
 
 pub hear_orders-requires : goal.hear_orders-requires
 hear_orders-requires g c =
@@ -26,7 +29,7 @@ hear_orders-requires g c =
     let at : slice_get c.loop-i.lines i ≡ Some line = slice_get-get_or c.loop-i.lines i c.index-lines-i.result (omega arith) in
     let note = c.order_note.ensures.note in
     ap (λ (p : Putter Order). p.mail) note.2
-    ∙ fit_orders i c.args.socket.now.own c.loop-i.socket.own c.args.lines.now c.loop-i.lines c.requires c.loop-i.invariant i line at note.0 note.1
+    ∙ fit_orders i c.args.socket.now.own c.loop-i.socket.own c.args.lines.now c.loop-i.lines c.requires c.loop-i.invariant.0 i line at note.0 note.1
 
 pub hear_port-requires-clause-steps : goal.hear_port-requires-clause-steps
 hear_port-requires-clause-steps g c = ap (λ (n : seats.PortSeat). n.view.steps) c.port_note.ensures.note
@@ -38,7 +41,7 @@ hear_port-requires-clause-table g c =
     let at : slice_get c.loop-i.lines i ≡ Some line = slice_get-get_or c.loop-i.lines i c.index-lines-i.result (omega arith) in
     ap (λ (n : seats.PortSeat). n.table) c.port_note.ensures.note
     ∙ (ap (λ (s : Open ReaderView). s.own.ports.table) c.order_note.ensures.same
-    ∙ (fit_port i c.args.socket.now.own c.loop-i.socket.own c.args.lines.now c.loop-i.lines c.requires c.loop-i.invariant i line at
+    ∙ (fit_port i c.args.socket.now.own c.loop-i.socket.own c.args.lines.now c.loop-i.lines c.requires c.loop-i.invariant.0 i line at
     ∙ sym (ap (λ (l : LineView g.row.E.Denot WriterView). l.ports.table) c.hear_orders.ensures)))
 
 pub inbox_note-requires : goal.inbox_note-requires
@@ -48,7 +51,7 @@ inbox_note-requires g c =
     let at : slice_get c.loop-i.lines i ≡ Some line = slice_get-get_or c.loop-i.lines i c.index-lines-i.result (omega arith) in
     let boxes : c.hear_port.new.self.boxes ≡ line.boxes =
     ap (λ (l : LineView g.row.E.Denot WriterView). l.boxes) c.hear_port.ensures ∙ ap (λ (l : LineView g.row.E.Denot WriterView). l.boxes) c.hear_orders.ensures in
-    let few = fit_box i c.args.socket.now.own c.loop-i.socket.own c.args.lines.now c.loop-i.lines c.requires c.loop-i.invariant i line at in
+    let few = fit_box i c.args.socket.now.own c.loop-i.socket.own c.args.lines.now c.loop-i.lines c.requires c.loop-i.invariant.0 i line at in
     let slot = c.slot-slot.ensures in
     let many = ap (λ (b : List (Putter Datagram)). length b) boxes in
     omega (arith, slot, many, few)
@@ -62,11 +65,11 @@ hear-requires g c =
     ap (λ (l : LineView g.row.E.Denot WriterView). l.boxes) c.hear_port.ensures ∙ ap (λ (l : LineView g.row.E.Denot WriterView). l.boxes) c.hear_orders.ensures in
     let box : IsBoxOf line.boxes c.args.socket.now.own.words.slot c.inbox_note.result =
     subst (λ (k : ℕ). IsBoxOf line.boxes k c.inbox_note.result) c.slot-slot.ensures (subst (λ (b : List (Putter Datagram)). IsBoxOf b c.slot-slot.result c.inbox_note.result) boxes c.inbox_note.ensures.note) in
-    fit_hear i c.args.socket.now.own c.loop-i.socket.own c.args.lines.now c.loop-i.lines c.requires c.loop-i.invariant i line at c.inbox_note.result box
+    fit_hear i c.args.socket.now.own c.loop-i.socket.own c.args.lines.now c.loop-i.lines c.requires c.loop-i.invariant.0 i line at c.inbox_note.result box
     ∙ sym (ap (λ (s : Open ReaderView). s.own.inbox.get.mail) (c.port_note.ensures.same ∙ c.order_note.ensures.same))
 
 pub loop-i-init : goal.loop-i-init
-loop-i-init g c = none_told c.args.socket.now.own c.args.lines.now
+loop-i-init g c = (none_told c.args.socket.now.own c.args.lines.now, none_heard c.args.lines.now c.args.socket.now.own.ports)
 
 pub loop-i-preserved : goal.loop-i-preserved
 loop-i-preserved g c =
@@ -75,7 +78,7 @@ loop-i-preserved g c =
     let at : slice_get c.loop-i.lines i ≡ Some line = slice_get-get_or c.loop-i.lines i c.index-lines-i.result (omega arith) in
     let note = c.order_note.ensures.note in
     let seat = c.hear_port.new.self.ports in
-    let up = c.loop-i.invariant in
+    let up = c.loop-i.invariant.0 in
     let boxes : c.hear_port.new.self.boxes ≡ line.boxes =
     ap (λ (l : LineView g.row.E.Denot WriterView). l.boxes) c.hear_port.ensures ∙ ap (λ (l : LineView g.row.E.Denot WriterView). l.boxes) c.hear_orders.ensures in
     let second : c.hear_port.new.self ≡ record c.hear_orders.new.self { ports = seat } =
@@ -89,8 +92,27 @@ loop-i-preserved g c =
     subst (λ (k : ℕ). IsBoxOf line.boxes k c.inbox_note.result) (sym (ap (λ (h : Holding ReaderView). h.words.slot) up.slot.rest)) box in
     let told : c.hear.new.self.own ≡ heard c.loop-i.socket.own c.inbox_note.result =
     ap (λ (s : Open ReaderView). s.own) c.hear.ensures.told ∙ ap (λ (s : Open ReaderView). heard s.own c.inbox_note.result) same in
-    told_more i c.args.socket.now.own c.loop-i.socket.own c.hear.new.self.own c.args.lines.now c.loop-i.lines line c.inbox_note.new.self note.0 c.inbox_note.result
-    at note.1 put new.1 new.0 told up
+    let holder = c.args.socket.now.own.ports in
+    let known : c.port_note.result.view ≡ seats.note_of holder.view =
+    ap (λ (n : seats.PortSeat). n.view) c.port_note.ensures.note
+    ∙ (ap (λ (s : Open ReaderView). seats.note_of s.own.ports.view) c.order_note.ensures.same
+    ∙ ap (λ (h : Holding ReaderView). seats.note_of h.ports.view) up.slot.rest) in
+    let ports : c.inbox_note.new.self.ports ≡ seats.knowing line.ports (seats.joined line.ports.view (seats.note_of holder.view)) =
+    new.1.1
+    ∙ (ap (λ (l : LineView g.row.E.Denot WriterView). l.ports) c.hear_port.ensures
+    ∙ (ap (λ (l : LineView g.row.E.Denot WriterView). seats.knowing l.ports (seats.joined l.ports.view c.port_note.result.view)) c.hear_orders.ensures
+    ∙ ap (λ v. seats.knowing line.ports (seats.joined line.ports.view v)) known)) in (
+      told_more i c.args.socket.now.own c.loop-i.socket.own c.hear.new.self.own c.args.lines.now c.loop-i.lines line c.inbox_note.new.self note.0 c.inbox_note.result
+          at note.1 put new.1.0 (subst (λ (p : seats.PortSeat). Begins line.ports.view.told p.view.told) (sym ports) (port_begins line.ports holder)) new.0 told up,
+      next_heard i c.loop-i.lines line c.inbox_note.new.self holder at
+          (subst (λ (p : seats.PortSeat). IsPortTold p holder) (sym ports) (port_heard line.ports holder)) c.loop-i.invariant.1,
+    )
 
-pub returns : goal.returns
-returns g c = all_told c.loop-i.i c.args.socket.now.own c.loop-i.socket.own c.args.lines.now c.loop-i.lines (omega arith) c.loop-i.invariant
+pub returns-clause-told : goal.returns-clause-told
+returns-clause-told g c = all_told c.loop-i.i c.args.socket.now.own c.loop-i.socket.own c.args.lines.now c.loop-i.lines (omega arith) c.loop-i.invariant.0
+
+pub returns-clause-ports : goal.returns-clause-ports
+returns-clause-ports g c =
+    let ports = ap (λ (h : Holding ReaderView). h.ports) c.loop-i.invariant.0.slot.rest in
+    all_heard c.loop-i.i c.loop-i.lines c.loop-i.socket.own (omega arith)
+    (subst (PortUpTo c.loop-i.i c.loop-i.lines) (sym ports) c.loop-i.invariant.1)

@@ -1,5 +1,6 @@
 use Rattle.std.proofs.Common.{◌≡◌, length, map, take, drop}
 use Rattle.rds_host.specs.Settled.{AreSettled}
+use Rattle.rds_host.specs.Telling.{ArePortsTold}
 use Rattle.rds_host.proofs.settling.settle_sockets.Given as goal
 
 abbrev pub invariant-loop-i : goal.invariant-loop-i
@@ -7,3 +8,4 @@ invariant-loop-i g l =
     (length l.sockets ≡ length l.fn.sockets)
     × (drop l.i l.sockets ≡ drop l.i l.fn.sockets)
     × AreSettled (map (λ s. s.own) (take l.i l.fn.sockets)) (map (λ s. s.own) (take l.i l.sockets)) l.fn.lines l.lines
+    × ArePortsTold (map (λ s. s.own) (take l.i l.sockets)) l.lines
