@@ -1,13 +1,16 @@
 -- Items of lists that grow.
-use Rattle.std.proofs.Common.{◌≡◌, ◌∙◌, ◌++◌, ℕ, suc, ◌<◌, ◌+◌, Bool, List, get_or, length, map, take, [], ◌∷◌, sym, ap, refl, append_assoc}
+use Rattle.std.proofs.Common.{◌≡◌, ◌∙◌, ◌++◌, ℕ, suc, ◌<◌, ◌+◌, ◌&&◌, not, Bool, false, List, get_or, length, map, take, [], ◌∷◌, sym, ap, refl, append_assoc}
 use Rattle.std.proofs.lemmas.List.{append-nil, map-append, take_more}
+use Rattle.std.proofs.Math.Seq.{take-append_seam}
 use Rattle.std.specs.List.{flat_map}
 use Rattle.std.proofs.lemmas.Grind.{flat_map-append}
 use Rattle.rds_model.specs.declared.entry.Entry.{Entry}
 use Rattle.rds_model.specs.declared.entry.Entry.TheVariants.{Accept, Cancel, Open, Pull, Read, Shut, Bad}
 use Rattle.rds_model.specs.Past.{accepted}
 use Rattle.rds_report.specs.declared.item.Item.{Item}
-use Rattle.rds_report.specs.Items.{came_items, arrival_items, sent_items, accepted_items}
+use Rattle.rds_model.specs.Streams.{was_passed}
+use Rattle.rds_report.specs.Items.{acceptance_items, came_items, arrival_items, has_cancellation, is_lost, sent_items, accepted_items}
+use Rattle.rds_report.proofs.Walked.{untaken}
 
 came_one : (from to : ℕ) (e : Entry) (past : List Entry) →
     came_items from to past ++ arrival_items from to e ≡ came_items from to (e ∷ past)
@@ -55,6 +58,47 @@ sent_other from to lost (Open stream) past other = refl
 sent_other from to lost (Pull stream frame) past other = refl
 sent_other from to lost (Shut stream) past other = refl
 sent_other from to lost (Bad stream header cause) past other = refl
+
+-- an entry of a journal in which nothing is lost
+sent_one : (from to : ℕ) (e : Entry) (past : List Entry) →
+    sent_items from to (λ n. false) past ++ acceptance_items from to e ≡ sent_items from to (λ n. false) (e ∷ past)
+sent_one from to (Accept slot sport dport payload) past = refl
+sent_one from to (Read stream frame outcome) past = append-nil (sent_items from to (λ n. false) past)
+sent_one from to (Cancel slot target) past = append-nil (sent_items from to (λ n. false) past)
+sent_one from to (Open stream) past = append-nil (sent_items from to (λ n. false) past)
+sent_one from to (Pull stream frame) past = append-nil (sent_items from to (λ n. false) past)
+sent_one from to (Shut stream) past = append-nil (sent_items from to (λ n. false) past)
+sent_one from to (Bad stream header cause) past = append-nil (sent_items from to (λ n. false) past)
+
+pub sent_more : (from to : ℕ) (e : Entry) (past : List Entry) (old now : List Item) → now ≡ old ++ sent_items from to (λ n. false) past →
+    now ++ acceptance_items from to e ≡ old ++ sent_items from to (λ n. false) (e ∷ past)
+sent_more from to e past old now is =
+    ap (λ (l : List Item). l ++ acceptance_items from to e) is
+    ∙ append_assoc old (sent_items from to (λ n. false) past) (acceptance_items from to e)
+    ∙ ap (λ (l : List Item). old ++ l) (sent_one from to e past)
+
+-- tests that agree give the same items
+sent_same : (from to : ℕ) (t u : ℕ → Bool) → ((n : ℕ) → t n ≡ u n) → (past : List Entry) → sent_items from to t past ≡ sent_items from to u past
+sent_same from to t u same [] = refl
+sent_same from to t u same (Accept slot sport dport payload ∷ past) =
+    ap (λ (l : List Item). l ++ accepted_items from to sport dport (t (suc (accepted past)))) (sent_same from to t u same past)
+    ∙ ap (λ (b : Bool). sent_items from to u past ++ accepted_items from to sport dport b) (same (suc (accepted past)))
+sent_same from to t u same (Read stream frame outcome ∷ past) = sent_same from to t u same past
+sent_same from to t u same (Cancel slot target ∷ past) = sent_same from to t u same past
+sent_same from to t u same (Open stream ∷ past) = sent_same from to t u same past
+sent_same from to t u same (Pull stream frame ∷ past) = sent_same from to t u same past
+sent_same from to t u same (Shut stream ∷ past) = sent_same from to t u same past
+sent_same from to t u same (Bad stream header cause ∷ past) = sent_same from to t u same past
+
+-- without a cancellation nothing is lost
+pub none_lost : (from to : ℕ) (past back : List Entry) → has_cancellation past ≡ false →
+    sent_items from to (λ n. false) past ≡ sent_items from to (is_lost past back) past
+none_lost from to past back without =
+    sent_same from to (λ n. false) (is_lost past back) (λ n. ap (λ (x : Bool). x && not (was_passed back n)) (sym (untaken past without n))) past
+
+-- what stood in front stays there
+pub front_stays : {X : Type 0} (old now more : List X) → now ≡ old ++ more → take (length old) now ≡ old
+front_stays old now more is = ap (take (length old)) is ∙ take-append_seam old more
 
 -- the element of a turn of a loop
 pub take_item : {X : Type 0} (xs : List X) (i : ℕ) (x : X) → i < length xs → x ≡ get_or xs i x → take (i + 1) xs ≡ take i xs ++ x ∷ []

@@ -11,7 +11,7 @@ use Rattle.rds_model.specs.NumberLaws.{number_of_known, datagram_newest, datagra
 use Rattle.rds_model.specs.EndingLaws.{ended}
 use Rattle.rds_report.specs.declared.taken.Walk.{Walk}
 use Rattle.rds_report.specs.declared.cancellations.Cancellations.{Cancellations}
-use Rattle.rds_report.specs.Items.{flags, is_lost, has_cancellation, passes_number}
+use Rattle.rds_report.specs.Items.{flags, has_cancellation, passes_number}
 use Rattle.rds_report.specs.TakenBackWalk.{IsWalk, takes, acknowledgements}
 use Rattle.rds_report.proofs.FlagLemmas.{flags_same}
 
@@ -42,15 +42,10 @@ untaken_beyond (_ ∷ past) n beyond = untaken_beyond past n beyond
 
 -- without a cancellation nothing is lost
 
-untaken : (past : List Entry) → has_cancellation past ≡ false → (n : ℕ) → was_taken_back past n ≡ false
+pub untaken : (past : List Entry) → has_cancellation past ≡ false → (n : ℕ) → was_taken_back past n ≡ false
 untaken [] without n = refl
 untaken (Cancel slot target ∷ past) without n = absurd (true≢false without)
 untaken (_ ∷ past) without n = untaken past without n
-
-pub none_is_lost : (past back : List Entry) → has_cancellation past ≡ false → flags (λ n. false) (accepted past) ≡ flags (is_lost past back) (accepted past)
-none_is_lost past back without =
-    flags_same (λ n. false) (is_lost past back) (accepted past)
-    (λ n a b. ap (λ (x : Bool). x && not (was_passed back n)) (sym (untaken past without n)))
 
 -- the numbers that one entry more clears
 pub cleared_more : (test : ℕ → Bool) (m : ℕ) (e : Entry) (past : List Entry) →

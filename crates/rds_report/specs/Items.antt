@@ -35,6 +35,11 @@ abbrev pub accepted_items : (from to sport dport : ℕ) → Bool → List Item
 accepted_items from to sport dport true = item to dport from sport Accepted ∷ item to dport from sport Cancelled ∷ []
 accepted_items from to sport dport false = item to dport from sport Accepted ∷ []
 
+-- the items of an entry, where it is an acceptance that isn't lost
+abbrev pub acceptance_items : (from to : ℕ) → Entry → List Item
+acceptance_items from to (Accept slot sport dport payload) = accepted_items from to sport dport false
+acceptance_items from to _ = []
+
 -- the items of a datagram that was read, where it went to no socket
 abbrev pub read_items : (to dport from sport : ℕ) → Outcome → List Item
 read_items to dport from sport outcome.NoSocket = item to dport from sport Dropped ∷ []

@@ -1,15 +1,13 @@
-ghost use Rattle.std.specs.Prelude.{◌≡◌, ◌++◌, ℕ, Bool, IfOk, OnOk, filter, map, option_copied};
+ghost use Rattle.std.specs.Prelude.{◌≡◌, ◌++◌, IfOk, OnOk, filter, map, option_copied};
 ghost use Rattle.std.specs.List.{flat_map};
 ghost use Rattle.rds_model.specs.declared.order.Datagram.{Datagram as Message};
-ghost use Rattle.rds_model.specs.Past.{accepted};
 ghost use Rattle.rds_report.specs.declared.item.What.TheVariants as what;
 ghost use Rattle.rds_final.specs.FinalState.{past_of, past_with};
 ghost use Rattle.rds_final.specs.Views.{host_view, host_views, side_view, socket_view};
-ghost use Rattle.rds_report.specs.Items.{flags, is_lost, is_to, item, items_to as items_of, host_items, side_items, sent_items, came_items, accepted_items, read_items, arrival_items, socket_items, past_in};
+ghost use Rattle.rds_report.specs.Items.{is_to, item, items_to as items_of, host_items, side_items, came_items, read_items, arrival_items, socket_items, past_in};
 
-use crate::flags::flag;
 use crate::item::{Group, Item, What};
-use crate::lost::lost;
+use crate::sent::add_sent;
 use rds_final::{HostEnd, Kept};
 use rds_model::{Datagram, Entry, Journal, Outcome};
 use rds_wire::Memory;
@@ -88,68 +86,6 @@ fn journal_with(journals: &[(u32, Journal)], peer: u32) -> Option<&Journal>
         }
     }
     None
-}
-
-// The items of what a host sent, by its journal and that of the peer.
-fn add_sent(
-    alloc: Global,
-    items: &mut Vec<Item>,
-    from: u32,
-    to: u32,
-    journal: &Journal,
-    back: Option<&Journal>,
-) -> Result<(), Memory>
-    ensures { OnOk result (items.new.items ≡ items.old.items ++ sent_items from to (is_lost journal.now.past (past_in (option_copied back.entry))) journal.now.past) }
-{
-    let lost = lost(alloc, journal, back)?;
-    add_acceptances(items, from, to, journal, &lost)
-}
-
-// The items of what a host sent, where such numbers are lost, counted from 1.
-fn add_acceptances(
-    items: &mut Vec<Item>,
-    from: u32,
-    to: u32,
-    journal: &Journal,
-    lost: &[bool],
-) -> Result<(), Memory>
-    ensures { (test : ℕ → Bool) → lost.now ≡ flags test (accepted journal.now.past) →
-        OnOk result (items.new.items ≡ items.old.items ++ sent_items from to test journal.now.past) }
-{
-    let mut n = 0u32;
-    for i in 0..journal.len() {
-        let Some(entry) = journal.at(i) else {
-            unreachable!()
-        };
-        if let Entry::Accept { sport, dport, .. } = entry {
-            let group = Group {
-                to,
-                dport: *dport,
-                from,
-                sport: *sport,
-            };
-            add_accepted(items, group, flag(lost, n))?;
-            n += 1;
-        }
-    }
-    Ok(())
-}
-
-// The items of an acceptance, which is lost or not.
-fn add_accepted(items: &mut Vec<Item>, group: Group, is_lost: bool) -> Result<(), Memory>
-    ensures { OnOk result (items.new.items ≡ items.old.items ++ accepted_items group.from group.to group.sport group.dport is_lost) }
-{
-    items.push(Item {
-        group,
-        what: What::Accepted,
-    })?;
-    if is_lost {
-        items.push(Item {
-            group,
-            what: What::Cancelled,
-        })?;
-    }
-    Ok(())
 }
 
 // The items of what came from a peer to a host and went to no socket.

@@ -1,4 +1,4 @@
-ghost use Rattle.std.specs.Prelude.{◌≡◌, ◌-◌, ◌+◌, ◌^◌, ◌<◌, [], length};
+ghost use Rattle.std.specs.Prelude.{◌≡◌, ◌-◌, ◌+◌, ◌^◌, ◌<◌, [], ◌∷◌, length};
 ghost use Rattle.rds_report.specs.ItemReport.{count_of, is_accepted, is_received, is_unread, is_dropped, is_port0, is_cancelled_item, tally};
 ghost use Rattle.rds_report.specs.Summary.{plus as together};
 ghost use Rattle.rds_report.specs.ItemTotals.{count_all, seen_counts};
@@ -27,13 +27,25 @@ impl Counts {
         ensures cancelled { result.cancelled ≡ count_of is_cancelled_item items.now }
         ensures all { count_all (seen_counts result) ≡ length items.now }
     {
-        Counts {
-            accepted: accepted(items),
-            received: received(items),
-            unread: unread(items),
-            dropped: dropped(items),
-            port0: port0(items),
-            cancelled: cancelled(items),
+        let mut counts = Counts::none();
+        for item in items {
+            counts.add(item);
+        }
+        counts
+    }
+
+    // One more item.
+    fn add(&mut self, item: &Item)
+        requires { count_all (seen_counts self.old) + 1 < 2 ^ 128 }
+        ensures { seen_counts self.new ≡ together (seen_counts self.old) (tally (item.now ∷ [])) }
+    {
+        match &item.what {
+            What::Accepted => self.accepted += 1,
+            What::Received(_) => self.received += 1,
+            What::Unread => self.unread += 1,
+            What::Dropped => self.dropped += 1,
+            What::Port0 => self.port0 += 1,
+            What::Cancelled => self.cancelled += 1,
         }
     }
 
@@ -77,58 +89,4 @@ impl Counts {
             .saturating_sub(self.port0)
             .saturating_sub(self.cancelled)
     }
-}
-
-fn accepted(items: &[Item]) -> u128
-    ensures { result ≡ count_of is_accepted items.now }
-{
-    items
-        .iter()
-        .filter(|item| matches!(item.what, What::Accepted))
-        .count() as u128
-}
-
-fn received(items: &[Item]) -> u128
-    ensures { result ≡ count_of is_received items.now }
-{
-    items
-        .iter()
-        .filter(|item| matches!(item.what, What::Received(_)))
-        .count() as u128
-}
-
-fn unread(items: &[Item]) -> u128
-    ensures { result ≡ count_of is_unread items.now }
-{
-    items
-        .iter()
-        .filter(|item| matches!(item.what, What::Unread))
-        .count() as u128
-}
-
-fn dropped(items: &[Item]) -> u128
-    ensures { result ≡ count_of is_dropped items.now }
-{
-    items
-        .iter()
-        .filter(|item| matches!(item.what, What::Dropped))
-        .count() as u128
-}
-
-fn port0(items: &[Item]) -> u128
-    ensures { result ≡ count_of is_port0 items.now }
-{
-    items
-        .iter()
-        .filter(|item| matches!(item.what, What::Port0))
-        .count() as u128
-}
-
-fn cancelled(items: &[Item]) -> u128
-    ensures { result ≡ count_of is_cancelled_item items.now }
-{
-    items
-        .iter()
-        .filter(|item| matches!(item.what, What::Cancelled))
-        .count() as u128
 }

@@ -11,6 +11,7 @@ mod item;
 mod lost;
 mod print;
 mod reporting;
+mod sent;
 mod summing;
 mod taken;
 mod totals;

@@ -1,52 +1,23 @@
-ghost use Rattle.std.specs.Prelude.{◌≡◌, ◌&&◌, not, ℕ, Bool, true, false, IfOk, MatchOption, option_copied};
+ghost use Rattle.std.specs.Prelude.{◌≡◌, ◌&&◌, not, ℕ, Bool, IfOk, option_copied};
 ghost use Rattle.rds_model.specs.Past.{accepted, passes as passes_it};
 ghost use Rattle.rds_model.specs.Streams.{was_passed};
-ghost use Rattle.rds_report.specs.Items.{flags, is_lost, is_cancellation as cancels, has_cancellation, past_in, passes_number};
+ghost use Rattle.rds_report.specs.Items.{flags, is_lost, past_in, passes_number};
 
 use crate::flags::set_flag;
-use crate::taken::{count, taken_back};
+use crate::taken::taken_back;
 use rds_model::{Entry, Journal, Outcome};
 use rds_wire::Memory;
 use std::alloc::Global;
 
-/// For each number of a journal from 1 on, whether it was taken back and never arrived, by the journal of the peer. In a journal without
-/// cancellations nothing was taken back.
+/// For each number of a journal from 1 on, whether it was taken back and never arrived, by the journal of the peer.
 pub fn lost(alloc: Global, journal: &Journal, back: Option<&Journal>) -> Result<Vec<bool>, Memory>
     ensures { IfOk result (λ lost. lost.items ≡ flags (is_lost journal.now.past (past_in (option_copied back.entry))) (accepted journal.now.past)) }
 {
-    if let Some(none) = none_lost(alloc, journal)? {
-        return Ok(none);
-    }
     let mut lost = taken_back(alloc, journal)?;
     if let Some(back) = back {
         clear_arrived(&mut lost, back);
     }
     Ok(lost)
-}
-
-// A flag that isn't set for each number of a journal, or `None` where the journal has a cancellation.
-fn none_lost(alloc: Global, journal: &Journal) -> Result<Option<Vec<bool>>, Memory>
-    ensures { IfOk result (λ found. MatchOption found (has_cancellation journal.now.past ≡ true)
-        (λ none. (has_cancellation journal.now.past ≡ false) × (none.items ≡ flags (λ n. false) (accepted journal.now.past)))) }
-{
-    let mut none = Vec::new(alloc);
-    for i in 0..journal.len() {
-        let Some(entry) = journal.at(i) else {
-            unreachable!()
-        };
-        if is_cancellation(entry) {
-            return Ok(None);
-        }
-        count(&mut none, entry)?;
-    }
-    Ok(Some(none))
-}
-
-// Whether an entry is a cancellation.
-fn is_cancellation(entry: &Entry) -> bool
-    ensures { result ≡ cancels entry.now }
-{
-    matches!(entry, Entry::Cancel { .. })
 }
 
 // Clears the numbers that have a passed read in a journal.

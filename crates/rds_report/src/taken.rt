@@ -66,8 +66,8 @@ fn none(alloc: Global, journal: &Journal) -> Result<Vec<bool>, Memory>
     Ok(none)
 }
 
-/// One flag more that isn't set, where an entry is an acceptance.
-pub fn count(none: &mut Vec<bool>, entry: &Entry) -> Result<(), Memory>
+// One flag more that isn't set, where an entry is an acceptance.
+fn count(none: &mut Vec<bool>, entry: &Entry) -> Result<(), Memory>
     ensures { OnOk result ((past : List Event) → none.old.items ≡ flags (λ n. false) (accepted past) →
         none.new.items ≡ flags (λ n. false) (accepted (entry.now ∷ past))) }
 {

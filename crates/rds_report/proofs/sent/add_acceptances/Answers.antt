@@ -7,8 +7,8 @@ use Rattle.rds_report.specs.Items.{sent_items, accepted_items}
 use Rattle.rds_report.specs.TakenBackWalk.{before}
 use Rattle.rds_report.proofs.Steps.{before_more, accepted_before}
 use Rattle.rds_report.proofs.Gathered.{sent_accept, sent_other, accepted_other}
-use Rattle.rds_report.proofs.collect.add_acceptances.Goals as goal
-use Rattle.rds_report.proofs.collect.add_acceptances.Goals.{in-Accept+in_ok-add_accepted, in_default-entry}
+use Rattle.rds_report.proofs.sent.add_acceptances.Goals as goal
+use Rattle.rds_report.proofs.sent.add_acceptances.Goals.{in-Accept+in_ok-add_accepted, in_default-entry}
 
 pub loop-i-preserved : goal.loop-i-preserved
 loop-i-preserved c =

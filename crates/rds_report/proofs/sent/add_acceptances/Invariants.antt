@@ -2,7 +2,7 @@ use Rattle.std.proofs.Common.{◌≡◌, ◌≤◌, ◌++◌, ℕ, Bool}
 use Rattle.rds_model.specs.Past.{accepted}
 use Rattle.rds_report.specs.Items.{flags, sent_items}
 use Rattle.rds_report.specs.TakenBackWalk.{before}
-use Rattle.rds_report.proofs.collect.add_acceptances.Given as goal
+use Rattle.rds_report.proofs.sent.add_acceptances.Given as goal
 
 abbrev pub invariant-loop-i : goal.invariant-loop-i
 invariant-loop-i l = record {
