@@ -24,7 +24,7 @@ use Rattle.rds_gather.specs.Columns.{AtEachPlace, column, passes_of}
 use Rattle.rds_gather.specs.Joined.{AreJoined, AreLooksOfJournals, IsPeer, orders_of, peer_of}
 use Rattle.rds_gather.specs.Shown.{ArePuttersOf, AreReadersOf, HasLookedAt, HaveLookedAt, ShowsAllPuts}
 use Rattle.rds_gather.proofs.Columns.{AreFull, column_count, column_row, each_first, each_paired, row_column}
-use Rattle.rds_gather.proofs.Keys.{delivered_from, key_from, key_own, key_uncut, one_place}
+use Rattle.rds_gather.proofs.Keys.{delivered_from, key_from, key_none, key_own, key_uncut, one_place}
 use Rattle.rds_gather.proofs.Marks.{AreApart, AreInOrder, all_got_there, all_there, begins_there, putter_of}
 
 all_from : {X : Type 0} (P : X → Type 0) (xs : List X) → ((i : ℕ) (x : X) → slice_get xs i ≡ Some x → P x) → All P xs
@@ -302,4 +302,11 @@ module _ {E : Type 0} where
               let x = putter_of (λ (i : ℕ) (d : Datagram). d.from ≡ host_at i) h.inbox.get.got puts merged (own_boxes slot h at_slot) k item at in
               let line = there_is lines x.0 (omega arith) in
               (x.0, line.0, line.1, sym (peer_there x.0 line.0 line.1) ∙ sym x.2));
+          known_slots = λ enough slot place line at_line few.
+              let puts = column place (lane_rows slots) in
+              let size = (orders_in_order place line at_line).size in
+              let merged = (shown_orders place line at_line).merged (omega (arith, enough, size)) in
+              sym (orders_taken slot place line at_line)
+              ∙ key_none (length puts) slot (bare_items line.orders.got) (omega (arith, few, size))
+              (putter_of IsOf line.orders.got puts merged (orders_apart place line at_line).own);
         }

@@ -1,6 +1,6 @@
 -- Orders by their slot, and datagrams by their sender.
-use Rattle.std.proofs.Common.{◌≡◌, ℕ, zero, suc, ◌<◌, Bool, true, false, cond, List, [], ◌∷◌, ◌++◌, All, Some, slice_get, refl, ap, subst, ◌∙◌, arith}
-use Rattle.std.proofs.lemmas.Bool.{cond-true, eq-eqb}
+use Rattle.std.proofs.Common.{◌≡◌, ◌≢◌, ℕ, zero, suc, ◌<◌, ◌≤◌, Bool, true, false, cond, List, [], ◌∷◌, ◌++◌, All, Some, slice_get, refl, ap, subst, ◌∙◌, arith}
+use Rattle.std.proofs.lemmas.Bool.{cond-false, cond-true, eq-eqb, ne_eqb}
 use Rattle.std.proofs.lemmas.List.Elements.{All-head, All-nil, All-push, All-tail}
 use Rattle.std.proofs.lemmas.Option.{none-some, same_Some}
 use Rattle.rds_model.specs.declared.entry.Entry.{Entry}
@@ -46,6 +46,30 @@ key_own slot (order.Cancel s dport ∷ list) all =
 key_own slot (order.CloseSocket s ∷ list) all =
     let o = order.CloseSocket s in
     own_first slot s o (by_key slot_of_order slot list) (uncut list) (All-head (IsOf slot) o list all) refl (key_own slot list (All-tail (IsOf slot) o list all))
+
+other_first : (slot s : ℕ) (o : Order) (xs : List Order) → s ≢ slot → slot_of_order o ≡ Some s → cond (is_key (slot_of_order o) slot) (o ∷ xs) xs ≡ xs
+other_first slot s o xs other has = cond-false (is_key (slot_of_order o) slot) (o ∷ xs) xs (ap (λ k. is_key k slot) has ∙ ne_eqb s slot other)
+
+-- no order of a slot is among cuts and orders of slots below it
+pub key_none : (count slot : ℕ) (list : List Order) → count ≤ slot →
+    ((k : ℕ) (o : Order) → slice_get list k ≡ Some o → (i : ℕ) × (i < count) × IsOf i o) → by_key slot_of_order slot list ≡ []
+key_none count slot [] few each = refl
+key_none count slot (order.Cut ∷ list) few each = key_none count slot list few (λ k o at. each (suc k) o at)
+key_none count slot (order.Send s sport dport payload ∷ list) few each =
+    let o = order.Send s sport dport payload in
+    let first = each 0 o refl in
+    other_first slot s o (by_key slot_of_order slot list) (λ same. let less = first.1 in let is = first.2 in absurd (omega (arith, few, less, is, same))) refl
+    ∙ key_none count slot list few (λ k x at. each (suc k) x at)
+key_none count slot (order.Cancel s dport ∷ list) few each =
+    let o = order.Cancel s dport in
+    let first = each 0 o refl in
+    other_first slot s o (by_key slot_of_order slot list) (λ same. let less = first.1 in let is = first.2 in absurd (omega (arith, few, less, is, same))) refl
+    ∙ key_none count slot list few (λ k x at. each (suc k) x at)
+key_none count slot (order.CloseSocket s ∷ list) few each =
+    let o = order.CloseSocket s in
+    let first = each 0 o refl in
+    other_first slot s o (by_key slot_of_order slot list) (λ same. let less = first.1 in let is = first.2 in absurd (omega (arith, few, less, is, same))) refl
+    ∙ key_none count slot list few (λ k x at. each (suc k) x at)
 
 -- all datagrams of one host
 pub key_from : (host : ℕ) (list : List Datagram) → All (IsFrom host) list → by_key sender_in host list ≡ list

@@ -1,6 +1,6 @@
 -- What a host shows once all its putters were joined: which orders of its slots its lines took, and which datagrams of its lines
 -- its slots got. Source: this project's own.
-use Rattle.std.specs.Prelude.{◌≡◌, ℕ, ◌≤◌, List, Some, All, length, slice_get}
+use Rattle.std.specs.Prelude.{◌≡◌, ℕ, ◌≤◌, List, [], Some, All, length, slice_get}
 use Rattle.rds_model.specs.declared.entry.Entry.{Entry}
 use Rattle.rds_model.specs.declared.order.Datagram.{Datagram}
 use Rattle.rds_model.specs.declared.order.Order.{Order}
@@ -62,6 +62,9 @@ module _ {R E M : Type 0} where
     -- and where there are lines it got nothing from anyone else
     pub known_senders : 1 ≤ length lines → (slot : ℕ) (h : Holding R) → slice_get slots slot ≡ Some h →
         All (λ item. IsPeer lines item.from) (got_by h)
+    -- and where there are slots no journal has an order of another slot
+    pub known_slots : 1 ≤ length slots → (slot place : ℕ) (line : LineView E M) → slice_get lines place ≡ Some line → length slots ≤ slot →
+        orders_of slot (line_past line) ≡ []
 
 module _ {E M : Type 0} where
   -- Each look of a slot at a peer's congestion map found what the map of its version has, among those that the journal with that peer

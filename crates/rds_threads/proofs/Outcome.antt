@@ -1,8 +1,9 @@
 -- What a host that has ended did of a script's commands.
-use Rattle.std.proofs.Common.{◌≡◌, ◌<◌, ◌≤◌, ℕ, suc, arith, List, [], ◌∷◌, Some, Option, map, option_map, slice_get, Result, Ok, Err, IfOk, OnOk, Vec, refl, sym, ap, subst, ◌∙◌}
+use Rattle.std.proofs.Common.{◌≡◌, ◌<◌, ◌≤◌, ℕ, suc, arith, List, [], ◌∷◌, Some, Option, length, map, option_map, slice_get, Result, Ok, Err, IfOk, OnOk, Vec, refl, sym, ap, subst, ◌∙◌}
 use Rattle.std.specs.Global.{Global}
+use Rattle.std.proofs.lemmas.List.{length-map}
 use Rattle.std.proofs.lemmas.List.Elements.{All-map, All-weaker}
-use Rattle.std.proofs.lemmas.Option.{slice_get-map}
+use Rattle.std.proofs.lemmas.Option.{slice_get-map, slice_get_within}
 use Rattle.rds_fmap.specs.Readers.{ReaderView, WriterView}
 use Rattle.rds_parts.specs.Lanes.{IsLaneAt, Lane}
 use Rattle.rds_final.specs.FinalState.{FinalJournal, FinalSocket}
@@ -69,16 +70,22 @@ module _ {E : Type 0} where
   -- what the slots put stands in the journals
   pub all_sent : (places told : List Place) (closed : List (Holding ReaderView)) (lines : List (LineView E WriterView)) → PlacesHear places told → AreEndsOf told closed →
       AreJoined closed lines → AreLinesTold (holdings places) lines → AreQuiet lines → AreAllSent places lines
-  all_sent places told closed lines hear ends joined all quiet slot place p lane line at at_lane at_line =
-      let q = stood_at told places slot p (sym hear.count) at in
-      let heard = hear.each slot p q.0 at q.1 in
-      let h = stood_at closed told slot q.0 (sym ends.count) q.1 in
-      let routes = (ends.each slot q.0 h.0 q.1 h.1).routes ∙ ap (λ (x : Holding ReaderView). x.routes) heard.1 in
-      joined.all_taken slot place h.0 lane line h.1 (subst (λ (l : List (Lane ReaderView)). IsLaneAt l place lane) (sym routes) at_lane) at_line (quiet place line at_line)
-      (λ other k way at_k at_way.
-      let was = routes_kept places told closed hear ends other k at_k in
-      all place line at_line other (holding_of was.0) way (held_at places other was.0 was.1)
-      (subst (λ (l : List (Lane ReaderView)). IsLaneAt l place way) was.2 at_way))
+  all_sent places told closed lines hear ends joined all quiet = record {
+    each = λ slot place p lane line at at_lane at_line.
+        let q = stood_at told places slot p (sym hear.count) at in
+        let heard = hear.each slot p q.0 at q.1 in
+        let h = stood_at closed told slot q.0 (sym ends.count) q.1 in
+        let routes = (ends.each slot q.0 h.0 q.1 h.1).routes ∙ ap (λ (x : Holding ReaderView). x.routes) heard.1 in
+        joined.all_taken slot place h.0 lane line h.1 (subst (λ (l : List (Lane ReaderView)). IsLaneAt l place lane) (sym routes) at_lane) at_line (quiet place line at_line)
+        (λ other k way at_k at_way.
+        let was = routes_kept places told closed hear ends other k at_k in
+        all place line at_line other (holding_of was.0) way (held_at places other was.0 was.1)
+        (subst (λ (l : List (Lane ReaderView)). IsLaneAt l place way) was.2 at_way));
+    none_else = λ some slot place line at_line few.
+        let count = hear.count in
+        let also = ends.count in
+        joined.known_slots (omega (arith, some, count, also)) slot place line at_line (omega (arith, few, count, also));
+  }
 
 module _ {E : Type 0} where
   -- what the slots saw stands in the journals
@@ -162,8 +169,16 @@ module _ {E : Type 0} where
     sent = λ slot place p lane side at at_lane at_side.
         let line = at_map line_side lines place side at_side in
         ap (λ (s : FinalJournal). orders_of slot s.past) line.2
-        ∙ sent slot place (spared p) lane line.0 (here slot p at)
+        ∙ sent.each slot place (spared p) lane line.0 (here slot p at)
         (subst (λ (h : Holding ReaderView). IsLaneAt h.routes place lane) (sym (spared_holds p)) at_lane) line.1;
+    none_else = all_from (λ (side : FinalJournal). (slot : ℕ) → length did.last ≤ slot → orders_of slot side.past ≡ []) (map line_side lines)
+        (λ place side at_side slot few.
+        let line = at_map line_side lines place side at_side in
+        let way = cuts_of_done hosts host place commands did.last did.did.done (peers place line.0 line.1).1 in
+        let within = slice_get_within did.last way.slot way.p way.at in
+        let count = ap length did.left ∙ length-map did.last spared in
+        ap (λ (s : FinalJournal). orders_of slot s.past) line.2
+        ∙ sent.none_else (omega (arith, within, count)) slot place line.0 line.1 (omega (arith, few, count)));
     looked = λ slot place p lane side at at_lane at_side.
         let line = at_map line_side lines place side at_side in
         subst (λ (s : FinalJournal). HasLookedAt (maps s.past) lane.reader) (sym line.2)

@@ -1,5 +1,5 @@
 -- What came of what the callers of a run did. Source: this project's own.
-use Rattle.std.specs.Prelude.{◌≡◌, ◌≢◌, ◌<◌, ℕ, ◌==◌, ◌&&◌, Bool, false, List, [], All, Contains, Some, filter, length, map, slice_get}
+use Rattle.std.specs.Prelude.{◌≡◌, ◌≢◌, ◌<◌, ◌≤◌, ℕ, ◌==◌, ◌&&◌, Bool, false, List, [], All, Contains, Some, filter, length, map, slice_get}
 use Rattle.rds_wire.specs.declared.frame.Frame.{Frame}
 use Rattle.rds_model.specs.declared.entry.Entry.TheVariants.{Read}
 use Rattle.rds_model.specs.declared.entry.Outcome.TheVariants as outcome
@@ -82,19 +82,20 @@ pub record IsFilled (host : ℕ) (commands : List Placed) (sides : List FinalJou
   pub asked : AskFor host rcvbuf commands
   pub above : rcvbuf < total (λ (s : FinalJournal). put_bytes slot s.past) sides
 
--- What one of so many hosts, with these journals and these sockets, comes to did the script's commands: from slots that were new its caller
--- did exactly its own commands. In the journal with each other host stand, for each slot, exactly the orders that its socket put on the route
--- to that host, in order and each once. Each look of a socket at a peer's congestion map found what the map of its version has, among those
--- that the journal with that peer read. Where a stream to a peer is open in the end, at least as many were shut as the commands have the host
--- cut. There is one socket of each slot that was bound, in order, with its port. Each datagram that a journal delivered went to one of these
--- sockets, that of the slot that it was delivered to, which had its port. At a port that a bind at the beginning of the script took no datagram
--- found no socket, where the socket of that bind is open in the end. A map with a port was pulled only where more bytes were delivered to a
--- slot, and a datagram at that port among them, than the receive buffer of one of the host's binds.
+-- What one of so many hosts, with these journals and these sockets, comes to did the script's commands: from slots that were new its caller did
+-- exactly its own commands. In the journal with each other host stand, for each slot, exactly the orders that its socket put on the route to
+-- that host, in order and each once. No order of another slot stands in a journal. Each look of a socket at a peer's congestion map found what
+-- the map of its version has, among those that the journal with that peer read. Where a stream to a peer is open in the end, at least as many
+-- were shut as the commands have the host cut. There is one socket of each slot that was bound, in order, with its port. Each datagram that a
+-- journal delivered went to one of these sockets, that of the slot that it was delivered to, which had its port. At a port that a bind at the
+-- beginning of the script took no datagram found no socket, where the socket of that bind is open in the end. A map with a port was pulled only
+-- where more bytes were delivered to a slot, and a datagram at that port among them, than the receive buffer of one of the host's binds.
 pub record IsOutcome (hosts host : ℕ) (commands : List Placed) (sides : List FinalJournal) (sockets : List FinalSocket) : Type 0 where
   pub last : List Place
   pub done : HasDone hosts host commands last
   pub sent : (slot place : ℕ) (p : Place) (lane : Lane ReaderView) (side : FinalJournal) → slice_get last slot ≡ Some p →
       IsLaneAt (holding_of p).routes place lane → slice_get sides place ≡ Some side → orders_of slot side.past ≡ uncut lane.pass.put
+  pub none_else : All (λ (side : FinalJournal). (slot : ℕ) → length last ≤ slot → orders_of slot side.past ≡ []) sides
   pub looked : (slot place : ℕ) (p : Place) (lane : Lane ReaderView) (side : FinalJournal) → slice_get last slot ≡ Some p →
       IsLaneAt (holding_of p).routes place lane → slice_get sides place ≡ Some side → HasLookedAt (maps side.past) lane.reader
   pub cut : All (λ (side : FinalJournal). AreCutsDone (cuts_to host side.peer commands) side.past) sides

@@ -1,5 +1,5 @@
 -- Private: it serves the contracts of the private functions that end a host of a run. Source: this project's own.
-use Rattle.std.specs.Prelude.{◌≡◌, ℕ, ◌<◌, ◌≤◌, All, List, Some, length, map, slice_get}
+use Rattle.std.specs.Prelude.{◌≡◌, ℕ, ◌<◌, ◌≤◌, All, List, [], Some, length, map, slice_get}
 use Rattle.rds_bindtab.specs.Seats.{telling_of}
 use Rattle.rds_fmap.specs.Readers.{ReaderView, WriterView}
 use Rattle.rds_model.specs.declared.order.Datagram.{Datagram}
@@ -29,10 +29,13 @@ use Rattle.rds_threads.specs.Reliable.{AllWentToSockets, HasReceived}
 use Rattle.rds_rounds.specs.Quiet.{AreQuiet}
 use Rattle.rds_settling.specs.Tied.{AreLinesTold, AreTied, LinesHear, holdings}
 
--- the orders that stand in the journals of lines are, for each slot, exactly those that its socket has put
-abbrev pub AreAllSent : {E : Type 0} → List Place → List (LineView E WriterView) → Type 0
-AreAllSent {E} places lines = (slot place : ℕ) (p : Place) (lane : Lane ReaderView) (line : LineView E WriterView) → slice_get places slot ≡ Some p →
-    IsLaneAt (holding_of p).routes place lane → slice_get lines place ≡ Some line → orders_of slot (line_past line) ≡ uncut lane.pass.put
+-- The orders that stand in the journals of lines are, for each slot, exactly those that its socket has put. Where there are slots none is of
+-- another one.
+pub record AreAllSent {E : Type 0} (places : List Place) (lines : List (LineView E WriterView)) : Type 0 where
+  pub each : (slot place : ℕ) (p : Place) (lane : Lane ReaderView) (line : LineView E WriterView) → slice_get places slot ≡ Some p →
+      IsLaneAt (holding_of p).routes place lane → slice_get lines place ≡ Some line → orders_of slot (line_past line) ≡ uncut lane.pass.put
+  pub none_else : 1 ≤ length places → (slot place : ℕ) (line : LineView E WriterView) → slice_get lines place ≡ Some line → length places ≤ slot →
+      orders_of slot (line_past line) ≡ []
 
 -- each look of a slot at a peer's congestion map found what the map of its version has, among those that the journal with that peer read
 abbrev pub HaveAllLooked : {E : Type 0} → List Place → List (LineView E WriterView) → Type 0
