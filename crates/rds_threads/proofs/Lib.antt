@@ -4,6 +4,7 @@ pub mod Hosts
 pub mod HandedOut
 pub mod Receiving
 pub mod CutsPut
+pub mod CutsTogether
 pub mod Cutting
 pub mod Limits
 pub mod Filled

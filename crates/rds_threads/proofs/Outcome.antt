@@ -14,17 +14,16 @@ use Rattle.rds_wire.specs.declared.memory.Memory.{Memory}
 use Rattle.rds_script.specs.declared.script.Placed.{Placed}
 use Rattle.rds_socket.specs.Holding.{Holding}
 use Rattle.rds_bindtab.specs.Seats.{PortSeat, telling_of}
-use Rattle.rds_line.specs.Line.{LineView}
+use Rattle.rds_line.specs.Line.{LineView, line_past}
 use Rattle.rds_line.specs.Seats.{WasAlwaysTold}
 use Rattle.rds_parties.specs.Obeyed.{after_binds}
 use Rattle.rds_parties.specs.Parties.{HasLed}
 use Rattle.rds_final.specs.Hosts.{address_of}
 use Rattle.rds_rounds.specs.Grid.{peer_at}
-use Rattle.rds_gather.specs.Cuts.{AreCutsDone, AreCutsOfSlots}
+use Rattle.rds_gather.specs.Cuts.{AreCutsDone, AreCutsOfSlots, cuts_put}
 use Rattle.rds_gather.specs.Grounded.{AreMapsGrounded}
 use Rattle.rds_gather.specs.Joined.{AreJoined, AreLooksOfJournals, orders_of}
 use Rattle.rds_gather.specs.Sides.{line_side}
-use Rattle.rds_line.specs.Keeps.{cuts_among}
 use Rattle.rds_gather.specs.Shown.{HasLookedAt}
 use Rattle.rds_model.specs.Sums.{maps}
 use Rattle.rds_callers.specs.Ends.{AreEndsOf, AreLeft, IsLeft, UnreadFits, kept_name, used_name}
@@ -34,8 +33,9 @@ use Rattle.rds_threads.specs.Reliable.{AllWentToSockets}
 use Rattle.rds_rounds.specs.Quiet.{AreQuiet}
 use Rattle.rds_threads.specs.Settled.{AreAllCut, AreAllSent, AreKeptOf, HasDoneSpared, HaveAllFound, HaveAllGone, HaveAllLooked}
 use Rattle.rds_settling.specs.Tied.{AreLinesTold, PlacesHear, holdings}
-use Rattle.rds_threads.proofs.At.{all_from, at_map, held_at, spared_holds, stood_at}
+use Rattle.rds_threads.proofs.At.{all_from, at_map, held_at, one_at, spared_holds, stood_at}
 use Rattle.rds_threads.proofs.Cutting.{cuts_of_done, fewer_done}
+use Rattle.rds_threads.proofs.CutsTogether.{as_many, one_of_all}
 use Rattle.rds_threads.proofs.KeptPorts.{seat_kept}
 use Rattle.rds_threads.proofs.Filled.{all_filled}
 
@@ -99,19 +99,20 @@ module _ {E : Type 0} where
       looks slot place h.0 lane line h.1 (subst (λ (l : List (Lane ReaderView)). IsLaneAt l place lane) (sym routes) at_lane) at_line
 
 module _ {E : Type 0} where
-  -- the cuts that slots asked for were done
+  -- the cuts that all slots together asked for were done
   pub all_cut : (places told : List Place) (closed : List (Holding ReaderView)) (lines : List (LineView E WriterView)) → PlacesHear places told → AreEndsOf told closed →
       AreCutsOfSlots closed lines → AreLinesTold (holdings places) lines → AreQuiet lines → AreAllCut places lines
-  all_cut places told closed lines hear ends cut all quiet slot place p lane line at at_lane at_line =
-      let q = stood_at told places slot p (sym hear.count) at in
-      let heard = hear.each slot p q.0 at q.1 in
-      let h = stood_at closed told slot q.0 (sym ends.count) q.1 in
-      let routes = (ends.each slot q.0 h.0 q.1 h.1).routes ∙ ap (λ (x : Holding ReaderView). x.routes) heard.1 in
-      cut slot place h.0 lane line h.1 (subst (λ (l : List (Lane ReaderView)). IsLaneAt l place lane) (sym routes) at_lane) at_line (quiet place line at_line)
+  all_cut places told closed lines hear ends cut all quiet place line at_line =
+      let count : length closed ≡ length (holdings places) = ends.count ∙ (hear.count ∙ sym (length-map places holding_of)) in
+      let same = as_many place (holdings places) closed count (λ slot h k at_h at_k.
+      let was = routes_kept places told closed hear ends slot k at_k in
+      was.2 ∙ ap (λ (x : Holding ReaderView). x.routes) (one_at (holdings places) slot (holding_of was.0) h (held_at places slot was.0 was.1) at_h)) in
+      subst (λ (n : ℕ). AreCutsDone n (line_past line)) same
+      (cut place line at_line (quiet place line at_line)
       (λ other k way at_k at_way.
       let was = routes_kept places told closed hear ends other k at_k in
       all place line at_line other (holding_of was.0) way (held_at places other was.0 was.1)
-      (subst (λ (l : List (Lane ReaderView)). IsLaneAt l place way) was.2 at_way))
+      (subst (λ (l : List (Lane ReaderView)). IsLaneAt l place way) was.2 at_way)))
 
 -- a place that was told has the name and hands out what it had
 name_heard : (p : Place) (k : Holding ReaderView) → k.words.slot ≡ (holding_of p).words.slot → used_name (with_holding p k) ≡ used_name p
@@ -189,11 +190,12 @@ module _ {E : Type 0} where
         let line = at_map line_side lines place side at_side in
         let to = peers place line.0 line.1 in
         let way = cuts_of_done hosts host place commands did.last did.did.done to.1 in
-        let done = cut way.slot place (spared way.p) way.cut.lane line.0 (here way.slot way.p way.at)
-        (subst (λ (h : Holding ReaderView). IsLaneAt h.routes place way.cut.lane) (sym (spared_holds way.p)) way.cut.at) line.1 in
+        let put = one_of_all place (holdings places) way.slot (holding_of (spared way.p)) way.cut.lane (held_at places way.slot (spared way.p) (here way.slot way.p way.at))
+        (subst (λ (h : Holding ReaderView). IsLaneAt h.routes place way.cut.lane) (sym (spared_holds way.p)) way.cut.at) in
+        let asked = way.cut.cuts in
         subst (λ (s : FinalJournal). AreCutsDone (cuts_to host s.peer commands) s.past) (sym line.2)
-        (fewer_done (cuts_to host line.0.channel.conn.peer commands) (cuts_among way.cut.lane.pass.put) line.0.channel.conn.log.past
-        (subst (λ (peer : ℕ). cuts_to host peer commands ≤ cuts_among way.cut.lane.pass.put) (sym to.0) way.cut.cuts) done));
+        (fewer_done (cuts_to host line.0.channel.conn.peer commands) (cuts_put place (holdings places)) (line_past line.0)
+        (subst (λ (peer : ℕ). cuts_to host peer commands ≤ cuts_put place (holdings places)) (sym to.0) (omega (arith, asked, put))) (cut place line.0 line.1)));
     filled = all_filled hosts host commands places lines peers did grounded;
     gone = all_from (AllWentToSockets (map socket_view kept)) (map line_side lines)
         (λ place side at_side.

@@ -139,7 +139,7 @@ returns-clause-looks g c =
     c.in_ok-left.ensures.orders lanes c.in_ok-join_all_orders.ensures.looks)
 
 pub returns-clause-cut : goal.returns-clause-cut
-returns-clause-cut g c = cuts_of_slots c.args.closed.items c.args.lines.items c.in_ok-left.ensures.cut
+returns-clause-cut g c = cuts_of_slots c.args.closed.items c.args.lines.items c.requires.passes c.in_ok-left.ensures.cut
 
 -- refused where what was kept is dropped
 pub returns-clause-kept : goal.returns-clause-kept
