@@ -1,7 +1,7 @@
 -- The cuts that slots asked for were got, and those that were got were done.
-use Rattle.std.proofs.Common.{◌≡◌, ◌<◌, ◌≤◌, ◌+◌, ◌==◌, ℕ, zero, suc, Bool, true, false, All, List, [], ◌∷◌, ◌++◌, Some, None, Contains, length, slice_get, cond, refl, sym, ap, subst, ◌∙◌, arith}
+use Rattle.std.proofs.Common.{◌≡◌, ◌⊎◌, ◌<◌, ◌≤◌, ◌+◌, ◌==◌, inl, inr, ⊎_elim, ℕ, zero, suc, Bool, true, false, All, List, [], ◌∷◌, ◌++◌, Some, None, Contains, length, slice_get, cond, refl, sym, ap, subst, ◌∙◌, arith}
 use Rattle.std.proofs.lemmas.Bool.{cond-false, eqb-true, false≢true}
-use Rattle.std.proofs.lemmas.Option.{none-some}
+use Rattle.std.proofs.lemmas.List.{length-map, take_all}
 use Rattle.rds_link.specs.Ends.{Means}
 use Rattle.rds_model.specs.declared.order.Order.{Order}
 use Rattle.rds_model.specs.declared.order.Order.TheVariants as order
@@ -13,8 +13,7 @@ use Rattle.rds_views.specs.Views.{Each}
 use Rattle.rds_parts.specs.Lanes.{IsLaneAt, Lane}
 use Rattle.rds_socket.specs.Holding.{Holding}
 use Rattle.rds_line_streams.specs.Streams.{newest_place, numbers}
-use Rattle.rds_line_channel.specs.Carried.{IsCarriedBy}
-use Rattle.rds_line_channel.specs.CutLaws.{none_late}
+use Rattle.rds_line_channel.specs.Carried.{IsCarriedBy, cuts_of_streams, shuts}
 use Rattle.rds_line.specs.Keeps.{KeepsLine, cuts_among}
 use Rattle.rds_line.specs.Line.{LineView, line_past}
 use Rattle.rds_host.specs.Passes.{AreAllPasses, putter_number}
@@ -127,25 +126,38 @@ module _ {R : Type 0} where
       subst (λ (i : ℕ). cuts_on k.routes place ≤ cuts_among (items_of (putter_number i) got)) next (each (suc slot) k at)) in
       omega (arith, first, rest)
 
+-- some cut came too late, or each found a stream open
+late_or_none : (cuts : List ℕ) → Contains cuts 0 ⊎ (cuts_of_streams cuts ≡ length cuts)
+late_or_none [] = inr refl
+late_or_none (zero ∷ cuts) = inl (0, omega arith, refl)
+late_or_none (suc number ∷ cuts) =
+    ⊎_elim (λ late. inl (suc late.0, let small = late.1 in omega arith, late.2)) (λ all. inr (ap suc all)) (late_or_none cuts)
+
 module _ {E M : Type 0} where
-  -- where a stream is open, no cut came too late
+  -- each cut that was got shut a stream, or it came too late, when no stream was left
   pub cut_of : (m : Means E) (published : M → List (List ℕ)) (line : LineView E M) (arrived out : List ℕ) → KeepsLine published line →
       IsCarriedBy m (line_past line) arrived out line.channel.streams line.channel.cuts.numbers → HasCut line
-  cut_of m published line arrived out keeps carried stream is =
+  cut_of m published line arrived out keeps carried =
       let streams = line.channel.streams in
-      let late : Contains line.channel.cuts.numbers 0 → ⊥ = λ zero.
-      none-some stream
-      (sym (cond-false streams.is_open (slice_get (numbers streams.list) (newest_place streams)) None (carried.late zero).0) ∙ (carried.current ∙ is)) in
-      let same = none_late line.channel.cuts.numbers late in
+      ⊎_elim
+      (λ (zero : Contains line.channel.cuts.numbers 0).
+      let late = carried.late zero in
+      let all = late.1 in
+      let count = length-map streams.list (λ stream. stream.0) in
+      inr (
+        sym carried.opened ∙ take_all streams.opened (numbers streams.list) (omega (arith, all, count)),
+        sym carried.current ∙ cond-false streams.is_open (slice_get (numbers streams.list) (newest_place streams)) None late.0,
+      ))
+      (λ (same : cuts_of_streams line.channel.cuts.numbers ≡ length line.channel.cuts.numbers).
       let shut = carried.shut in
       let cuts = keeps.cuts in
-      omega (arith, same, shut, cuts)
+      inl (omega (arith, same, shut, cuts)))
+      (late_or_none line.channel.cuts.numbers)
 
 module _ {R E M : Type 0} where
   -- the cuts that all slots together asked for were done
   pub cuts_of_slots : (slots : List (Holding R)) (lines : List (LineView E M)) → AreAllPasses slots lines → All HasCut lines → AreCutsOfSlots slots lines
-  cuts_of_slots slots lines passes all place line at_line got told stream is =
-      let shut = all_at HasCut lines line place all at_line stream is in
+  cuts_of_slots slots lines passes all place line at_line got told =
       let few = slots_cuts place 0 line.orders.got slots (λ slot h at_slot.
       let same : slot ≡ 0 + slot = omega arith in
       lane_cuts h.routes place (cuts_among (items_of (putter_number (0 + slot)) line.orders.got)) (λ lane at_lane.
@@ -153,4 +165,7 @@ module _ {R E M : Type 0} where
       (subst (λ (n : Number). cuts_among lane.pass.put ≤ cuts_among (items_of n line.orders.got)) (passes.orders slot place h lane at_slot at_lane).0
       (cuts_got line.orders.got line.orders.told lane.pass got.told (told slot h lane at_slot at_lane))))) in
       let whole = cuts_of_all 0 (length slots) line.orders.got in
-      omega (arith, few, whole, shut)
+      ⊎_elim
+      (λ (shut : cuts_among (bare_items line.orders.got) ≤ shuts (line_past line)). inl (omega (arith, few, whole, shut)))
+      (λ used. inr used)
+      (all_at HasCut lines line place all at_line)

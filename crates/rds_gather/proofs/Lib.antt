@@ -9,3 +9,4 @@ pub mod Owning
 pub mod Cutting
 pub mod Raising
 pub mod Held
+pub mod Risen

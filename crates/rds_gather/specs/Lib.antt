@@ -6,3 +6,4 @@ pub mod Heard
 pub mod Owned
 pub mod Cuts
 pub mod Grounded
+pub mod Risen

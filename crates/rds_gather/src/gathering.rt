@@ -7,6 +7,7 @@ ghost use Rattle.rds_gather.specs.Cuts.{AreCutsOfSlots};
 ghost use Rattle.rds_gather.specs.Grounded.{AreMapsGrounded};
 ghost use Rattle.rds_gather.specs.Joined.{AreJoined, AreLooksOfJournals};
 ghost use Rattle.rds_gather.specs.Owned.{AreFound, AreOwned};
+ghost use Rattle.rds_gather.specs.Risen.{StaysRisen};
 ghost use Rattle.rds_gather.specs.Sides.{line_side};
 
 use crate::grounds::find_grounds;
@@ -51,6 +52,7 @@ pub fn gather<W: Wire, R: Wait>(
     ensures found { OnOk result (AreFound closed.items lines.items) }
     ensures grounded { OnOk result (AreMapsGrounded closed.items lines.items) }
     ensures cut { OnOk result (AreCutsOfSlots closed.items lines.items) }
+    ensures risen { StaysRisen (W.faults wire.old) (W.faults wire.new) }
     ensures out { W.out wire.new ≡ W.out wire.old - ends_in lines.items }
 {
     let mut left = take_lines(rt, alloc, wire, lines)?;

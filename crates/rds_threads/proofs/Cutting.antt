@@ -5,7 +5,6 @@ use Rattle.std.proofs.lemmas.Bool.{eqb-true, false≢true, ltb-false}
 use Rattle.std.proofs.lemmas.List.{length-map, length-set}
 use Rattle.std.proofs.lemmas.List.FromFn.{get_or-range_with_len, length-range_with_len}
 use Rattle.std.proofs.lemmas.Option.{get_or_from_slice_get, slice_get-map, slice_get_within}
-use Rattle.rds_model.specs.declared.entry.Entry.{Entry}
 use Rattle.rds_model.specs.declared.entry.TheConstants.{MAX_SLOTS}
 use Rattle.rds_model.specs.declared.order.Datagram.{Datagram}
 use Rattle.rds_model.specs.declared.order.Order.TheVariants as order
@@ -17,7 +16,6 @@ use Rattle.rds_final.specs.Hosts.{address_of}
 use Rattle.rds_script.specs.declared.script.Command.{Command}
 use Rattle.rds_script.specs.declared.script.Command.TheVariants as script
 use Rattle.rds_script.specs.declared.script.Placed.{Placed}
-use Rattle.rds_gather.specs.Cuts.{AreCutsDone}
 use Rattle.rds_callers.specs.Commands.{commander}
 use Rattle.rds_callers.specs.Doing.{AtPort, BindsNext, IsDone, IsFirstFree}
 use Rattle.rds_callers.specs.Places.{Bound, Ended, Place, Spare, Vacant, holding_of, with_holding}
@@ -28,10 +26,6 @@ use Rattle.rds_threads.specs.Outcome.{cuts_to, is_cut_to}
 use Rattle.rds_threads.proofs.At.{all_at, at_map, at_set, beside_set, one_at, some_at}
 use Rattle.rds_threads.proofs.CutsPut.{HasPut, Keeps, asks, cancels, closes, either_way, keeps_same, put_cut, receives, sends_from}
 use Rattle.rds_threads.proofs.Rows.{place_is}
-
--- fewer cuts are done where more are
-pub fewer_done : (fewer more : ℕ) (past : List Entry) → fewer ≤ more → AreCutsDone more past → AreCutsDone fewer past
-fewer_done fewer more past less done stream is = let enough = done stream is in omega (arith, less, enough)
 
 module _ (place peer : ℕ) where
   -- the last slot has put so many cuts there

@@ -6,6 +6,7 @@ pub mod Receiving
 pub mod CutsPut
 pub mod CutsTogether
 pub mod Cutting
+pub mod CutsAsked
 pub mod Limits
 pub mod Filled
 pub mod Outcome
@@ -26,3 +27,4 @@ pub mod Counted
 pub mod Lacking
 pub mod Held
 pub mod Fronts
+pub mod CutsOfRun

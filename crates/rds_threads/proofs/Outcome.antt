@@ -1,5 +1,5 @@
 -- What a host that has ended did of a script's commands.
-use Rattle.std.proofs.Common.{◌≡◌, ◌<◌, ◌≤◌, ℕ, suc, arith, List, [], ◌∷◌, Some, Option, length, map, option_map, slice_get, Result, Ok, Err, IfOk, OnOk, Vec, refl, sym, ap, subst, ◌∙◌}
+use Rattle.std.proofs.Common.{◌≡◌, ◌⊎◌, ◌<◌, ◌≤◌, ℕ, suc, inl, inr, ⊎_elim, arith, List, [], ◌∷◌, None, Some, Option, length, map, option_map, slice_get, Result, Ok, Err, IfOk, OnOk, Vec, refl, sym, ap, subst, ◌∙◌}
 use Rattle.std.specs.Global.{Global}
 use Rattle.std.proofs.lemmas.List.{length-map}
 use Rattle.std.proofs.lemmas.List.Elements.{All-map, All-weaker}
@@ -20,12 +20,14 @@ use Rattle.rds_parties.specs.Obeyed.{after_binds}
 use Rattle.rds_parties.specs.Parties.{HasLed}
 use Rattle.rds_final.specs.Hosts.{address_of}
 use Rattle.rds_rounds.specs.Grid.{peer_at}
-use Rattle.rds_gather.specs.Cuts.{AreCutsDone, AreCutsOfSlots, cuts_put}
+use Rattle.rds_gather.specs.Cuts.{AreCutsDone, AreCutsOfSlots, HasShut}
 use Rattle.rds_gather.specs.Grounded.{AreMapsGrounded}
 use Rattle.rds_gather.specs.Joined.{AreJoined, AreLooksOfJournals, orders_of}
 use Rattle.rds_gather.specs.Sides.{line_side}
 use Rattle.rds_gather.specs.Shown.{HasLookedAt}
+use Rattle.rds_model.specs.Past.{open_stream}
 use Rattle.rds_model.specs.Sums.{maps}
+use Rattle.rds_line_streams.specs.Streams.{numbers}
 use Rattle.rds_callers.specs.Ends.{AreEndsOf, AreLeft, IsLeft, UnreadFits, kept_name, used_name}
 use Rattle.rds_callers.specs.Places.{Bound, Ended, Place, Spare, Vacant, holding_of, somes, spared, with_holding}
 use Rattle.rds_threads.specs.Outcome.{HandedOutAt, IsAlwaysFound, IsOutcome, cuts_to, socket_name}
@@ -34,8 +36,9 @@ use Rattle.rds_rounds.specs.Quiet.{AreQuiet}
 use Rattle.rds_threads.specs.Settled.{AreAllCut, AreAllSent, AreKeptOf, HasDoneSpared, HaveAllFound, HaveAllGone, HaveAllLooked}
 use Rattle.rds_settling.specs.Tied.{AreLinesTold, PlacesHear, holdings}
 use Rattle.rds_threads.proofs.At.{all_from, at_map, held_at, one_at, spared_holds, stood_at}
-use Rattle.rds_threads.proofs.Cutting.{cuts_of_done, fewer_done}
-use Rattle.rds_threads.proofs.CutsTogether.{as_many, one_of_all}
+use Rattle.rds_threads.proofs.Cutting.{cuts_of_done}
+use Rattle.rds_threads.proofs.CutsAsked.{asked_done}
+use Rattle.rds_threads.proofs.CutsTogether.{as_many}
 use Rattle.rds_threads.proofs.KeptPorts.{seat_kept}
 use Rattle.rds_threads.proofs.Filled.{all_filled}
 
@@ -107,7 +110,7 @@ module _ {E : Type 0} where
       let same = as_many place (holdings places) closed count (λ slot h k at_h at_k.
       let was = routes_kept places told closed hear ends slot k at_k in
       was.2 ∙ ap (λ (x : Holding ReaderView). x.routes) (one_at (holdings places) slot (holding_of was.0) h (held_at places slot was.0 was.1) at_h)) in
-      subst (λ (n : ℕ). AreCutsDone n (line_past line)) same
+      subst (λ (n : ℕ). AreCutsDone n (numbers line.channel.streams.list) (line_past line)) same
       (cut place line at_line (quiet place line at_line)
       (λ other k way at_k at_way.
       let was = routes_kept places told closed hear ends other k at_k in
@@ -185,17 +188,12 @@ module _ {E : Type 0} where
         subst (λ (s : FinalJournal). HasLookedAt (maps s.past) lane.reader) (sym line.2)
         (looked slot place (spared p) lane line.0 (here slot p at)
         (subst (λ (h : Holding ReaderView). IsLaneAt h.routes place lane) (sym (spared_holds p)) at_lane) line.1);
-    cut = all_from (λ (side : FinalJournal). AreCutsDone (cuts_to host side.peer commands) side.past) (map line_side lines)
+    cut = all_from (λ (side : FinalJournal). HasShut (cuts_to host side.peer commands) side.past ⊎ (open_stream side.past ≡ None)) (map line_side lines)
         (λ place side at_side.
         let line = at_map line_side lines place side at_side in
         let to = peers place line.0 line.1 in
-        let way = cuts_of_done hosts host place commands did.last did.did.done to.1 in
-        let put = one_of_all place (holdings places) way.slot (holding_of (spared way.p)) way.cut.lane (held_at places way.slot (spared way.p) (here way.slot way.p way.at))
-        (subst (λ (h : Holding ReaderView). IsLaneAt h.routes place way.cut.lane) (sym (spared_holds way.p)) way.cut.at) in
-        let asked = way.cut.cuts in
-        subst (λ (s : FinalJournal). AreCutsDone (cuts_to host s.peer commands) s.past) (sym line.2)
-        (fewer_done (cuts_to host line.0.channel.conn.peer commands) (cuts_put place (holdings places)) (line_past line.0)
-        (subst (λ (peer : ℕ). cuts_to host peer commands ≤ cuts_put place (holdings places)) (sym to.0) (omega (arith, asked, put))) (cut place line.0 line.1)));
+        subst (λ (s : FinalJournal). HasShut (cuts_to host s.peer commands) s.past ⊎ (open_stream s.past ≡ None)) (sym line.2)
+        (⊎_elim (λ shut. inl shut) (λ used. inr used.1) (asked_done hosts host commands places lines did cut place line.0 line.1 to.0 to.1)));
     filled = all_filled hosts host commands places lines peers did grounded;
     gone = all_from (AllWentToSockets (map socket_view kept)) (map line_side lines)
         (λ place side at_side.

@@ -6,3 +6,4 @@ pub mod Taking
 pub mod Ends
 pub mod Counted
 pub mod Settled
+pub mod Cuts

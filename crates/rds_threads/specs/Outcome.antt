@@ -1,5 +1,5 @@
 -- What came of what the callers of a run did. Source: this project's own.
-use Rattle.std.specs.Prelude.{◌≡◌, ◌≢◌, ◌<◌, ◌≤◌, ℕ, ◌==◌, ◌&&◌, Bool, false, List, [], All, Contains, Some, filter, length, map, slice_get}
+use Rattle.std.specs.Prelude.{◌≡◌, ◌≢◌, ◌⊎◌, ◌<◌, ◌≤◌, ℕ, ◌==◌, ◌&&◌, Bool, false, List, [], All, Contains, None, Some, filter, length, map, slice_get}
 use Rattle.rds_wire.specs.declared.frame.Frame.{Frame}
 use Rattle.rds_model.specs.declared.entry.Entry.TheVariants.{Read}
 use Rattle.rds_model.specs.declared.entry.Outcome.TheVariants as outcome
@@ -14,11 +14,12 @@ use Rattle.rds_script.specs.declared.script.Command.TheVariants.{Bind, BindAny, 
 use Rattle.rds_script.specs.declared.script.Placed.{Placed}
 use Rattle.rds_line.specs.Keeps.{uncut}
 use Rattle.rds_line.specs.Seats.{HasPulled}
-use Rattle.rds_gather.specs.Cuts.{AreCutsDone}
+use Rattle.rds_gather.specs.Cuts.{HasShut}
 use Rattle.rds_gather.specs.Grounded.{HasDelivered}
 use Rattle.rds_gather.specs.Joined.{orders_of}
 use Rattle.rds_gather.specs.Shown.{HasLookedAt}
 use Rattle.rds_model.specs.Deliveries.{put_bytes}
+use Rattle.rds_model.specs.Past.{open_stream}
 use Rattle.rds_model.specs.Sums.{maps}
 use Rattle.rds_socket.specs.Holding.{Open}
 use Rattle.rds_callers.specs.Ends.{used_name}
@@ -98,7 +99,7 @@ pub record IsOutcome (hosts host : ℕ) (commands : List Placed) (sides : List F
   pub none_else : All (λ (side : FinalJournal). (slot : ℕ) → length last ≤ slot → orders_of slot side.past ≡ []) sides
   pub looked : (slot place : ℕ) (p : Place) (lane : Lane ReaderView) (side : FinalJournal) → slice_get last slot ≡ Some p →
       IsLaneAt (holding_of p).routes place lane → slice_get sides place ≡ Some side → HasLookedAt (maps side.past) lane.reader
-  pub cut : All (λ (side : FinalJournal). AreCutsDone (cuts_to host side.peer commands) side.past) sides
+  pub cut : All (λ (side : FinalJournal). HasShut (cuts_to host side.peer commands) side.past ⊎ (open_stream side.past ≡ None)) sides
   pub filled : All (λ (side : FinalJournal). (port : ℕ) → port < 65536 → HasPulled port side.past → IsFilled host commands sides port) sides
   pub gone : All (AllWentToSockets sockets) sides
   pub found : AreLeadingFound host commands done.first last sides

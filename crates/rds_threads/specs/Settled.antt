@@ -10,6 +10,7 @@ use Rattle.rds_final.specs.Hosts.{address_of}
 use Rattle.rds_final.specs.Views.{host_view, side_view, socket_view}
 use Rattle.rds_final.specs.declared.final_state.HostEnd.{HostEnd}
 use Rattle.rds_final.specs.declared.final_state.Kept.{Kept}
+use Rattle.rds_line_streams.specs.Streams.{numbers}
 use Rattle.rds_line.specs.Keeps.{uncut}
 use Rattle.rds_line.specs.Line.{LineView, line_past}
 use Rattle.rds_line.specs.Seats.{WasAlwaysTold}
@@ -42,10 +43,10 @@ abbrev pub HaveAllLooked : {E : Type 0} → List Place → List (LineView E Writ
 HaveAllLooked {E} places lines = (slot place : ℕ) (p : Place) (lane : Lane ReaderView) (line : LineView E WriterView) → slice_get places slot ≡ Some p →
     IsLaneAt (holding_of p).routes place lane → slice_get lines place ≡ Some line → HasLookedAt (maps (line_past line)) lane.reader
 
--- the cuts that all slots together asked a line for were done
+-- the cuts that all slots together asked a line for were done, or it has used up the streams that it was given
 abbrev pub AreAllCut : {E : Type 0} → List Place → List (LineView E WriterView) → Type 0
 AreAllCut {E} places lines = (place : ℕ) (line : LineView E WriterView) → slice_get lines place ≡ Some line →
-    AreCutsDone (cuts_put place (holdings places)) (line_past line)
+    AreCutsDone (cuts_put place (holdings places)) (numbers line.channel.streams.list) (line_past line)
 
 -- each datagram that a line's journal delivered went to a socket that had its port
 abbrev pub HaveAllGone : {E : Type 0} → List (LineView E WriterView) → List FinalSocket → Type 0

@@ -1,5 +1,5 @@
 //! How a run ends, and what is written then.
-ghost use Rattle.std.specs.Prelude.{◌≡◌, ◌<◌, ◌-◌, ℕ, Bool, List, All, IfOk, OnErr, length, true, false};
+ghost use Rattle.std.specs.Prelude.{◌≡◌, ◌<◌, ◌-◌, ◌^◌, ℕ, Bool, List, All, IfOk, OnErr, length, true, false};
 ghost use Rattle.rds_host.specs.Held.{ends_of_all};
 ghost use Rattle.rds_parties.specs.Preparing.{HaveCounted};
 ghost use Rattle.rds_rounds.specs.Causes.{AreClosed, AreUnacked, HostsLackStream, OweNothing};
@@ -11,6 +11,7 @@ ghost use Rattle.rds_rounds.specs.Quiet.{IsQuietEnd};
 ghost use Rattle.rds_rounds.specs.declared.rounds.Rounds.TheVariants as rounds;
 ghost use Rattle.rds_script.specs.declared.script.Placed.{Placed};
 ghost use Rattle.rds_threads.specs.Counted.{IsCountedEnd};
+ghost use Rattle.rds_threads.specs.Cuts.{IsCutEnd};
 ghost use Rattle.rds_threads.specs.Ends.{IsEndOfRun};
 ghost use Rattle.rds_threads.specs.Settled.{HaveDoneSpared, HaveSettled};
 
@@ -55,6 +56,9 @@ pub(crate) fn end_run<K: Sink, W: Wire, R: Threads + Wait + Sync>(
         record { held_before = K.held sink.old; held_after = K.held sink.new; faults_before = K.faults sink.old; faults_after = K.faults sink.new }) }
     ensures counted { IfOk result (IsCountedEnd W.End.means.tells (start.can_fail ≡ true) start.budget start.counts
         record { faults = W.faults wire.new; nothings = W.nothings wire.new; fulls = W.fulls wire.new }) }
+    ensures cut { (limit hosts : ℕ) (commands : List Placed) (before : ℕ) → AreDone W.End.means limit hosts (rows_of lines.items) →
+        HaveDoneSpared hosts commands callers.items (rows_of lines.items) → HaveCounted commands before (W.faults wire.old) (rows_of lines.items) →
+        before < 2 ^ 64 → IfOk result (IsCutEnd commands before (W.faults wire.new)) }
     ensures memory { OnErr result (K.held sink.new ≡ K.held sink.old) }
     ensures out { W.out wire.new ≡ W.out wire.old - ends_of_all (rows_of lines.items) }
 {

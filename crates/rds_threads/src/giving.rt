@@ -1,5 +1,6 @@
 //! The ends of lines that are of no more use.
 ghost use Rattle.std.specs.Prelude.{◌≡◌, ◌-◌};
+ghost use Rattle.rds_gather.specs.Risen.{StaysRisen};
 ghost use Rattle.rds_host.specs.Held.{ends_in, ends_of_all};
 ghost use Rattle.rds_rounds.specs.Grid.{rows_of};
 
@@ -21,7 +22,8 @@ pub(crate) fn end_lines<W: Wire, R: Wait>(rt: &R, wire: &mut W, lines: Lines<W::
 
 /// Gives every end of a host's lines back to the wire.
 pub(crate) fn end_row<W: Wire, R: Wait>(rt: &R, wire: &mut W, row: Vec<Line<W::End, Writer>>)
-    ensures { W.out wire.new ≡ W.out wire.old - ends_in row.items }
+    ensures out { W.out wire.new ≡ W.out wire.old - ends_in row.items }
+    ensures risen { StaysRisen (W.faults wire.old) (W.faults wire.new) }
 {
     for line in row {
         end_line(rt, wire, line);

@@ -1,8 +1,9 @@
 //! What is left of the hosts of a run.
-ghost use Rattle.std.specs.Prelude.{◌≡◌, ◌≤◌, ◌-◌, ◌∷◌, ◌++◌, [], ℕ, List, All, IfOk, Ok, OnOk, Some, length, map, slice_get, true};
+ghost use Rattle.std.specs.Prelude.{◌≡◌, ◌≤◌, ◌<◌, ◌-◌, ◌^◌, ◌∷◌, ◌++◌, [], ℕ, List, All, IfOk, Ok, OnOk, Some, length, map, slice_get, true};
 ghost use Rattle.rds_text.specs.declared.host.TheConstants.{MAX_HOSTS};
 ghost use Rattle.rds_host.specs.Held.{ends_in, ends_of_all};
 ghost use Rattle.rds_gather.specs.Grounded.{AreMapsGrounded};
+ghost use Rattle.rds_gather.specs.Risen.{StaysRisen};
 ghost use Rattle.rds_gather.specs.Sides.{line_side};
 ghost use Rattle.rds_final.specs.declared.final_state.HostEnd.{HostEnd as EndView};
 ghost use Rattle.rds_final.specs.Views.{AreFinalHosts, host_view, host_views, side_view, socket_view};
@@ -11,10 +12,12 @@ ghost use Rattle.rds_rounds.specs.Done.{AreDone};
 ghost use Rattle.rds_rounds.specs.Drained.{AreDrainedLines};
 ghost use Rattle.rds_rounds.specs.Grid.{rows_of};
 ghost use Rattle.rds_callers.specs.Places.{IsUsed, Place};
+ghost use Rattle.rds_parties.specs.Preparing.{HaveCounted};
 ghost use Rattle.rds_settling.specs.Tied.{AreSlotsTold, AreTied, PlacesHear, holdings};
 ghost use Rattle.rds_script.specs.declared.script.Placed.{Placed};
 ghost use Rattle.rds_threads.specs.Causes.{alive_in_ends};
 ghost use Rattle.rds_threads.specs.Counted.{AreEndsClosed, EndsOweNothing};
+ghost use Rattle.rds_threads.specs.Cuts.{AreCutsOfEnds};
 ghost use Rattle.rds_threads.specs.Ends.{AreEnds, AreSettledHosts};
 ghost use Rattle.rds_threads.specs.Reliable.{HasReceived};
 ghost use Rattle.rds_threads.specs.Settled.{AreAllCut, AreAllSent, AreKeptOf, AreLeftOf, HasSettled, HaveAllFound, HaveAllGone, HaveAllLooked, HaveDoneSpared, HaveSettled};
@@ -46,6 +49,9 @@ pub(crate) fn host_ends<W: Wire, R: Wait>(
     requires settled { HaveSettled callers.items (rows_of lines.items) }
     ensures ends { (limit hosts : ℕ) (commands : List Placed) → AreDone W.End.means limit hosts (rows_of lines.items) →
         HaveDoneSpared hosts commands callers.items (rows_of lines.items) → IfOk result (λ ends. AreEnds W.End.means.tells hosts commands (host_views ends.items)) }
+    ensures cut { (limit hosts : ℕ) (commands : List Placed) (before : ℕ) → AreDone W.End.means limit hosts (rows_of lines.items) →
+        HaveDoneSpared hosts commands callers.items (rows_of lines.items) → HaveCounted commands before (W.faults wire.old) (rows_of lines.items) →
+        before < 2 ^ 64 → IfOk result (λ ends. AreCutsOfEnds commands before (W.faults wire.new) (host_views ends.items)) }
     ensures hosts { IfOk result (λ ends. AreFinalHosts (host_views ends.items)) }
     ensures settled { (limit hosts : ℕ) (commands : List Placed) → AreDone W.End.means limit hosts (rows_of lines.items) →
         HaveDoneSpared hosts commands callers.items (rows_of lines.items) → W.End.means.tells ≡ true → AreDrainedLines (rows_of lines.items) →
@@ -71,6 +77,7 @@ fn all_ends<W: Wire, R: Wait>(
     requires few { length lines.items ≤ MAX_HOSTS }
     requires settled { HaveSettled callers.items (rows_of lines.items) }
     ensures left { IfOk result (λ ends. AreLeftOf callers.items (rows_of lines.items) ends.items) }
+    ensures risen { StaysRisen (W.faults wire.old) (W.faults wire.new) }
     ensures out { W.out wire.new ≡ W.out wire.old - ends_of_all (rows_of lines.items) }
 {
     let mut ends = Vec::new(alloc);
@@ -113,6 +120,7 @@ fn host_end<W: Wire, R: Wait>(
     ensures gone { IfOk result (λ end. HaveAllGone lines.items (map socket_view end.kept.items)) }
     ensures found { OnOk result (HaveAllFound caller.places lines.items) }
     ensures kept { IfOk result (λ end. AreKeptOf caller.places end.kept.items) }
+    ensures risen { StaysRisen (W.faults wire.old) (W.faults wire.new) }
     ensures out { W.out wire.new ≡ W.out wire.old - ends_in lines.items }
 {
     tell_slots(&mut caller, &mut lines);

@@ -7,6 +7,7 @@ ghost use Rattle.rds_rounds.specs.Grid.{rows_of};
 ghost use Rattle.rds_script.specs.declared.script.Placed.{Placed};
 ghost use Rattle.rds_host.specs.Held.{ends_of_all};
 ghost use Rattle.rds_threads.specs.Counted.{IsCountedEnd};
+ghost use Rattle.rds_threads.specs.Cuts.{IsCutEnd};
 ghost use Rattle.rds_threads.specs.Ends.{IsEndOfRun};
 ghost use Rattle.rds_threads.specs.declared.form.RunEnd.TheVariants as ended;
 ghost use Rattle.rds_threads.specs.Settled.{AreToldBelow, HaveDoneLed, IsToldOf};
@@ -61,6 +62,7 @@ where
     ensures counted { IsCountedEnd W.End.means.tells (W.may_fail wire.old) budget
         record { faults = W.faults wire.old; nothings = W.nothings wire.old; fulls = W.fulls wire.old }
         record { faults = W.faults wire.new; nothings = W.nothings wire.new; fulls = W.fulls wire.new } result }
+    ensures cut { IsCutEnd script.now.commands.items (W.faults wire.old) (W.faults wire.new) result }
     ensures given_back { result ≢ ended.Memory → W.out wire.new ≤ W.out wire.old }
 {
     match ended(rt, alloc, script, wire, gate, form, limit, budget, sink) {
@@ -91,6 +93,7 @@ where
     ensures counted { IfOk result (IsCountedEnd W.End.means.tells (W.may_fail wire.old) budget
         record { faults = W.faults wire.old; nothings = W.nothings wire.old; fulls = W.fulls wire.old }
         record { faults = W.faults wire.new; nothings = W.nothings wire.new; fulls = W.fulls wire.new }) }
+    ensures cut { IfOk result (IsCutEnd script.now.commands.items (W.faults wire.old) (W.faults wire.new)) }
     ensures memory { OnErr result (K.held sink.new ≡ K.held sink.old) }
     ensures out { IfOk result (λ _. W.out wire.new ≤ W.out wire.old) }
 {
@@ -125,6 +128,9 @@ fn finish<K: Sink, W: Wire, R: Threads + Wait + Sync>(
         record { held_before = K.held sink.old; held_after = K.held sink.new; faults_before = K.faults sink.old; faults_after = K.faults sink.new }) }
     ensures counted { IfOk result (IsCountedEnd W.End.means.tells (start.can_fail ≡ true) start.budget start.counts
         record { faults = W.faults wire.new; nothings = W.nothings wire.new; fulls = W.fulls wire.new }) }
+    ensures cut { (limit hosts : ℕ) (commands : List Placed) → AreHosts W.End.means limit hosts (rows_of lines.items) →
+        HaveDoneLed hosts commands callers.items (rows_of lines.items) → HaveCounted commands start.counts.faults (W.faults wire.old) (rows_of lines.items) →
+        IfOk result (IsCutEnd commands start.counts.faults (W.faults wire.new)) }
     ensures memory { OnErr result (K.held sink.new ≡ K.held sink.old) }
     ensures out { W.out wire.new ≡ W.out wire.old - ends_of_all (rows_of lines.items) }
 {

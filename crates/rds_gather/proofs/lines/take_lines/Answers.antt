@@ -55,4 +55,5 @@ loop-line-preserved g c =
             pushed_map (λ (l : LineView g.row.W-End.Denot WriterView). l.words) old.words.items new.words.items seen own.result.words line (added c.add.result old.words.items new.words.items own.result.words c.add.ensures.words both.1) inv.4 own.ensures.words,
           ),
       out_after seen line _ _ _ c.loop-line.invariant.3 own.ensures.out,
+      λ before fits risen. own.ensures.risen before fits (c.loop-line.invariant.4 before fits risen),
     )

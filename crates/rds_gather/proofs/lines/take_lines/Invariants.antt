@@ -4,6 +4,7 @@ use Rattle.rds_host.specs.Held.{ends_in}
 use Rattle.rds_line.specs.Keeps.{KeepsLine}
 use Rattle.rds_gather.specs.Columns.{rows_left}
 use Rattle.rds_gather.specs.Cuts.{HasCut}
+use Rattle.rds_gather.specs.Risen.{StaysRisen}
 use Rattle.rds_gather.specs.Sides.{line_side}
 use Rattle.rds_gather.proofs.lines.take_lines.Given as goal
 
@@ -18,3 +19,4 @@ invariant-loop-line g l =
     × (l.left.ports.items ≡ map (λ line. line.ports) l.yielded)
     × (l.left.words.items ≡ map (λ line. line.words) l.yielded))
     × (g.W.Wire.out l.wire ≡ g.W.Wire.out l.fn.wire - ends_in l.yielded)
+    × StaysRisen (g.W.Wire.faults l.fn.wire) (g.W.Wire.faults l.wire)

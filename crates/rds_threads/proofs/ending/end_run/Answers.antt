@@ -11,6 +11,7 @@ use Rattle.rds_threads.specs.Ends.{IsEndOfRun, Writes, Written}
 use Rattle.rds_threads.specs.Texts.{fault_line, text_of, unfinished_line}
 use Rattle.rds_threads.specs.declared.form.RunEnd.TheVariants as ended
 use Rattle.rds_threads.proofs.Counted.{as_tested, counted_ok}
+use Rattle.rds_threads.proofs.CutsOfRun.{cut_ok}
 use Rattle.rds_threads.proofs.Lacking.{lacking_of}
 use Rattle.rds_threads.proofs.Rows.{rows_count}
 use Rattle.rds_threads.proofs.Spent.{full_two, spent_end}
@@ -203,3 +204,56 @@ returns-else-not-has_waited-clause-counted g c =
           (c.requires.closed count unwritten (c.in-Unfinished.is ∙ ap (λ (o : Bool). rounds.Unfinished count unwritten o) off)))
           found.1,
     ) c.end_unfinished.ensures.end
+
+-- refused where a line's cuts are lost
+pub returns-in_ok-ends-in-Done-clause-cut : goal.returns-in_ok-ends-in-Done-clause-cut
+returns-in_ok-ends-in-Done-clause-cut g c = λ limit hosts commands before done did counted fits.
+    let ends = c.in_ok-ends-in-Done.ends in
+    let sink : Written = record {
+      held_before = g.K.Sink.held c.args.sink.now;
+      held_after = g.K.Sink.held c.end_by_report.new.sink;
+      faults_before = g.K.Sink.faults c.args.sink.now;
+      faults_after = g.K.Sink.faults c.end_by_report.new.sink;
+    } in
+    cut_ok commands before (g.W.Wire.faults c.host_ends.new.wire) sink (text_of c.args.form (host_views ends.items)) (ended.Ok ends) c.end_by_report.result
+    (c.in_ok-ends-in-Done.ensures.cut limit hosts commands before done did counted fits) c.end_by_report.ensures.end
+
+-- refused where a line's cuts are lost
+pub returns-else-not-has_waited-clause-cut : goal.returns-else-not-has_waited-clause-cut
+returns-else-not-has_waited-clause-cut g c = λ limit hosts commands before done did counted fits.
+    let ends = c.in_ok-ends-in-Unfinished.ends in
+    let count = c.in-Unfinished.count in
+    let sink : Written = record {
+      held_before = g.K.Sink.held c.args.sink.now;
+      held_after = g.K.Sink.held c.end_unfinished.new.sink;
+      faults_before = g.K.Sink.faults c.args.sink.now;
+      faults_after = g.K.Sink.faults c.end_unfinished.new.sink;
+    } in
+    cut_ok commands before (g.W.Wire.faults c.host_ends-in-Unfinished.new.wire) sink (unfinished_line count) (ended.Unfinished count ends) c.end_unfinished.result
+    (c.in_ok-ends-in-Unfinished.ensures.cut limit hosts commands before done did counted fits) c.end_unfinished.ensures.end
+
+pub returns-else-not-has_faulted-clause-cut : goal.returns-else-not-has_faulted-clause-cut
+returns-else-not-has_faulted-clause-cut g c = λ limit hosts commands before done did counted fits.
+    let low = c.in-Fault.low in
+    let high = c.in-Fault.high in
+    let stream = newest_stream c.journals-journal.result.0.past in
+    let sink : Written = record {
+      held_before = g.K.Sink.held c.args.sink.now;
+      held_after = g.K.Sink.held c.end_by_fault.new.sink;
+      faults_before = g.K.Sink.faults c.args.sink.now;
+      faults_after = g.K.Sink.faults c.end_by_fault.new.sink;
+    } in
+    cut_ok commands before _ sink (fault_line low high stream) (ended.WireFault low high stream) c.end_by_fault.result tt c.end_by_fault.ensures.end
+
+pub returns-in-Spent-clause-cut : goal.returns-in-Spent-clause-cut
+returns-in-Spent-clause-cut g c = λ limit hosts commands before done did counted fits.
+    let own = c.journals-own.result.0 in
+    let other = c.journals-own.result.1 in
+    let sink : Written = record {
+      held_before = g.K.Sink.held c.args.sink.now;
+      held_after = g.K.Sink.held c.end_by_spent.new.sink;
+      faults_before = g.K.Sink.faults c.args.sink.now;
+      faults_after = g.K.Sink.faults c.end_by_spent.new.sink;
+    } in
+    cut_ok commands before _ sink _ (ended.Spent c.in-Spent.host c.in-Spent.peer c.in-Spent.entries own other) c.end_by_spent.result tt
+    c.end_by_spent.ensures.end

@@ -6,4 +6,4 @@ pub loop-row-preserved : goal.loop-row-preserved
 loop-row-preserved g c =
     let more = rows_more c.loop-row.yielded c.in-Some.row in
     let past = c.loop-row.invariant in
-    omega (arith, more, past, c.end_row.ensures)
+    omega (arith, more, past, c.end_row.ensures.out)

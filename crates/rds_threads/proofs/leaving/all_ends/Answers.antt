@@ -80,4 +80,5 @@ loop-caller-preserved g c =
           (let first = first_more (rows_of lines) n row.items (row_at lines n row at.second) in
           let past = c.loop-caller.invariant.2 in
           omega (arith, first, past, end.ensures.out)),
+      λ before fits risen. end.ensures.risen before fits (c.loop-caller.invariant.3 before fits risen),
     )

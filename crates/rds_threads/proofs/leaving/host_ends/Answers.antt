@@ -8,11 +8,13 @@ use Rattle.rds_rounds.specs.Causes.{OwesNothing, alive_in_rows}
 use Rattle.rds_rounds.specs.Grid.{rows_of}
 use Rattle.rds_threads.specs.Causes.{alive_in_ends}
 use Rattle.rds_threads.specs.Counted.{AreEndsClosed, EndsOweNothing}
+use Rattle.rds_threads.specs.Cuts.{AreCutsOfEnds}
 use Rattle.rds_threads.specs.Ends.{AreEnds, AreSettledHosts}
 use Rattle.rds_threads.specs.Settled.{AreLeftOf}
 use Rattle.rds_threads.proofs.NonePending.{none_pending}
 use Rattle.rds_threads.proofs.Alive.{alive_left}
 use Rattle.rds_threads.proofs.Counted.{of_each_left}
+use Rattle.rds_threads.proofs.CutsOfRun.{cuts_of_ends}
 use Rattle.rds_threads.proofs.Sound.{drained_of, ends_of, final_of}
 use Rattle.rds_threads.proofs.Written.{on_ok}
 use Rattle.rds_threads.proofs.leaving.host_ends.Goals as goal
@@ -68,3 +70,12 @@ returns-clause-closed g c = λ closed.
     (λ ends left.
     of_each_left (λ past. open_stream past ≡ None) c.args.callers.items (rows_of c.args.lines.items) ends.items c.requires.settled.count left closed)
     c.all_ends.ensures.left
+
+-- refused where a line's cuts are lost
+pub returns-clause-cut : goal.returns-clause-cut
+returns-clause-cut g c = λ limit hosts commands before done did counted fits.
+    on_ok (λ (ends : Vec HostEnd Global). AreLeftOf c.args.callers.items (rows_of c.args.lines.items) ends.items)
+    (λ (ends : Vec HostEnd Global). AreCutsOfEnds commands before (g.W.Wire.faults c.all_ends.new.wire) (host_views ends.items)) c.all_ends.result
+    (λ ends left.
+    cuts_of_ends g.W.End.End.means limit hosts c.args.callers.items (rows_of c.args.lines.items) ends.items done c.requires.settled.count left commands did before
+    (g.W.Wire.faults c.args.wire.now) (g.W.Wire.faults c.all_ends.new.wire) counted (c.all_ends.ensures.risen before fits)) c.all_ends.ensures.left

@@ -1,4 +1,8 @@
-use Rattle.std.proofs.Common.{◌≡◌, ◌≤◌, true, arith}
+use Rattle.std.proofs.Common.{◌≡◌, ◌≤◌, ℕ, IfOk, true, ap, subst, sym, arith}
+use Rattle.rds_link.specs.declared.wire.WireCounts.{WireCounts}
+use Rattle.rds_parties.specs.Preparing.{HaveCounted}
+use Rattle.rds_rounds.specs.Grid.{rows_of}
+use Rattle.rds_threads.specs.Cuts.{IsCutEnd}
 use Rattle.rds_threads.proofs.Counted.{counted_of}
 use Rattle.rds_threads.proofs.Finished.{all_done}
 use Rattle.rds_threads.proofs.Held.{of_any}
@@ -39,3 +43,19 @@ returns-clause-out g c =
     let made = c.in_ok-callers.ensures.ends in
     let played = c.play-callers.ensures.ends in
     of_any c.finish.result (g.W.Wire.out c.finish.new.wire ≤ g.W.Wire.out c.args.wire.now) (omega (arith, prepared, made, played, c.finish.ensures.out))
+
+pub returns-clause-cut : goal.returns-clause-cut
+returns-clause-cut g c =
+    let hosts = c.args.script.now.hosts in
+    let obeyed = rw c.in-Ok.is at c.play-callers.ensures.obeyed in
+    let led = rw c.in-Ok.is at c.play-callers.ensures.led in
+    let commands = c.args.script.now.commands.items in
+    let before = g.W.Wire.faults c.args.wire.now in
+    let middle = g.W.Wire.faults c.prepare.new.wire in
+    let same : c.of-start.result.counts.faults ≡ before = ap (λ (w : WireCounts). w.faults) c.of-start.ensures.counts in
+    subst (λ (n : ℕ). IfOk c.finish.result (IsCutEnd commands n (g.W.Wire.faults c.finish.new.wire))) same
+    (c.finish.ensures.cut c.args.limit hosts commands
+    (c.play-callers.ensures.hosts c.args.limit hosts c.in_ok-callers.ensures.hosts)
+    (all_done hosts commands _ _ _ c.in_ok-callers.ensures.new obeyed led)
+    (subst (λ (n : ℕ). HaveCounted commands n middle (rows_of c.play-callers.result.1.items)) (sym same)
+    (c.play-callers.ensures.counted commands before middle (c.in_ok-callers.ensures.counted commands before middle c.in_ok-streams.ensures.counted))))

@@ -1,4 +1,4 @@
-use Rattle.std.proofs.Common.{◌≡◌, ◌-◌, length, ap, ◌∙◌, arith}
+use Rattle.std.proofs.Common.{◌≡◌, ◌-◌, length, ap, ◌∙◌, arith, rules}
 use Rattle.rds_rounds.specs.Grid.{rows_of}
 use Rattle.rds_parties.specs.HeldLaws.{going_as_many, kept_as_many}
 use Rattle.rds_threads.proofs.Finished.{all_settled, done_spared}
@@ -85,3 +85,21 @@ returns-clause-out g c =
     let ends = going_as_many told last c.last_rounds-end.ensures.rows
     ∙ kept_as_many old told (rows_same c.args.callers.items c.tell_all.new.callers.items old told same c.tell_all.ensures) in
     c.end_run.ensures.out ∙ ap (λ n. g.W.Wire.out c.args.wire.now - n) ends
+
+pub returns-clause-cut : goal.returns-clause-cut
+returns-clause-cut g c = λ limit hosts commands are did counted.
+    let old = rows_of c.args.lines.items in
+    let told = rows_of c.tell_all.new.lines.items in
+    let callers = c.requires.parties.2.callers_count in
+    let rows = c.requires.parties.2.rows_count in
+    let same : length c.args.callers.items ≡ length old = omega (arith, callers, rows) in
+    let kept = rows_same c.args.callers.items c.tell_all.new.callers.items old told same c.tell_all.ensures in
+    let before = c.args.start.counts.faults in
+    let middle = g.W.Wire.faults c.args.wire.now in
+    c.end_run.ensures.cut limit hosts commands before
+    (c.last_rounds-end.ensures.done limit hosts (c.connected_keeps.ensures.same limit hosts old told are kept))
+    (done_spared hosts commands c.args.callers.items c.tell_all.new.callers.items old told (rows_of c.last_rounds-end.new.lines.items) same c.tell_all.ensures
+    c.last_rounds-end.ensures.rows did)
+    (c.counted_keeps.ensures.goes commands before middle told (rows_of c.last_rounds-end.new.lines.items)
+    (c.counted_keeps.ensures.same commands before middle old told counted kept) c.last_rounds-end.ensures.rows)
+    (search rules)
