@@ -1,6 +1,5 @@
 -- What a line owes after a turn that was idle or over.
-use Rattle.std.proofs.Common.{◌≡◌, ◌⊎◌, inl, inr, ℕ, if◌then◌else◌, Bool, false, List, [], Option, None, Some, slice_get, sym, ap, subst, ◌∙◌}
-use Rattle.std.proofs.lemmas.Option.{same_Some}
+use Rattle.std.proofs.Common.{◌≡◌, ◌⊎◌, inl, inr, ℕ, if◌then◌else◌, Bool, false, List, [], Option, None, Some, slice_get, sym, ap, ◌∙◌}
 use Rattle.rds_link.specs.Ends.{Means}
 use Rattle.rds_model.specs.declared.entry.Entry.{Entry}
 use Rattle.rds_model.specs.Owed.{owed_frame}
@@ -11,15 +10,13 @@ use Rattle.rds_line.specs.Turns.{FindsNoRoom, FindsNothingOwed, IsIdleTurn, Load
 use Rattle.rds_rounds.specs.Causes.{OwesNothing}
 use Rattle.rds_rounds.proofs.Resting.{owes_nothing}
 
--- where nothing is owed for some map, nothing is owed for the one that was pulled last
+-- where nothing is owed for some map, that map was pulled last, and nothing is owed for it
 none_owed : (past : List Entry) (own : List ℕ) → ((s : ℕ) → open_stream past ≡ Some s → owed_frame s past own ≡ None) → OwesNothing past
-none_owed past own none = λ s map on pulled.
-    let owes = owes_nothing s past own (none s on) in
-    subst (λ (m : List ℕ). owed_frame s past m ≡ None) (same_Some owes.map map (sym owes.pulled ∙ pulled)) owes.nothing
+none_owed past own none = λ s on. owes_nothing s past own (none s on)
 
 -- nor is anything where no stream is open
 pub none_open : (past : List Entry) → open_stream past ≡ None → OwesNothing past
-none_open past none = λ s map on pulled. absurd (never (open_stream past) s none on)
+none_open past none = λ s on. absurd (never (open_stream past) s none on)
   where
     never : (o : Option ℕ) (s : ℕ) → o ≡ None → o ≡ Some s → ⊥
     never o s none on = absurd (cc)

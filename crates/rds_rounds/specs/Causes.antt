@@ -2,16 +2,16 @@
 use Rattle.std.specs.Prelude.{◌≡◌, ◌⊎◌, ◌≤◌, ℕ, suc, Bool, false, All, List, None, Some, length, sum_by}
 use Rattle.rds_model.specs.declared.entry.Entry.{Entry}
 use Rattle.rds_model.specs.Alive.{alive_numbers}
-use Rattle.rds_model.specs.Owed.{last_map, owed_frame}
+use Rattle.rds_model.specs.Drained as drained
 use Rattle.rds_model.specs.Past.{open_stream}
 use Rattle.rds_model.specs.Sums.{opens}
 use Rattle.rds_line_streams.specs.Streams.{numbers}
 use Rattle.rds_line.specs.Line.{LineView, line_past}
 use Rattle.rds_rounds.specs.Grid.{IsAt}
 
--- no frame is owed to the stream that is open in a journal, for the map that was pulled last on it
+-- where a stream is open in a journal, a map was pulled on it, and no frame is owed to it for the map that was pulled last
 abbrev pub OwesNothing : List Entry → Type 0
-OwesNothing past = (s : ℕ) (map : List ℕ) → open_stream past ≡ Some s → last_map s past ≡ Some map → owed_frame s past map ≡ None
+OwesNothing past = (s : ℕ) → open_stream past ≡ Some s → drained.OwesNothing s past
 
 module _ {E M : Type 0} where
   -- no stream is open in the journal of a line, and it has opened all that were prepared for it

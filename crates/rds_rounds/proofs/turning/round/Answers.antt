@@ -3,6 +3,7 @@ use Rattle.rds_mail.specs.Learning.{AllGot}
 use Rattle.rds_model.specs.declared.entry.Entry.{Entry}
 use Rattle.rds_line.specs.Line.{line_past}
 use Rattle.rds_rounds.specs.Causes.{OwesNothing}
+use Rattle.rds_rounds.specs.Connection.{IsFullAt}
 use Rattle.rds_rounds.specs.Drained.{AreDrained}
 use Rattle.rds_rounds.proofs.Going.{goes_through}
 use Rattle.rds_rounds.proofs.Lacking.{lacks_met}
@@ -58,3 +59,9 @@ returns-clause-fault g c = λ first second fault.
       ⊎_elim (λ lacks. inl (lacks_met c.turn_both-came.new.one c.meet_lines-2.new.one c.meet_lines-2.ensures.one lacks))
           (λ lacks. inr (lacks_met c.turn_both-came.new.other c.meet_lines-2.new.other c.meet_lines-2.ensures.other lacks)) found.2,
     )
+
+pub returns-clause-spent : goal.returns-clause-spent
+returns-clause-spent g c = λ host peer entries spent.
+    ⊎_elim {C = IsFullAt host peer entries c.args.low c.args.high c.meet_lines-2.new.one c.meet_lines-2.new.other}
+    (λ at_one. inl (at_one.0, at_one.1, c.meet_lines-2.ensures.one.full entries at_one.2))
+    (λ at_other. inr (at_other.0, at_other.1, c.meet_lines-2.ensures.other.full entries at_other.2)) (c.turn_both-came.ensures.spent host peer entries spent)
