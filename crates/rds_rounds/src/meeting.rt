@@ -8,7 +8,7 @@ ghost use Rattle.rds_rounds.specs.Sound.{AreSoundJournals};
 use rds_fmap::Writer;
 use rds_line::{Line, meet};
 use rds_link::Wire;
-use rds_model::laws::headline_of_all;
+use rds_model::laws::{fifo_of_all, headline_of_all};
 
 /// The two lines of a connection meet: then what their journals have is sound, and each end knows what the other has done.
 pub(crate) fn meet_lines<W: Wire>(one: &mut Line<W::End, Writer>, other: &mut Line<W::End, Writer>)
@@ -23,5 +23,6 @@ pub(crate) fn meet_lines<W: Wire>(one: &mut Line<W::End, Writer>, other: &mut Li
     meet::<W, Writer>(one, other);
     one.known();
     other.known();
+    fifo_of_all();
     headline_of_all();
 }

@@ -18,6 +18,8 @@ sound_back tells low high s = record {
   low_legal = s.high_legal;
   high_legal = s.low_legal;
   honest = λ told. record { forth = (s.honest told).back; back = (s.honest told).forth };
+  fifo_forth = λ honest. s.fifo_back (record { forth = honest.back; back = honest.forth });
+  fifo_back = λ honest. s.fifo_forth (record { forth = honest.back; back = honest.forth });
   forth = λ honest. s.back (record { forth = honest.back; back = honest.forth });
   back = λ honest. s.forth (record { forth = honest.back; back = honest.forth });
 }

@@ -4,9 +4,7 @@ use Rattle.std.proofs.lemmas.List.{length-map}
 use Rattle.std.proofs.lemmas.Simd.{map-map}
 use Rattle.rds_link.specs.Ends.{Means}
 use Rattle.rds_model.specs.declared.entry.Entry.{Entry}
-use Rattle.rds_model.specs.Fifo.{IsFifo}
 use Rattle.rds_model.specs.Honest.{IsHonest}
-use Rattle.rds_model.specs.Legal.{IsLegal}
 use Rattle.rds_model.specs.Pairs.{IsDeliveredOnce}
 use Rattle.rds_fmap.specs.Readers.{WriterView}
 use Rattle.rds_line.specs.Line.{LineView, line_past}
@@ -133,8 +131,8 @@ module _ {E : Type 0} (m : Means E) (limit hosts : ℕ) (callers : List CallerVi
         });
   }
 
-  reliable_all : ((a b : List Entry) → IsLegal a → IsLegal b → IsHonest a b → (IsFifo a b × IsFifo b a)) → AreReliable (host_views ends)
-  reliable_all fifo low place one other a b least at at_other at_a at_b honest =
+  reliable_all : AreReliable (host_views ends)
+  reliable_all low place one other a b least at at_other at_a at_b honest =
       let first = host_at low one at in
       let second = host_at (suc place) other at_other in
       let la = line_at low place one a at at_a in
@@ -147,23 +145,21 @@ module _ {E : Type 0} (m : Means E) (limit hosts : ℕ) (callers : List CallerVi
       let b_past : line_past lb.0 ≡ b.past = sym (ap (λ (j : FinalJournal). j.past) lb.1) in
       let begins =
       subst (λ (p : List Entry). IsHonest p (line_past lb.0)) (sym a_past) (subst (λ (p : List Entry). IsHonest a.past p) (sym b_past) honest) in
-      let both = fifo (line_past la.0) (line_past lb.0) s.low_legal.legal s.high_legal.legal begins in
       let one_has : HasReceived one = subst HasReceived (sym first.is) first.rest.received in
       let other_has : HasReceived other = subst HasReceived (sym second.is) second.rest.received in (
         reliable_of low low a.past other b at_b other_peer other_has
-            (subst (λ (p : List Entry). AreAccepted p b.past) a_past (subst (λ (p : List Entry). AreAccepted (line_past la.0) p) b_past both.0.accepted))
+            (subst (λ (p : List Entry). AreAccepted p b.past) a_past (subst (λ (p : List Entry). AreAccepted (line_past la.0) p) b_past (s.fifo_forth begins).accepted))
             (subst (λ (p : List Entry). (sport dport : ℕ) → IsDeliveredOnce sport dport p b.past) a_past
             (subst (λ (p : List Entry). (sport dport : ℕ) → IsDeliveredOnce sport dport (line_past la.0) p) b_past (s.forth begins))),
         reliable_of (suc place) place b.past one a at_a one_peer one_has
-            (subst (λ (p : List Entry). AreAccepted p a.past) b_past (subst (λ (p : List Entry). AreAccepted (line_past lb.0) p) a_past both.1.accepted))
+            (subst (λ (p : List Entry). AreAccepted p a.past) b_past (subst (λ (p : List Entry). AreAccepted (line_past lb.0) p) a_past (s.fifo_back begins).accepted))
             (subst (λ (p : List Entry). (sport dport : ℕ) → IsDeliveredOnce sport dport p a.past) b_past
             (subst (λ (p : List Entry). (sport dport : ℕ) → IsDeliveredOnce sport dport (line_past lb.0) p) a_past (s.back begins))),
       )
 
   -- what they have in the end
-  pub ends_of : ((a b : List Entry) → IsLegal a → IsLegal b → IsHonest a b → (IsFifo a b × IsFifo b a)) → (commands : List Placed) →
-      HaveDoneSpared hosts commands callers rows → AreEnds m.tells hosts commands (host_views ends)
-  ends_of fifo commands did =
+  pub ends_of : (commands : List Placed) → HaveDoneSpared hosts commands callers rows → AreEnds m.tells hosts commands (host_views ends)
+  ends_of commands did =
       let ends_count = left.count in
       let rows_count = done.shape.count in record {
         count = length-map ends host_view ∙ (ends_count ∙ rows_count);
@@ -184,5 +180,5 @@ module _ {E : Type 0} (m : Means E) (limit hosts : ℕ) (callers : List CallerVi
             ))
             (did host is.caller is.row is.caller_at is.row_at) is.rest.sent is.rest.looked is.rest.cut is.rest.grounded is.rest.gone is.rest.found is.rest.kept));
         received = all_from HasReceived (host_views ends) (λ host final at. let is = host_at host final at in subst HasReceived (sym is.is) is.rest.received);
-        reliable = reliable_all fifo;
+        reliable = reliable_all;
       }

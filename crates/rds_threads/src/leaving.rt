@@ -29,7 +29,7 @@ use rds_fmap::Writer;
 use rds_gather::gather;
 use rds_line::Line;
 use rds_link::{End, Wire};
-use rds_model::laws::{accounted_of_all, fifo_of_all};
+use rds_model::laws::accounted_of_all;
 use rds_rounds::Lines;
 use rds_settling::laws::tied_ends;
 use rds_settling::settle_slots;
@@ -61,7 +61,6 @@ pub(crate) fn host_ends<W: Wire, R: Wait>(
     ensures closed { All AreClosed (rows_of lines.items) → IfOk result (λ ends. AreEndsClosed (host_views ends.items)) }
     ensures out { W.out wire.new ≡ W.out wire.old - ends_of_all (rows_of lines.items) }
 {
-    fifo_of_all();
     accounted_of_all();
     all_ends(rt, alloc, wire, callers, lines)
 }

@@ -11,6 +11,8 @@ returns-clause-sound g c =
       low_legal = one;
       high_legal = other;
       honest = c.meet.ensures.honest;
+      fifo_forth = λ honest. (c.fifo_of_all.ensures (line_past c.meet.new.a) (line_past c.meet.new.b) one.legal other.legal honest).0;
+      fifo_back = λ honest. (c.fifo_of_all.ensures (line_past c.meet.new.a) (line_past c.meet.new.b) one.legal other.legal honest).1;
       forth = λ honest. c.headline_of_all.ensures (line_past c.meet.new.a) (line_past c.meet.new.b) one.legal other.legal honest;
       back = λ honest.
           c.headline_of_all.ensures (line_past c.meet.new.b) (line_past c.meet.new.a) other.legal one.legal (record { forth = honest.back; back = honest.forth });

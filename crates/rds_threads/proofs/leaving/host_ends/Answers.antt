@@ -30,8 +30,8 @@ returns-clause-ends g c = λ limit hosts commands done did.
     on_ok (λ (ends : Vec HostEnd Global). AreLeftOf c.args.callers.items (rows_of c.args.lines.items) ends.items)
     (λ (ends : Vec HostEnd Global). AreEnds g.W.End.End.means.tells hosts commands (host_views ends.items)) c.all_ends.result
     (λ ends left.
-    ends_of g.W.End.End.means limit hosts c.args.callers.items (rows_of c.args.lines.items) ends.items done c.requires.settled.count left c.fifo_of_all.ensures
-    commands did) c.all_ends.ensures.left
+    ends_of g.W.End.End.means limit hosts c.args.callers.items (rows_of c.args.lines.items) ends.items done c.requires.settled.count left commands
+    did) c.all_ends.ensures.left
 
 pub returns-clause-hosts : goal.returns-clause-hosts
 returns-clause-hosts g c =
@@ -48,7 +48,7 @@ returns-clause-settled g c = λ limit hosts commands done did tells drained.
     (λ ends left.
     let m = g.W.End.End.means in
     let nothing = drained_of m limit hosts c.args.callers.items (rows_of c.args.lines.items) ends.items done c.requires.settled.count left drained in
-    let are = ends_of m limit hosts c.args.callers.items (rows_of c.args.lines.items) ends.items done c.requires.settled.count left c.fifo_of_all.ensures commands did in
+    let are = ends_of m limit hosts c.args.callers.items (rows_of c.args.lines.items) ends.items done c.requires.settled.count left commands did in
     (nothing, none_pending m.tells hosts commands (host_views ends.items) are c.accounted_of_all.ensures tells nothing)) c.all_ends.ensures.left
 
 pub returns-clause-alive : goal.returns-clause-alive
