@@ -1,6 +1,6 @@
 //! The last rounds of a run, on one thread.
 ghost use Rattle.std.specs.Prelude.{◌≡◌, ◌≢◌, ◌≤◌, ◌<◌, ℕ, Bool, All, false, true, Some, length};
-ghost use Rattle.rds_rounds.specs.Causes.{AreClosed, AreUnacked, HostsLackStream, OweNothing};
+ghost use Rattle.rds_rounds.specs.Causes.{AreClosed, AreUnacked, HostsLackStream, OweNothing, alive_in_rows};
 ghost use Rattle.rds_rounds.specs.Connection.{AreHosts, IsFullHost};
 ghost use Rattle.rds_rounds.specs.Done.{AreDone};
 ghost use Rattle.rds_rounds.specs.Drained.{AreDrainedLines};
@@ -25,7 +25,7 @@ pub type Lines<E> = Vec<Vec<Line<E, Writer>>>;
 /// How the last rounds ended.
 #[derive(Clone, Copy, Debug, PartialEq, Eq)]
 pub enum Rounds {
-    /// Nothing is left to move.
+    /// Nothing is left to move, and no datagram is left unacknowledged.
     Done,
     /// So many datagrams aren't acknowledged, and the budget of quiet rounds is spent. Whether bytes wait that an end had no room for, and
     /// whether a stream is open between two of the hosts.
@@ -66,6 +66,7 @@ pub fn last_rounds<W: Wire, R: Wait>(
     ensures rows { EachRow LinesGoOn (rows_of lines.old.items) (rows_of lines.new.items) }
     ensures quiet { IsQuietEnd result → All AreQuiet (rows_of lines.new.items) }
     ensures drained { W.End.means.tells ≡ true → result ≡ ended.Done → AreDrainedLines (rows_of lines.new.items) }
+    ensures acknowledged { result ≡ ended.Done → alive_in_rows (rows_of lines.new.items) ≡ 0 }
     ensures fault { (low high : ℕ) → result ≡ ended.Fault low high → (low < high) × (high < length lines.new.items) }
     ensures lacks { (low high : ℕ) → result ≡ ended.Fault low high → HostsLackStream low high (rows_of lines.new.items) }
     ensures unfinished { (count : ℕ) (unwritten connected : Bool) → result ≡ ended.Unfinished count unwritten connected →
@@ -111,6 +112,7 @@ fn end_after<E: End>(
     ensures closed { (count : ℕ) (unwritten : Bool) → result ≡ Some (ended.Unfinished count unwritten false) → All AreClosed (rows_of lines.now.items) }
     ensures quiet { (end : RoundsView) → result ≡ Some end → IsQuietEnd end → came ≡ round.Idle }
     ensures written { tells ≡ true → result ≡ Some ended.Done → All AreWritten (rows_of lines.now.items) }
+    ensures acknowledged { tells ≡ false → result ≡ Some ended.Done → alive_in_rows (rows_of lines.now.items) ≡ 0 }
 {
     match came {
         Round::Moved => None,
@@ -139,6 +141,7 @@ fn after_idle<E: End>(tells: bool, quiet: u64, budget: u64, lines: &Lines<E>) ->
     ensures never_fault { (low high : ℕ) → result ≢ Some (ended.Fault low high) }
     ensures never_spent { (host peer entries : ℕ) → result ≢ Some (ended.Spent host peer entries) }
     ensures written { tells ≡ true → result ≡ Some ended.Done → All AreWritten (rows_of lines.now.items) }
+    ensures acknowledged { tells ≡ false → result ≡ Some ended.Done → alive_in_rows (rows_of lines.now.items) ≡ 0 }
 {
     if tells {
         return if are_written(lines) {

@@ -21,7 +21,14 @@ pub ran_of : (tells : Bool) (limit : ℕ) (form : Form) (s : Meaning) (sink : Wr
     IsEndOfRun form tells limit s.hosts s.commands sink result → IsRan tells form s sink.held_before sink.held_after
 ran_of tells limit form s sink result ends is end =
     let ran = subst (IsEndOfRun form tells limit s.hosts s.commands sink) is end in
-    record { ends = host_views ends.items; did = ran.0; drained = λ told. (ran.1 told).0; none_pending = λ told. (ran.1 told).1; written = ran.2 }
+    record {
+      ends = host_views ends.items;
+      did = ran.0;
+      acknowledged = ran.1;
+      drained = λ told. (ran.2 told).0;
+      none_pending = λ told. (ran.2 told).1;
+      written = ran.3;
+    }
 
 -- and so for the other ends of a run
 module _ (seen : WireSeen) (form : Form) (s : Meaning) (sink : Written) (result : RunEnd) where

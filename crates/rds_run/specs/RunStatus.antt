@@ -10,7 +10,7 @@ use Rattle.rds_final.specs.FinalState.{FinalHost}
 use Rattle.rds_parties.specs.Streams.{prepared_streams}
 use Rattle.rds_threads.specs.Causes.{AreLackingStream, AreUnacknowledged, IsFullJournal}
 use Rattle.rds_threads.specs.Counted.{AreEndsClosed, EndsOweNothing}
-use Rattle.rds_threads.specs.Ends.{AreDrainedHosts, AreEnds, NonePending}
+use Rattle.rds_threads.specs.Ends.{AreAcknowledged, AreDrainedHosts, AreEnds, NonePending}
 use Rattle.rds_threads.specs.Texts.{fault_line, text_of, unfinished_line}
 use Rattle.rds_threads.specs.declared.form.Form.{Form}
 use Rattle.rds_threads.specs.declared.form.Form.TheVariants as form
@@ -47,11 +47,13 @@ abbrev pub seen_over : RunWire → (tcp : WireSeen) → WireSeen
 seen_over wire.Memory tcp = memory_seen
 seen_over wire.Tcp tcp = tcp
 
--- A run of the script came to its end: its hosts did the script's commands, what they have then is sound, and the sink took exactly the
--- text of this form on it. Where ends tell their bytes, nothing is left on its way between any two of the hosts, and no datagram is pending.
+-- A run of the script came to its end: its hosts did the script's commands, what they have then is sound, no datagram is left unacknowledged,
+-- and the sink took exactly the text of this form on it. Where ends tell their bytes, nothing is left on its way between any two of the hosts, and
+-- no datagram is pending.
 pub record IsRan (tells : Bool) (form : Form) (s : Meaning) (held_before held_after : Option (List ℕ)) : Type 0 where
   pub ends : List FinalHost
   pub did : AreEnds tells s.hosts s.commands ends
+  pub acknowledged : AreAcknowledged ends
   pub drained : tells ≡ true → AreDrainedHosts ends
   pub none_pending : tells ≡ true → NonePending ends
   pub written : SinkGained held_before held_after (text_of form ends)

@@ -1,4 +1,4 @@
--- Where nothing is left between any two hosts, no datagram of any port pair is pending.
+-- Where no number is alive in the journals of any two hosts, no datagram of any port pair is pending.
 use Rattle.std.proofs.Common.{◌≡◌, ◌≢◌, inl, inr, ℕ, zero, suc, ◌+◌, ◌-◌, ◌<◌, ◌≤◌, ◌==◌, Bool, true, false, cond, Some, List, [], ◌∷◌, All, length, map, option_map, slice_get, refl, sym, ap, subst, ◌∙◌, arith}
 use Rattle.std.specs.List.{flat_map, range_with_len}
 use Rattle.std.proofs.lemmas.Bool.{cases_lt, cond-false, cond-true, eq-eqb, ne_eqb}
@@ -16,8 +16,9 @@ use Rattle.rds_final.specs.Hosts.{address_of}
 use Rattle.rds_final.specs.Report.{Group, accepted_groups, ascending, counts, is_before, pending, with_group}
 use Rattle.rds_rounds.specs.Grid.{IsAt, others, peer_at}
 use Rattle.rds_script.specs.declared.script.Placed.{Placed}
-use Rattle.rds_threads.specs.Ends.{AreDrainedHosts, AreEnds, NonePending}
+use Rattle.rds_threads.specs.Ends.{AreEnds, NonePending, NonePendingWhereHonest}
 use Rattle.rds_threads.specs.Reliable.{AllWentToSockets, IsReliableTo}
+use Rattle.rds_threads.proofs.Alive.{AreSilent}
 use Rattle.rds_threads.proofs.At.{all_at, at_map, some_at}
 use Rattle.rds_threads.proofs.Pending.{counts_by, none_left, pair_of}
 use Rattle.rds_threads.proofs.Rows.{peer_after, peer_before, peers_ascend}
@@ -160,7 +161,7 @@ module _ (tells : Bool) (hosts : ℕ) (commands : List Placed) (ends : List Fina
       subst (λ (from : ℕ). pending (counts ends (record { to = a.peer; dport = dport; from = from; sport = sport })) ≡ 0) (sym (e.addresses h sender at))
       (ap pending are ∙ none)
 
-  module _ (accounted : (x y : List Entry) → IsLegal x → IsLegal y → IsHonest x y → alive_numbers x ≡ [] → (sport dport : ℕ) → IsAllAccounted sport dport x y) (told : tells ≡ true) (drained : AreDrainedHosts ends) where
+  module _ (accounted : (x y : List Entry) → IsLegal x → IsLegal y → IsHonest x y → alive_numbers x ≡ [] → (sport dport : ℕ) → IsAllAccounted sport dport x y) (silent : AreSilent ends) where
     -- a journal stands at a place of a host's
     stands : (host place : ℕ) (end : FinalHost) (side : FinalJournal) → slice_get ends host ≡ Some end → slice_get end.sides place ≡ Some side →
         IsAt (map (λ (x : FinalHost). x.sides) ends) host place side
@@ -171,31 +172,56 @@ module _ (tells : Bool) (hosts : ℕ) (commands : List Placed) (ends : List Fina
     )
 
     both_ways : (low place : ℕ) (one other : FinalHost) (a b : FinalJournal) → low ≤ place → slice_get ends low ≡ Some one → slice_get ends (suc place) ≡ Some other →
-        slice_get one.sides place ≡ Some a → slice_get other.sides low ≡ Some b → IsWay low (suc place) a b other × IsWay (suc place) low b a one
-    both_ways low place one other a b least at at_other at_a at_b =
+        slice_get one.sides place ≡ Some a → slice_get other.sides low ≡ Some b → IsHonest a.past b.past → IsWay low (suc place) a b other × IsWay (suc place) low b a one
+    both_ways low place one other a b least at at_other at_a at_b honest =
         let sound = e.sound low place a b least (stands low place one a at at_a) (stands (suc place) low other b at_other at_b) in
-        let quiet = drained low place a b least (stands low place one a at at_a) (stands (suc place) low other b at_other at_b) in
-        let honest = sound.honest told in
+        let none = silent low place a b least (stands low place one a at at_a) (stands (suc place) low other b at_other at_b) in
         let reliable = e.reliable low place one other a b least at at_other at_a at_b honest in (
           record {
             legal_a = sound.low_legal.legal;
             legal_b = sound.high_legal.legal;
             honest = honest;
-            none_alive = quiet.settled.none_alive_a;
+            none_alive = none.0;
             reliable = reliable.0;
           },
           record {
             legal_a = sound.high_legal.legal;
             legal_b = sound.low_legal.legal;
             honest = record { forth = honest.back; back = honest.forth };
-            none_alive = quiet.settled.none_alive_b;
+            none_alive = none.1;
             reliable = reliable.1;
           },
         )
 
-    side_done : (h p : ℕ) (sender : FinalHost) (a : FinalJournal) → slice_get ends h ≡ Some sender → slice_get sender.sides p ≡ Some a → (sport dport : ℕ) →
+    -- the peer of a journal is the host that has the other one
+    peer_named : (h k p : ℕ) (sender receiver : FinalHost) (a : FinalJournal) → slice_get ends h ≡ Some sender → slice_get ends k ≡ Some receiver →
+        slice_get sender.sides p ≡ Some a → peer_at h p ≡ k → a.peer ≡ receiver.addr
+    peer_named h k p sender receiver a at at_other at_a to =
+        (peer_there h p sender a at at_a).0 ∙ ap address_of to ∙ sym (e.addresses k receiver at_other)
+
+    pub none_where_honest : NonePendingWhereHonest ends
+    none_where_honest low place one other a b least at at_other at_a at_b honest =
+        let ways = both_ways low place one other a b least at at_other at_a at_b honest in
+        let to = peer_after low place least in
+        let back = peer_before (suc place) low (omega (arith, least)) in (
+          λ sport dport.
+              subst (λ (n : ℕ). pending (counts ends (record { to = n; dport = dport; from = one.addr; sport = sport })) ≡ 0)
+              (peer_named low (suc place) place one other a at at_other at_a to)
+              (way_done accounted low (suc place) place low one other a b at at_other at_a at_b to back ways.0 sport dport),
+          λ sport dport.
+              subst (λ (n : ℕ). pending (counts ends (record { to = n; dport = dport; from = other.addr; sport = sport })) ≡ 0)
+              (peer_named (suc place) low low other one b at_other at at_b back)
+              (way_done accounted (suc place) low low place other one b a at_other at at_b at_a back to ways.1 sport dport),
+        )
+
+    between : tells ≡ true → (low place : ℕ) (one other : FinalHost) (a b : FinalJournal) → low ≤ place → slice_get ends low ≡ Some one →
+        slice_get ends (suc place) ≡ Some other → slice_get one.sides place ≡ Some a → slice_get other.sides low ≡ Some b → IsHonest a.past b.past
+    between told low place one other a b least at at_other at_a at_b =
+        (e.sound low place a b least (stands low place one a at at_a) (stands (suc place) low other b at_other at_b)).honest told
+
+    side_done : tells ≡ true → (h p : ℕ) (sender : FinalHost) (a : FinalJournal) → slice_get ends h ≡ Some sender → slice_get sender.sides p ≡ Some a → (sport dport : ℕ) →
         pending (counts ends (record { to = a.peer; dport = dport; from = sender.addr; sport = sport })) ≡ 0
-    side_done h p sender a at at_a =
+    side_done told h p sender a at at_a =
         let count = e.count in
         let known = slice_get_within ends h sender at in
         let within = (peer_there h p sender a at at_a).1 in
@@ -206,22 +232,24 @@ module _ (tells : Bool) (hosts : ℕ) (commands : List Placed) (ends : List Fina
               let b = some_at receiver.0.sides (h - 1) (omega (arith, long, known, count, before)) in
               let is : suc (h - 1) ≡ h = omega (arith, before) in
               let least : p ≤ h - 1 = omega (arith, before) in
-              let ways = both_ways p (h - 1) receiver.0 sender b.0 a least receiver.1 (subst (λ (n : ℕ). slice_get ends n ≡ Some sender) (sym is) at) b.1 at_a in
+              let at_top = subst (λ (n : ℕ). slice_get ends n ≡ Some sender) (sym is) at in
+              let ways = both_ways p (h - 1) receiver.0 sender b.0 a least receiver.1 at_top b.1 at_a
+              (between told p (h - 1) receiver.0 sender b.0 a least receiver.1 at_top b.1 at_a) in
               way_done accounted h p p (h - 1) sender receiver.0 a b.0 at receiver.1 at_a b.1 (peer_before h p before) (peer_after p (h - 1) least ∙ is)
               (subst (λ (n : ℕ). IsWay n p a b.0 receiver.0) is ways.1)
           | inr after ↦
               let receiver = some_at ends (suc p) (omega (arith, within, count)) in
               let long = side_count (suc p) receiver.0 receiver.1 in
               let b = some_at receiver.0.sides h (omega (arith, long, within, after)) in
-              let ways = both_ways h p sender receiver.0 a b.0 after at receiver.1 at_a b.1 in
+              let ways = both_ways h p sender receiver.0 a b.0 after at receiver.1 at_a b.1 (between told h p sender receiver.0 a b.0 after at receiver.1 at_a b.1) in
               way_done accounted h (suc p) p h sender receiver.0 a b.0 at receiver.1 at_a b.1 (peer_after h p after) (peer_before (suc p) h (omega (arith, after))) ways.0
         ]
 
-    pub none_pending : NonePending ends
-    none_pending =
+    pub none_pending : tells ≡ true → NonePending ends
+    none_pending told =
         all_ascending (λ (g : Group). pending (counts ends g) ≡ 0) (flat_map (λ (host : FinalHost). flat_map (λ (s : FinalJournal). accepted_groups host.addr s.peer s.past) host.sides) ends)
         (all_flat (λ (g : Group). pending (counts ends g) ≡ 0) (λ (host : FinalHost). flat_map (λ (s : FinalJournal). accepted_groups host.addr s.peer s.past) host.sides) ends
         (λ i host at.
         all_flat (λ (g : Group). pending (counts ends g) ≡ 0) (λ (s : FinalJournal). accepted_groups host.addr s.peer s.past) host.sides
         (λ p side at_side.
-        all_accepted (λ (g : Group). pending (counts ends g) ≡ 0) host.addr side.peer side.past (side_done i p host side at at_side))))
+        all_accepted (λ (g : Group). pending (counts ends g) ≡ 0) host.addr side.peer side.past (side_done told i p host side at at_side))))

@@ -12,7 +12,7 @@ use Rattle.rds_script.specs.declared.script.Placed.{Placed}
 use Rattle.rds_rounds.specs.Drained.{AreDrained}
 use Rattle.rds_rounds.specs.Grid.{OfEachPair, others}
 use Rattle.rds_rounds.specs.Sound.{AreSoundJournals}
-use Rattle.rds_threads.specs.Causes.{AreLackingStream, AreUnacknowledged, IsFullJournal}
+use Rattle.rds_threads.specs.Causes.{AreLackingStream, AreUnacknowledged, IsFullJournal, alive_in_ends}
 use Rattle.rds_threads.specs.Outcome.{IsOutcome}
 use Rattle.rds_threads.specs.Reliable.{HasReceived, IsReliableTo}
 use Rattle.rds_threads.specs.Texts.{fault_line, text_of, unfinished_line}
@@ -55,6 +55,22 @@ AreDrainedHosts ends = OfEachJournals (λ low high. AreDrained) ends
 abbrev pub NonePending : List FinalHost → Type 0
 NonePending ends = All (λ (g : Group). pending (counts ends g) ≡ 0) (groups ends)
 
+-- no datagram from any port of the host of one address to any port of that of the other is pending
+abbrev pub NonePendingFrom : (from to : ℕ) → List FinalHost → Type 0
+NonePendingFrom from to ends = (sport dport : ℕ) → pending (counts ends (record { to = to; dport = dport; from = from; sport = sport })) ≡ 0
+
+-- between any two hosts, where each stream between them gave a beginning of what was written to it, no datagram is pending, either way
+abbrev pub NonePendingWhereHonest : List FinalHost → Type 0
+NonePendingWhereHonest ends = (low place : ℕ) (one other : FinalHost) (a b : FinalJournal) → low ≤ place → slice_get ends low ≡ Some one → slice_get ends (suc place) ≡ Some other →
+    slice_get one.sides place ≡ Some a → slice_get other.sides low ≡ Some b → IsHonest a.past b.past →
+    NonePendingFrom one.addr other.addr ends × NonePendingFrom other.addr one.addr ends
+
+-- No datagram is left unacknowledged: no number is alive in any journal, and where streams gave beginnings of what was written to them, none is
+-- pending.
+pub record AreAcknowledged (ends : List FinalHost) : Type 0 where
+  pub none_alive : alive_in_ends ends ≡ 0
+  pub none_pending : NonePendingWhereHonest ends
+
 -- between any two hosts nothing is left to do, and no datagram is pending
 abbrev pub AreSettledHosts : List FinalHost → Type 0
 AreSettledHosts ends = AreDrainedHosts ends × NonePending ends
@@ -75,7 +91,8 @@ Writes sink text end result =
 -- what a run that came to this end has to write: the text of its form on what its hosts have in the end, which is sound, or its line
 abbrev pub HasToWrite : (form : Form) (tells : Bool) (limit hosts : ℕ) (commands : List Placed) → RunEnd → List ℕ → Type 0
 HasToWrite form tells limit hosts commands (ended.Ok ends) text =
-    AreEnds tells hosts commands (host_views ends.items) × (tells ≡ true → AreSettledHosts (host_views ends.items)) × (text ≡ text_of form (host_views ends.items))
+    AreEnds tells hosts commands (host_views ends.items) × AreAcknowledged (host_views ends.items)
+    × (tells ≡ true → AreSettledHosts (host_views ends.items)) × (text ≡ text_of form (host_views ends.items))
 HasToWrite form tells limit hosts commands (ended.WireFault low high stream) text =
     AreLackingStream tells hosts commands low high stream × (text ≡ fault_line low high stream)
 HasToWrite form tells limit hosts commands (ended.Spent host peer entries own other) text =
@@ -89,7 +106,8 @@ HasToWrite form tells limit hosts commands ended.Memory text = ⊥
 -- took a beginning of what was to be written; or memory ran out, and nothing was written.
 abbrev pub IsEndOfRun : (form : Form) (tells : Bool) (limit hosts : ℕ) (commands : List Placed) → Written → RunEnd → Type 0
 IsEndOfRun form tells limit hosts commands sink (ended.Ok ends) =
-    AreEnds tells hosts commands (host_views ends.items) × (tells ≡ true → AreSettledHosts (host_views ends.items))
+    AreEnds tells hosts commands (host_views ends.items) × AreAcknowledged (host_views ends.items)
+    × (tells ≡ true → AreSettledHosts (host_views ends.items))
     × SinkGained sink.held_before sink.held_after (text_of form (host_views ends.items))
 IsEndOfRun form tells limit hosts commands sink (ended.WireFault low high stream) =
     AreLackingStream tells hosts commands low high stream × SinkGained sink.held_before sink.held_after (fault_line low high stream)

@@ -18,7 +18,7 @@ ghost use Rattle.rds_script.specs.declared.script.Placed.{Placed};
 ghost use Rattle.rds_threads.specs.Causes.{alive_in_ends};
 ghost use Rattle.rds_threads.specs.Counted.{AreEndsClosed, EndsOweNothing};
 ghost use Rattle.rds_threads.specs.Cuts.{AreCutsOfEnds};
-ghost use Rattle.rds_threads.specs.Ends.{AreEnds, AreSettledHosts};
+ghost use Rattle.rds_threads.specs.Ends.{AreAcknowledged, AreEnds, AreSettledHosts};
 ghost use Rattle.rds_threads.specs.Reliable.{HasReceived};
 ghost use Rattle.rds_threads.specs.Settled.{AreAllCut, AreAllSent, AreKeptOf, AreLeftOf, HasSettled, HaveAllFound, HaveAllGone, HaveAllLooked, HaveDoneSpared, HaveSettled};
 
@@ -56,6 +56,9 @@ pub(crate) fn host_ends<W: Wire, R: Wait>(
     ensures settled { (limit hosts : ℕ) (commands : List Placed) → AreDone W.End.means limit hosts (rows_of lines.items) →
         HaveDoneSpared hosts commands callers.items (rows_of lines.items) → W.End.means.tells ≡ true → AreDrainedLines (rows_of lines.items) →
         IfOk result (λ ends. AreSettledHosts (host_views ends.items)) }
+    ensures acknowledged { (limit hosts : ℕ) (commands : List Placed) → AreDone W.End.means limit hosts (rows_of lines.items) →
+        HaveDoneSpared hosts commands callers.items (rows_of lines.items) → alive_in_rows (rows_of lines.items) ≡ 0 →
+        IfOk result (λ ends. AreAcknowledged (host_views ends.items)) }
     ensures alive { IfOk result (λ ends. alive_in_ends (host_views ends.items) ≡ alive_in_rows (rows_of lines.items)) }
     ensures owe { All OweNothing (rows_of lines.items) → IfOk result (λ ends. EndsOweNothing (host_views ends.items)) }
     ensures closed { All AreClosed (rows_of lines.items) → IfOk result (λ ends. AreEndsClosed (host_views ends.items)) }

@@ -1,8 +1,9 @@
-use Rattle.std.proofs.Common.{Some, false, ap, length, subst, ◌∙◌, arith}
-use Rattle.rds_rounds.specs.Causes.{AreUnacked}
+use Rattle.std.proofs.Common.{◌≡◌, Some, false, ap, length, subst, ◌∙◌, arith}
+use Rattle.rds_rounds.specs.Causes.{AreUnacked, alive_in_rows}
 use Rattle.rds_rounds.specs.Grid.{rows_of}
 use Rattle.rds_rounds.specs.Sweep.{IsPairBelow}
 use Rattle.rds_rounds.specs.declared.rounds.Rounds.TheVariants as ended
+use Rattle.rds_rounds.proofs.Alive.{none_alive, told_or_not}
 use Rattle.rds_rounds.proofs.Going.{rows_same, rows_through}
 use Rattle.rds_rounds.proofs.Halves.{rows_count}
 use Rattle.rds_rounds.proofs.Swept.{all_pairs, done_swept, drained_swept, full_host, goes_swept, hosts_swept, lacking_hosts, lacking_within, owes_swept, quiet_swept}
@@ -72,6 +73,25 @@ returns-in-Some-end_after-clause-drained g c = λ tells done.
     drained_swept m (IsPairBelow n n) came old new swept c.requires.0 c.requires.1 (c.loop.invariant.0 c.requires.0 c.requires.1 c.requires.2)
     (all_pairs m n came old new swept (rows_count c.loop.lines.items)) tells (c.end_after.ensures.quiet ended.Done is tt)
     (c.end_after.ensures.written (c.tells.ensures ∙ tells) is)
+
+pub returns-in-Some-end_after-clause-acknowledged : goal.returns-in-Some-end_after-clause-acknowledged
+returns-in-Some-end_after-clause-acknowledged g c = λ done.
+    let m = g.W.End.End.means in
+    let n = length c.loop.lines.items in
+    let old = rows_of c.loop.lines.items in
+    let new = rows_of c.round_of_all-came.new.lines.items in
+    let came = c.round_of_all-came.result in
+    let swept = c.round_of_all-came.ensures in
+    let hosts = c.requires.1 in
+    let were = c.loop.invariant.0 c.requires.0 hosts c.requires.2 in
+    let are = hosts_swept m (IsPairBelow n n) came old new swept c.requires.0 hosts were in
+    let is = c.in-Some-end_after.is ∙ ap Some done in
+    told_or_not m.tells (alive_in_rows new ≡ 0)
+    (λ tells.
+    none_alive hosts new are.shape
+    (drained_swept m (IsPairBelow n n) came old new swept c.requires.0 hosts were (all_pairs m n came old new swept (rows_count c.loop.lines.items)) tells
+    (c.end_after.ensures.quiet ended.Done is tt) (c.end_after.ensures.written (c.tells.ensures ∙ tells) is)))
+    (λ untold. c.end_after.ensures.acknowledged (c.tells.ensures ∙ untold) is)
 
 pub returns-in-Some-end_after-clause-spent : goal.returns-in-Some-end_after-clause-spent
 returns-in-Some-end_after-clause-spent g c = λ host peer entries spent.

@@ -85,6 +85,7 @@ returns-in_ok-ends-in-Done-clause-end g c = λ limit hosts commands before after
     on_ok (Writes sink text (ended.Ok ends)) (IsEndOfRun c.args.form g.W.End.End.means.tells limit hosts commands sink) c.end_by_report.result
     (end_written c.args.form g.W.End.End.means.tells limit hosts commands sink text (ended.Ok ends) (
       c.in_ok-ends-in-Done.ensures.ends limit hosts commands done did,
+      c.in_ok-ends-in-Done.ensures.acknowledged limit hosts commands done did (c.requires.acknowledged c.in-Done.is),
       λ tells. c.in_ok-ends-in-Done.ensures.settled limit hosts commands done did tells (c.requires.drained tells c.in-Done.is),
       refl,
     )) c.end_by_report.ensures.end

@@ -1,4 +1,4 @@
-use Rattle.std.proofs.Common.{◌≡◌, None, Vec, arith}
+use Rattle.std.proofs.Common.{◌≡◌, None, Vec, ◌∙◌, arith}
 use Rattle.std.specs.Global.{Global}
 use Rattle.std.proofs.lemmas.List.{length-map}
 use Rattle.rds_final.specs.Views.{AreFinalHosts, host_views}
@@ -9,10 +9,10 @@ use Rattle.rds_rounds.specs.Grid.{rows_of}
 use Rattle.rds_threads.specs.Causes.{alive_in_ends}
 use Rattle.rds_threads.specs.Counted.{AreEndsClosed, EndsOweNothing}
 use Rattle.rds_threads.specs.Cuts.{AreCutsOfEnds}
-use Rattle.rds_threads.specs.Ends.{AreEnds, AreSettledHosts}
+use Rattle.rds_threads.specs.Ends.{AreAcknowledged, AreEnds, AreSettledHosts}
 use Rattle.rds_threads.specs.Settled.{AreLeftOf}
-use Rattle.rds_threads.proofs.NonePending.{none_pending}
-use Rattle.rds_threads.proofs.Alive.{alive_left}
+use Rattle.rds_threads.proofs.NonePending.{none_pending, none_where_honest}
+use Rattle.rds_threads.proofs.Alive.{alive_left, silent_counted, silent_drained}
 use Rattle.rds_threads.proofs.Counted.{of_each_left}
 use Rattle.rds_threads.proofs.CutsOfRun.{cuts_of_ends}
 use Rattle.rds_threads.proofs.Sound.{drained_of, ends_of, final_of}
@@ -48,8 +48,23 @@ returns-clause-settled g c = λ limit hosts commands done did tells drained.
     (λ ends left.
     let m = g.W.End.End.means in
     let nothing = drained_of m limit hosts c.args.callers.items (rows_of c.args.lines.items) ends.items done c.requires.settled.count left drained in
+    let are = ends_of m limit hosts c.args.callers.items (rows_of c.args.lines.items) ends.items done c.requires.settled.count left commands did in (
+      nothing,
+      none_pending m.tells hosts commands (host_views ends.items) are c.accounted_of_all.ensures (silent_drained (host_views ends.items) nothing) tells,
+    )) c.all_ends.ensures.left
+
+pub returns-clause-acknowledged : goal.returns-clause-acknowledged
+returns-clause-acknowledged g c = λ limit hosts commands done did acknowledged.
+    on_ok (λ (ends : Vec HostEnd Global). AreLeftOf c.args.callers.items (rows_of c.args.lines.items) ends.items)
+    (λ (ends : Vec HostEnd Global). AreAcknowledged (host_views ends.items)) c.all_ends.result
+    (λ ends left.
+    let m = g.W.End.End.means in
     let are = ends_of m limit hosts c.args.callers.items (rows_of c.args.lines.items) ends.items done c.requires.settled.count left commands did in
-    (nothing, none_pending m.tells hosts commands (host_views ends.items) are c.accounted_of_all.ensures tells nothing)) c.all_ends.ensures.left
+    let none = alive_left c.args.callers.items (rows_of c.args.lines.items) ends.items c.requires.settled.count left ∙ acknowledged in record {
+      none_alive = none;
+      none_pending =
+          none_where_honest m.tells hosts commands (host_views ends.items) are c.accounted_of_all.ensures (silent_counted (host_views ends.items) none);
+    }) c.all_ends.ensures.left
 
 pub returns-clause-alive : goal.returns-clause-alive
 returns-clause-alive g c =

@@ -53,6 +53,10 @@ end_run-requires-clause-settled g c = λ κs within quiet.
 pub end_run-requires-clause-drained : goal.end_run-requires-clause-drained
 end_run-requires-clause-drained g c = λ κs within. c.last_rounds-end.ensures.drained
 
+-- refused where a number is alive
+pub end_run-requires-clause-acknowledged : goal.end_run-requires-clause-acknowledged
+end_run-requires-clause-acknowledged g c = λ κs within. c.last_rounds-end.ensures.acknowledged
+
 pub returns-clause-end : goal.returns-clause-end
 returns-clause-end g c = λ limit hosts commands before after are did counted.
     let old = rows_of c.args.lines.items in
