@@ -1,11 +1,13 @@
 -- A line that turned goes on, and so does one that goes on twice.
-use Rattle.std.proofs.Common.{◌≡◌, ℕ, zero, suc, List, [], ◌∷◌, Some, length, slice_get, refl, sym, ap, subst, ◌∙◌, arith}
+use Rattle.std.proofs.Common.{◌≡◌, ℕ, zero, suc, List, [], ◌∷◌, ◌++◌, Some, append_assoc, length, slice_get, refl, sym, ap, subst, ◌∙◌, arith}
 use Rattle.std.proofs.lemmas.Option.{same_Some}
 use Rattle.rds_link.specs.Ends.{Means}
 use Rattle.rds_fmap.specs.Readers.{WriterView}
 use Rattle.rds_meter.specs.Grounds.{seats_of}
 use Rattle.rds_mail.specs.Passes.{Putter}
 use Rattle.rds_model.specs.declared.order.Datagram.{Datagram}
+use Rattle.rds_model.specs.Honest.{Begins}
+use Rattle.rds_model.specs.SumLaws.{same_list}
 use Rattle.rds_line.specs.Line.{LineView}
 use Rattle.rds_line.specs.Stays.{AreSameBoxes, LineStays}
 use Rattle.rds_host.specs.Keeping.{LineKeeps}
@@ -33,6 +35,10 @@ module _ {E : Type 0} where
   pub line_keeps_same : (line : LineView E WriterView) → LineKeeps line line
   line_keeps_same line = record { peer = refl; mail = refl; joined = refl; boxes = boxes_same line.boxes; ports = refl; words = refl; seats = refl; pair = refl }
 
+-- what begins with what begins
+pub begins_through : {T : Type 0} (x y z : List T) → Begins x y → Begins y z → Begins x z
+begins_through {T} x y z first second = (first.0 ++ second.0, second.1 ∙ (ap (λ (l : List T). l ++ second.0) first.1 ∙ append_assoc x first.0 second.0))
+
 boxes_through : (old middle new : List (Putter Datagram)) → AreSameBoxes old middle → AreSameBoxes middle new → AreSameBoxes old new
 boxes_through old middle new first second = record {
   count = second.count ∙ first.count;
@@ -45,7 +51,7 @@ boxes_through old middle new first second = record {
 
 module _ {E : Type 0} where
   pub goes_same : (line : LineView E WriterView) → LineGoesOn line line
-  goes_same line = record { keeps = line_keeps_same line; told = refl; numbers = refl; always = λ telling was. was }
+  goes_same line = record { keeps = line_keeps_same line; told = refl; got = same_list line.orders.got; numbers = refl; always = λ telling was. was }
 
   pub goes_through : (a b c : LineView E WriterView) → LineGoesOn a b → LineGoesOn b c → LineGoesOn a c
   goes_through a b c one two = record {
@@ -60,6 +66,7 @@ module _ {E : Type 0} where
       pair = two.keeps.pair ∙ one.keeps.pair;
     };
     told = two.told ∙ one.told;
+    got = begins_through a.orders.got b.orders.got c.orders.got one.got two.got;
     always = λ telling was. two.always telling (one.always telling was);
     numbers = two.numbers ∙ one.numbers;
   }
@@ -78,6 +85,7 @@ module _ {E : Type 0} where
       pair = stays.map;
     };
     told = stays.told;
+    got = stays.got;
     always = stays.always;
     numbers = stays.channel.streams.numbers;
   }

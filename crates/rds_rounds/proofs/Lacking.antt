@@ -1,16 +1,20 @@
 -- A line that has no stream left, and the stream that was opened last.
-use Rattle.std.proofs.Common.{◌≡◌, ◌<◌, ◌+◌, ◌-◌, ℕ, suc, Bool, false, List, ◌∷◌, None, Some, if◌then◌else◌, drop, drop-cons, get_or, length, max, min, reverse, slice_get, sym, ap, ◌∙◌, arith}
+use Rattle.std.proofs.Common.{◌≡◌, ◌⊎◌, inl, inr, ◌<◌, ◌+◌, ◌-◌, ℕ, zero, suc, Bool, true, false, List, [], ◌∷◌, None, Some, if◌then◌else◌, drop, drop-cons, get_or, length, length-append, max, min, reverse, slice_get, sym, ap, ◌∙◌, arith}
 use Rattle.std.proofs.lemmas.List.{get_or-reverse, length-map, length-reverse, take_all}
 use Rattle.std.proofs.lemmas.Option.{get_or_from_slice_get, slice_get_within}
 use Rattle.rds_link.specs.Ends.{Means}
 use Rattle.rds_fmap.specs.Readers.{WriterView}
+use Rattle.rds_mail.specs.Passes.{Getter}
 use Rattle.rds_model.specs.declared.entry.Entry.{Entry}
+use Rattle.rds_model.specs.declared.order.Order.{Order}
 use Rattle.rds_model.specs.Past.{open_stream}
 use Rattle.rds_model.specs.Sums.{opens}
 use Rattle.rds_line_streams.specs.Streams.{newest_place, numbers}
 use Rattle.rds_line.specs.Line.{LineView}
-use Rattle.rds_rounds.specs.Causes.{LacksStream}
+use Rattle.rds_line.specs.Turns.{TakesOrder}
+use Rattle.rds_rounds.specs.Causes.{LacksByOrder, LacksStream}
 use Rattle.rds_rounds.specs.Rest.{HasMet, KeepsStreams}
+use Rattle.rds_rounds.proofs.Resting.{number_of_open, opened_count}
 
 -- of two hosts the lower and the higher one, whichever is named first
 pub named_low : (low high n : ℕ) → low < high → n ≡ min low high → n ≡ low
@@ -44,6 +48,45 @@ module _ {E : Type 0} where
     closed = ap open_stream met.past ∙ lacks.closed;
     all = ap opens met.past ∙ lacks.all ∙ sym met.goes.numbers;
   }
+
+-- there is something at each place of a list
+not_none : {T : Type 0} (xs : List T) (i : ℕ) → i < length xs → slice_get xs i ≡ None → ⊥
+not_none [] i within none = omega (arith, within)
+not_none (x ∷ xs) zero within none = absurd (cc)
+not_none (x ∷ xs) (suc i) within none = not_none xs i (omega (arith, within)) none
+
+module _ {E : Type 0} where
+  -- a line with a stream open, or one that it may open, lacks none, unless it took an order
+  pub lacks_by_order : {M : Type 0} (m : Means E) (old new : LineView E M) → KeepsStreams m new →
+      TakesOrder old.orders new.orders ⊎ ((new.channel.streams.is_open ≡ true) ⊎ (new.channel.streams.opened < length new.channel.streams.list)) →
+      LacksByOrder old new
+  lacks_by_order m old new keeps (inl took) lacks =
+      let more = ap (λ (g : Getter Order). length g.got) took.2 in
+      let one = length-append old.orders.got ((took.0, took.1) ∷ []) in
+      omega (arith, more, one)
+  lacks_by_order m old new keeps (inr (inl on)) lacks =
+      let streams = new.channel.streams in
+      let count = length-map streams.list (λ (stream : ℕ × E). stream.0) in
+      let some = keeps.streams.some on in
+      let within = keeps.streams.within in
+      absurd (not_none (numbers streams.list) (newest_place streams) (omega (arith, count, some, within))
+      (sym (number_of_open streams on) ∙ keeps.carried.current ∙ lacks.closed))
+  lacks_by_order m old new keeps (inr (inr more)) lacks =
+      let streams = new.channel.streams in
+      let count = length-map streams.list (λ (stream : ℕ × E). stream.0) in
+      let all = sym (opened_count streams keeps.streams.within) ∙ ap length (keeps.carried.opened ∙ lacks.all) in
+      absurd (omega (arith, count, all, more))
+
+  -- so it is of a line that met another before and after
+  pub by_order_met : (a b c d : LineView E WriterView) → HasMet a b → HasMet c d → LacksByOrder b c → LacksByOrder a d
+  by_order_met a b c d first second lack lacks =
+      let less = lack (record {
+        closed = sym (ap open_stream second.past) ∙ lacks.closed;
+        all = sym (ap opens second.past) ∙ lacks.all ∙ second.goes.numbers;
+      }) in
+      let was = ap (λ (g : Getter Order). length g.got) first.orders in
+      let is = ap (λ (g : Getter Order). length g.got) second.orders in
+      omega (arith, less, was, is)
 
 -- the oldest entries of a journal
 abbrev pub oldest : ℕ → List Entry → List Entry

@@ -3,7 +3,9 @@ pub mod Going
 pub mod Halves
 pub mod Places
 pub mod Partners
+pub mod Passing
 pub mod Sweeps
+pub mod OnePair
 pub mod Swept
 pub mod Whole
 pub mod Resting

@@ -38,11 +38,11 @@ owes_nothing s past map none = record { map = map; pulled = by_last (last_map s 
 
 module _ {E : Type 0} where
   -- so many numbers of streams were opened
-  opened_count : (s : StreamsView E) → s.opened ≤ length s.list → length (opened_numbers s) ≡ s.opened
+  pub opened_count : (s : StreamsView E) → s.opened ≤ length s.list → length (opened_numbers s) ≡ s.opened
   opened_count s within = length-take-le s.opened (numbers s.list) (omega (arith, within, length-map s.list (λ stream. stream.0)))
 
   -- the number of the open stream
-  number_of_open : (s : StreamsView E) → s.is_open ≡ true → open_number s ≡ slice_get (numbers s.list) (newest_place s)
+  pub number_of_open : (s : StreamsView E) → s.is_open ≡ true → open_number s ≡ slice_get (numbers s.list) (newest_place s)
   number_of_open s on = cond-true s.is_open (slice_get (numbers s.list) (newest_place s)) None on
 
   -- a stream with a number is open

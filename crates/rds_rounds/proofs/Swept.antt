@@ -1,20 +1,22 @@
 -- What the lines of a run are after a round of each two hosts.
-use Rattle.std.proofs.Common.{◌≡◌, ◌⊎◌, inl, inr, ℕ, suc, ◌<◌, ◌≤◌, ◌-◌, true, List, [], length, Some, slice_get, sym, ap, subst, ◌∙◌, arith}
+use Rattle.std.proofs.Common.{◌≡◌, ◌⊎◌, inl, inr, ℕ, suc, ◌<◌, ◌≤◌, ◌-◌, true, List, [], length, length-append, Some, slice_get, sym, ap, subst, ◌∙◌, arith}
 use Rattle.std.proofs.lemmas.Option.{same_Some, slice_get_within}
 use Rattle.std.specs.List.{All}
 use Rattle.rds_fmap.specs.Readers.{WriterView}
 use Rattle.rds_mail.specs.Learning.{AllGot}
+use Rattle.rds_model.specs.Honest.{Begins}
 use Rattle.rds_link.specs.Ends.{Means}
 use Rattle.rds_line.specs.Line.{LineView, line_past}
-use Rattle.rds_rounds.specs.Causes.{HostsLackStream, OweNothing, OwesNothing}
+use Rattle.rds_rounds.specs.Causes.{HostsLackStream, LacksByOrder, NoneLackBefore, OweNothing, OwesNothing}
 use Rattle.rds_rounds.specs.Connection.{AreConnected, AreHosts, IsFullAt, IsFullHost}
 use Rattle.rds_rounds.specs.Done.{AreDone}
 use Rattle.rds_rounds.specs.Drained.{AreDrainedLines}
 use Rattle.rds_rounds.specs.Grid.{AreRows, EachRow, IsAt, peer_at}
 use Rattle.rds_rounds.specs.Quiet.{AreQuiet, LineGoesOn, LinesGoOn}
-use Rattle.rds_rounds.specs.Sweep.{AreConnectedRows, AreSwept, AreWritten, GoOnTogether, HaveHadRound, IsAmong, IsPairBelow, LackStreamAt}
+use Rattle.rds_rounds.specs.Sweep.{AreConnectedRows, AreSwept, AreWritten, GoOnTogether, HaveHadRound, IsAmong, IsPairBelow, LackStreamAt, Passed}
 use Rattle.rds_rounds.specs.declared.verdict.Round.{Round}
 use Rattle.rds_rounds.specs.declared.verdict.Round.TheVariants as verdict
+use Rattle.rds_rounds.proofs.Going.{stood_at}
 use Rattle.rds_rounds.proofs.Partners.{all_at, all_of, has_partner, is_there, rows_keep}
 use Rattle.rds_rounds.proofs.Places.{same_at, was_at}
 
@@ -76,6 +78,18 @@ module _ {E : Type 0} (m : Means E) where
           let was = came_from low place x y ordered x_at y_at in
           was.together.connected limit (are.connected low place was.one was.other ordered was.one_at was.other_at);
     }
+
+    -- no line of hosts before two that lack a stream lacks one, but by an order
+    pub lowest_swept : m.tells ≡ true → (first second : ℕ) → came ≡ verdict.Fault first second →
+        ((low place : ℕ) → low ≤ place → suc place < length new → In low place) → NoneLackBefore first second old new
+    lowest_swept tells first second is all low place one other one_after other_after ordered before one_at other_at one_now other_now =
+        let after = swept.pair low place one other ordered one_at other_at in
+        let lack =
+        after.by_order (all low place ordered (slice_get_within new (suc place) other_now.0 other_now.1))
+        (subst (λ (r : Round). Passed r low (suc place)) (sym is) before) tells in (
+          subst (λ (l : LineView E WriterView). LacksByOrder one l) (same_at new low place after.one_after one_after after.one_at one_now) lack.0,
+          subst (λ (l : LineView E WriterView). LacksByOrder other l) (same_at new (suc place) low after.other_after other_after after.other_at other_now) lack.1,
+        )
 
     -- each line goes on
     line_goes : (hosts : ℕ) → AreRows hosts new → (host place : ℕ) (line after : LineView E WriterView) → IsAt old host place line → IsAt new host place after →
@@ -214,3 +228,31 @@ lacking_hosts {E} In low high rows found = record {
 -- they are two of the hosts
 pub lacking_within : {E : Type 0} (low high : ℕ) (rows : List (List (LineView E WriterView))) → HostsLackStream low high rows → (low < high) × (high < length rows)
 lacking_within low high rows lack = (omega (arith, lack.ordered, lack.next), slice_get_within rows high lack.other_at.0 lack.other_at.1)
+
+-- a list is no longer than one that begins with it
+no_longer : {T : Type 0} (x y : List T) (n : ℕ) → Begins x y → length y < n → length x < n
+no_longer x y n begins less =
+    let is = ap length begins.1 in
+    let both = length-append x begins.0 in
+    omega (arith, is, both, less)
+
+module _ {E : Type 0} where
+  -- what a line goes on as
+  goes_to : (old new : List (List (LineView E WriterView))) → EachRow LinesGoOn old new → (host place : ℕ) (x : LineView E WriterView) → IsAt old host place x →
+      (y : LineView E WriterView) × IsAt new host place y × LineGoesOn x y
+  goes_to old new goes host place x (row, at_row, at) =
+      let after = stood_at new old host row (sym goes.count) at_row in
+      let lines = goes.each host row after.0 at_row after.1 in
+      let y = stood_at after.0 row place x (sym lines.count) at in
+      (y.0, (after.0, after.1, y.1), lines.each place x y.0 at y.1)
+
+  -- an order that was taken since was taken since an earlier time
+  pub lowest_since : (first second : ℕ) (old middle new : List (List (LineView E WriterView))) → EachRow LinesGoOn old middle →
+      NoneLackBefore first second middle new → NoneLackBefore first second old new
+  lowest_since first second old middle new goes none low place one other one_after other_after ordered before one_at other_at one_now other_now =
+      let x = goes_to old middle goes low place one one_at in
+      let y = goes_to old middle goes (suc place) low other other_at in
+      let lack = none low place x.0 y.0 one_after other_after ordered before x.1 y.1 one_now other_now in (
+        λ lacks. no_longer one.orders.got x.0.orders.got (length one_after.orders.got) x.2.got (lack.0 lacks),
+        λ lacks. no_longer other.orders.got y.0.orders.got (length other_after.orders.got) y.2.got (lack.1 lacks),
+      )

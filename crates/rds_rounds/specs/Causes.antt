@@ -1,5 +1,5 @@
 -- Why the last rounds ended, where they ended otherwise than well. Source: this project's own.
-use Rattle.std.specs.Prelude.{◌≡◌, ◌⊎◌, ◌≤◌, ℕ, suc, Bool, false, All, List, None, Some, length, sum_by}
+use Rattle.std.specs.Prelude.{◌≡◌, ◌⊎◌, ◌≤◌, ◌<◌, ℕ, suc, Bool, false, All, List, None, Some, length, sum_by}
 use Rattle.rds_model.specs.declared.entry.Entry.{Entry}
 use Rattle.rds_model.specs.Alive.{alive_numbers}
 use Rattle.rds_model.specs.Drained as drained
@@ -13,11 +13,25 @@ use Rattle.rds_rounds.specs.Grid.{IsAt}
 abbrev pub OwesNothing : List Entry → Type 0
 OwesNothing past = (s : ℕ) → open_stream past ≡ Some s → drained.OwesNothing s past
 
+-- these two hosts come before those two, in ascending order; the lower one is named first
+abbrev pub IsBefore : (low high first second : ℕ) → Type 0
+IsBefore low high first second = (low < first) ⊎ ((low ≡ first) × (high < second))
+
 module _ {E M : Type 0} where
   -- no stream is open in the journal of a line, and it has opened all that were prepared for it
   pub record LacksStream (line : LineView E M) : Type 0 where
     pub closed : open_stream (line_past line) ≡ None
     pub all : opens (line_past line) ≡ numbers line.channel.streams.list
+
+  -- where the line lacks a stream, it took an order since
+  abbrev pub LacksByOrder : (old new : LineView E M) → Type 0
+  LacksByOrder old new = LacksStream new → length old.orders.got < length new.orders.got
+
+  -- neither line of two hosts that come before these two lacks a stream, unless it took an order since
+  abbrev pub NoneLackBefore : (first second : ℕ) → (old new : List (List (LineView E M))) → Type 0
+  NoneLackBefore first second old new = (low place : ℕ) (one other one_after other_after : LineView E M) → low ≤ place → IsBefore low (suc place) first second →
+      IsAt old low place one → IsAt old (suc place) low other → IsAt new low place one_after → IsAt new (suc place) low other_after →
+      LacksByOrder one one_after × LacksByOrder other other_after
 
   -- two hosts, the lower one first, have lines to each other, and one of these lacks a stream
   pub record HostsLackStream (low high : ℕ) (rows : List (List (LineView E M))) : Type 0 where

@@ -4,7 +4,7 @@ use Rattle.rds_fmap.specs.Readers.{WriterView}
 use Rattle.rds_mail.specs.Learning.{AllGot}
 use Rattle.rds_link.specs.Ends.{Means}
 use Rattle.rds_line.specs.Line.{LineView, line_past}
-use Rattle.rds_rounds.specs.Causes.{LacksStream, OwesNothing}
+use Rattle.rds_rounds.specs.Causes.{IsBefore, LacksByOrder, LacksStream, OwesNothing}
 use Rattle.rds_rounds.specs.Connection.{AreConnected, IsFullAt}
 use Rattle.rds_rounds.specs.Drained.{AreDrained}
 use Rattle.rds_rounds.specs.Grid.{EachRow, IsAt}
@@ -28,6 +28,34 @@ IsPairOf low limit host place = (host ≡ low) × (suc place < limit)
 -- a pair of a host below this one, where there are so many hosts
 abbrev pub IsPairBelow : (low hosts : ℕ) → (host place : ℕ) → Type 0
 IsPairBelow low hosts host place = (host < low) × (suc place < hosts)
+
+-- a turn or a round moved or was idle
+abbrev pub GoesOn : Round → Type 0
+GoesOn verdict.Moved = Unit {0}
+GoesOn verdict.Idle = Unit {0}
+GoesOn (verdict.Fault low high) = ⊥
+GoesOn (verdict.Spent host peer entries) = ⊥
+GoesOn verdict.Memory = ⊥
+
+-- it did neither
+abbrev pub Stops : Round → Type 0
+Stops verdict.Moved = ⊥
+Stops verdict.Idle = ⊥
+Stops (verdict.Fault low high) = Unit {0}
+Stops (verdict.Spent host peer entries) = Unit {0}
+Stops verdict.Memory = Unit {0}
+
+-- what two turns or rounds come to together: what the first one came to if that stops them, or if the second was idle; else what the second came to
+abbrev pub ComesTo : (came first second : Round) → Type 0
+ComesTo came first second = ((came ≡ first) × (Stops first ⊎ (second ≡ verdict.Idle))) ⊎ ((came ≡ second) × GoesOn first)
+
+-- The rounds came to nothing that stopped them at these two hosts: to nothing at all, or to a fault of two that come later.
+abbrev pub Passed : Round → (low high : ℕ) → Type 0
+Passed verdict.Moved low high = Unit {0}
+Passed verdict.Idle low high = Unit {0}
+Passed (verdict.Fault first second) low high = IsBefore low high first second
+Passed (verdict.Spent host peer entries) low high = ⊥
+Passed verdict.Memory low high = ⊥
 
 -- no line of a host has bytes that are to be written
 abbrev pub AreWritten : {E M : Type 0} → List (LineView E M) → Type 0
@@ -53,6 +81,10 @@ module _ {E : Type 0} (m : Means E) where
     pub other_goes : LineGoesOn other other_after
     pub connected : (limit : ℕ) → AreConnected m limit low high one other → AreConnected m limit low high one_after other_after
 
+  -- where a line of two hosts lacks a stream, over ends that tell their bytes, it took an order since
+  abbrev pub LackByOrder : (one other one_after other_after : LineView E WriterView) → Type 0
+  LackByOrder one other one_after other_after = m.tells ≡ true → LacksByOrder one one_after × LacksByOrder other other_after
+
   -- in the rows of two hosts, the lower host's first, stand their two lines, which are connected
   pub record AreConnectedRows (limit low high : ℕ) (lower higher : List (LineView E WriterView)) : Type 0 where
     pub one : LineView E WriterView
@@ -73,18 +105,20 @@ module _ {E : Type 0} (m : Means E) where
     pub higher_is : higher_after ≡ slice_set higher low other_after
     pub together : GoOnTogether low high one other one_after other_after
     pub round : HaveHadRound (came ≡ verdict.Idle) one_after other_after
+    pub by_order : GoesOn came → LackByOrder one other one_after other_after
     pub fault : (first second : ℕ) → came ≡ verdict.Fault first second → LackStreamAt first second low high one_after other_after
     pub spent : (host peer entries : ℕ) → came ≡ verdict.Spent host peer entries → IsFullAt host peer entries low high one_after other_after
 
-  -- What became of the two lines of two hosts: they go on. They had a round where they are among those that had one, and are the same
-  -- where they aren't.
-  pub record PairAfter (In Idle : Type 0) (low place : ℕ) (one other : LineView E WriterView) (new : List (List (LineView E WriterView))) : Type 0 where
+  -- What became of the two lines of two hosts: they go on. They had a round where they are among those that had one, and lack no stream but
+  -- by an order that they took where the rounds passed them; they are the same where they aren't.
+  pub record PairAfter (In Idle Pass : Type 0) (low place : ℕ) (one other : LineView E WriterView) (new : List (List (LineView E WriterView))) : Type 0 where
     pub one_after : LineView E WriterView
     pub other_after : LineView E WriterView
     pub one_at : IsAt new low place one_after
     pub other_at : IsAt new (suc place) low other_after
     pub together : GoOnTogether low (suc place) one other one_after other_after
     pub round : In → HaveHadRound Idle one_after other_after
+    pub by_order : In → Pass → LackByOrder one other one_after other_after
     pub one_same : (In → ⊥) → one_after ≡ one
     pub other_same : (In → ⊥) → other_after ≡ other
 
@@ -105,6 +139,6 @@ pub record IsAmong {E : Type 0} (In : ℕ → ℕ → Type 0) (Holds : (low high
 pub record AreSwept {E : Type 0} (m : Means E) (In : ℕ → ℕ → Type 0) (came : Round) (old new : List (List (LineView E WriterView))) : Type 0 where
   pub lengths : EachRow HasAsMany old new
   pub pair : (low place : ℕ) (one other : LineView E WriterView) → low ≤ place → IsAt old low place one → IsAt old (suc place) low other →
-      PairAfter m (In low place) (came ≡ verdict.Idle) low place one other new
+      PairAfter m (In low place) (came ≡ verdict.Idle) (Passed came low (suc place)) low place one other new
   pub fault : (low high : ℕ) → came ≡ verdict.Fault low high → IsAmong In (LackStreamAt low high) new
   pub spent : (host peer entries : ℕ) → came ≡ verdict.Spent host peer entries → IsAmong In (IsFullAt host peer entries) new

@@ -1,6 +1,6 @@
 //! The last rounds of a run, on one thread.
 ghost use Rattle.std.specs.Prelude.{◌≡◌, ◌≢◌, ◌≤◌, ◌<◌, ℕ, Bool, All, false, true, Some, length};
-ghost use Rattle.rds_rounds.specs.Causes.{AreClosed, AreUnacked, HostsLackStream, OweNothing, alive_in_rows};
+ghost use Rattle.rds_rounds.specs.Causes.{AreClosed, AreUnacked, HostsLackStream, NoneLackBefore, OweNothing, alive_in_rows};
 ghost use Rattle.rds_rounds.specs.Connection.{AreHosts, IsFullHost};
 ghost use Rattle.rds_rounds.specs.Done.{AreDone};
 ghost use Rattle.rds_rounds.specs.Drained.{AreDrainedLines};
@@ -52,8 +52,8 @@ pub enum Rounds {
 /// Turns all lines in rounds: in each the two lines of each two hosts meet, have a turn each, and meet again. Over ends that tell
 /// their bytes the rounds stop after an idle one that left nothing to be written. Over others they stop once rounds were quiet and all
 /// is acknowledged, or as many were quiet as the budget allows. Where the lines of several two hosts end them by a fault, a full
-/// journal or a lack of memory, the first in ascending order tells how. `wanted` has for each two hosts what is to be known of them,
-/// in the row of the lower one, at the place of the line between them.
+/// journal or a lack of memory, the first in ascending order tells how; `lowest` says so of faults over ends that tell their bytes.
+/// `wanted` has for each two hosts what is to be known of them, in the row of the lower one, at the place of the line between them.
 pub fn last_rounds<W: Wire, R: Wait>(
     rt: &R,
     wire: &W,
@@ -69,6 +69,8 @@ pub fn last_rounds<W: Wire, R: Wait>(
     ensures acknowledged { result ≡ ended.Done → alive_in_rows (rows_of lines.new.items) ≡ 0 }
     ensures fault { (low high : ℕ) → result ≡ ended.Fault low high → (low < high) × (high < length lines.new.items) }
     ensures lacks { (low high : ℕ) → result ≡ ended.Fault low high → HostsLackStream low high (rows_of lines.new.items) }
+    ensures lowest { W.End.means.tells ≡ true → (low high : ℕ) → result ≡ ended.Fault low high →
+        NoneLackBefore low high (rows_of lines.old.items) (rows_of lines.new.items) }
     ensures unfinished { (count : ℕ) (unwritten connected : Bool) → result ≡ ended.Unfinished count unwritten connected →
         AreUnacked W.End.means.tells count (rows_of lines.new.items) }
     ensures owes { (count : ℕ) (connected : Bool) → result ≡ ended.Unfinished count false connected → All OweNothing (rows_of lines.new.items) }

@@ -6,7 +6,7 @@ ghost use Rattle.rds_rounds.specs.Causes.{OwesNothing};
 ghost use Rattle.rds_rounds.specs.Connection.{AreConnected, IsFullAt};
 ghost use Rattle.rds_rounds.specs.Drained.{AreDrained};
 ghost use Rattle.rds_rounds.specs.Rest.{AreMetLines};
-ghost use Rattle.rds_rounds.specs.Sweep.{GoOnTogether, HaveHadRound, LackStreamAt};
+ghost use Rattle.rds_rounds.specs.Sweep.{ComesTo, GoOnTogether, GoesOn, HaveHadRound, LackByOrder, LackStreamAt};
 ghost use Rattle.rds_rounds.specs.declared.verdict.Round.TheVariants as verdict;
 
 use crate::laws::rested_are_drained;
@@ -31,6 +31,7 @@ pub(crate) fn round<W: Wire, R: Wait>(
     requires connected { (limit : ℕ) × AreConnected W.End.means limit low high one.old other.old }
     ensures together { GoOnTogether W.End.means low high one.old other.old one.new other.new }
     ensures had { HaveHadRound W.End.means (result ≡ verdict.Idle) one.new other.new }
+    ensures by_order { GoesOn result → LackByOrder W.End.means one.old other.old one.new other.new }
     ensures fault { (first second : ℕ) → result ≡ verdict.Fault first second → LackStreamAt first second low high one.new other.new }
     ensures spent { (host peer entries : ℕ) → result ≡ verdict.Spent host peer entries → IsFullAt host peer entries low high one.new other.new }
 {
@@ -53,6 +54,7 @@ fn turn_both<E: End, R: Wait>(
     requires less { low < high }
     requires told { tells ≡ E.means.tells }
     ensures together { GoOnTogether E.means low high one.old other.old one.new other.new }
+    ensures by_order { GoesOn result → LackByOrder E.means one.old other.old one.new other.new }
     ensures idle { result ≡ verdict.Idle → AllGot one.new.orders × AllGot other.new.orders }
     ensures owes { result ≡ verdict.Idle →
         (one.new.channel.out ≡ [] → OwesNothing (line_past one.new)) × (other.new.channel.out ≡ [] → OwesNothing (line_past other.new)) }
@@ -72,6 +74,7 @@ fn turn_both<E: End, R: Wait>(
 pub(crate) fn either(first: Round, second: Round) -> Round
     ensures idle { result ≡ verdict.Idle → (first ≡ verdict.Idle) × (second ≡ verdict.Idle) }
     ensures one { (result ≡ first) ⊎ (result ≡ second) }
+    ensures exact { ComesTo result first second }
 {
     if second == Round::Idle || (first != Round::Moved && first != Round::Idle) {
         return first;

@@ -7,8 +7,9 @@ ghost use Rattle.rds_line.specs.Line.{IsFull, line_past};
 ghost use Rattle.rds_line.specs.Stays.{LineStays};
 ghost use Rattle.rds_line.specs.Turns.{IsIdleTurn};
 ghost use Rattle.rds_host.specs.Lines.{pair_of};
-ghost use Rattle.rds_rounds.specs.Causes.{LacksStream, OwesNothing};
+ghost use Rattle.rds_rounds.specs.Causes.{LacksByOrder, LacksStream, OwesNothing};
 ghost use Rattle.rds_rounds.specs.Rest.{KeepsStreams};
+ghost use Rattle.rds_rounds.specs.Sweep.{GoesOn};
 ghost use Rattle.rds_rounds.specs.declared.verdict.Round.TheVariants as round;
 
 use rds_fmap::Writer;
@@ -92,6 +93,7 @@ pub(crate) fn turn<E: End, R: Wait>(
     ensures kept { KeepsStreams E.means line.old }
     ensures keeps { KeepsStreams E.means line.new }
     ensures nothing { tells ≡ true → result ≡ round.Idle → IsIdleTurn E.means line.old line.new }
+    ensures by_order { tells ≡ true → GoesOn result → LacksByOrder line.old line.new }
     ensures owes { result ≡ round.Idle → line.new.channel.out ≡ [] → OwesNothing (line_past line.new) }
     ensures fault { (low high : ℕ) → result ≡ round.Fault low high → (low ≡ min host peer) × (high ≡ max host peer) }
     ensures lacks { (low high : ℕ) → result ≡ round.Fault low high → LacksStream line.new }

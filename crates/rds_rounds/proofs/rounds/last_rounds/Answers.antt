@@ -6,7 +6,7 @@ use Rattle.rds_rounds.specs.declared.rounds.Rounds.TheVariants as ended
 use Rattle.rds_rounds.proofs.Alive.{none_alive, told_or_not}
 use Rattle.rds_rounds.proofs.Going.{rows_same, rows_through}
 use Rattle.rds_rounds.proofs.Halves.{rows_count}
-use Rattle.rds_rounds.proofs.Swept.{all_pairs, done_swept, drained_swept, full_host, goes_swept, hosts_swept, lacking_hosts, lacking_within, owes_swept, quiet_swept}
+use Rattle.rds_rounds.proofs.Swept.{all_pairs, done_swept, drained_swept, full_host, goes_swept, hosts_swept, lacking_hosts, lacking_within, lowest_since, lowest_swept, owes_swept, quiet_swept}
 use Rattle.rds_rounds.proofs.rounds.last_rounds.Goals as goal
 
 pub loop-init : goal.loop-init
@@ -116,6 +116,19 @@ returns-in-Some-end_after-clause-lacks g c = λ low high fault.
     let is = c.in-Some-end_after.is ∙ ap Some fault in
     lacking_hosts (IsPairBelow n n) low high (rows_of c.round_of_all-came.new.lines.items)
     (c.round_of_all-came.ensures.fault low high (c.end_after.ensures.fault low high is))
+
+pub returns-in-Some-end_after-clause-lowest : goal.returns-in-Some-end_after-clause-lowest
+returns-in-Some-end_after-clause-lowest g c = λ tells low high fault.
+    let m = g.W.End.End.means in
+    let n = length c.loop.lines.items in
+    let old = rows_of c.loop.lines.items in
+    let new = rows_of c.round_of_all-came.new.lines.items in
+    let came = c.round_of_all-came.result in
+    let swept = c.round_of_all-came.ensures in
+    let is = c.in-Some-end_after.is ∙ ap Some fault in
+    lowest_since low high (rows_of c.args.lines.now.items) old new c.loop.invariant.1
+    (lowest_swept m (IsPairBelow n n) came old new swept tells low high (c.end_after.ensures.fault low high is)
+    (all_pairs m n came old new swept (rows_count c.loop.lines.items)))
 
 pub end_after-requires : goal.end_after-requires
 end_after-requires g c =

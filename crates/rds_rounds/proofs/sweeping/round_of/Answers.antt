@@ -2,7 +2,7 @@ use Rattle.std.proofs.Common.{slice_index_or, sym, subst, arith}
 use Rattle.rds_rounds.specs.Grid.{rows_of}
 use Rattle.rds_rounds.specs.Sweep.{AreSwept, IsPair}
 use Rattle.rds_rounds.proofs.Halves.{back_part, both_rows, front_part, higher_row, lower_row, rows_count}
-use Rattle.rds_rounds.proofs.Sweeps.{swept_pair}
+use Rattle.rds_rounds.proofs.OnePair.{swept_pair}
 use Rattle.rds_rounds.proofs.Swept.{connected_rows}
 use Rattle.rds_rounds.proofs.sweeping.round_of.Goals as goal
 

@@ -25,7 +25,7 @@ loop-low-preserved g c =
     let came = c.round_of_host-of_host.result in
     let count = rows_count c.loop-low.lines.items in
     let first_count = rows_count c.args.lines.now.items in
-    next_host m c.loop-low.came came c.either-came.result (rows_of c.args.lines.now.items) now new c.either-came.ensures.idle c.either-came.ensures.one
+    next_host m c.loop-low.came came c.either-came.result (rows_of c.args.lines.now.items) now new c.either-came.ensures.idle c.either-came.ensures.exact
     c.loop-low.low (length c.args.lines.now.items) c.loop-low.invariant
     (subst (λ (n : ℕ). AreSwept m (IsPairOf c.loop-low.low n) came now new) (omega (arith, c.loop-low.invariant.lengths.count, count, first_count))
     c.round_of_host-of_host.ensures)

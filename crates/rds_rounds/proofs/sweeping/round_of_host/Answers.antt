@@ -21,7 +21,7 @@ round_of-of_pair-requires-clause-hosts g c =
 pub loop-high-preserved : goal.loop-high-preserved
 loop-high-preserved g c =
     next_pair g.W.End.End.means c.loop-high.came c.round_of-of_pair.result c.either-came.result (rows_of c.args.lines.now.items) (rows_of c.loop-high.lines.items)
-    (rows_of c.round_of-of_pair.new.lines.items) c.either-came.ensures.idle c.either-came.ensures.one c.args.low c.loop-high.high c.loop-high.invariant
+    (rows_of c.round_of-of_pair.new.lines.items) c.either-came.ensures.idle c.either-came.ensures.exact c.args.low c.loop-high.high c.loop-high.invariant
     c.round_of-of_pair.ensures
 
 pub returns : goal.returns

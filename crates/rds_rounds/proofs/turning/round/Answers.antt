@@ -6,7 +6,7 @@ use Rattle.rds_rounds.specs.Causes.{OwesNothing}
 use Rattle.rds_rounds.specs.Connection.{IsFullAt}
 use Rattle.rds_rounds.specs.Drained.{AreDrained}
 use Rattle.rds_rounds.proofs.Going.{goes_through}
-use Rattle.rds_rounds.proofs.Lacking.{lacks_met}
+use Rattle.rds_rounds.proofs.Lacking.{by_order_met, lacks_met}
 use Rattle.rds_rounds.proofs.turning.round.Goals as goal
 
 pub meet_lines-requires-2 : goal.meet_lines-requires-2
@@ -65,3 +65,11 @@ returns-clause-spent g c = λ host peer entries spent.
     ⊎_elim {C = IsFullAt host peer entries c.args.low c.args.high c.meet_lines-2.new.one c.meet_lines-2.new.other}
     (λ at_one. inl (at_one.0, at_one.1, c.meet_lines-2.ensures.one.full entries at_one.2))
     (λ at_other. inr (at_other.0, at_other.1, c.meet_lines-2.ensures.other.full entries at_other.2)) (c.turn_both-came.ensures.spent host peer entries spent)
+
+pub returns-clause-by_order : goal.returns-clause-by_order
+returns-clause-by_order g c = λ goes tells.
+    let both = c.turn_both-came.ensures.by_order goes tells in (
+      by_order_met c.args.one.now c.meet_lines.new.one c.turn_both-came.new.one c.meet_lines-2.new.one c.meet_lines.ensures.one c.meet_lines-2.ensures.one both.0,
+      by_order_met c.args.other.now c.meet_lines.new.other c.turn_both-came.new.other c.meet_lines-2.new.other c.meet_lines.ensures.other
+          c.meet_lines-2.ensures.other both.1,
+    )

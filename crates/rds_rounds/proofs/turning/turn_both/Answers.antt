@@ -4,6 +4,7 @@ use Rattle.rds_rounds.specs.Sweep.{LackStreamAt}
 use Rattle.rds_rounds.proofs.Connected.{connected_stays}
 use Rattle.rds_rounds.proofs.Going.{goes_of_stays}
 use Rattle.rds_rounds.proofs.Lacking.{named_high, named_high_too, named_low, named_low_too}
+use Rattle.rds_rounds.proofs.Passing.{both_go}
 use Rattle.rds_rounds.proofs.turning.turn_both.Goals as goal
 
 pub returns-clause-together : goal.returns-clause-together
@@ -53,3 +54,9 @@ returns-clause-fault g c = λ first second fault.
       inr (c.turn-second.ensures.lacks first second is),
     ))
     c.either.ensures.one
+
+pub returns-clause-by_order : goal.returns-clause-by_order
+returns-clause-by_order g c = λ goes tells.
+    let both = both_go c.turn-first.result c.turn-second.result c.either.result c.either.ensures.exact goes in
+    let told = c.requires.told ∙ tells in
+    (c.turn-first.ensures.by_order told both.0, c.turn-second.ensures.by_order told both.1)
