@@ -54,11 +54,14 @@ module _ (headline : Headline) (hosts : ℕ) (past : List Event) (keeps : Keeps 
       headline (journal h k past) (journal k h past) joined.whole_here.legal joined.whole_there.legal (honest h k apart)
 
 module _ (headline : Headline) (hosts : ℕ) (past : List Event) (keeps : Keeps hosts past) (in_order : (k slot : ℕ) → HandsOutInOrder k slot past) where
-  sound_between : (h k : ℕ) → h ≢ k → IsSoundBetween h k past
-  sound_between h k apart = record {
+  sound_between : HonestLaws → (h k : ℕ) → h ≢ k → IsSoundBetween h k past
+  sound_between laws h k apart = record {
     legal_here = (keeps.joined h k apart).whole_here;
     legal_there = (keeps.joined h k apart).whole_there;
     honest = honest headline hosts past keeps h k apart;
+    fifo =
+        (laws (journal h k past) (journal k h past) (keeps.joined h k apart).whole_here.legal (keeps.joined h k apart).whole_there.legal
+        (honest headline hosts past keeps h k apart)).1.0;
     reliable = λ sport dport. record {
       once = once headline hosts past keeps h k apart sport dport;
       handed_out = λ slot.
@@ -80,6 +83,6 @@ sound_history headline laws script limit past is small came =
     subst (Holds (Keeps script.hosts)) came (keeps_history script.hosts laws limit small script.commands.items [] is.each (keeps_nothing script.hosts)) in
     let in_order : (host slot : ℕ) → HandsOutInOrder host slot past = λ host slot. in_order_history limit script.hosts script.commands.items past host slot came in
     record {
-      between = λ h k known_h known_k apart. sound_between headline script.hosts past keeps in_order h k apart;
+      between = λ h k known_h known_k apart. sound_between headline script.hosts past keeps in_order laws h k apart;
       all_sent = handed_out_was_sent headline script.hosts past keeps in_order;
     }

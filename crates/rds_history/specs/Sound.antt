@@ -1,10 +1,11 @@
 -- What every script keeps between each two hosts: both journals follow the rules, each host gets a beginning of what the
--- other wrote, and for each port pair a socket hands out what was sent to it, in order and each once. Sources: rds(7) for
--- reliable and in order; the words are this project's own.
+-- other wrote, datagrams come first in, first out and each once, and for each port pair a socket hands out what was sent to
+-- it, in order and each once. Sources: rds(7) for reliable and in order; the words are this project's own.
 use Rattle.std.specs.Prelude.{◌≡◌, ◌≢◌, ℕ, ◌<◌, ◌==◌, ◌&&◌, Bool, Option, Some, List, ◌++◌, filter, map, All}
 use Rattle.std.specs.Option.{option_map}
 use Rattle.rds_model.specs.declared.order.Datagram.{Datagram}
 use Rattle.rds_model.specs.Past.{Accepted, datagram}
+use Rattle.rds_model.specs.Fifo.{IsFifo}
 use Rattle.rds_model.specs.Legal.{IsWhole}
 use Rattle.rds_model.specs.Honest.{IsHonest}
 use Rattle.rds_model.specs.Pairs.{IsDeliveredOnce, delivered_to}
@@ -42,11 +43,12 @@ pub record IsReliable (h sport k dport : ℕ) (past : List Event) : Type 0 where
   pub once : IsDeliveredOnce sport dport (journal h k past) (journal k h past)
   pub handed_out : (slot : ℕ) → IsHandedOut h sport k dport slot past
 
--- so it is from host h to host k
+-- So it is from host h to host k, and over the whole connection datagrams come first in, first out, and each once.
 pub record IsSoundBetween (h k : ℕ) (past : List Event) : Type 0 where
   pub legal_here : IsWhole (journal h k past)
   pub legal_there : IsWhole (journal k h past)
   pub honest : IsHonest (journal h k past) (journal k h past)
+  pub fifo : IsFifo (journal h k past) (journal k h past)
   pub reliable : (sport dport : ℕ) → IsReliable h sport k dport past
 
 -- another of so many hosts sent the datagram to host k, under some number
