@@ -275,6 +275,15 @@ module _ (tcp : WireSeen) (words : List (String Global)) (source : SourceSeen) (
   pub filled : (s : Status) (n : ℕ) → n ≡ code s → Ends s → (over : RunWire) → AreRun words over → n ≡ 7 → IsFilled over
   filled s n is end over run e = filled_at over (run_at over ended.Spent (ends_at s 7 end (sym is ∙ e)) run)
 
+  filled_by_gen_at : (sends seed : ℕ) → IsEndOfGenCall sends seed sink ended.Spent ⊎ ((ended.Spent ≡ ended.Memory) × (sink.held_after ≡ sink.held_before)) →
+      HasFilled true (generated sends seed) sink.held_before sink.held_after
+  filled_by_gen_at sends seed (inl e) = e
+  filled_by_gen_at sends seed (inr none) = let e = none.0 in absurd (cc)
+
+  pub filled_by_gen : (s : Status) (n : ℕ) → n ≡ code s → Ends s → (sends seed : ℕ) → AreGen words sends seed → n ≡ 7 →
+      HasFilled true (generated sends seed) sink.held_before sink.held_after
+  filled_by_gen s n is end sends seed gen e = filled_by_gen_at sends seed (gen_at sends seed ended.Spent (ends_at s 7 end (sym is ∙ e)) gen)
+
   abbrev HasSpent : Type 0
   HasSpent = (host peer entries : ℕ) × HasTaken sink (spent_line host peer entries)
 

@@ -109,6 +109,9 @@ where
     ensures filled { (over : RunWire) → AreRun words.now over → result ≡ 7 →
         (s : Meaning) × IsSpelled (S.left source.old) s
         × HasFilled (tells_over over W.End.means.tells) s (K.held sink.old) (K.held sink.new) }
+    // And of the script of so many sends and this seed.
+    ensures filled_by_gen { (sends seed : ℕ) → AreGen words.now sends seed → result ≡ 7 →
+        HasFilled true (generated sends seed) (K.held sink.old) (K.held sink.new) }
     ensures spent { result ≡ 7 → (host : ℕ) × (peer : ℕ) × (entries : ℕ)
         × SinkGained (K.held sink.old) (K.held sink.new) (spent_line host peer entries) }
     // A text that spells a script is answered so by `play`, unless the source or the sink fails or memory runs out.

@@ -54,6 +54,9 @@ returns-clause-full g c = ended.full _ _ _ _ c.do_work.result c.code.result c.co
 pub returns-clause-filled : goal.returns-clause-filled
 returns-clause-filled g c = ended.filled _ _ _ _ c.do_work.result c.code.result c.code.ensures c.do_work.ensures
 
+pub returns-clause-filled_by_gen : goal.returns-clause-filled_by_gen
+returns-clause-filled_by_gen g c = ended.filled_by_gen _ _ _ _ c.do_work.result c.code.result c.code.ensures c.do_work.ensures
+
 pub returns-clause-spent : goal.returns-clause-spent
 returns-clause-spent g c = ended.spent _ _ _ _ c.do_work.result c.code.result c.code.ensures c.do_work.ensures
 
