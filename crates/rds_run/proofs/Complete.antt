@@ -1,5 +1,5 @@
 -- Where nothing failed, a script is run.
-use Rattle.std.proofs.Common.{◌≡◌, ◌⊎◌, ⊎_elim, inl, inr, ℕ, List, String, Bool, true, false, refl, sym, ap, subst, arith}
+use Rattle.std.proofs.Common.{◌≡◌, ◌⊎◌, ⊎_elim, inl, inr, ℕ, List, String, refl, sym, ap, subst}
 use Rattle.std.specs.Global.{Global}
 use Rattle.rds_link.specs.Streaming.{HasRisen}
 use Rattle.rds_script.specs.Grammar.{Meaning}
@@ -14,9 +14,9 @@ use Rattle.rds_words.specs.Run.{AreRun}
 use Rattle.rds_run.specs.declared.status.Status.{Status}
 use Rattle.rds_run.specs.declared.status.Status.TheVariants as ended
 use Rattle.rds_run.specs.ExitStatus.{IsToldSpelled, SinkSeen, SourceSeen, code}
-use Rattle.rds_run.specs.RunStatus.{IsEndOfGenCall, IsEndOfRunOver, IsEndOfScript, IsEndOfTooMany, Ran, TooMany, WireSeen, memory_seen, seen_over}
+use Rattle.rds_run.specs.RunStatus.{IsEndOfRunOver, IsEndOfScript, IsEndOfTooMany, Ran, TooMany, WireSeen, memory_seen, seen_over}
 use Rattle.rds_run.specs.Ending.{IsEndOfProgram, OfGen, OfMemory, OfNone, OfPlay, OfRun}
-use Rattle.rds_run.proofs.Commands.{play_or_gen, play_or_run, run_or_gen, same_gen, same_wire}
+use Rattle.rds_run.proofs.Commands.{play_or_gen, play_or_run, run_or_gen, same_wire}
 use Rattle.rds_run.proofs.Ended as ends
 
 -- the numbers after a run whose script was run where nothing failed
@@ -33,7 +33,7 @@ module _ (tcp : WireSeen) (m : Meaning) (sink : SinkSeen) (wrote : HasRisen sink
   in_memory f ended.Refused end = absurd end
   in_memory f ended.Usage end = absurd end
   in_memory f ended.ReadFault end = absurd end
-  in_memory f ended.WriteFault end = absurd (wrote end)
+  in_memory f ended.WriteFault end = absurd (wrote end.2.0)
   in_memory f ended.WireFault end = absurd (ends.never_risen end.rose)
   in_memory f ended.Memory end = inr (inl refl)
   in_memory f ended.Spent end = inr (inr refl)
@@ -45,7 +45,7 @@ module _ (tcp : WireSeen) (m : Meaning) (sink : SinkSeen) (wrote : HasRisen sink
   over_tcp well ended.Refused end = absurd end
   over_tcp well ended.Usage end = absurd end
   over_tcp well ended.ReadFault end = absurd end
-  over_tcp well ended.WriteFault end = absurd (wrote end)
+  over_tcp well ended.WriteFault end = absurd (wrote end.2.0)
   over_tcp well ended.WireFault end = absurd (well end.rose)
   over_tcp well ended.Memory end = inr (inl refl)
   over_tcp well ended.Spent end = inr (inr (inl refl))

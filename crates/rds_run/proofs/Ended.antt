@@ -57,11 +57,11 @@ few_of : (m : Meaning) → (IsTooMany wire.Tcp m → ⊥) → prepared_streams m
 few_of m none = let not_above : 96 < prepared_streams m → ⊥ = λ above. none (refl, above) in omega (arith, not_above)
 
 module _ (tcp : WireSeen) (words : List (String Global)) (source : SourceSeen) (sink : SinkSeen) where
-  abbrev Ends : Status → Type 0
+  abbrev pub Ends : Status → Type 0
   Ends s = IsEndOfProgram tcp words source sink s
 
   -- what a call of `run` with this status leads to: no script was read, or one with too many streams, or one was run
-  by_run : (over : RunWire) (s : Status) (P : Type 0) → (IsEndOfReading source sink s → P)
+  pub by_run : (over : RunWire) (s : Status) (P : Type 0) → (IsEndOfReading source sink s → P)
       → ((m : Meaning) → IsSpelled source.left m → IsTooMany over m → IsEndOfTooMany (prepared_streams m) sink s → P)
       → ((m : Meaning) → IsSpelled source.left m → (IsTooMany over m → ⊥) → IsEndOfScript (seen_over over tcp) form.Report m sink s → P)
       → IsEndOfRunCall (seen_over over tcp) over source sink s → P
@@ -72,7 +72,7 @@ module _ (tcp : WireSeen) (words : List (String Global)) (source : SourceSeen) (
       go (TooMany is end) = many e.0 e.1 is end
       go (Ran few end) = ran e.0 e.1 few end
 
-  ends_at : (s : Status) (n : ℕ) → Ends s → code s ≡ n → Ends (of_code n)
+  pub ends_at : (s : Status) (n : ℕ) → Ends s → code s ≡ n → Ends (of_code n)
   ends_at s n end e = subst Ends (is_of s n e) end
 
   abbrev AreUsageCodes : ℕ → Type 0
@@ -116,8 +116,8 @@ module _ (tcp : WireSeen) (words : List (String Global)) (source : SourceSeen) (
 
   write_at : Ends ended.WriteFault → HasRisen sink.faults_before sink.faults_after
   write_at (OfPlay is e) = e.ends.2.0
-  write_at (OfRun over is e) = by_run over _ _ (λ r. r.2.0) (λ m read many r. r.0) (λ m read few r. r) e.ends
-  write_at (OfGen sends seed is e) = e
+  write_at (OfRun over is e) = by_run over _ _ (λ r. r.2.0) (λ m read many r. r.0) (λ m read few r. r.2.0) e.ends
+  write_at (OfGen sends seed is e) = e.2.0
   write_at (OfNone none e) = e.0
   write_at (OfMemory e same) = absurd (cc)
 
@@ -196,10 +196,10 @@ module _ (tcp : WireSeen) (words : List (String Global)) (source : SourceSeen) (
   written s n is end play e = let p = played s n is end play e in ends_in_end_line p.0 sink.held_before sink.held_after p.2
 
   -- words of `run` over a wire end the program as `run` over that wire ended, unless memory ran out before
-  abbrev HasRun : RunWire → Status → Type 0
+  abbrev pub HasRun : RunWire → Status → Type 0
   HasRun over s = IsEndOfRunning (seen_over over tcp) over source sink s ⊎ ((s ≡ ended.Memory) × (sink.held_after ≡ sink.held_before))
 
-  run_at : (over : RunWire) (s : Status) → Ends s → AreRun words over → HasRun over s
+  pub run_at : (over : RunWire) (s : Status) → Ends s → AreRun words over → HasRun over s
   run_at over s (OfPlay is e) run = absurd (play_or_run words over is run)
   run_at over s (OfRun asked is e) run = subst (λ (w : RunWire). HasRun w s) (same_wire words asked over is run) (inl e)
   run_at over s (OfGen sends seed is e) run = absurd (run_or_gen words over sends seed run is)
@@ -229,7 +229,7 @@ module _ (tcp : WireSeen) (words : List (String Global)) (source : SourceSeen) (
       (m : Meaning) × IsSpelled source.left m × (prepared_streams m ≤ 96)
   few s n is end run e = let r = ran_whole wire.Tcp s n is end run e in (r.0, r.1, few_of r.0 r.3)
 
-  gen_at : (sends seed : ℕ) (s : Status) → Ends s → AreGen words sends seed → IsEndOfGenCall sends seed sink s ⊎ ((s ≡ ended.Memory) × (sink.held_after ≡ sink.held_before))
+  pub gen_at : (sends seed : ℕ) (s : Status) → Ends s → AreGen words sends seed → IsEndOfGenCall sends seed sink s ⊎ ((s ≡ ended.Memory) × (sink.held_after ≡ sink.held_before))
   gen_at sends seed s (OfPlay is e) gen = absurd (play_or_gen words sends seed is gen)
   gen_at sends seed s (OfRun over is e) gen = absurd (run_or_gen words over sends seed is gen)
   gen_at sends seed s (OfGen n k is e) gen =

@@ -3,5 +3,6 @@ pub mod Codes
 pub mod Commands
 pub mod Calling
 pub mod Ended
+pub mod Begun
 pub mod Ran
 pub mod Complete

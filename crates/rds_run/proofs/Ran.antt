@@ -1,5 +1,5 @@
 -- A run that ended so is one of which the status says so.
-use Rattle.std.proofs.Common.{◌≡◌, ◌≢◌, ◌⊎◌, inl, inr, ℕ, Bool, true, false, List, [], Vec, refl, subst}
+use Rattle.std.proofs.Common.{◌≡◌, ◌≢◌, ◌⊎◌, inl, inr, ℕ, Bool, true, List, [], Vec, refl, subst}
 use Rattle.std.specs.Global.{Global}
 use Rattle.rds_script.specs.Grammar.{Meaning}
 use Rattle.rds_final.specs.Views.{host_views}
@@ -63,19 +63,20 @@ module _ (seen : WireSeen) (form : Form) (s : Meaning) (sink : Written) (result 
       let ran = subst IsEnd is end in
       record { host = host; peer = peer; entries = entries; own = own.past; other = other.past; full = ran.0; written = ran.1 }
 
--- a run in memory that lacks no stream ended so that no count tells of it
+-- a run in memory that lacks no stream, and whose text is begun where the sink fails, ended so that no count tells of it
 pub in_memory_of : (before after : WireCounts) (form : Form) (m : Meaning) (sink : SinkSeen) (s : Status) → (s ≡ status.WireFault → ⊥) →
+    (s ≡ status.WriteFault → IsEndOfScript memory_seen form m sink status.WriteFault) →
     IsEndOfScript (record { tells = true; before = before; after = after }) form m sink s → IsEndOfScript memory_seen form m sink s
-in_memory_of before after form m sink status.Written never end = end
-in_memory_of before after form m sink status.Refused never end = end
-in_memory_of before after form m sink status.Usage never end = end
-in_memory_of before after form m sink status.ReadFault never end = end
-in_memory_of before after form m sink status.WriteFault never end = end
-in_memory_of before after form m sink status.WireFault never end = absurd (never refl)
-in_memory_of before after form m sink status.Memory never end = end
-in_memory_of before after form m sink status.Spent never end = end
-in_memory_of before after form m sink status.Unfinished never end = let told = end.unacknowledged.untold in absurd (cc)
-in_memory_of before after form m sink status.TooManyStreams never end = end
+in_memory_of before after form m sink status.Written never begun end = end
+in_memory_of before after form m sink status.Refused never begun end = end
+in_memory_of before after form m sink status.Usage never begun end = end
+in_memory_of before after form m sink status.ReadFault never begun end = end
+in_memory_of before after form m sink status.WriteFault never begun end = begun refl
+in_memory_of before after form m sink status.WireFault never begun end = absurd (never refl)
+in_memory_of before after form m sink status.Memory never begun end = end
+in_memory_of before after form m sink status.Spent never begun end = end
+in_memory_of before after form m sink status.Unfinished never begun end = let told = end.unacknowledged.untold in absurd (cc)
+in_memory_of before after form m sink status.TooManyStreams never begun end = end
 
 -- a wire in memory none of whose openings and calls is to fail can't fail
 pub never_fails : (openings calls : List ℕ) → openings ≡ [] → calls ≡ [] → (openings ≢ []) ⊎ (calls ≢ []) → ⊥

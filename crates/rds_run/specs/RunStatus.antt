@@ -9,17 +9,18 @@ use Rattle.rds_text.specs.Lines.{spent_line}
 use Rattle.rds_final.specs.FinalState.{FinalHost}
 use Rattle.rds_parties.specs.Streams.{prepared_streams}
 use Rattle.rds_threads.specs.Causes.{AreLackingStream, AreUnacknowledged, IsFullJournal}
-use Rattle.rds_threads.specs.Counted.{AreEndsClosed, EndsOweNothing}
-use Rattle.rds_threads.specs.Ends.{AreAcknowledged, AreDrainedHosts, AreEnds, NonePending}
+use Rattle.rds_threads.specs.Counted.{AreEndsClosed, EndsOweNothing, IsCountedEnd}
+use Rattle.rds_threads.specs.Ends.{AreAcknowledged, AreDrainedHosts, AreEnds, HasToWrite, NonePending}
 use Rattle.rds_threads.specs.Texts.{fault_line, text_of, unfinished_line}
 use Rattle.rds_threads.specs.declared.form.Form.{Form}
 use Rattle.rds_threads.specs.declared.form.Form.TheVariants as form
+use Rattle.rds_threads.specs.declared.form.RunEnd.{RunEnd}
 use Rattle.rds_generator.specs.Generator.{generated}
 use Rattle.rds_words.specs.declared.wire.RunWire.{RunWire}
 use Rattle.rds_words.specs.declared.wire.RunWire.TheVariants as wire
 use Rattle.rds_run.specs.declared.status.Status.{Status}
 use Rattle.rds_run.specs.declared.status.Status.TheVariants as status
-use Rattle.rds_run.specs.ExitStatus.{HasFailedIn, HasTaken, HasTakenNothing, IsSpelled, SinkSeen, SourceSeen}
+use Rattle.rds_run.specs.ExitStatus.{HasFailedIn, HasTaken, HasTakenNothing, IsNoScriptAnswer, IsSpelled, SinkSeen, SourceSeen}
 use Rattle.rds_run.specs.Reading.{IsEndOfReading}
 use Rattle.rds_run.specs.Texts.{too_many_line}
 
@@ -92,9 +93,23 @@ pub record IsRunUnfinished (seen : WireSeen) (s : Meaning) (held_before held_aft
   pub waited : AreEndsClosed ends ⊎ HasRisenBy 20000000 seen.before.nothings seen.after.nothings
   pub written : SinkGained held_before held_after (unfinished_line count)
 
+-- What a run of the script has to write, in a text of this form: the text of an end that the run may come to, by what was counted of the
+-- wire.
+abbrev pub IsRunText : WireSeen → Form → Meaning → List ℕ → Type 0
+IsRunText seen form s text =
+    (end : RunEnd) × HasToWrite form seen.tells MAX_ENTRIES s.hosts s.commands end text × IsCountedEnd seen.tells (Unit {0}) 20000000 seen.before seen.after end
+
 -- more streams would be prepared for a run of the script over TCP than may be
 abbrev pub IsTooMany : RunWire → Meaning → Type 0
 IsTooMany over s = (over ≡ wire.Tcp) × (96 < prepared_streams s)
+
+-- what the command `run` has to write: the line that says why no script was read or that its streams are too many, or what a run of it has to
+-- write
+pub data IsRunAnswer (seen : WireSeen) (over : RunWire) (source : SourceSeen) : List ℕ → Type 0 where
+  OfNoScript : (answer : List ℕ) → IsNoScriptAnswer source answer → IsRunAnswer seen over source answer
+  OfTooMany : (s : Meaning) → IsSpelled source.left s → IsTooMany over s → IsRunAnswer seen over source (too_many_line (prepared_streams s))
+  OfRunScript : (s : Meaning) → IsSpelled source.left s → (IsTooMany over s → ⊥) → (answer : List ℕ) → IsRunText seen form.Report s answer →
+      IsRunAnswer seen over source answer
 
 -- A status for which `⊥` stands can't come.
 
@@ -112,7 +127,7 @@ IsEndOfScript seen form s sink status.Written = IsRan seen.tells form s sink.hel
 IsEndOfScript seen form s sink status.WireFault = IsWireFault seen s sink.held_before sink.held_after
 IsEndOfScript seen form s sink status.Spent = HasFilled seen.tells s sink.held_before sink.held_after
 IsEndOfScript seen form s sink status.Unfinished = IsRunUnfinished seen s sink.held_before sink.held_after
-IsEndOfScript seen form s sink status.WriteFault = HasRisen sink.faults_before sink.faults_after
+IsEndOfScript seen form s sink status.WriteFault = (text : List ℕ) × IsRunText seen form s text × HasFailedIn sink text
 IsEndOfScript seen form s sink status.Memory = HasTakenNothing sink
 IsEndOfScript seen form s sink _ = ⊥
 

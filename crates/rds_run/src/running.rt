@@ -1,6 +1,9 @@
 ghost use Rattle.std.specs.Prelude.{◌≡◌};
 ghost use Rattle.rds_script.specs.Script.{IsScript};
 ghost use Rattle.rds_script.specs.Grammar.{meaning};
+ghost use Rattle.rds_model.specs.declared.journal.TheConstants.{MAX_ENTRIES};
+ghost use Rattle.rds_threads.specs.Begun.{HasBegun};
+ghost use Rattle.rds_threads.specs.Counted.{IsCountedEnd};
 ghost use Rattle.rds_run.specs.RunStatus.{IsEndOfScript, memory_seen};
 ghost use Rattle.rds_run.specs.declared.status.Status.TheVariants as status;
 
@@ -60,6 +63,11 @@ where
         record { held_before = K.held sink.old; held_after = K.held sink.new; faults_before = K.faults sink.old; faults_after = K.faults sink.new }
         result }
     ensures may_fail { result ≡ status.WireFault → W.may_fail wire.old }
+    ensures begun { result ≡ status.WriteFault → HasBegun form W.End.means.tells MAX_ENTRIES script.now.hosts script.now.commands.items
+        (IsCountedEnd W.End.means.tells (W.may_fail wire.old) 20000000
+        record { faults = W.faults wire.old; nothings = W.nothings wire.old; fulls = W.fulls wire.old }
+        record { faults = W.faults wire.new; nothings = W.nothings wire.new; fulls = W.fulls wire.new })
+        (K.held sink.old) (K.held sink.new) }
 {
     match run(
         rt,

@@ -13,7 +13,7 @@ ghost use Rattle.rds_words.specs.Gen.{AreGen};
 ghost use Rattle.rds_words.specs.Play.{ArePlay};
 ghost use Rattle.rds_words.specs.Run.{AreRun};
 ghost use Rattle.rds_words.specs.Works.{AreNoCommand};
-ghost use Rattle.rds_run.specs.RunStatus.{HasFilled, IsRan, IsRunUnfinished, IsWireFault, tells_over};
+ghost use Rattle.rds_run.specs.RunStatus.{HasFilled, IsRan, IsRunAnswer, IsRunText, IsRunUnfinished, IsWireFault, memory_seen, seen_over, tells_over};
 ghost use Rattle.rds_parties.specs.Streams.{prepared_streams};
 ghost use Rattle.rds_run.specs.Ending.{IsEndOfProgram};
 ghost use Rattle.rds_run.specs.Texts.{usage_line, read_fault_line, bad_line, too_many_line};
@@ -73,6 +73,19 @@ where
     ensures usage_begun { result ≡ 4 → AreNoCommand words.now → SinkGainedFront (K.held sink.old) (K.held sink.new) usage_line }
     ensures answer_begun { result ≡ 4 → ArePlay words.now → (answer : List ℕ)
         × IsAnswer record { left = S.left source.old; faults_before = S.faults source.old; faults_after = S.faults source.new } answer
+        × SinkGainedFront (K.held sink.old) (K.held sink.new) answer }
+    // And of what `run` has to write: of the line that no script was read or that its streams are too many, or of the text of its run.
+    ensures run_begun { (over : RunWire) → AreRun words.now over → result ≡ 4 → (answer : List ℕ)
+        × IsRunAnswer (seen_over over
+        record {
+          tells = W.End.means.tells;
+          before = record { faults = W.faults tcp.old; nothings = W.nothings tcp.old; fulls = W.fulls tcp.old };
+          after = record { faults = W.faults tcp.new; nothings = W.nothings tcp.new; fulls = W.fulls tcp.new };
+        }) over record { left = S.left source.old; faults_before = S.faults source.old; faults_after = S.faults source.new } answer
+        × SinkGainedFront (K.held sink.old) (K.held sink.new) answer }
+    // And of what `gen` has to write, which is the text of the run of its script.
+    ensures gen_begun { (sends seed : ℕ) → AreGen words.now sends seed → result ≡ 4 → (answer : List ℕ)
+        × IsRunText memory_seen (form.Summary seed sends) (generated sends seed) answer
         × SinkGainedFront (K.held sink.old) (K.held sink.new) answer }
     ensures memory { result ≡ 6 → K.held sink.new ≡ K.held sink.old }
 

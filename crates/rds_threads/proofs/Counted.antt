@@ -1,6 +1,7 @@
 -- What the counts of a wire say of how a run ended.
-use Rattle.std.proofs.Common.{◌≡◌, ◌⊎◌, inl, inr, ℕ, Bool, true, false, List, All, Result, IfOk, length, map, refl, sym, subst}
+use Rattle.std.proofs.Common.{◌≡◌, ◌⊎◌, inl, inr, ℕ, Bool, true, false, List, All, Result, IfOk, length, map, refl, sym, subst, ◌∙◌}
 use Rattle.rds_wire.specs.declared.memory.Memory.{Memory}
+use Rattle.rds_link.specs.Streaming.{HasRisen, HasRisenBy}
 use Rattle.rds_link.specs.declared.wire.WireCounts.{WireCounts}
 use Rattle.rds_fmap.specs.Readers.{WriterView}
 use Rattle.rds_model.specs.declared.entry.Entry.{Entry}
@@ -73,13 +74,25 @@ counted_ok tells may_fail budget before after sink text end result counted =
     (λ e written. counted_written tells may_fail budget before after sink text end e counted written)
 
 -- what was counted since the start
+pub counted_from : (tells : Bool) (can may : Type 0) → (can → may) → (b budget : ℕ) (was before after : WireCounts) → b ≡ budget → was ≡ before →
+    (end : RunEnd) → IsCountedEnd tells can b was after end → IsCountedEnd tells may budget before after end
+counted_from tells can may why b budget was before after same_budget same_before end counted =
+    counted_since tells can may why budget before after end
+    (subst (λ (n : ℕ). IsCountedEnd tells can n before after end) same_budget (subst (λ (w : WireCounts). IsCountedEnd tells can b w after end) same_before counted))
+
 pub counted_of : (tells : Bool) (can may : Type 0) → (can → may) → (b budget : ℕ) (was before after : WireCounts) → b ≡ budget → was ≡ before →
     (result : Result RunEnd Memory) → IfOk result (IsCountedEnd tells can b was after) → IfOk result (IsCountedEnd tells may budget before after)
 counted_of tells can may why b budget was before after same_budget same_before result =
     on_ok (IsCountedEnd tells can b was after) (IsCountedEnd tells may budget before after) result
-    (λ e counted.
-    counted_since tells can may why budget before after e
-    (subst (λ (n : ℕ). IsCountedEnd tells can n before after e) same_budget (subst (λ (w : WireCounts). IsCountedEnd tells can b w after e) same_before counted)))
+    (λ e counted. counted_from tells can may why b budget was before after same_budget same_before e counted)
+
+-- where hosts lack a stream, the wire counted faults
+pub counted_fault : (tells told : Bool) (can : Type 0) (budget : ℕ) (before now after : WireCounts) (low high stream : ℕ) → told ≡ tells → now ≡ after →
+    can × HasRisen before.faults now.faults × (told ≡ true → HasRisenBy 3 before.faults now.faults) →
+    IsCountedEnd tells can budget before after (ended.WireFault low high stream)
+counted_fault tells told can budget before now after low high stream same_told same_now found =
+    let since = subst (λ (w : WireCounts). can × HasRisen before.faults w.faults × (told ≡ true → HasRisenBy 3 before.faults w.faults)) same_now found in
+    (since.0, since.1, λ tell. since.2 (same_told ∙ tell))
 
 -- one thing or another, as a test says
 pub as_tested : (A B : Type 0) (test : Bool) → (test ≡ false → A) → (test ≡ true → B) → A ⊎ B

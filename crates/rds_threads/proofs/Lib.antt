@@ -24,6 +24,7 @@ pub mod NonePending
 pub mod KeptPorts
 pub mod Alive
 pub mod Counted
+pub mod Begun
 pub mod Lacking
 pub mod Held
 pub mod Fronts

@@ -1,29 +1,22 @@
 -- A run that ended since a journal is full.
-use Rattle.std.proofs.Common.{◌≡◌, ◌≢◌, ◌<◌, ℕ, suc, ◌+◌, ◌-◌, inl, inr, List, length, Result, IfOk, refl, sym, ap, subst, ◌∙◌, arith}
+use Rattle.std.proofs.Common.{◌≡◌, ◌≢◌, ◌<◌, ℕ, suc, ◌+◌, ◌-◌, inl, inr, List, length, sym, ap, subst, ◌∙◌, arith}
 use Rattle.std.proofs.lemmas.Bool.{cases_lt}
-use Rattle.rds_wire.specs.declared.memory.Memory.{Memory}
 use Rattle.rds_link.specs.Ends.{Means}
-use Rattle.rds_model.specs.Log.{Log}
 use Rattle.rds_model.specs.declared.entry.Entry.{Entry}
 use Rattle.rds_line.specs.Line.{IsFull, LineView, line_past}
 use Rattle.rds_script.specs.declared.script.Placed.{Placed}
-use Rattle.rds_text.specs.Lines.{spent_line}
 use Rattle.rds_rounds.specs.Connection.{IsFullHost}
 use Rattle.rds_rounds.specs.Done.{AreDone}
 use Rattle.rds_rounds.specs.Grid.{IsAt, peer_at}
 use Rattle.rds_rounds.specs.Sound.{AreSoundJournals}
-use Rattle.rds_threads.specs.Ends.{IsEndOfRun, Writes, Written}
-use Rattle.rds_threads.specs.declared.form.Form.{Form}
-use Rattle.rds_threads.specs.declared.form.RunEnd.{RunEnd}
-use Rattle.rds_threads.specs.declared.form.RunEnd.TheVariants as ended
 use Rattle.rds_line_streams.specs.Streams.{numbers}
 use Rattle.rds_parties.specs.Preparing.{HaveCounted}
 use Rattle.rds_parties.specs.Streams.{AreNumbersOf, streams_between}
+use Rattle.rds_threads.specs.Causes.{IsFullJournal}
 use Rattle.rds_threads.specs.Taking.{IsJournalOf}
 use Rattle.rds_threads.proofs.Hosts.{line_of}
 use Rattle.rds_threads.proofs.Lacking.{counted_at, opened_among, streams_either_way}
 use Rattle.rds_threads.proofs.Rows.{host_within, peer_after, peer_apart, peer_before, peer_within, place_within, stands}
-use Rattle.rds_threads.proofs.Written.{end_written, on_ok}
 
 full_of : {E M : Type 0} (limit entries : ℕ) (line : LineView E M) (past : List Entry) → past ≡ line_past line → line.channel.conn.log.limit ≡ limit →
     IsFull entries line → (length past ≡ entries) × (limit < entries + 2)
@@ -74,36 +67,30 @@ module _ {E M : Type 0} (m : Means E) (limit hosts : ℕ) (rows : List (List (Li
             (host, other.0, peer_before peer host (omega (arith, is, higher)), other.1)
       ]
 
-  pub spent_end : (form : Form) (host peer entries : ℕ) → IsFullHost host peer entries rows → (own other : Log) → IsJournalOf rows host peer own.past →
-      IsJournalOf rows peer host other.past → AreSoundJournals m.tells own.past other.past → (commands : List Placed) (before after : ℕ) →
-      HaveCounted commands before after rows → (sink : Written) (result : Result RunEnd Memory) →
-      IfOk result (Writes sink (spent_line host peer entries) (ended.Spent host peer entries own other)) →
-      IfOk result (IsEndOfRun form m.tells limit hosts commands sink)
-  spent_end form host peer entries full own other is is_other sound commands before after counted sink result written =
+  -- the two journals of a host that is full and its peer
+  pub full_journal : (host peer entries : ℕ) → IsFullHost host peer entries rows → (own other : List Entry) → IsJournalOf rows host peer own →
+      IsJournalOf rows peer host other → AreSoundJournals m.tells own other → (commands : List Placed) (before after : ℕ) → HaveCounted commands before after rows →
+      IsFullJournal m.tells limit hosts commands host peer entries own other
+  full_journal host peer entries full own other is is_other sound commands before after counted =
       let line = line_of m limit hosts rows done host full.place full.line full.at in
       let own_is = is full.place full.line full.to full.at in
-      let f = full_of limit entries full.line own.past own_is.is line.limit_is full.full in
+      let f = full_of limit entries full.line own own_is.is line.limit_is full.full in
       let two = full_two host peer entries full in
       let back = back_at host peer full.place full.line full.at full.to in
       let other_is = is_other back.0 back.1 back.2 back.3 in
       let own_counted = counted_at hosts rows done.shape commands before after counted host full.place full.line full.at in
-      let other_counted = counted_at hosts rows done.shape commands before after counted peer back.0 back.1 back.3 in
-      on_ok (Writes sink (spent_line host peer entries) (ended.Spent host peer entries own other)) (IsEndOfRun form m.tells limit hosts commands sink) result
-      (end_written form m.tells limit hosts commands sink (spent_line host peer entries) (ended.Spent host peer entries own other) (
-        record {
-          host_known = two.first;
-          peer_known = two.second;
-          apart = two.apart;
-          count = f.0;
-          most = f.1;
-          sound = sound;
-          own_opened =
-              opened_among (streams_between host peer commands) before after full.line own.past
-              (subst (λ (p : ℕ). AreNumbersOf (streams_between host p commands) before after (numbers full.line.channel.streams.list)) full.to own_counted) own_is;
-          other_opened =
-              opened_among (streams_between host peer commands) before after back.1 other.past
-              (subst (λ (n : ℕ). AreNumbersOf n before after (numbers back.1.channel.streams.list))
-              (ap (λ (p : ℕ). streams_between peer p commands) back.2 ∙ streams_either_way peer host commands) other_counted) other_is;
-        },
-        refl,
-      )) written
+      let other_counted = counted_at hosts rows done.shape commands before after counted peer back.0 back.1 back.3 in record {
+        host_known = two.first;
+        peer_known = two.second;
+        apart = two.apart;
+        count = f.0;
+        most = f.1;
+        sound = sound;
+        own_opened =
+            opened_among (streams_between host peer commands) before after full.line own
+            (subst (λ (p : ℕ). AreNumbersOf (streams_between host p commands) before after (numbers full.line.channel.streams.list)) full.to own_counted) own_is;
+        other_opened =
+            opened_among (streams_between host peer commands) before after back.1 other
+            (subst (λ (n : ℕ). AreNumbersOf n before after (numbers back.1.channel.streams.list))
+            (ap (λ (p : ℕ). streams_between peer p commands) back.2 ∙ streams_either_way peer host commands) other_counted) other_is;
+      }

@@ -24,7 +24,7 @@ module _ (form : Form) (tells : Bool) (limit hosts : ℕ) (commands : List Place
   pub end_written : (text : List ℕ) (end : RunEnd) → HasToWrite form tells limit hosts commands end text → (result : RunEnd) → Writes sink text end result →
       IsEndOfRun form tells limit hosts commands sink result
   end_written text end has result (inl said) = subst (IsEndOfRun form tells limit hosts commands sink) (sym said.0) (ended_so text end has said.1)
-  end_written text end has result (inr failed) = subst (IsEndOfRun form tells limit hosts commands sink) (sym failed.0) (failed.1, (end, text, has, failed.2))
+  end_written text end has result (inr failed) = subst (IsEndOfRun form tells limit hosts commands sink) (sym failed.0) failed.1
 
 pub on_ok : {A : Type 0} (P Q : A → Type 0) (result : Result A Memory) → ((e : A) → P e → Q e) → IfOk result P → IfOk result Q
 on_ok P Q (Ok e) f p = f e p

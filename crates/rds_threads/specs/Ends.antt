@@ -102,8 +102,8 @@ HasToWrite form tells limit hosts commands (ended.Unfinished count ends) text =
 HasToWrite form tells limit hosts commands ended.WriteFault text = ⊥
 HasToWrite form tells limit hosts commands ended.Memory text = ⊥
 
--- How a run ended. It wrote the text of its form on what its hosts have in the end, which is sound; or its line; or the sink failed, and
--- took a beginning of what was to be written; or memory ran out, and nothing was written.
+-- How a run ended. It wrote the text of its form on what its hosts have in the end, which is sound; or its line; or the sink failed; or
+-- memory ran out, and nothing was written.
 abbrev pub IsEndOfRun : (form : Form) (tells : Bool) (limit hosts : ℕ) (commands : List Placed) → Written → RunEnd → Type 0
 IsEndOfRun form tells limit hosts commands sink (ended.Ok ends) =
     AreEnds tells hosts commands (host_views ends.items) × AreAcknowledged (host_views ends.items)
@@ -117,7 +117,5 @@ IsEndOfRun form tells limit hosts commands sink (ended.Spent host peer entries o
 IsEndOfRun form tells limit hosts commands sink (ended.Unfinished count ends) =
     AreEnds tells hosts commands (host_views ends.items) × AreUnacknowledged tells count (host_views ends.items)
     × SinkGained sink.held_before sink.held_after (unfinished_line count)
-IsEndOfRun form tells limit hosts commands sink ended.WriteFault =
-    HasRisen sink.faults_before sink.faults_after
-    × ((end : RunEnd) × (text : List ℕ) × HasToWrite form tells limit hosts commands end text × SinkGainedFront sink.held_before sink.held_after text)
+IsEndOfRun form tells limit hosts commands sink ended.WriteFault = HasRisen sink.faults_before sink.faults_after
 IsEndOfRun form tells limit hosts commands sink ended.Memory = sink.held_after ≡ sink.held_before

@@ -5,5 +5,6 @@ pub mod Causes
 pub mod Taking
 pub mod Ends
 pub mod Counted
+pub mod Begun
 pub mod Settled
 pub mod Cuts

@@ -6,6 +6,7 @@ ghost use Rattle.rds_rounds.specs.Connection.{AreHosts};
 ghost use Rattle.rds_rounds.specs.Grid.{rows_of};
 ghost use Rattle.rds_script.specs.declared.script.Placed.{Placed};
 ghost use Rattle.rds_host.specs.Held.{ends_of_all};
+ghost use Rattle.rds_threads.specs.Begun.{BeginsAtFault};
 ghost use Rattle.rds_threads.specs.Counted.{IsCountedEnd};
 ghost use Rattle.rds_threads.specs.Cuts.{IsCutEnd};
 ghost use Rattle.rds_threads.specs.Ends.{IsEndOfRun};
@@ -63,6 +64,12 @@ where
         record { faults = W.faults wire.old; nothings = W.nothings wire.old; fulls = W.fulls wire.old }
         record { faults = W.faults wire.new; nothings = W.nothings wire.new; fulls = W.fulls wire.new } result }
     ensures cut { IsCutEnd script.now.commands.items (W.faults wire.old) (W.faults wire.new) result }
+    // Where the sink failed, it took a beginning of what the run had to write at an end that the wire's counts tell of.
+    ensures begun { BeginsAtFault form W.End.means.tells limit script.now.hosts script.now.commands.items
+        (IsCountedEnd W.End.means.tells (W.may_fail wire.old) budget
+        record { faults = W.faults wire.old; nothings = W.nothings wire.old; fulls = W.fulls wire.old }
+        record { faults = W.faults wire.new; nothings = W.nothings wire.new; fulls = W.fulls wire.new })
+        (K.held sink.old) (K.held sink.new) result }
     ensures given_back { result ≢ ended.Memory → W.out wire.new ≤ W.out wire.old }
 {
     match ended(rt, alloc, script, wire, gate, form, limit, budget, sink) {
@@ -94,6 +101,11 @@ where
         record { faults = W.faults wire.old; nothings = W.nothings wire.old; fulls = W.fulls wire.old }
         record { faults = W.faults wire.new; nothings = W.nothings wire.new; fulls = W.fulls wire.new }) }
     ensures cut { IfOk result (IsCutEnd script.now.commands.items (W.faults wire.old) (W.faults wire.new)) }
+    ensures begun { IfOk result (BeginsAtFault form W.End.means.tells limit script.now.hosts script.now.commands.items
+        (IsCountedEnd W.End.means.tells (W.may_fail wire.old) budget
+        record { faults = W.faults wire.old; nothings = W.nothings wire.old; fulls = W.fulls wire.old }
+        record { faults = W.faults wire.new; nothings = W.nothings wire.new; fulls = W.fulls wire.new })
+        (K.held sink.old) (K.held sink.new)) }
     ensures memory { OnErr result (K.held sink.new ≡ K.held sink.old) }
     ensures out { IfOk result (λ _. W.out wire.new ≤ W.out wire.old) }
 {
@@ -131,6 +143,12 @@ fn finish<K: Sink, W: Wire, R: Threads + Wait + Sync>(
     ensures cut { (limit hosts : ℕ) (commands : List Placed) → AreHosts W.End.means limit hosts (rows_of lines.items) →
         HaveDoneLed hosts commands callers.items (rows_of lines.items) → HaveCounted commands start.counts.faults (W.faults wire.old) (rows_of lines.items) →
         IfOk result (IsCutEnd commands start.counts.faults (W.faults wire.new)) }
+    ensures begun { (limit hosts : ℕ) (commands : List Placed) (before after : ℕ) → AreHosts W.End.means limit hosts (rows_of lines.items) →
+        HaveDoneLed hosts commands callers.items (rows_of lines.items) → HaveCounted commands before after (rows_of lines.items) →
+        IfOk result (BeginsAtFault form W.End.means.tells limit hosts commands
+        (IsCountedEnd W.End.means.tells (start.can_fail ≡ true) start.budget start.counts
+        record { faults = W.faults wire.new; nothings = W.nothings wire.new; fulls = W.fulls wire.new })
+        (K.held sink.old) (K.held sink.new)) }
     ensures memory { OnErr result (K.held sink.new ≡ K.held sink.old) }
     ensures out { W.out wire.new ≡ W.out wire.old - ends_of_all (rows_of lines.items) }
 {

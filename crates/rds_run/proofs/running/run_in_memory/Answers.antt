@@ -1,6 +1,7 @@
 use Rattle.std.proofs.Common.{rules}
 use Rattle.rds_script.specs.Grammar.{meaning}
 use Rattle.rds_run.specs.ExitStatus.{SinkSeen}
+use Rattle.rds_run.proofs.Begun.{begun_in_memory, risen_of}
 use Rattle.rds_run.proofs.Ran.{in_memory_of, never_fails}
 use Rattle.rds_run.proofs.running.run_in_memory.Goals as goal
 
@@ -14,4 +15,7 @@ returns g c =
       faults_after = g.K.Sink.faults c.run_script.new.sink;
     } in
     in_memory_of _ _ c.args.form (meaning c.args.script.now) sink c.run_script.result
-    (λ fault. never_fails _ _ (search rules) (search rules) (c.run_script.ensures.may_fail fault)) c.run_script.ensures.ends
+    (λ fault. never_fails _ _ (search rules) (search rules) (c.run_script.ensures.may_fail fault))
+    (λ fault. begun_in_memory c.args.form (meaning c.args.script.now) _ (never_fails _ _ (search rules) (search rules)) _ _ sink
+    (risen_of _ c.args.form (meaning c.args.script.now) sink c.run_script.result fault c.run_script.ensures.ends) (c.run_script.ensures.begun fault))
+    c.run_script.ensures.ends

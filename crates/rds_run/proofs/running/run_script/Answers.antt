@@ -1,7 +1,9 @@
+use Rattle.std.proofs.Common.{subst}
 use Rattle.rds_model.specs.declared.journal.TheConstants.{MAX_ENTRIES}
 use Rattle.rds_script.specs.Grammar.{meaning}
-use Rattle.rds_threads.specs.Ends.{Written}
+use Rattle.rds_threads.specs.Ends.{IsEndOfRun, Written}
 use Rattle.rds_run.specs.RunStatus.{WireSeen}
+use Rattle.rds_run.proofs.Begun.{begun_of}
 use Rattle.rds_run.proofs.Ran.{filled_of, lacking_of, may_of, ran_of, unfinished_of}
 use Rattle.rds_run.proofs.running.run_script.Goals as goal
 
@@ -75,3 +77,21 @@ returns-in-Unfinished-clause-ends g c =
       after = record { faults = g.W.Wire.faults c.run.new.wire; nothings = g.W.Wire.nothings c.run.new.wire; fulls = g.W.Wire.fulls c.run.new.wire };
     } in
     unfinished_of seen c.args.form (meaning c.args.script.now) sink c.run.result _ _ _ c.in-Unfinished.is c.run.ensures.end c.run.ensures.counted
+
+-- refused where a text of another form is begun
+pub returns-in-WriteFault-clause-ends : goal.returns-in-WriteFault-clause-ends
+returns-in-WriteFault-clause-ends g c =
+    let sink : Written = record {
+      held_before = g.K.Sink.held c.args.sink.now;
+      held_after = g.K.Sink.held c.run.new.sink;
+      faults_before = g.K.Sink.faults c.args.sink.now;
+      faults_after = g.K.Sink.faults c.run.new.sink;
+    } in
+    let seen : WireSeen = record {
+      tells = g.W.End.End.means.tells;
+      before = record { faults = g.W.Wire.faults c.args.wire.now; nothings = g.W.Wire.nothings c.args.wire.now; fulls = g.W.Wire.fulls c.args.wire.now };
+      after = record { faults = g.W.Wire.faults c.run.new.wire; nothings = g.W.Wire.nothings c.run.new.wire; fulls = g.W.Wire.fulls c.run.new.wire };
+    } in
+    let m = meaning c.args.script.now in
+    begun_of seen c.args.form m (g.W.Wire.may_fail c.args.wire.now) sink
+    (subst (IsEndOfRun c.args.form seen.tells MAX_ENTRIES m.hosts m.commands sink) c.in-WriteFault.is c.run.ensures.end) (c.run.ensures.begun c.in-WriteFault.is)

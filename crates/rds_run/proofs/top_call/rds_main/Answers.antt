@@ -1,3 +1,4 @@
+use Rattle.rds_run.proofs.Begun as begun
 use Rattle.rds_run.proofs.Codes as codes
 use Rattle.rds_run.proofs.Complete as complete
 use Rattle.rds_run.proofs.Ended as ended
@@ -26,6 +27,12 @@ returns-clause-usage_begun g c = ended.usage_begun _ _ _ _ c.do_work.result c.co
 
 pub returns-clause-answer_begun : goal.returns-clause-answer_begun
 returns-clause-answer_begun g c = ended.answer_begun _ _ _ _ c.do_work.result c.code.result c.code.ensures c.do_work.ensures
+
+pub returns-clause-run_begun : goal.returns-clause-run_begun
+returns-clause-run_begun g c = begun.run_begun _ _ _ _ c.do_work.result c.code.result c.code.ensures c.do_work.ensures
+
+pub returns-clause-gen_begun : goal.returns-clause-gen_begun
+returns-clause-gen_begun g c = begun.gen_begun _ _ _ _ c.do_work.result c.code.result c.code.ensures c.do_work.ensures
 
 pub returns-clause-memory : goal.returns-clause-memory
 returns-clause-memory g c = ended.memory _ _ _ _ c.do_work.result c.code.result c.code.ensures c.do_work.ensures

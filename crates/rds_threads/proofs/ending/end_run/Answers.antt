@@ -1,4 +1,4 @@
-use Rattle.std.proofs.Common.{◌≡◌, Bool, true, refl, sym, ap, subst, ◌∙◌, arith, rules}
+use Rattle.std.proofs.Common.{Bool, ap, arith, refl, rules, subst, sym, true, ◌∙◌, ◌≡◌}
 use Rattle.rds_link.specs.Streaming.{HasRisen, HasRisenBy}
 use Rattle.rds_link.specs.declared.wire.WireCounts.{WireCounts}
 use Rattle.rds_model.specs.Past.{newest_stream}
@@ -10,12 +10,14 @@ use Rattle.rds_threads.specs.Counted.{AreEndsClosed, EndsOweNothing}
 use Rattle.rds_threads.specs.Ends.{IsEndOfRun, Writes, Written}
 use Rattle.rds_threads.specs.Texts.{fault_line, text_of, unfinished_line}
 use Rattle.rds_threads.specs.declared.form.RunEnd.TheVariants as ended
-use Rattle.rds_threads.proofs.Counted.{as_tested, counted_ok}
+use Rattle.rds_threads.proofs.Counted.{as_tested, counted_fault, counted_ok}
 use Rattle.rds_threads.proofs.CutsOfRun.{cut_ok}
 use Rattle.rds_threads.proofs.Lacking.{lacking_of}
 use Rattle.rds_threads.proofs.Rows.{rows_count}
-use Rattle.rds_threads.proofs.Spent.{full_two, spent_end}
+use Rattle.rds_threads.proofs.Spent.{full_journal, full_two}
 use Rattle.rds_threads.proofs.Written.{end_written, on_ok}
+use Rattle.rds_text.specs.Lines.{spent_line}
+use Rattle.rds_threads.proofs.Begun.{begun_ok}
 use Rattle.rds_threads.proofs.ending.end_run.Goals as goal
 
 pub journals-own-requires-clause-host : goal.journals-own-requires-clause-host
@@ -62,15 +64,21 @@ returns-in-Spent-clause-end g c = λ limit hosts commands before after done did 
     let host = c.in-Spent.host in
     let peer = c.in-Spent.peer in
     let entries = c.in-Spent.entries in
+    let own = c.journals-own.result.0 in
+    let other = c.journals-own.result.1 in
+    let full =
+    full_journal g.W.End.End.means limit hosts (rows_of c.args.lines.items) done host peer entries (c.requires.spent host peer entries c.in-Spent.is) own.past
+    other.past c.journals-own.ensures.own c.journals-own.ensures.other c.journals-own.ensures.sound commands before after counted in
     let sink : Written = record {
       held_before = g.K.Sink.held c.args.sink.now;
       held_after = g.K.Sink.held c.end_by_spent.new.sink;
       faults_before = g.K.Sink.faults c.args.sink.now;
       faults_after = g.K.Sink.faults c.end_by_spent.new.sink;
     } in
-    spent_end g.W.End.End.means limit hosts (rows_of c.args.lines.items) done c.args.form host peer entries (c.requires.spent host peer entries c.in-Spent.is)
-    c.journals-own.result.0 c.journals-own.result.1 c.journals-own.ensures.own c.journals-own.ensures.other c.journals-own.ensures.sound commands before after
-    counted sink c.end_by_spent.result c.end_by_spent.ensures.end
+    on_ok (Writes sink (spent_line host peer entries) (ended.Spent host peer entries own other))
+    (IsEndOfRun c.args.form g.W.End.End.means.tells limit hosts commands sink) c.end_by_spent.result
+    (end_written c.args.form g.W.End.End.means.tells limit hosts commands sink (spent_line host peer entries) (ended.Spent host peer entries own other) (full, refl))
+    c.end_by_spent.ensures.end
 
 pub returns-in_ok-ends-in-Done-clause-end : goal.returns-in_ok-ends-in-Done-clause-end
 returns-in_ok-ends-in-Done-clause-end g c = λ limit hosts commands before after done did counted.
@@ -159,21 +167,21 @@ returns-else-not-has_faulted-clause-counted g c =
     let low = c.in-Fault.low in
     let high = c.in-Fault.high in
     let stream = newest_stream c.journals-journal.result.0.past in
-    let is : c.has_faulted.result ≡ true = search rules in
     let wire = c.journals-journal.new.wire in
-    let after : WireCounts = record { faults = g.W.Wire.faults wire; nothings = g.W.Wire.nothings wire; fulls = g.W.Wire.fulls wire } in
-    let found = subst (λ (now : WireCounts). (c.args.start.can_fail ≡ true) × HasRisen c.args.start.counts.faults now.faults
-    × (c.tells.result ≡ true → HasRisenBy 3 c.args.start.counts.faults now.faults)) c.counts-in-Fault.ensures (c.has_faulted.ensures.0 is) in
-    let tells = c.tells.ensures in
+    let now : WireCounts = record { faults = g.W.Wire.faults wire; nothings = g.W.Wire.nothings wire; fulls = g.W.Wire.fulls wire } in
+    let start = c.args.start in
+    let is : c.has_faulted.result ≡ true = search rules in
+    let found =
+    counted_fault g.W.End.End.means.tells c.tells.result (start.can_fail ≡ true) start.budget start.counts c.counts-in-Fault.result now low high stream
+    c.tells.ensures c.counts-in-Fault.ensures (c.has_faulted.ensures.0 is) in
     let sink : Written = record {
       held_before = g.K.Sink.held c.args.sink.now;
       held_after = g.K.Sink.held c.end_by_fault.new.sink;
       faults_before = g.K.Sink.faults c.args.sink.now;
       faults_after = g.K.Sink.faults c.end_by_fault.new.sink;
     } in
-    counted_ok g.W.End.End.means.tells (c.args.start.can_fail ≡ true) c.args.start.budget c.args.start.counts after sink (fault_line low high stream)
-    (ended.WireFault low high stream) c.end_by_fault.result
-    (found.0, found.1, λ told. found.2 (tells ∙ told)) c.end_by_fault.ensures.end
+    counted_ok g.W.End.End.means.tells (start.can_fail ≡ true) start.budget start.counts now sink (fault_line low high stream)
+    (ended.WireFault low high stream) c.end_by_fault.result found c.end_by_fault.ensures.end
 
 -- refused where nothing is asked of the counts
 pub returns-else-not-has_waited-clause-counted : goal.returns-else-not-has_waited-clause-counted
@@ -205,6 +213,107 @@ returns-else-not-has_waited-clause-counted g c =
           (c.requires.closed count unwritten (c.in-Unfinished.is ∙ ap (λ (o : Bool). rounds.Unfinished count unwritten o) off)))
           found.1,
     ) c.end_unfinished.ensures.end
+
+pub returns-in_ok-ends-in-Done-clause-begun : goal.returns-in_ok-ends-in-Done-clause-begun
+returns-in_ok-ends-in-Done-clause-begun g c = λ limit hosts commands before after done did counted.
+    let ends = c.in_ok-ends-in-Done.ends in
+    let wire = c.host_ends.new.wire in
+    let now : WireCounts = record { faults = g.W.Wire.faults wire; nothings = g.W.Wire.nothings wire; fulls = g.W.Wire.fulls wire } in
+    let start = c.args.start in
+    let sink : Written = record {
+      held_before = g.K.Sink.held c.args.sink.now;
+      held_after = g.K.Sink.held c.end_by_report.new.sink;
+      faults_before = g.K.Sink.faults c.args.sink.now;
+      faults_after = g.K.Sink.faults c.end_by_report.new.sink;
+    } in
+    begun_ok c.args.form g.W.End.End.means.tells limit hosts commands (start.can_fail ≡ true) start.budget start.counts now sink
+    (text_of c.args.form (host_views ends.items)) (ended.Ok ends) (
+      c.in_ok-ends-in-Done.ensures.ends limit hosts commands done did,
+      λ tells. c.in_ok-ends-in-Done.ensures.settled limit hosts commands done did tells (c.requires.drained tells c.in-Done.is),
+      refl,
+    ) tt c.end_by_report.result c.end_by_report.ensures.end
+
+pub returns-in-Spent-clause-begun : goal.returns-in-Spent-clause-begun
+returns-in-Spent-clause-begun g c = λ limit hosts commands before after done did counted.
+    let host = c.in-Spent.host in
+    let peer = c.in-Spent.peer in
+    let entries = c.in-Spent.entries in
+    let own = c.journals-own.result.0 in
+    let other = c.journals-own.result.1 in
+    let full =
+    full_journal g.W.End.End.means limit hosts (rows_of c.args.lines.items) done host peer entries (c.requires.spent host peer entries c.in-Spent.is) own.past
+    other.past c.journals-own.ensures.own c.journals-own.ensures.other c.journals-own.ensures.sound commands before after counted in
+    let wire = c.journals-own.new.wire in
+    let now : WireCounts = record { faults = g.W.Wire.faults wire; nothings = g.W.Wire.nothings wire; fulls = g.W.Wire.fulls wire } in
+    let start = c.args.start in
+    let sink : Written = record {
+      held_before = g.K.Sink.held c.args.sink.now;
+      held_after = g.K.Sink.held c.end_by_spent.new.sink;
+      faults_before = g.K.Sink.faults c.args.sink.now;
+      faults_after = g.K.Sink.faults c.end_by_spent.new.sink;
+    } in
+    begun_ok c.args.form g.W.End.End.means.tells limit hosts commands (start.can_fail ≡ true) start.budget start.counts now sink
+    (spent_line host peer entries) (ended.Spent host peer entries own other) (full, refl) tt c.end_by_spent.result c.end_by_spent.ensures.end
+
+-- refused where the line of another cause is begun
+pub returns-else-not-has_faulted-clause-begun : goal.returns-else-not-has_faulted-clause-begun
+returns-else-not-has_faulted-clause-begun g c = λ limit hosts commands before after done did counted.
+    let low = c.in-Fault.low in
+    let high = c.in-Fault.high in
+    let own = c.journals-journal.result.0.past in
+    let other = c.journals-journal.result.1.past in
+    let stream = newest_stream own in
+    let lacking =
+    lacking_of g.W.End.End.means limit hosts (rows_of c.args.lines.items) done low high (c.requires.lacks low high c.in-Fault.is) commands before after counted
+    own other c.journals-journal.ensures.own c.journals-journal.ensures.other c.journals-journal.ensures.sound in
+    let wire = c.journals-journal.new.wire in
+    let now : WireCounts = record { faults = g.W.Wire.faults wire; nothings = g.W.Wire.nothings wire; fulls = g.W.Wire.fulls wire } in
+    let start = c.args.start in
+    let is : c.has_faulted.result ≡ true = search rules in
+    let found =
+    counted_fault g.W.End.End.means.tells c.tells.result (start.can_fail ≡ true) start.budget start.counts c.counts-in-Fault.result now low high stream
+    c.tells.ensures c.counts-in-Fault.ensures (c.has_faulted.ensures.0 is) in
+    let sink : Written = record {
+      held_before = g.K.Sink.held c.args.sink.now;
+      held_after = g.K.Sink.held c.end_by_fault.new.sink;
+      faults_before = g.K.Sink.faults c.args.sink.now;
+      faults_after = g.K.Sink.faults c.end_by_fault.new.sink;
+    } in
+    begun_ok c.args.form g.W.End.End.means.tells limit hosts commands (start.can_fail ≡ true) start.budget start.counts now sink
+    (fault_line low high stream) (ended.WireFault low high stream) (lacking, refl) found c.end_by_fault.result c.end_by_fault.ensures.end
+
+pub returns-else-not-has_waited-clause-begun : goal.returns-else-not-has_waited-clause-begun
+returns-else-not-has_waited-clause-begun g c = λ limit hosts commands before after done did counted.
+    let ends = c.in_ok-ends-in-Unfinished.ends in
+    let count = c.in-Unfinished.count in
+    let unwritten = c.in-Unfinished.unwritten in
+    let connected = c.in-Unfinished.connected in
+    let is : c.has_waited.result ≡ true = search rules in
+    let alive = c.requires.unacked count unwritten connected c.in-Unfinished.is in
+    let unacked : AreUnacknowledged g.W.End.End.means.tells count (host_views ends.items) =
+    record { untold = alive.untold; some = alive.some; all = alive.all ∙ sym c.in_ok-ends-in-Unfinished.ensures.alive } in
+    let wire = c.host_ends-in-Unfinished.new.wire in
+    let now : WireCounts = record { faults = g.W.Wire.faults wire; nothings = g.W.Wire.nothings wire; fulls = g.W.Wire.fulls wire } in
+    let start = c.args.start in
+    let found = subst (λ (n : WireCounts). (unwritten ≡ true → HasRisen start.counts.fulls n.fulls)
+    × (connected ≡ true → HasRisenBy start.budget start.counts.nothings n.nothings)) c.counts.ensures (c.has_waited.ensures.0 is) in
+    let sink : Written = record {
+      held_before = g.K.Sink.held c.args.sink.now;
+      held_after = g.K.Sink.held c.end_unfinished.new.sink;
+      faults_before = g.K.Sink.faults c.args.sink.now;
+      faults_after = g.K.Sink.faults c.end_unfinished.new.sink;
+    } in
+    begun_ok c.args.form g.W.End.End.means.tells limit hosts commands (start.can_fail ≡ true) start.budget start.counts now sink
+    (unfinished_line count) (ended.Unfinished count ends) (c.in_ok-ends-in-Unfinished.ensures.ends limit hosts commands done did, unacked, refl) (
+      as_tested (EndsOweNothing (host_views ends.items)) _ unwritten
+          (λ off. c.in_ok-ends-in-Unfinished.ensures.owe
+          (c.requires.owe count connected (c.in-Unfinished.is ∙ ap (λ (u : Bool). rounds.Unfinished count u connected) off)))
+          found.0,
+      as_tested (AreEndsClosed (host_views ends.items)) _ connected
+          (λ off. c.in_ok-ends-in-Unfinished.ensures.closed
+          (c.requires.closed count unwritten (c.in-Unfinished.is ∙ ap (λ (o : Bool). rounds.Unfinished count unwritten o) off)))
+          found.1,
+    ) c.end_unfinished.result c.end_unfinished.ensures.end
 
 -- refused where a line's cuts are lost
 pub returns-in_ok-ends-in-Done-clause-cut : goal.returns-in_ok-ends-in-Done-clause-cut

@@ -1,4 +1,4 @@
-use Rattle.std.proofs.Common.{◌≡◌, ◌≤◌, ℕ, IfOk, true, ap, subst, sym, arith}
+use Rattle.std.proofs.Common.{IfOk, ap, arith, subst, sym, true, ℕ, ◌≡◌, ◌≤◌}
 use Rattle.rds_link.specs.declared.wire.WireCounts.{WireCounts}
 use Rattle.rds_parties.specs.Preparing.{HaveCounted}
 use Rattle.rds_rounds.specs.Grid.{rows_of}
@@ -6,6 +6,7 @@ use Rattle.rds_threads.specs.Cuts.{IsCutEnd}
 use Rattle.rds_threads.proofs.Counted.{counted_of}
 use Rattle.rds_threads.proofs.Finished.{all_done}
 use Rattle.rds_threads.proofs.Held.{of_any}
+use Rattle.rds_threads.proofs.Begun.{begun_of}
 use Rattle.rds_threads.proofs.running.ended.Goals as goal
 
 pub finish-requires-clause-hosts : goal.finish-requires-clause-hosts
@@ -36,6 +37,28 @@ returns-clause-counted g c =
     counted_of g.W.End.End.means.tells (start.can_fail ≡ true) (g.W.Wire.may_fail wire) c.of-start.ensures.can_fail.0 start.budget c.args.budget start.counts
     (record { faults = g.W.Wire.faults wire; nothings = g.W.Wire.nothings wire; fulls = g.W.Wire.fulls wire }) _ c.of-start.ensures.budget
     c.of-start.ensures.counts c.finish.result c.finish.ensures.counted
+
+pub returns-clause-begun : goal.returns-clause-begun
+returns-clause-begun g c =
+    let hosts = c.args.script.now.hosts in
+    let obeyed = rw c.in-Ok.is at c.play-callers.ensures.obeyed in
+    let led = rw c.in-Ok.is at c.play-callers.ensures.led in
+    let commands = c.args.script.now.commands.items in
+    let before = g.W.Wire.faults c.args.wire.now in
+    let after = g.W.Wire.faults c.prepare.new.wire in
+    let wire = c.args.wire.now in
+    let now = c.finish.new.wire in
+    let start = c.of-start.result in
+    begun_of c.args.form g.W.End.End.means.tells c.args.limit hosts commands (g.W.Wire.may_fail wire) c.args.budget
+    (record { faults = g.W.Wire.faults wire; nothings = g.W.Wire.nothings wire; fulls = g.W.Wire.fulls wire })
+    (record { faults = g.W.Wire.faults now; nothings = g.W.Wire.nothings now; fulls = g.W.Wire.fulls now })
+    (start.can_fail ≡ true) c.of-start.ensures.can_fail.0 start.budget start.counts c.of-start.ensures.budget c.of-start.ensures.counts
+    (g.K.Sink.held c.args.sink.now) (g.K.Sink.held c.finish.new.sink) c.finish.result (
+    c.finish.ensures.begun c.args.limit hosts commands before after
+    (c.play-callers.ensures.hosts c.args.limit hosts c.in_ok-callers.ensures.hosts)
+    (all_done hosts commands _ _ _ c.in_ok-callers.ensures.new obeyed led)
+    (c.play-callers.ensures.counted commands before after (c.in_ok-callers.ensures.counted commands before after c.in_ok-streams.ensures.counted))
+    )
 
 pub returns-clause-out : goal.returns-clause-out
 returns-clause-out g c =

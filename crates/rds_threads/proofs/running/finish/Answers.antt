@@ -72,6 +72,21 @@ returns-clause-end g c = λ limit hosts commands before after are did counted.
     (c.counted_keeps.ensures.goes commands before after told (rows_of c.last_rounds-end.new.lines.items)
     (c.counted_keeps.ensures.same commands before after old told counted kept) c.last_rounds-end.ensures.rows)
 
+pub returns-clause-begun : goal.returns-clause-begun
+returns-clause-begun g c = λ limit hosts commands before after are did counted.
+    let old = rows_of c.args.lines.items in
+    let told = rows_of c.tell_all.new.lines.items in
+    let callers = c.requires.parties.2.callers_count in
+    let rows = c.requires.parties.2.rows_count in
+    let same : length c.args.callers.items ≡ length old = omega (arith, callers, rows) in
+    let kept = rows_same c.args.callers.items c.tell_all.new.callers.items old told same c.tell_all.ensures in
+    c.end_run.ensures.begun limit hosts commands before after
+    (c.last_rounds-end.ensures.done limit hosts (c.connected_keeps.ensures.same limit hosts old told are kept))
+    (done_spared hosts commands c.args.callers.items c.tell_all.new.callers.items old told (rows_of c.last_rounds-end.new.lines.items) same c.tell_all.ensures
+    c.last_rounds-end.ensures.rows did)
+    (c.counted_keeps.ensures.goes commands before after told (rows_of c.last_rounds-end.new.lines.items)
+    (c.counted_keeps.ensures.same commands before after old told counted kept) c.last_rounds-end.ensures.rows)
+
 pub end_run-requires-clause-owe : goal.end_run-requires-clause-owe
 end_run-requires-clause-owe g c = λ κs within. c.last_rounds-end.ensures.owes
 
