@@ -222,12 +222,8 @@ module _ (tcp : WireSeen) (words : List (String Global)) (source : SourceSeen) (
   ran s n is end run e = let r = ran_whole wire.Memory s n is end run e in (r.0, r.1, r.2)
 
   pub ran_over_tcp : (s : Status) (n : ℕ) → n ≡ code s → Ends s → AreRun words wire.Tcp → n ≡ 0 →
-      (m : Meaning) × IsSpelled source.left m × IsRan tcp.tells form.Report m sink.held_before sink.held_after
-  ran_over_tcp s n is end run e = let r = ran_whole wire.Tcp s n is end run e in (r.0, r.1, r.2)
-
-  pub few : (s : Status) (n : ℕ) → n ≡ code s → Ends s → AreRun words wire.Tcp → n ≡ 0 →
-      (m : Meaning) × IsSpelled source.left m × (prepared_streams m ≤ 96)
-  few s n is end run e = let r = ran_whole wire.Tcp s n is end run e in (r.0, r.1, few_of r.0 r.3)
+      (m : Meaning) × IsSpelled source.left m × (prepared_streams m ≤ 96) × IsRan tcp.tells form.Report m sink.held_before sink.held_after
+  ran_over_tcp s n is end run e = let r = ran_whole wire.Tcp s n is end run e in (r.0, r.1, few_of r.0 r.3, r.2)
 
   pub gen_at : (sends seed : ℕ) (s : Status) → Ends s → AreGen words sends seed → IsEndOfGenCall sends seed sink s ⊎ ((s ≡ ended.Memory) × (sink.held_after ≡ sink.held_before))
   gen_at sends seed s (OfPlay is e) gen = absurd (play_or_gen words sends seed is gen)

@@ -104,12 +104,11 @@ where
     // report on it was written.
     ensures ran { AreRun words.now wires.Memory → result ≡ 0 →
         (s : Meaning) × IsSpelled (S.left source.old) s × IsRan true form.Report s (K.held sink.old) (K.held sink.new) }
-    // The same over TCP. The ends of that wire say whether they tell their bytes.
+    // The same over TCP, where no more streams were prepared for that script than may be. The ends of that wire say whether they tell their
+    // bytes.
     ensures ran_over_tcp { AreRun words.now wires.Tcp → result ≡ 0 →
-        (s : Meaning) × IsSpelled (S.left source.old) s × IsRan W.End.means.tells form.Report s (K.held sink.old) (K.held sink.new) }
-    // No more streams were prepared for it than may be over TCP.
-    ensures few { AreRun words.now wires.Tcp → result ≡ 0 →
-        (s : Meaning) × IsSpelled (S.left source.old) s × (prepared_streams s ≤ 96) }
+        (s : Meaning) × IsSpelled (S.left source.old) s × (prepared_streams s ≤ 96)
+        × IsRan W.End.means.tells form.Report s (K.held sink.old) (K.held sink.new) }
     // The script of so many sends and this seed was run to its end, its hosts did its commands, what they have then is sound, and exactly
     // the summary of it was written.
     ensures summed { (sends seed : ℕ) → AreGen words.now sends seed → result ≡ 0 →

@@ -79,9 +79,6 @@ returns-clause-unfinished g c = ended.unfinished _ _ _ _ c.do_work.result c.code
 pub returns-clause-ran_over_tcp : goal.returns-clause-ran_over_tcp
 returns-clause-ran_over_tcp g c = ended.ran_over_tcp _ _ _ _ c.do_work.result c.code.result c.code.ensures c.do_work.ensures
 
-pub returns-clause-few : goal.returns-clause-few
-returns-clause-few g c = ended.few _ _ _ _ c.do_work.result c.code.result c.code.ensures c.do_work.ensures
-
 pub returns-clause-too_many : goal.returns-clause-too_many
 returns-clause-too_many g c = ended.too_many _ _ _ _ c.do_work.result c.code.result c.code.ensures c.do_work.ensures
 
