@@ -47,6 +47,11 @@ same_name_of (Some name) wire.Tcp wire.Tcp a b = refl
 pub same_wire : (words : List (String Global)) (one other : RunWire) → AreRun words one → AreRun words other → one ≡ other
 same_wire words one other a b = same_name_of (wire_named (map string_bytes words)) one other a.1.names b.1.names
 
+-- a run that isn't one over TCP goes over memory
+pub in_memory : (words : List (String Global)) (over : RunWire) → AreRun words over → (AreRun words wire.Tcp → ⊥) → over ≡ wire.Memory
+in_memory words wire.Memory run other = refl
+in_memory words wire.Tcp run other = absurd (other run)
+
 -- the words of `gen` name one number of sends and one seed
 same_word : (low high : ℕ) (word : Option (List ℕ)) (n k : ℕ) → IsNamed low high word n → IsNamed low high word k → n ≡ k
 same_word low high None n k one other = absurd one

@@ -69,6 +69,7 @@ where
         record { held_before = K.held sink.old; held_after = K.held sink.new; faults_before = K.faults sink.old; faults_after = K.faults sink.new }
         result
         ⊎ (result ≡ ended.Memory) }
+    ensures tcp_unused { wire ≡ wires.Memory → tcp.new ≡ tcp.old }
 {
     match read_script(alloc, source, sink) {
         Ok(script) => run_over(rt, alloc, wire, &script, sink, tcp, gate),
@@ -89,7 +90,7 @@ fn run_over<K: Sink, W: Wire, G: Gate + Sync, R: Threads + Wait + Net + Sync>(
 where
     W::End: Send,
     requires { IsScript script.now }
-    ensures { IsEndOfRunOver (seen_over wire
+    ensures ends { IsEndOfRunOver (seen_over wire
         record {
           tells = W.End.means.tells;
           before = record { faults = W.faults tcp.old; nothings = W.nothings tcp.old; fulls = W.fulls tcp.old };
@@ -97,6 +98,7 @@ where
         }) wire (meaning script.now)
         record { held_before = K.held sink.old; held_after = K.held sink.new; faults_before = K.faults sink.old; faults_after = K.faults sink.new }
         result }
+    ensures tcp_unused { wire ≡ wires.Memory → tcp.new ≡ tcp.old }
 {
     let streams = prepared_streams(script);
     if are_too_many(wire, streams) {

@@ -168,6 +168,10 @@ where
     // And so is a generated script by `gen`.
     ensures generates { (sends seed : ℕ) → AreGen words.now sends seed → (HasRisen (K.faults sink.old) (K.faults sink.new) → ⊥) →
         (result ≡ 0) ⊎ ((result ≡ 6) ⊎ (result ≡ 7)) }
+    // `gen` takes nothing from the source, and words of no command take nothing from it. Only a run over TCP uses that wire.
+    ensures unread { (sends seed : ℕ) → AreGen words.now sends seed → source.new ≡ source.old }
+    ensures usage_unread { AreNoCommand words.now → source.new ≡ source.old }
+    ensures tcp_unused { (AreRun words.now wires.Tcp → ⊥) → tcp.new ≡ tcp.old }
     ensures known { result ≤ 9 }
 {
     do_work(rt, alloc, words, source, sink, tcp, gate).code()
@@ -185,7 +189,7 @@ fn do_work<S: Source, K: Sink, W: Wire, G: Gate + Sync, R: Threads + Wait + Net 
 ) -> Status
 where
     W::End: Send,
-    ensures { IsEndOfProgram
+    ensures ends { IsEndOfProgram
         record {
           tells = W.End.means.tells;
           before = record { faults = W.faults tcp.old; nothings = W.nothings tcp.old; fulls = W.fulls tcp.old };
@@ -194,6 +198,9 @@ where
         record { left = S.left source.old; faults_before = S.faults source.old; faults_after = S.faults source.new }
         record { held_before = K.held sink.old; held_after = K.held sink.new; faults_before = K.faults sink.old; faults_after = K.faults sink.new }
         result }
+    ensures unread { (sends seed : ℕ) → AreGen words.now sends seed → source.new ≡ source.old }
+    ensures usage_unread { AreNoCommand words.now → source.new ≡ source.old }
+    ensures tcp_unused { (AreRun words.now wires.Tcp → ⊥) → tcp.new ≡ tcp.old }
 {
     match work_of(alloc, words) {
         Ok(Some(Work::Play)) => play_text(alloc, source, sink),

@@ -6,7 +6,7 @@ use Rattle.rds_run.proofs.run_command.run_text.Goals as goal
 
 pub returns-in-Ok-clause-ends : goal.returns-in-Ok-clause-ends
 returns-in-Ok-clause-ends g c =
-    let ran = rw c.in-Ok.ensures.same at c.run_over.ensures in
+    let ran = rw c.in-Ok.ensures.same at c.run_over.ensures.ends in
     inr (meaning c.in-Ok.script, c.in-Ok.ensures.spelled, ran)
 
 pub returns-in-Err-clause-ends : goal.returns-in-Err-clause-ends
@@ -20,7 +20,7 @@ returns-in-Ok-clause-too_many g c s told many =
       faults_before = g.K.Sink.faults c.args.sink.now;
       faults_after = g.K.Sink.faults c.run_over.new.sink;
     } in
-    let ran = rw c.in-Ok.ensures.same at c.run_over.ensures in
+    let ran = rw c.in-Ok.ensures.same at c.run_over.ensures.ends in
     inl (too_many_read _ _ _ s sink c.run_over.result (c.in-Ok.ensures.reads s told) many ran)
 
 pub returns-in-Err-clause-too_many : goal.returns-in-Err-clause-too_many
@@ -46,7 +46,7 @@ returns-in-Ok-clause-runs g c s told read =
       faults_before = g.K.Sink.faults c.args.sink.now;
       faults_after = g.K.Sink.faults c.run_over.new.sink;
     } in
-    let ran = rw c.in-Ok.ensures.same at c.run_over.ensures in
+    let ran = rw c.in-Ok.ensures.same at c.run_over.ensures.ends in
     inl (run_read _ _ _ s sink c.run_over.result (c.in-Ok.ensures.reads s told) ran)
 
 pub returns-in-Err-clause-runs : goal.returns-in-Err-clause-runs
