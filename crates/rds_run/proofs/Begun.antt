@@ -28,7 +28,7 @@ use Rattle.rds_run.proofs.Ended.{Ends, HasRun, by_run, ends_at, gen_at, run_at}
 counted_so : (tells : Bool) (may_fail : Type 0) (before after : WireCounts) (e : RunEnd) → IsCountedEnd tells may_fail 20000000 before after e →
     IsCountedEnd tells (Unit {0}) 20000000 before after e
 counted_so tells may_fail before after (run_end.Ok ends) counted = tt
-counted_so tells may_fail before after (run_end.WireFault low high stream) counted = (tt, counted.1, counted.2)
+counted_so tells may_fail before after (run_end.WireFault low high stream own other) counted = (tt, counted.1, counted.2)
 counted_so tells may_fail before after (run_end.Spent host peer entries own other) counted = tt
 counted_so tells may_fail before after (run_end.Unfinished count ends) counted = counted
 counted_so tells may_fail before after run_end.WriteFault counted = tt
@@ -39,7 +39,7 @@ counted_none : (form : Form) (m : Meaning) (may_fail : Type 0) → (may_fail →
     HasToWrite form true MAX_ENTRIES m.hosts m.commands e text → IsCountedEnd true may_fail 20000000 before after e →
     IsCountedEnd true (Unit {0}) 20000000 none_counted none_counted e
 counted_none form m may_fail never before after (run_end.Ok ends) text has counted = tt
-counted_none form m may_fail never before after (run_end.WireFault low high stream) text has counted = absurd (never counted.0)
+counted_none form m may_fail never before after (run_end.WireFault low high stream own other) text has counted = absurd (never counted.0)
 counted_none form m may_fail never before after (run_end.Spent host peer entries own other) text has counted = tt
 counted_none form m may_fail never before after (run_end.Unfinished count ends) text has counted = let told = has.1.untold in absurd (cc)
 counted_none form m may_fail never before after run_end.WriteFault text has counted = absurd has

@@ -39,16 +39,16 @@ module _ (seen : WireSeen) (form : Form) (s : Meaning) (sink : Written) (result 
     abbrev IsCounted : RunEnd → Type 0
     IsCounted end = IsCountedEnd seen.tells may_fail 20000000 seen.before seen.after end
 
-    pub lacking_of : (low high stream : ℕ) → result ≡ ended.WireFault low high stream → IsEnd result → IsCounted result →
+    pub lacking_of : (low high stream : ℕ) (own other : Log) → result ≡ ended.WireFault low high stream own other → IsEnd result → IsCounted result →
         IsWireFault seen s sink.held_before sink.held_after
-    lacking_of low high stream is end counted =
+    lacking_of low high stream own other is end counted =
         let ran = subst IsEnd is end in
         let why = subst IsCounted is counted in
-        record { low = low; high = high; stream = stream; lacking = ran.0; rose = why.1; thrice = why.2; written = ran.1 }
+        record { low = low; high = high; stream = stream; own = own.past; other = other.past; lacking = ran.0; rose = why.1; thrice = why.2; written = ran.1 }
 
     -- where hosts lack a stream the wire may fail
-    pub may_of : (low high stream : ℕ) → result ≡ ended.WireFault low high stream → IsCounted result → may_fail
-    may_of low high stream is counted = (subst IsCounted is counted).0
+    pub may_of : (low high stream : ℕ) (own other : Log) → result ≡ ended.WireFault low high stream own other → IsCounted result → may_fail
+    may_of low high stream own other is counted = (subst IsCounted is counted).0
 
     pub unfinished_of : (count : ℕ) (ends : Vec HostEnd Global) → result ≡ ended.Unfinished count ends → IsEnd result → IsCounted result →
         IsRunUnfinished seen s sink.held_before sink.held_after

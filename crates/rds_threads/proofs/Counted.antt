@@ -4,6 +4,7 @@ use Rattle.rds_wire.specs.declared.memory.Memory.{Memory}
 use Rattle.rds_link.specs.Streaming.{HasRisen, HasRisenBy}
 use Rattle.rds_link.specs.declared.wire.WireCounts.{WireCounts}
 use Rattle.rds_fmap.specs.Readers.{WriterView}
+use Rattle.rds_model.specs.Log.{Log}
 use Rattle.rds_model.specs.declared.entry.Entry.{Entry}
 use Rattle.rds_line.specs.Line.{LineView, line_past}
 use Rattle.rds_gather.specs.Sides.{line_side}
@@ -59,7 +60,7 @@ counted_written tells may_fail budget before after sink text end result counted 
 pub counted_since : (tells : Bool) (can may : Type 0) → (can → may) → (budget : ℕ) (before after : WireCounts) (end : RunEnd) →
     IsCountedEnd tells can budget before after end → IsCountedEnd tells may budget before after end
 counted_since tells can may why budget before after (ended.Ok ends) counted = tt
-counted_since tells can may why budget before after (ended.WireFault low high stream) counted = (why counted.0, counted.1, counted.2)
+counted_since tells can may why budget before after (ended.WireFault low high stream own other) counted = (why counted.0, counted.1, counted.2)
 counted_since tells can may why budget before after (ended.Spent host peer entries own other) counted = tt
 counted_since tells can may why budget before after (ended.Unfinished count ends) counted = counted
 counted_since tells can may why budget before after ended.WriteFault counted = tt
@@ -87,10 +88,10 @@ counted_of tells can may why b budget was before after same_budget same_before r
     (λ e counted. counted_from tells can may why b budget was before after same_budget same_before e counted)
 
 -- where hosts lack a stream, the wire counted faults
-pub counted_fault : (tells told : Bool) (can : Type 0) (budget : ℕ) (before now after : WireCounts) (low high stream : ℕ) → told ≡ tells → now ≡ after →
+pub counted_fault : (tells told : Bool) (can : Type 0) (budget : ℕ) (before now after : WireCounts) (low high stream : ℕ) (own other : Log) → told ≡ tells → now ≡ after →
     can × HasRisen before.faults now.faults × (told ≡ true → HasRisenBy 3 before.faults now.faults) →
-    IsCountedEnd tells can budget before after (ended.WireFault low high stream)
-counted_fault tells told can budget before now after low high stream same_told same_now found =
+    IsCountedEnd tells can budget before after (ended.WireFault low high stream own other)
+counted_fault tells told can budget before now after low high stream own other same_told same_now found =
     let since = subst (λ (w : WireCounts). can × HasRisen before.faults w.faults × (told ≡ true → HasRisenBy 3 before.faults w.faults)) same_now found in
     (since.0, since.1, λ tell. since.2 (same_told ∙ tell))
 

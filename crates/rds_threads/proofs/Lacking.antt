@@ -1,9 +1,11 @@
 -- Two hosts that lack a stream, and the streams that journals opened.
-use Rattle.std.proofs.Common.{◌≡◌, ◌<◌, ◌≤◌, ◌+◌, ◌-◌, ◌==◌, ◌&&◌, ◌||◌, ⊎_elim, inl, inr, ℕ, suc, Bool, true, false, List, filter, length, refl, sym, ap, subst, ◌∙◌, arith}
+use Rattle.std.proofs.Common.{◌≡◌, ◌<◌, ◌≤◌, ◌+◌, ◌++◌, ◌-◌, ◌==◌, ◌&&◌, ◌||◌, ⊎_elim, inl, inr, ℕ, suc, Bool, true, false, List, drop, filter, length, take, refl, sym, ap, subst, ◌∙◌, arith}
 use Rattle.std.proofs.lemmas.Bool.{cases_lt}
+use Rattle.std.proofs.lemmas.List.{take-append-drop}
 use Rattle.std.proofs.lemmas.List.Elements.{All-same, All-take}
 use Rattle.rds_link.specs.Ends.{Means}
 use Rattle.rds_model.specs.declared.entry.Entry.{Entry}
+use Rattle.rds_model.specs.Honest.{Begins}
 use Rattle.rds_model.specs.Past.{newest_stream, open_stream}
 use Rattle.rds_model.specs.Sums.{opens}
 use Rattle.rds_line_streams.specs.Streams.{numbers}
@@ -13,12 +15,12 @@ use Rattle.rds_script.specs.declared.script.Command.TheVariants.{Bind, BindAny, 
 use Rattle.rds_script.specs.declared.script.Placed.{Placed}
 use Rattle.rds_parties.specs.Preparing.{HaveCounted, HaveNumbered}
 use Rattle.rds_parties.specs.Streams.{AreNumbersOf, is_cut_between, streams_between}
-use Rattle.rds_rounds.specs.Causes.{HostsLackStream}
+use Rattle.rds_rounds.specs.Causes.{HostsLackStream, LacksStream}
 use Rattle.rds_rounds.specs.Done.{AreDone}
 use Rattle.rds_rounds.specs.Grid.{AreRows, IsAt, peer_at}
 use Rattle.rds_rounds.specs.Sound.{AreSoundJournals}
-use Rattle.rds_threads.specs.Causes.{AreLackingStream, OpenedAmong}
-use Rattle.rds_threads.specs.Taking.{IsJournalOf, IsJournalOfLine}
+use Rattle.rds_threads.specs.Causes.{AreLackingStream, HasNoneLeft, OpenedAmong}
+use Rattle.rds_threads.specs.Taking.{HaveSameStreams, IsJournalOf, IsJournalOfLine}
 use Rattle.rds_threads.proofs.Rows.{host_within, peer_after, peer_before, place_within, stands}
 
 either_way : (a b : Bool) → (a || b) ≡ (b || a)
@@ -43,6 +45,10 @@ cut_either_way a b Drain = refl
 pub streams_either_way : (a b : ℕ) (commands : List Placed) → streams_between a b commands ≡ streams_between b a commands
 streams_either_way a b commands i = length (filter (λ (placed : Placed). cut_either_way a b placed.command i) commands) + 3
 
+-- what is taken from the front of a list begins it
+front_of : (whole front : List ℕ) (n : ℕ) → front ≡ take n whole → Begins front whole
+front_of whole front n is = (drop n whole, sym (take-append-drop n whole) ∙ ap (λ (l : List ℕ). l ++ drop n whole) (sym is))
+
 module _ {E M : Type 0} where
   -- a line's journal opened some of its streams
   pub opened_among : (count before after : ℕ) (line : LineView E M) (past : List Entry) → AreNumbersOf count before after (numbers line.channel.streams.list) →
@@ -51,28 +57,39 @@ module _ {E M : Type 0} where
       All-same (λ (n : ℕ). n ≤ count) (opens past) _ is.opened.1
       (All-take (λ (n : ℕ). n ≤ count) is.opened.0 (numbers line.channel.streams.list) of.most)
 
-  pub lacking_of : (m : Means E) (limit hosts : ℕ) (rows : List (List (LineView E M))) → AreDone m limit hosts rows → (low high : ℕ) →
-      HostsLackStream low high rows → (commands : List Placed) (before after : ℕ) → HaveCounted commands before after rows → (one other : List Entry) →
-      IsJournalOf rows low high one → IsJournalOf rows high low other → AreSoundJournals m.tells one other →
-      AreLackingStream m.tells hosts commands low high (newest_stream one)
-  lacking_of m limit hosts rows done low high lack commands before after counted one other is_one is_other sound =
+  -- the journal of a line that lacks a stream has none left
+  none_left : (line back : LineView E M) (own other : List Entry) → LacksStream line → IsJournalOfLine line own → IsJournalOfLine back other →
+      numbers back.channel.streams.list ≡ numbers line.channel.streams.list → HasNoneLeft own other
+  none_left line back own other lacks of_own of_other same = record {
+    closed = ap open_stream of_own.is ∙ lacks.closed;
+    all =
+        front_of (opens own) (opens other) of_other.opened.0
+        (of_other.opened.1 ∙ ap (take of_other.opened.0) (same ∙ sym (ap opens of_own.is ∙ lacks.all)));
+  }
+
+  pub lacking_of : (m : Means E) (limit hosts : ℕ) (rows : List (List (LineView E M))) → AreDone m limit hosts rows → HaveSameStreams rows → (low high : ℕ) →
+      HostsLackStream low high rows → (commands : List Placed) (before after : ℕ) → HaveCounted commands before after rows → (own other : List Entry) →
+      IsJournalOf rows low high own → IsJournalOf rows high low other → AreSoundJournals m.tells own other →
+      AreLackingStream m.tells hosts commands low high (newest_stream own) own other
+  lacking_of m limit hosts rows done streams low high lack commands before after counted own other is_own is_other sound =
       let ordered = lack.ordered in
       let next = lack.next in
       let less : low < high = omega (arith, ordered, next) in
-      let of_one = is_one lack.place lack.one (peer_after low lack.place ordered ∙ sym next) lack.one_at in
+      let of_own = is_own lack.place lack.one (peer_after low lack.place ordered ∙ sym next) lack.one_at in
       let of_other = is_other low lack.other (peer_before high low less) lack.other_at in
+      let there = subst (λ (n : ℕ). IsAt rows n low lack.other) next lack.other_at in
+      let same = streams low lack.place lack.one lack.other ordered lack.one_at there in
       let both =
       subst (λ (n : ℕ). HaveNumbered commands before after low n lack.one.channel.streams.list lack.other.channel.streams.list) (sym next)
-      (counted low lack.place lack.one lack.other ordered lack.one_at (subst (λ (n : ℕ). IsAt rows n low lack.other) next lack.other_at)) in record {
+      (counted low lack.place lack.one lack.other ordered lack.one_at there) in record {
         ordered = less;
         known = host_within hosts rows done.shape high lack.other_at.0 lack.other_at.1;
-        one = one;
-        other = other;
         sound = sound;
-        one_opened = opened_among (streams_between low high commands) before after lack.one one both.0 of_one;
+        own_opened = opened_among (streams_between low high commands) before after lack.one own both.0 of_own;
         other_opened = opened_among (streams_between low high commands) before after lack.other other both.1 of_other;
-        closed =
-            ⊎_elim (λ lacks. inl (ap open_stream of_one.is ∙ lacks.closed)) (λ lacks. inr (ap open_stream of_other.is ∙ lacks.closed)) lack.lacks;
+        lacks =
+            ⊎_elim (λ lacks. inl (none_left lack.one lack.other own other lacks of_own of_other same))
+            (λ lacks. inr (none_left lack.other lack.one other own lacks of_other of_own (sym same))) lack.lacks;
         newest = refl;
       }
 

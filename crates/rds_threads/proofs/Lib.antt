@@ -25,6 +25,7 @@ pub mod KeptPorts
 pub mod Alive
 pub mod Counted
 pub mod Begun
+pub mod SameStreams
 pub mod Lacking
 pub mod Held
 pub mod Fronts

@@ -15,7 +15,7 @@ module _ (form : Form) (tells : Bool) (limit hosts : ℕ) (commands : List Place
   ended_so : (text : List ℕ) (end : RunEnd) → HasToWrite form tells limit hosts commands end text → SinkGained sink.held_before sink.held_after text →
       IsEndOfRun form tells limit hosts commands sink end
   ended_so text (ended.Ok ends) has gain = (has.0, has.1, has.2, gained text _ has.3 gain)
-  ended_so text (ended.WireFault low high stream) has gain = (has.0, gained text _ has.1 gain)
+  ended_so text (ended.WireFault low high stream own other) has gain = (has.0, gained text _ has.1 gain)
   ended_so text (ended.Spent host peer entries own other) has gain = (has.0, gained text _ has.1 gain)
   ended_so text (ended.Unfinished count ends) has gain = (has.0, has.1, gained text _ has.2 gain)
   ended_so text ended.WriteFault has gain = absurd has

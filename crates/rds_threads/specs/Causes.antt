@@ -2,6 +2,7 @@
 use Rattle.std.specs.Prelude.{◌≡◌, ◌≢◌, ◌⊎◌, ◌≤◌, ◌<◌, ◌+◌, ℕ, Bool, false, List, All, None, length, sum_by}
 use Rattle.rds_model.specs.declared.entry.Entry.{Entry}
 use Rattle.rds_model.specs.Alive.{alive_numbers}
+use Rattle.rds_model.specs.Honest.{Begins}
 use Rattle.rds_model.specs.Past.{newest_stream, open_stream}
 use Rattle.rds_model.specs.Sums.{opens}
 use Rattle.rds_final.specs.FinalState.{FinalHost, FinalJournal}
@@ -13,18 +14,22 @@ use Rattle.rds_parties.specs.Streams.{streams_between}
 abbrev pub OpenedAmong : (count : ℕ) → List Entry → Type 0
 OpenedAmong count past = All (λ stream. stream ≤ count) (opens past)
 
+-- The journal has no stream left: none is open in it, and it opened each that was prepared, so that the other journal of the connection
+-- opened a beginning of the same.
+pub record HasNoneLeft (own other : List Entry) : Type 0 where
+  pub closed : open_stream own ≡ None
+  pub all : Begins (opens other) (opens own)
+
 -- Two hosts of so many, the lower one first, lack a stream. Their journals are sound, neither opened a stream that wasn't to be prepared for
--- the commands, and in one of them none is open. The lower host's journal opened this stream last, or none where it is 0.
-pub record AreLackingStream (tells : Bool) (hosts : ℕ) (commands : List Placed) (low high stream : ℕ) : Type 0 where
+-- the commands, and one of them has none left. The lower host's journal opened this stream last, or none where it is 0.
+pub record AreLackingStream (tells : Bool) (hosts : ℕ) (commands : List Placed) (low high stream : ℕ) (own other : List Entry) : Type 0 where
   pub ordered : low < high
   pub known : high < hosts
-  pub one : List Entry
-  pub other : List Entry
-  pub sound : AreSoundJournals tells one other
-  pub one_opened : OpenedAmong (streams_between low high commands) one
+  pub sound : AreSoundJournals tells own other
+  pub own_opened : OpenedAmong (streams_between low high commands) own
   pub other_opened : OpenedAmong (streams_between low high commands) other
-  pub closed : (open_stream one ≡ None) ⊎ (open_stream other ≡ None)
-  pub newest : stream ≡ newest_stream one
+  pub lacks : HasNoneLeft own other ⊎ HasNoneLeft other own
+  pub newest : stream ≡ newest_stream own
 
 -- how many numbers are alive in the journals of hosts
 abbrev pub alive_in_side : FinalJournal → ℕ

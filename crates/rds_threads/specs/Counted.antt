@@ -27,7 +27,7 @@ AreEndsClosed ends = OfEachJournal (λ past. open_stream past ≡ None) ends
 -- round of the budget that no bytes are there, or no stream is open.
 abbrev pub IsCountedEnd : (tells : Bool) (may_fail : Type 0) (budget : ℕ) (before after : WireCounts) → RunEnd → Type 0
 IsCountedEnd tells may_fail budget before after (ended.Ok ends) = Unit {0}
-IsCountedEnd tells may_fail budget before after (ended.WireFault low high stream) =
+IsCountedEnd tells may_fail budget before after (ended.WireFault low high stream own other) =
     may_fail × HasRisen before.faults after.faults × (tells ≡ true → HasRisenBy 3 before.faults after.faults)
 IsCountedEnd tells may_fail budget before after (ended.Spent host peer entries own other) = Unit {0}
 IsCountedEnd tells may_fail budget before after (ended.Unfinished count ends) =

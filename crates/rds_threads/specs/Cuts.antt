@@ -33,7 +33,7 @@ AreCutsOfEnds commands before after ends = (host place : ℕ) (end : FinalHost) 
 -- so it is where a run ended with what its hosts have
 abbrev pub IsCutEnd : List Placed → (before after : ℕ) → RunEnd → Type 0
 IsCutEnd commands before after (ended.Ok ends) = AreCutsOfEnds commands before after (host_views ends.items)
-IsCutEnd commands before after (ended.WireFault low high stream) = Unit {0}
+IsCutEnd commands before after (ended.WireFault low high stream own other) = Unit {0}
 IsCutEnd commands before after (ended.Spent host peer entries own other) = Unit {0}
 IsCutEnd commands before after (ended.Unfinished count ends) = AreCutsOfEnds commands before after (host_views ends.items)
 IsCutEnd commands before after ended.WriteFault = Unit {0}

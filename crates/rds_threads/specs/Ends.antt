@@ -93,8 +93,8 @@ abbrev pub HasToWrite : (form : Form) (tells : Bool) (limit hosts : ℕ) (comman
 HasToWrite form tells limit hosts commands (ended.Ok ends) text =
     AreEnds tells hosts commands (host_views ends.items) × AreAcknowledged (host_views ends.items)
     × (tells ≡ true → AreSettledHosts (host_views ends.items)) × (text ≡ text_of form (host_views ends.items))
-HasToWrite form tells limit hosts commands (ended.WireFault low high stream) text =
-    AreLackingStream tells hosts commands low high stream × (text ≡ fault_line low high stream)
+HasToWrite form tells limit hosts commands (ended.WireFault low high stream own other) text =
+    AreLackingStream tells hosts commands low high stream own.past other.past × (text ≡ fault_line low high stream)
 HasToWrite form tells limit hosts commands (ended.Spent host peer entries own other) text =
     IsFullJournal tells limit hosts commands host peer entries own.past other.past × (text ≡ spent_line host peer entries)
 HasToWrite form tells limit hosts commands (ended.Unfinished count ends) text =
@@ -109,8 +109,9 @@ IsEndOfRun form tells limit hosts commands sink (ended.Ok ends) =
     AreEnds tells hosts commands (host_views ends.items) × AreAcknowledged (host_views ends.items)
     × (tells ≡ true → AreSettledHosts (host_views ends.items))
     × SinkGained sink.held_before sink.held_after (text_of form (host_views ends.items))
-IsEndOfRun form tells limit hosts commands sink (ended.WireFault low high stream) =
-    AreLackingStream tells hosts commands low high stream × SinkGained sink.held_before sink.held_after (fault_line low high stream)
+IsEndOfRun form tells limit hosts commands sink (ended.WireFault low high stream own other) =
+    AreLackingStream tells hosts commands low high stream own.past other.past
+    × SinkGained sink.held_before sink.held_after (fault_line low high stream)
 IsEndOfRun form tells limit hosts commands sink (ended.Spent host peer entries own other) =
     IsFullJournal tells limit hosts commands host peer entries own.past other.past
     × SinkGained sink.held_before sink.held_after (spent_line host peer entries)

@@ -77,24 +77,31 @@ pub(crate) fn end_unfinished<K: Sink>(
     Ok(write(sink, text.as_str(), RunEnd::Unfinished { count, ends }))
 }
 
-/// Writes the line of two hosts that lack a stream. The journal is that of the first.
+/// Writes the line of two hosts that lack a stream. The journals are theirs, that of the first before the other.
 pub(crate) fn end_by_fault<K: Sink>(
     alloc: Global,
     low: u8,
     high: u8,
-    journal: &Journal,
+    own: Journal,
+    other: Journal,
     sink: &mut K,
 ) -> Result<RunEnd, Memory>
     requires low { low < 26 }
     requires high { high < 26 }
     ensures end { IfOk result (Writes
         record { held_before = K.held sink.old; held_after = K.held sink.new; faults_before = K.faults sink.old; faults_after = K.faults sink.new }
-        (fault_line low high (newest_stream journal.now.past)) (ended.WireFault low high (newest_stream journal.now.past))) }
+        (fault_line low high (newest_stream own.past)) (ended.WireFault low high (newest_stream own.past) own other)) }
     ensures memory { OnErr result (K.held sink.new ≡ K.held sink.old) }
 {
-    let stream = last_stream(journal);
+    let stream = last_stream(&own);
     let text = fault_text(alloc, low, high, stream)?;
-    let end = RunEnd::WireFault { low, high, stream };
+    let end = RunEnd::WireFault {
+        low,
+        high,
+        stream,
+        own,
+        other,
+    };
     Ok(write(sink, text.as_str(), end))
 }
 

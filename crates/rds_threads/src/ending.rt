@@ -15,6 +15,7 @@ ghost use Rattle.rds_threads.specs.Counted.{IsCountedEnd};
 ghost use Rattle.rds_threads.specs.Cuts.{IsCutEnd};
 ghost use Rattle.rds_threads.specs.Ends.{IsEndOfRun};
 ghost use Rattle.rds_threads.specs.Settled.{HaveDoneSpared, HaveSettled};
+ghost use Rattle.rds_threads.specs.Taking.{HaveSameStreams};
 
 use crate::answers::{end_by_fault, end_by_report, end_by_spent, end_unfinished};
 use crate::form::{Form, RunEnd};
@@ -48,6 +49,7 @@ pub(crate) fn end_run<K: Sink, W: Wire, R: Threads + Wait + Sync>(
     requires acknowledged { end ≡ rounds.Done → alive_in_rows (rows_of lines.items) ≡ 0 }
     requires fault { (low high : ℕ) → end ≡ rounds.Fault low high → (low < high) × (high < length lines.items) }
     requires lacks { (low high : ℕ) → end ≡ rounds.Fault low high → HostsLackStream low high (rows_of lines.items) }
+    requires streams { HaveSameStreams (rows_of lines.items) }
     requires unacked { (count : ℕ) (unwritten connected : Bool) → end ≡ rounds.Unfinished count unwritten connected →
         AreUnacked W.End.means.tells count (rows_of lines.items) }
     requires owe { (count : ℕ) (connected : Bool) → end ≡ rounds.Unfinished count false connected → All OweNothing (rows_of lines.items) }
@@ -87,11 +89,11 @@ pub(crate) fn end_run<K: Sink, W: Wire, R: Threads + Wait + Sync>(
             end_unfinished(alloc, count, ends, sink)
         }
         Rounds::Fault { low, high } => {
-            let (journal, _) = journals(rt, wire, lines, low, high);
+            let (one, other) = journals(rt, wire, lines, low, high);
             if !start.has_faulted(wire.tells(), wire.counts()) {
                 return Err(Memory);
             }
-            end_by_fault(alloc, low, high, &journal, sink)
+            end_by_fault(alloc, low, high, one, other, sink)
         }
         Rounds::Spent {
             host,

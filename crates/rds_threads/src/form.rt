@@ -18,11 +18,13 @@ pub enum RunEnd {
         ends: Vec<HostEnd>,
     },
     /// The stream with this number was the last that could be opened between the two hosts, or none could where it is 0. A text
-    /// line that says so was written, and nothing else.
+    /// line that says so was written, and nothing else. The two journals of this connection are here, that of `low` first.
     WireFault {
         low: u8,
         high: u8,
         stream: u32,
+        own: Journal,
+        other: Journal,
     },
     /// The journal of `host` with `peer` has so many entries, and two more would pass the limit. A text line that says so was
     /// written, and nothing else. The two journals of this connection are here.

@@ -15,5 +15,8 @@ returns-clause-end g c =
       faults_before = g.K.Sink.faults c.args.sink.now;
       faults_after = g.K.Sink.faults c.write.new.sink;
     } in
-    subst (λ (n : ℕ). Writes sink (fault_line low high n) (ended.WireFault low high n) c.write.result) c.last_stream-stream.ensures
-    (subst (λ (text : List ℕ). Writes sink text (ended.WireFault low high stream) c.write.result) (c.as_str.ensures.value ∙ c.in_ok-text.ensures) c.write.ensures)
+    let own = c.args.own in
+    let other = c.args.other in
+    subst (λ (n : ℕ). Writes sink (fault_line low high n) (ended.WireFault low high n own other) c.write.result) c.last_stream-stream.ensures
+    (subst (λ (text : List ℕ). Writes sink text (ended.WireFault low high stream own other) c.write.result) (c.as_str.ensures.value ∙ c.in_ok-text.ensures)
+    c.write.ensures)

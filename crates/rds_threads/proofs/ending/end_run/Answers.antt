@@ -120,21 +120,21 @@ pub returns-else-not-has_faulted-clause-end : goal.returns-else-not-has_faulted-
 returns-else-not-has_faulted-clause-end g c = λ limit hosts commands before after done did counted.
     let low = c.in-Fault.low in
     let high = c.in-Fault.high in
-    let own = c.journals-journal.result.0.past in
-    let other = c.journals-journal.result.1.past in
-    let stream = newest_stream own in
+    let own = c.journals-one.result.0 in
+    let other = c.journals-one.result.1 in
+    let stream = newest_stream own.past in
     let lacking =
-    lacking_of g.W.End.End.means limit hosts (rows_of c.args.lines.items) done low high (c.requires.lacks low high c.in-Fault.is) commands before after counted
-    own other c.journals-journal.ensures.own c.journals-journal.ensures.other c.journals-journal.ensures.sound in
+    lacking_of g.W.End.End.means limit hosts (rows_of c.args.lines.items) done c.requires.streams low high (c.requires.lacks low high c.in-Fault.is) commands
+    before after counted own.past other.past c.journals-one.ensures.own c.journals-one.ensures.other c.journals-one.ensures.sound in
     let sink : Written = record {
       held_before = g.K.Sink.held c.args.sink.now;
       held_after = g.K.Sink.held c.end_by_fault.new.sink;
       faults_before = g.K.Sink.faults c.args.sink.now;
       faults_after = g.K.Sink.faults c.end_by_fault.new.sink;
     } in
-    on_ok (Writes sink (fault_line low high stream) (ended.WireFault low high stream))
+    on_ok (Writes sink (fault_line low high stream) (ended.WireFault low high stream own other))
     (IsEndOfRun c.args.form g.W.End.End.means.tells limit hosts commands sink) c.end_by_fault.result
-    (end_written c.args.form g.W.End.End.means.tells limit hosts commands sink (fault_line low high stream) (ended.WireFault low high stream) (lacking, refl))
+    (end_written c.args.form g.W.End.End.means.tells limit hosts commands sink (fault_line low high stream) (ended.WireFault low high stream own other) (lacking, refl))
     c.end_by_fault.ensures.end
 
 pub returns-in_ok-ends-in-Done-clause-counted : goal.returns-in_ok-ends-in-Done-clause-counted
@@ -166,13 +166,15 @@ pub returns-else-not-has_faulted-clause-counted : goal.returns-else-not-has_faul
 returns-else-not-has_faulted-clause-counted g c =
     let low = c.in-Fault.low in
     let high = c.in-Fault.high in
-    let stream = newest_stream c.journals-journal.result.0.past in
-    let wire = c.journals-journal.new.wire in
+    let own = c.journals-one.result.0 in
+    let other = c.journals-one.result.1 in
+    let stream = newest_stream own.past in
+    let wire = c.journals-one.new.wire in
     let now : WireCounts = record { faults = g.W.Wire.faults wire; nothings = g.W.Wire.nothings wire; fulls = g.W.Wire.fulls wire } in
     let start = c.args.start in
     let is : c.has_faulted.result ≡ true = search rules in
     let found =
-    counted_fault g.W.End.End.means.tells c.tells.result (start.can_fail ≡ true) start.budget start.counts c.counts-in-Fault.result now low high stream
+    counted_fault g.W.End.End.means.tells c.tells.result (start.can_fail ≡ true) start.budget start.counts c.counts-in-Fault.result now low high stream own other
     c.tells.ensures c.counts-in-Fault.ensures (c.has_faulted.ensures.0 is) in
     let sink : Written = record {
       held_before = g.K.Sink.held c.args.sink.now;
@@ -181,7 +183,7 @@ returns-else-not-has_faulted-clause-counted g c =
       faults_after = g.K.Sink.faults c.end_by_fault.new.sink;
     } in
     counted_ok g.W.End.End.means.tells (start.can_fail ≡ true) start.budget start.counts now sink (fault_line low high stream)
-    (ended.WireFault low high stream) c.end_by_fault.result found c.end_by_fault.ensures.end
+    (ended.WireFault low high stream own other) c.end_by_fault.result found c.end_by_fault.ensures.end
 
 -- refused where nothing is asked of the counts
 pub returns-else-not-has_waited-clause-counted : goal.returns-else-not-has_waited-clause-counted
@@ -229,6 +231,7 @@ returns-in_ok-ends-in-Done-clause-begun g c = λ limit hosts commands before aft
     begun_ok c.args.form g.W.End.End.means.tells limit hosts commands (start.can_fail ≡ true) start.budget start.counts now sink
     (text_of c.args.form (host_views ends.items)) (ended.Ok ends) (
       c.in_ok-ends-in-Done.ensures.ends limit hosts commands done did,
+      c.in_ok-ends-in-Done.ensures.acknowledged limit hosts commands done did (c.requires.acknowledged c.in-Done.is),
       λ tells. c.in_ok-ends-in-Done.ensures.settled limit hosts commands done did tells (c.requires.drained tells c.in-Done.is),
       refl,
     ) tt c.end_by_report.result c.end_by_report.ensures.end
@@ -260,18 +263,18 @@ pub returns-else-not-has_faulted-clause-begun : goal.returns-else-not-has_faulte
 returns-else-not-has_faulted-clause-begun g c = λ limit hosts commands before after done did counted.
     let low = c.in-Fault.low in
     let high = c.in-Fault.high in
-    let own = c.journals-journal.result.0.past in
-    let other = c.journals-journal.result.1.past in
-    let stream = newest_stream own in
+    let own = c.journals-one.result.0 in
+    let other = c.journals-one.result.1 in
+    let stream = newest_stream own.past in
     let lacking =
-    lacking_of g.W.End.End.means limit hosts (rows_of c.args.lines.items) done low high (c.requires.lacks low high c.in-Fault.is) commands before after counted
-    own other c.journals-journal.ensures.own c.journals-journal.ensures.other c.journals-journal.ensures.sound in
-    let wire = c.journals-journal.new.wire in
+    lacking_of g.W.End.End.means limit hosts (rows_of c.args.lines.items) done c.requires.streams low high (c.requires.lacks low high c.in-Fault.is) commands
+    before after counted own.past other.past c.journals-one.ensures.own c.journals-one.ensures.other c.journals-one.ensures.sound in
+    let wire = c.journals-one.new.wire in
     let now : WireCounts = record { faults = g.W.Wire.faults wire; nothings = g.W.Wire.nothings wire; fulls = g.W.Wire.fulls wire } in
     let start = c.args.start in
     let is : c.has_faulted.result ≡ true = search rules in
     let found =
-    counted_fault g.W.End.End.means.tells c.tells.result (start.can_fail ≡ true) start.budget start.counts c.counts-in-Fault.result now low high stream
+    counted_fault g.W.End.End.means.tells c.tells.result (start.can_fail ≡ true) start.budget start.counts c.counts-in-Fault.result now low high stream own other
     c.tells.ensures c.counts-in-Fault.ensures (c.has_faulted.ensures.0 is) in
     let sink : Written = record {
       held_before = g.K.Sink.held c.args.sink.now;
@@ -280,7 +283,7 @@ returns-else-not-has_faulted-clause-begun g c = λ limit hosts commands before a
       faults_after = g.K.Sink.faults c.end_by_fault.new.sink;
     } in
     begun_ok c.args.form g.W.End.End.means.tells limit hosts commands (start.can_fail ≡ true) start.budget start.counts now sink
-    (fault_line low high stream) (ended.WireFault low high stream) (lacking, refl) found c.end_by_fault.result c.end_by_fault.ensures.end
+    (fault_line low high stream) (ended.WireFault low high stream own other) (lacking, refl) found c.end_by_fault.result c.end_by_fault.ensures.end
 
 pub returns-else-not-has_waited-clause-begun : goal.returns-else-not-has_waited-clause-begun
 returns-else-not-has_waited-clause-begun g c = λ limit hosts commands before after done did counted.
@@ -346,14 +349,16 @@ pub returns-else-not-has_faulted-clause-cut : goal.returns-else-not-has_faulted-
 returns-else-not-has_faulted-clause-cut g c = λ limit hosts commands before done did counted fits.
     let low = c.in-Fault.low in
     let high = c.in-Fault.high in
-    let stream = newest_stream c.journals-journal.result.0.past in
+    let own = c.journals-one.result.0 in
+    let other = c.journals-one.result.1 in
+    let stream = newest_stream own.past in
     let sink : Written = record {
       held_before = g.K.Sink.held c.args.sink.now;
       held_after = g.K.Sink.held c.end_by_fault.new.sink;
       faults_before = g.K.Sink.faults c.args.sink.now;
       faults_after = g.K.Sink.faults c.end_by_fault.new.sink;
     } in
-    cut_ok commands before _ sink (fault_line low high stream) (ended.WireFault low high stream) c.end_by_fault.result tt c.end_by_fault.ensures.end
+    cut_ok commands before _ sink (fault_line low high stream) (ended.WireFault low high stream own other) c.end_by_fault.result tt c.end_by_fault.ensures.end
 
 pub returns-in-Spent-clause-cut : goal.returns-in-Spent-clause-cut
 returns-in-Spent-clause-cut g c = λ limit hosts commands before done did counted fits.

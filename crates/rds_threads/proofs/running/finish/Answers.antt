@@ -3,6 +3,7 @@ use Rattle.rds_rounds.specs.Grid.{rows_of}
 use Rattle.rds_parties.specs.HeldLaws.{going_as_many, kept_as_many}
 use Rattle.rds_threads.proofs.Finished.{all_settled, done_spared}
 use Rattle.rds_threads.proofs.Keeping.{rows_same}
+use Rattle.rds_threads.proofs.SameStreams.{streams_end}
 use Rattle.rds_threads.proofs.running.finish.Goals as goal
 
 pub last_rounds-end-requires : goal.last_rounds-end-requires
@@ -86,6 +87,17 @@ returns-clause-begun g c = λ limit hosts commands before after are did counted.
     c.last_rounds-end.ensures.rows did)
     (c.counted_keeps.ensures.goes commands before after told (rows_of c.last_rounds-end.new.lines.items)
     (c.counted_keeps.ensures.same commands before after old told counted kept) c.last_rounds-end.ensures.rows)
+
+-- refused where the lines of two hosts have other streams than were prepared for them
+pub end_run-requires-clause-streams : goal.end_run-requires-clause-streams
+end_run-requires-clause-streams g c = λ κs within.
+    let old = rows_of c.args.lines.items in
+    let told = rows_of c.tell_all.new.lines.items in
+    let callers = c.requires.parties.2.callers_count in
+    let rows = c.requires.parties.2.rows_count in
+    let same : length c.args.callers.items ≡ length old = omega (arith, callers, rows) in
+    streams_end g.W.End.End.means c.requires.hosts.0 c.requires.hosts.1 old told (rows_of c.last_rounds-end.new.lines.items) c.requires.hosts.2
+    (rows_same c.args.callers.items c.tell_all.new.callers.items old told same c.tell_all.ensures) c.last_rounds-end.ensures.rows
 
 pub end_run-requires-clause-owe : goal.end_run-requires-clause-owe
 end_run-requires-clause-owe g c = λ κs within. c.last_rounds-end.ensures.owes
