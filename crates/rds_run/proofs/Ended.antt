@@ -10,7 +10,7 @@ use Rattle.rds_run.specs.declared.status.Status.{Status}
 use Rattle.rds_run.specs.declared.status.Status.TheVariants as ended
 use Rattle.rds_run.specs.ExitStatus.{HasTaken, IsAnswer, code, IsEndOfCall, IsEndOfRefusal, IsPlayed, IsRefusal, IsSpelled, IsSpent, IsToldRefused, IsToldSpelled, SinkSeen, SourceSeen}
 use Rattle.rds_run.specs.Reading.{IsEndOfReading}
-use Rattle.rds_run.specs.RunStatus.{HasFilled, IsEndOfGenCall, IsEndOfRunCall, IsEndOfRunOver, IsEndOfScript, IsEndOfTooMany, IsRan, IsRunUnfinished, IsTooMany, IsWireFault, Ran, TooMany, WireSeen, seen_over, tells_over}
+use Rattle.rds_run.specs.RunStatus.{HasFilled, IsEndOfGenCall, IsEndOfRunCall, IsEndOfRunOver, IsEndOfScript, IsEndOfTooMany, IsRan, IsRunUnfinished, IsTooMany, IsWireFault, Ran, TooMany, WireSeen, memory_seen, seen_over, tells_over}
 use Rattle.rds_parties.specs.Streams.{prepared_streams}
 use Rattle.rds_run.specs.Texts.{read_fault_line, too_many_line, usage_line}
 use Rattle.rds_run.specs.Ending.{IsEndOfProgram, IsEndOfRunning, IsEndOfUsage, OfGen, OfMemory, OfNone, OfPlay, OfRun}
@@ -207,7 +207,7 @@ module _ (tcp : WireSeen) (words : List (String Global)) (source : SourceSeen) (
   run_at over s (OfMemory e same) run = inr (e, same)
 
   abbrev IsRanWhole : RunWire → Type 0
-  IsRanWhole over = (m : Meaning) × IsSpelled source.left m × IsRan (seen_over over tcp).tells form.Report m sink.held_before sink.held_after
+  IsRanWhole over = (m : Meaning) × IsSpelled source.left m × IsRan (seen_over over tcp) form.Report m sink.held_before sink.held_after
       × (IsTooMany over m → ⊥)
 
   ran_at : (over : RunWire) → HasRun over ended.Written → IsRanWhole over
@@ -218,11 +218,11 @@ module _ (tcp : WireSeen) (words : List (String Global)) (source : SourceSeen) (
   ran_whole over s n is end run e = ran_at over (run_at over ended.Written (ends_at s 0 end (sym is ∙ e)) run)
 
   pub ran : (s : Status) (n : ℕ) → n ≡ code s → Ends s → AreRun words wire.Memory → n ≡ 0 →
-      (m : Meaning) × IsSpelled source.left m × IsRan true form.Report m sink.held_before sink.held_after
+      (m : Meaning) × IsSpelled source.left m × IsRan memory_seen form.Report m sink.held_before sink.held_after
   ran s n is end run e = let r = ran_whole wire.Memory s n is end run e in (r.0, r.1, r.2)
 
   pub ran_over_tcp : (s : Status) (n : ℕ) → n ≡ code s → Ends s → AreRun words wire.Tcp → n ≡ 0 →
-      (m : Meaning) × IsSpelled source.left m × (prepared_streams m ≤ 96) × IsRan tcp.tells form.Report m sink.held_before sink.held_after
+      (m : Meaning) × IsSpelled source.left m × (prepared_streams m ≤ 96) × IsRan tcp form.Report m sink.held_before sink.held_after
   ran_over_tcp s n is end run e = let r = ran_whole wire.Tcp s n is end run e in (r.0, r.1, few_of r.0 r.3, r.2)
 
   pub gen_at : (sends seed : ℕ) (s : Status) → Ends s → AreGen words sends seed → IsEndOfGenCall sends seed sink s ⊎ ((s ≡ ended.Memory) × (sink.held_after ≡ sink.held_before))
@@ -235,11 +235,11 @@ module _ (tcp : WireSeen) (words : List (String Global)) (source : SourceSeen) (
   gen_at sends seed s (OfMemory e same) gen = inr (e, same)
 
   pub summed : (s : Status) (n : ℕ) → n ≡ code s → Ends s → (sends seed : ℕ) → AreGen words sends seed → n ≡ 0 →
-      IsRan true (form.Summary seed sends) (generated sends seed) sink.held_before sink.held_after
+      IsRan memory_seen (form.Summary seed sends) (generated sends seed) sink.held_before sink.held_after
   summed s n is end sends seed gen e = go (gen_at sends seed ended.Written (ends_at s 0 end (sym is ∙ e)) gen)
     where
       go : IsEndOfGenCall sends seed sink ended.Written ⊎ ((ended.Written ≡ ended.Memory) × (sink.held_after ≡ sink.held_before)) →
-          IsRan true (form.Summary seed sends) (generated sends seed) sink.held_before sink.held_after
+          IsRan memory_seen (form.Summary seed sends) (generated sends seed) sink.held_before sink.held_after
       go (inl ran) = ran
       go (inr none) = let e = none.0 in absurd (cc)
 

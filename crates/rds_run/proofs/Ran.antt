@@ -4,6 +4,7 @@ use Rattle.std.specs.Global.{Global}
 use Rattle.rds_script.specs.Grammar.{Meaning}
 use Rattle.rds_final.specs.Views.{host_views}
 use Rattle.rds_final.specs.declared.final_state.HostEnd.{HostEnd}
+use Rattle.rds_threads.specs.Cuts.{IsCutEnd}
 use Rattle.rds_threads.specs.Ends.{IsEndOfRun, Written}
 use Rattle.rds_threads.specs.declared.form.Form.{Form}
 use Rattle.rds_threads.specs.declared.form.RunEnd.{RunEnd}
@@ -17,16 +18,18 @@ use Rattle.rds_run.specs.declared.status.Status.TheVariants as status
 use Rattle.rds_run.specs.ExitStatus.{SinkSeen}
 use Rattle.rds_run.specs.RunStatus.{HasFilled, IsEndOfScript, IsRan, IsRunUnfinished, IsWireFault, WireSeen, memory_seen}
 
-pub ran_of : (tells : Bool) (limit : ℕ) (form : Form) (s : Meaning) (sink : Written) (result : RunEnd) (ends : Vec HostEnd Global) → result ≡ ended.Ok ends →
-    IsEndOfRun form tells limit s.hosts s.commands sink result → IsRan tells form s sink.held_before sink.held_after
-ran_of tells limit form s sink result ends is end =
-    let ran = subst (IsEndOfRun form tells limit s.hosts s.commands sink) is end in
+pub ran_of : (seen : WireSeen) (form : Form) (s : Meaning) (sink : Written) (result : RunEnd) (ends : Vec HostEnd Global) → result ≡ ended.Ok ends →
+    IsEndOfRun form seen.tells MAX_ENTRIES s.hosts s.commands sink result → IsCutEnd s.commands seen.before.faults seen.after.faults result →
+    IsRan seen form s sink.held_before sink.held_after
+ran_of seen form s sink result ends is end cut =
+    let ran = subst (IsEndOfRun form seen.tells MAX_ENTRIES s.hosts s.commands sink) is end in
     record {
       ends = host_views ends.items;
       did = ran.0;
       acknowledged = ran.1;
       drained = λ told. (ran.2 told).0;
       none_pending = λ told. (ran.2 told).1;
+      cut = λ untold. subst (IsCutEnd s.commands seen.before.faults seen.after.faults) is cut;
       written = ran.3;
     }
 
@@ -67,7 +70,15 @@ module _ (seen : WireSeen) (form : Form) (s : Meaning) (sink : Written) (result 
 pub in_memory_of : (before after : WireCounts) (form : Form) (m : Meaning) (sink : SinkSeen) (s : Status) → (s ≡ status.WireFault → ⊥) →
     (s ≡ status.WriteFault → IsEndOfScript memory_seen form m sink status.WriteFault) →
     IsEndOfScript (record { tells = true; before = before; after = after }) form m sink s → IsEndOfScript memory_seen form m sink s
-in_memory_of before after form m sink status.Written never begun end = end
+in_memory_of before after form m sink status.Written never begun end = record {
+  ends = end.ends;
+  did = end.did;
+  acknowledged = end.acknowledged;
+  drained = end.drained;
+  none_pending = end.none_pending;
+  cut = λ untold. absurd (cc);
+  written = end.written;
+}
 in_memory_of before after form m sink status.Refused never begun end = end
 in_memory_of before after form m sink status.Usage never begun end = end
 in_memory_of before after form m sink status.ReadFault never begun end = end

@@ -1,5 +1,5 @@
 -- What the exit status of a run says of its source and its sink. Source: this project's own; docs/COMMAND.md has the table.
-use Rattle.std.specs.Prelude.{◌≡◌, ◌⊎◌, ℕ, ◌<◌, Bool, true, Option, List}
+use Rattle.std.specs.Prelude.{◌≡◌, ◌⊎◌, ℕ, ◌<◌, Bool, true, false, Option, List}
 use Rattle.rds_link.specs.Streaming.{HasRisen, HasRisenBy, SinkGained}
 use Rattle.rds_link.specs.declared.wire.WireCounts.{WireCounts}
 use Rattle.rds_model.specs.declared.entry.Entry.{Entry}
@@ -10,6 +10,7 @@ use Rattle.rds_final.specs.FinalState.{FinalHost}
 use Rattle.rds_parties.specs.Streams.{prepared_streams}
 use Rattle.rds_threads.specs.Causes.{AreLackingStream, AreUnacknowledged, IsFullJournal}
 use Rattle.rds_threads.specs.Counted.{AreEndsClosed, EndsOweNothing, IsCountedEnd}
+use Rattle.rds_threads.specs.Cuts.{AreCutsOfEnds}
 use Rattle.rds_threads.specs.Ends.{AreAcknowledged, AreDrainedHosts, AreEnds, HasToWrite, NonePending}
 use Rattle.rds_threads.specs.Texts.{fault_line, text_of, unfinished_line}
 use Rattle.rds_threads.specs.declared.form.Form.{Form}
@@ -48,15 +49,16 @@ abbrev pub seen_over : RunWire → (tcp : WireSeen) → WireSeen
 seen_over wire.Memory tcp = memory_seen
 seen_over wire.Tcp tcp = tcp
 
--- A run of the script came to its end: its hosts did the script's commands, what they have then is sound, no datagram is left unacknowledged,
--- and the sink took exactly the text of this form on it. Where ends tell their bytes, nothing is left on its way between any two of the hosts, and
--- no datagram is pending.
-pub record IsRan (tells : Bool) (form : Form) (s : Meaning) (held_before held_after : Option (List ℕ)) : Type 0 where
+-- A run of the script came to its end over a wire that was seen so: its hosts did the script's commands, what they have then is sound, no
+-- datagram is left unacknowledged, and the sink took exactly the text of this form on it. Where ends tell their bytes, nothing is left on its
+-- way between any two of the hosts, and no datagram is pending. Where they don't, no cut of the commands is lost.
+pub record IsRan (seen : WireSeen) (form : Form) (s : Meaning) (held_before held_after : Option (List ℕ)) : Type 0 where
   pub ends : List FinalHost
-  pub did : AreEnds tells s.hosts s.commands ends
+  pub did : AreEnds seen.tells s.hosts s.commands ends
   pub acknowledged : AreAcknowledged ends
-  pub drained : tells ≡ true → AreDrainedHosts ends
-  pub none_pending : tells ≡ true → NonePending ends
+  pub drained : seen.tells ≡ true → AreDrainedHosts ends
+  pub none_pending : seen.tells ≡ true → NonePending ends
+  pub cut : seen.tells ≡ false → AreCutsOfEnds s.commands seen.before.faults seen.after.faults ends
   pub written : SinkGained held_before held_after (text_of form ends)
 
 -- A run of the script filled the journal of a host with a peer: both journals of the two are sound, neither opened more streams than were to
@@ -125,7 +127,7 @@ IsEndOfTooMany count sink _ = ⊥
 
 -- the status after a script was run, whose text has this form
 abbrev pub IsEndOfScript : WireSeen → Form → Meaning → SinkSeen → Status → Type 0
-IsEndOfScript seen form s sink status.Written = IsRan seen.tells form s sink.held_before sink.held_after
+IsEndOfScript seen form s sink status.Written = IsRan seen form s sink.held_before sink.held_after
 IsEndOfScript seen form s sink status.WireFault = IsWireFault seen s sink.held_before sink.held_after
 IsEndOfScript seen form s sink status.Spent = HasFilled seen.tells s sink.held_before sink.held_after
 IsEndOfScript seen form s sink status.Unfinished = IsRunUnfinished seen s sink.held_before sink.held_after

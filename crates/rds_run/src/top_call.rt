@@ -103,16 +103,22 @@ where
     // The source's bytes spell a script. It was run to its end, its hosts did its commands, what they have then is sound, and exactly the
     // report on it was written.
     ensures ran { AreRun words.now wires.Memory → result ≡ 0 →
-        (s : Meaning) × IsSpelled (S.left source.old) s × IsRan true form.Report s (K.held sink.old) (K.held sink.new) }
+        (s : Meaning) × IsSpelled (S.left source.old) s × IsRan memory_seen form.Report s (K.held sink.old) (K.held sink.new) }
     // The same over TCP, where no more streams were prepared for that script than may be. The ends of that wire say whether they tell their
     // bytes.
     ensures ran_over_tcp { AreRun words.now wires.Tcp → result ≡ 0 →
         (s : Meaning) × IsSpelled (S.left source.old) s × (prepared_streams s ≤ 96)
-        × IsRan W.End.means.tells form.Report s (K.held sink.old) (K.held sink.new) }
+        × IsRan
+        record {
+          tells = W.End.means.tells;
+          before = record { faults = W.faults tcp.old; nothings = W.nothings tcp.old; fulls = W.fulls tcp.old };
+          after = record { faults = W.faults tcp.new; nothings = W.nothings tcp.new; fulls = W.fulls tcp.new };
+        }
+        form.Report s (K.held sink.old) (K.held sink.new) }
     // The script of so many sends and this seed was run to its end, its hosts did its commands, what they have then is sound, and exactly
     // the summary of it was written.
     ensures summed { (sends seed : ℕ) → AreGen words.now sends seed → result ≡ 0 →
-        IsRan true (form.Summary seed sends) (generated sends seed) (K.held sink.old) (K.held sink.new) }
+        IsRan memory_seen (form.Summary seed sends) (generated sends seed) (K.held sink.old) (K.held sink.new) }
     ensures written { ArePlay words.now → result ≡ 0 → (text : List ℕ) × SinkGained (K.held sink.old) (K.held sink.new) (text ++ end_line) }
     // The source's bytes spell a script. It filled a journal, and exactly its text was written, which is the line of that.
     ensures full { ArePlay words.now → result ≡ 7 →

@@ -16,7 +16,12 @@ returns-in-Ok-clause-ends g c =
       faults_before = g.K.Sink.faults c.args.sink.now;
       faults_after = g.K.Sink.faults c.run.new.sink;
     } in
-    ran_of _ MAX_ENTRIES c.args.form (meaning c.args.script.now) sink c.run.result _ c.in-Ok.is c.run.ensures.end
+    let seen : WireSeen = record {
+      tells = g.W.End.End.means.tells;
+      before = record { faults = g.W.Wire.faults c.args.wire.now; nothings = g.W.Wire.nothings c.args.wire.now; fulls = g.W.Wire.fulls c.args.wire.now };
+      after = record { faults = g.W.Wire.faults c.run.new.wire; nothings = g.W.Wire.nothings c.run.new.wire; fulls = g.W.Wire.fulls c.run.new.wire };
+    } in
+    ran_of seen c.args.form (meaning c.args.script.now) sink c.run.result _ c.in-Ok.is c.run.ensures.end c.run.ensures.cut
 
 pub returns-in-WireFault-clause-ends : goal.returns-in-WireFault-clause-ends
 returns-in-WireFault-clause-ends g c =
