@@ -50,8 +50,8 @@ pub record AreEnds (tells : Bool) (hosts : ℕ) (commands : List Placed) (ends :
 abbrev pub AreDrainedHosts : List FinalHost → Type 0
 AreDrainedHosts ends = OfEachJournals (λ low high. AreDrained) ends
 
--- No datagram is pending: for each port pair of the report as many were received, are unread, found no socket, were taken by port 0 or
--- were taken back as were accepted.
+-- No datagram is pending: for each port pair of the report at least as many were received, are unread, found no socket, were taken by port 0
+-- or were taken back as were accepted.
 abbrev pub NonePending : List FinalHost → Type 0
 NonePending ends = All (λ (g : Group). pending (counts ends g) ≡ 0) (groups ends)
 
