@@ -1,5 +1,5 @@
 -- The cuts that a host's commands ask for were done by its lines.
-use Rattle.std.proofs.Common.{◌≡◌, ◌≤◌, ◌<◌, ℕ, suc, inl, inr, List, Some, map, option_map, slice_get, sym, ap, subst, ⊎_elim, ◌∙◌, arith}
+use Rattle.std.proofs.Common.{◌≡◌, ◌≤◌, ◌<◌, ℕ, suc, inl, inr, List, Some, option_map, slice_get, sym, ap, subst, ⊎_elim, ◌∙◌, arith}
 use Rattle.std.proofs.lemmas.Option.{slice_get-map}
 use Rattle.rds_model.specs.declared.entry.Entry.{Entry}
 use Rattle.rds_fmap.specs.Readers.{WriterView}
