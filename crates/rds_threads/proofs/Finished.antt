@@ -16,6 +16,7 @@ use Rattle.rds_rounds.specs.Grid.{AreRows, EachRow}
 use Rattle.rds_rounds.specs.Quiet.{AreQuiet, LinesGoOn}
 use Rattle.rds_settling.specs.Tied.{AreLinesTold, AreTied, LinesHear, holdings}
 use Rattle.rds_threads.specs.Settled.{AreToldBelow, HasSettled, HaveDoneLed, HaveDoneSpared, HaveSettled}
+use Rattle.rds_threads.specs.Taking.{HaveTied}
 use Rattle.rds_threads.proofs.At.{all_at, one_at, stood_at}
 use Rattle.rds_threads.proofs.Keeping.{told_at}
 use Rattle.rds_threads.proofs.Rows.{row_length}
@@ -33,6 +34,24 @@ module _ {E : Type 0} where
     count = goes.count;
     each = λ place line after stood stands. (goes.each place line after stood stands).keeps;
   }
+
+  -- the slots and the lines of each host are tied still
+  pub all_tied : ((places : List Place) (lines after : List (LineView E WriterView)) → AreTied places lines → LinesKeep lines after → AreTied places after) →
+      (old new : List CallerView) (rows told after : List (List (LineView E WriterView))) → length old ≡ length rows →
+      AreToldBelow (length old) old new rows told → EachRow LinesGoOn told after → HaveTied new after
+  all_tied law old new rows told after same all goes =
+      let rows_count = goes.count in
+      let told_count = all.row_count in
+      let callers_count = all.caller_count in record {
+        count = omega (arith, rows_count, told_count, callers_count, same);
+        each = λ host later row at at_row.
+            let heard = stood_at told after host row goes.count at_row in
+            let was = stood_at rows told host heard.0 all.row_count heard.1 in
+            let is = told_at old new rows told same all host was.0 heard.0 was.1 heard.1 in
+            let later_is : is.1 ≡ later = one_at new host is.1 later is.3 at in
+            subst (λ (c : CallerView). AreTied c.places row) later_is
+            (law is.1.places heard.0 row is.4.tied (lines_going_on heard.0 row (goes.each host heard.0 row heard.1 at_row)));
+      }
 
   -- one host has settled
   settled_end : {places : List Place} {told after : List (LineView E WriterView)} →

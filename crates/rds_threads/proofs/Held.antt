@@ -1,14 +1,13 @@
 -- The ends that the lines of hosts hold.
-use Rattle.std.proofs.Common.{◌≡◌, ℕ, suc, ◌+◌, List, Vec, [], ◌∷◌, ◌++◌, Some, Result, Ok, Err, IfOk, get_or, set, slice_get, take, ap, ◌∙◌, arith}
+use Rattle.std.proofs.Common.{◌≡◌, ℕ, suc, ◌+◌, List, Vec, [], ◌∷◌, ◌++◌, Some, Result, Ok, Err, IfOk, get_or, slice_get, take, ap, ◌∙◌}
 use Rattle.std.specs.Global.{Global}
 use Rattle.std.proofs.Math.Seq.{take-suc}
-use Rattle.std.proofs.lemmas.List.{map-append, map-set}
-use Rattle.std.proofs.lemmas.List.Sums.{sum_by_push, sum_by-set}
+use Rattle.std.proofs.lemmas.List.{map-append}
+use Rattle.std.proofs.lemmas.List.Sums.{sum_by_push}
 use Rattle.std.proofs.lemmas.Option.{get_or_from_slice_get, slice_get_within}
 use Rattle.rds_line.specs.Line.{LineView}
 use Rattle.rds_host.specs.Held.{ends_in, ends_of_all}
 use Rattle.rds_rounds.specs.Grid.{rows_of}
-use Rattle.rds_threads.proofs.Rows.{row_at}
 
 -- what holds anyway holds of what was made
 pub of_any : {X Z : Type 0} (r : Result X Z) (P : Type 0) → P → IfOk r (λ x. P)
@@ -28,13 +27,3 @@ module _ {E M : Type 0} where
   first_more rows n row at =
       ap ends_of_all (take-suc rows n row (slice_get_within rows n row at)) ∙ sum_by_push ends_in (take n rows) (get_or rows n row)
       ∙ ap (λ (r : List (LineView E M)). ends_of_all (take n rows) + ends_in r) (get_or_from_slice_get rows n row row at)
-
-  -- and those of all where one host holds fewer
-  pub rows_fewer : (rows : List (Vec (LineView E M) Global)) (host n : ℕ) (row fewer : Vec (LineView E M) Global) → slice_get rows host ≡ Some row →
-      ends_in row.items ≡ ends_in fewer.items + n → ends_of_all (rows_of rows) ≡ ends_of_all (rows_of (set rows host fewer)) + n
-  rows_fewer rows host n row fewer at less =
-      let there = row_at rows host row at in
-      let change = sum_by-set ends_in (rows_of rows) host fewer.items row.items (slice_get_within (rows_of rows) host row.items there) in
-      let here = ap ends_in (get_or_from_slice_get (rows_of rows) host row.items row.items there) in
-      let set_there = ap ends_of_all (map-set (λ (v : Vec (LineView E M) Global). v.items) rows host fewer) in
-      omega (arith, change, here, set_there, less)

@@ -9,7 +9,7 @@ use Rattle.rds_model.specs.Honest.{Begins}
 use Rattle.rds_model.specs.Past.{newest_stream, open_stream}
 use Rattle.rds_model.specs.Sums.{opens}
 use Rattle.rds_line_streams.specs.Streams.{numbers}
-use Rattle.rds_line.specs.Line.{LineView}
+use Rattle.rds_line.specs.Line.{LineView, line_past}
 use Rattle.rds_script.specs.declared.script.Command.{Command}
 use Rattle.rds_script.specs.declared.script.Command.TheVariants.{Bind, BindAny, Send, Recv, Cancel, Close, Open, Move, Cut, Drain}
 use Rattle.rds_script.specs.declared.script.Placed.{Placed}
@@ -19,7 +19,7 @@ use Rattle.rds_rounds.specs.Causes.{HostsLackStream, LacksStream}
 use Rattle.rds_rounds.specs.Done.{AreDone}
 use Rattle.rds_rounds.specs.Grid.{AreRows, IsAt, peer_at}
 use Rattle.rds_rounds.specs.Sound.{AreSoundJournals}
-use Rattle.rds_threads.specs.Causes.{AreLackingStream, HasNoneLeft, OpenedAmong}
+use Rattle.rds_threads.specs.Causes.{AreLackingStream, HasNoneLeft, IsOfCommands, OpenedAmong}
 use Rattle.rds_threads.specs.Taking.{HaveSameStreams, IsJournalOf, IsJournalOfLine}
 use Rattle.rds_threads.proofs.Rows.{host_within, peer_after, peer_before, place_within, stands}
 
@@ -69,9 +69,9 @@ module _ {E M : Type 0} where
 
   pub lacking_of : (m : Means E) (limit hosts : ℕ) (rows : List (List (LineView E M))) → AreDone m limit hosts rows → HaveSameStreams rows → (low high : ℕ) →
       HostsLackStream low high rows → (commands : List Placed) (before after : ℕ) → HaveCounted commands before after rows → (own other : List Entry) →
-      IsJournalOf rows low high own → IsJournalOf rows high low other → AreSoundJournals m.tells own other →
-      AreLackingStream m.tells hosts commands low high (newest_stream own) own other
-  lacking_of m limit hosts rows done streams low high lack commands before after counted own other is_own is_other sound =
+      IsJournalOf rows low high own → IsJournalOf rows high low other → IsOfCommands hosts low high commands own →
+      IsOfCommands hosts high low commands other → AreLackingStream m.tells hosts commands low high (newest_stream own) own other
+  lacking_of m limit hosts rows done streams low high lack commands before after counted own other is_own is_other own_sent other_sent =
       let ordered = lack.ordered in
       let next = lack.next in
       let less : low < high = omega (arith, ordered, next) in
@@ -84,7 +84,12 @@ module _ {E M : Type 0} where
       (counted low lack.place lack.one lack.other ordered lack.one_at there) in record {
         ordered = less;
         known = host_within hosts rows done.shape high lack.other_at.0 lack.other_at.1;
-        sound = sound;
+        sound =
+            subst (λ (p : List Entry). AreSoundJournals m.tells p other) (sym of_own.is)
+            (subst (λ (p : List Entry). AreSoundJournals m.tells (line_past lack.one) p) (sym of_other.is)
+            (done.sound low lack.place lack.one lack.other ordered lack.one_at there).sound);
+        own_sent = own_sent;
+        other_sent = other_sent;
         own_opened = opened_among (streams_between low high commands) before after lack.one own both.0 of_own;
         other_opened = opened_among (streams_between low high commands) before after lack.other other both.1 of_other;
         lacks =

@@ -17,7 +17,6 @@ pub mod Keeping
 pub mod Finished
 pub mod Spent
 pub mod Left
-pub mod Partners
 pub mod AtMost
 pub mod Pending
 pub mod NonePending
@@ -27,6 +26,7 @@ pub mod Counted
 pub mod Begun
 pub mod SameStreams
 pub mod Lacking
+pub mod Taken
 pub mod Held
 pub mod Fronts
 pub mod CutsOfRun

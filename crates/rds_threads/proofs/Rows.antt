@@ -1,12 +1,12 @@
 -- The rows of hosts, and which peer each place of one stands for.
-use Rattle.std.proofs.Common.{◌≡◌, ◌≢◌, ◌≤◌, ◌<◌, ◌+◌, ℕ, suc, List, [], ◌∷◌, Some, Vec, inl, inr, get_or, length, map, nat_lt, option_map, set, slice_get, refl, sym, ap, ◌∙◌, arith}
+use Rattle.std.proofs.Common.{◌≡◌, ◌≢◌, ◌≤◌, ◌<◌, ◌+◌, ℕ, suc, List, [], ◌∷◌, Some, Vec, inl, inr, get_or, length, map, nat_lt, option_map, slice_get, refl, ap, ◌∙◌, arith}
 use Rattle.std.specs.Global.{Global}
 use Rattle.std.specs.List.{range_with_len}
 use Rattle.std.proofs.lemmas.Bool.{cases_lt, cond-false, cond-true, le-ltb, lt-ltb}
-use Rattle.std.proofs.lemmas.List.{length-map, length-set}
+use Rattle.std.proofs.lemmas.List.{length-map}
 use Rattle.std.proofs.lemmas.Option.{slice_get-map, slice_get_read, slice_get_within}
 use Rattle.rds_rounds.specs.Grid.{AreRows, IsAt, peer_at, rows_of}
-use Rattle.rds_threads.proofs.At.{all_at, beside_set, some_at}
+use Rattle.rds_threads.proofs.At.{all_at, some_at}
 
 -- the row that a vector of a list holds
 pub row_at : {T : Type 0} (lists : List (Vec T Global)) (host : ℕ) (list : Vec T Global) → slice_get lists host ≡ Some list →
@@ -20,12 +20,6 @@ rows_count {T} lists = length-map lists (λ (v : Vec T Global). v.items)
 -- what is read at a place of a list stands there
 pub read_at : {T : Type 0} (xs : List T) (i j : ℕ) (x : T) → i ≡ j → j < length xs → x ≡ get_or xs i x → slice_get xs j ≡ Some x
 read_at xs i j x same within is = slice_get_read xs (length xs) j x refl within (is ∙ ap (λ (n : ℕ). get_or xs n x) same)
-
--- what is read beside a place that was written stood there before
-pub read_beside : {T : Type 0} (xs : List T) (i n j : ℕ) (y x : T) → n ≡ j → j < length xs → j ≢ i → x ≡ get_or (set xs i y) n x → slice_get xs j ≡ Some x
-read_beside xs i n j y x same within apart is =
-    let long = length-set xs i y in
-    sym (beside_set xs i j y apart) ∙ read_at (set xs i y) n j x same (omega (arith, within, long)) is
 
 -- the peer at a place before the host's own number, or from there on
 pub peer_before : (host place : ℕ) → place < host → peer_at host place ≡ place

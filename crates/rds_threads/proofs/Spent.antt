@@ -12,9 +12,9 @@ use Rattle.rds_rounds.specs.Sound.{AreSoundJournals}
 use Rattle.rds_line_streams.specs.Streams.{numbers}
 use Rattle.rds_parties.specs.Preparing.{HaveCounted}
 use Rattle.rds_parties.specs.Streams.{AreNumbersOf, streams_between}
-use Rattle.rds_threads.specs.Causes.{IsFullJournal}
+use Rattle.rds_threads.specs.Causes.{IsFullJournal, IsOfCommands}
 use Rattle.rds_threads.specs.Taking.{IsJournalOf}
-use Rattle.rds_threads.proofs.Hosts.{line_of}
+use Rattle.rds_threads.proofs.Hosts.{line_of, sound_of}
 use Rattle.rds_threads.proofs.Lacking.{counted_at, opened_among, streams_either_way}
 use Rattle.rds_threads.proofs.Rows.{host_within, peer_after, peer_apart, peer_before, peer_within, place_within, stands}
 
@@ -69,9 +69,10 @@ module _ {E M : Type 0} (m : Means E) (limit hosts : ℕ) (rows : List (List (Li
 
   -- the two journals of a host that is full and its peer
   pub full_journal : (host peer entries : ℕ) → IsFullHost host peer entries rows → (own other : List Entry) → IsJournalOf rows host peer own →
-      IsJournalOf rows peer host other → AreSoundJournals m.tells own other → (commands : List Placed) (before after : ℕ) → HaveCounted commands before after rows →
+      IsJournalOf rows peer host other → (commands : List Placed) (before after : ℕ) → HaveCounted commands before after rows →
+      IsOfCommands hosts host peer commands own → IsOfCommands hosts peer host commands other →
       IsFullJournal m.tells limit hosts commands host peer entries own other
-  full_journal host peer entries full own other is is_other sound commands before after counted =
+  full_journal host peer entries full own other is is_other commands before after counted own_sent other_sent =
       let line = line_of m limit hosts rows done host full.place full.line full.at in
       let own_is = is full.place full.line full.to full.at in
       let f = full_of limit entries full.line own own_is.is line.limit_is full.full in
@@ -85,7 +86,12 @@ module _ {E M : Type 0} (m : Means E) (limit hosts : ℕ) (rows : List (List (Li
         apart = two.apart;
         count = f.0;
         most = f.1;
-        sound = sound;
+        sound =
+            subst (λ (p : List Entry). AreSoundJournals m.tells p other) (sym own_is.is)
+            (subst (λ (p : List Entry). AreSoundJournals m.tells (line_past full.line) p) (sym other_is.is)
+            (sound_of m limit hosts rows done host peer full.place back.0 full.line back.1 full.at back.3 full.to back.2));
+        own_sent = own_sent;
+        other_sent = other_sent;
         own_opened =
             opened_among (streams_between host peer commands) before after full.line own
             (subst (λ (p : ℕ). AreNumbersOf (streams_between host p commands) before after (numbers full.line.channel.streams.list)) full.to own_counted) own_is;

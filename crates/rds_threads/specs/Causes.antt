@@ -1,5 +1,6 @@
 -- Why a run ended otherwise than well. Source: this project's own.
-use Rattle.std.specs.Prelude.{◌≡◌, ◌≢◌, ◌⊎◌, ◌≤◌, ◌<◌, ◌+◌, ℕ, Bool, false, List, All, None, length, sum_by}
+use Rattle.std.specs.Prelude.{◌≡◌, ◌≢◌, ◌⊎◌, ◌≤◌, ◌<◌, ◌+◌, ℕ, Bool, false, List, All, None, Some, length, slice_get, sum_by}
+use Rattle.rds_fmap.specs.Readers.{ReaderView}
 use Rattle.rds_model.specs.declared.entry.Entry.{Entry}
 use Rattle.rds_model.specs.Alive.{alive_numbers}
 use Rattle.rds_model.specs.Honest.{Begins}
@@ -7,12 +8,35 @@ use Rattle.rds_model.specs.Past.{newest_stream, open_stream}
 use Rattle.rds_model.specs.Sums.{opens}
 use Rattle.rds_final.specs.FinalState.{FinalHost, FinalJournal}
 use Rattle.rds_script.specs.declared.script.Placed.{Placed}
+use Rattle.rds_parts.specs.Lanes.{IsLaneAt, Lane}
+use Rattle.rds_line.specs.Keeps.{uncut}
+use Rattle.rds_gather.specs.Joined.{orders_of}
+use Rattle.rds_callers.specs.Places.{Place, holding_of}
+use Rattle.rds_rounds.specs.Grid.{peer_at}
 use Rattle.rds_rounds.specs.Sound.{AreSoundJournals}
+use Rattle.rds_parties.specs.Obeyed.{HasDone}
 use Rattle.rds_parties.specs.Streams.{streams_between}
 
 -- each stream that the journal opened is among those that were to be prepared, of which there are so many
 abbrev pub OpenedAmong : (count : ℕ) → List Entry → Type 0
 OpenedAmong count past = All (λ stream. stream ≤ count) (opens past)
+
+-- for each of these slots the orders that stand in a journal begin those that were put on the slot's route at this place
+abbrev pub BeginsOrdersAt : (place : ℕ) → List Place → List Entry → Type 0
+BeginsOrdersAt place places past = (slot : ℕ) (p : Place) (lane : Lane ReaderView) → slice_get places slot ≡ Some p → IsLaneAt (holding_of p).routes place lane →
+    Begins (orders_of slot past) (uncut lane.pass.put)
+
+-- and so they begin those that a host's slots put on their routes to a peer
+abbrev pub BeginsOrders : (host peer : ℕ) → List Place → List Entry → Type 0
+BeginsOrders host peer places past = (place : ℕ) → peer_at host place ≡ peer → BeginsOrdersAt place places past
+
+-- The journal of one of so many hosts with a peer is of the script's commands: from slots that were new the host's caller did exactly its own
+-- commands, and for each slot the orders that stand in the journal begin those that its socket put on the route to that peer, in order and
+-- each once.
+pub record IsOfCommands (hosts host peer : ℕ) (commands : List Placed) (past : List Entry) : Type 0 where
+  pub last : List Place
+  pub done : HasDone hosts host commands last
+  pub sent : BeginsOrders host peer last past
 
 -- The journal has no stream left: none is open in it, and it opened each that was prepared, so that the other journal of the connection
 -- opened a beginning of the same.
@@ -20,14 +44,16 @@ pub record HasNoneLeft (own other : List Entry) : Type 0 where
   pub closed : open_stream own ≡ None
   pub all : Begins (opens other) (opens own)
 
--- Two hosts of so many, the lower one first, lack a stream. Their journals are sound, neither opened a stream that wasn't to be prepared for
--- the commands, and one of them has none left. The lower host's journal opened this stream last, or none where it is 0.
+-- Two hosts of so many, the lower one first, lack a stream. Their journals are sound and of the script's commands, neither opened a stream that
+-- wasn't to be prepared for these, and one of them has none left. The lower host's journal opened this stream last, or none where it is 0.
 pub record AreLackingStream (tells : Bool) (hosts : ℕ) (commands : List Placed) (low high stream : ℕ) (own other : List Entry) : Type 0 where
   pub ordered : low < high
   pub known : high < hosts
   pub sound : AreSoundJournals tells own other
   pub own_opened : OpenedAmong (streams_between low high commands) own
   pub other_opened : OpenedAmong (streams_between low high commands) other
+  pub own_sent : IsOfCommands hosts low high commands own
+  pub other_sent : IsOfCommands hosts high low commands other
   pub lacks : HasNoneLeft own other ⊎ HasNoneLeft other own
   pub newest : stream ≡ newest_stream own
 
@@ -48,7 +74,7 @@ pub record AreUnacknowledged (tells : Bool) (count : ℕ) (ends : List FinalHost
   pub all : count ≡ alive_in_ends ends
 
 -- The journal of a host with a peer, two of so many hosts, is full: it has so many entries, and two more would pass the limit. It and the
--- one of the peer with the host are sound, and neither opened more streams than were to be prepared for the commands.
+-- one of the peer with the host are sound and of the script's commands, and neither opened more streams than were to be prepared for these.
 pub record IsFullJournal (tells : Bool) (limit hosts : ℕ) (commands : List Placed) (host peer entries : ℕ) (own other : List Entry) : Type 0 where
   pub host_known : host < hosts
   pub peer_known : peer < hosts
@@ -58,3 +84,5 @@ pub record IsFullJournal (tells : Bool) (limit hosts : ℕ) (commands : List Pla
   pub sound : AreSoundJournals tells own other
   pub own_opened : OpenedAmong (streams_between host peer commands) own
   pub other_opened : OpenedAmong (streams_between host peer commands) other
+  pub own_sent : IsOfCommands hosts host peer commands own
+  pub other_sent : IsOfCommands hosts peer host commands other

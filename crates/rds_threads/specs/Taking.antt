@@ -1,10 +1,19 @@
--- Private: it serves the contracts of the private functions that take lines out of those of all hosts. Source: this project's own.
-use Rattle.std.specs.Prelude.{◌≡◌, ℕ, List, take}
+-- Private: it serves the contracts of the private functions that take journals out of what all hosts have. Source: this project's own.
+use Rattle.std.specs.Prelude.{◌≡◌, ℕ, List, Some, length, slice_get, take}
+use Rattle.rds_fmap.specs.Readers.{WriterView}
 use Rattle.rds_model.specs.declared.entry.Entry.{Entry}
 use Rattle.rds_model.specs.Sums.{opens}
 use Rattle.rds_line_streams.specs.Streams.{numbers}
 use Rattle.rds_line.specs.Line.{LineView, line_past}
+use Rattle.rds_callers.specs.Places.{CallerView}
+use Rattle.rds_settling.specs.Tied.{AreTied}
 use Rattle.rds_rounds.specs.Grid.{IsAt, OfEachPair, peer_at}
+
+-- the slots of each host's caller and its lines are of one host, and have all putters of its queues
+pub record HaveTied {E : Type 0} (callers : List CallerView) (rows : List (List (LineView E WriterView))) : Type 0 where
+  pub count : length callers ≡ length rows
+  pub each : (host : ℕ) (caller : CallerView) (row : List (LineView E WriterView)) → slice_get callers host ≡ Some caller → slice_get rows host ≡ Some row →
+      AreTied caller.places row
 
 module _ {E M : Type 0} where
   -- the journal of a line, which opened its streams in their order

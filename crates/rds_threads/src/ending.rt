@@ -15,7 +15,7 @@ ghost use Rattle.rds_threads.specs.Counted.{IsCountedEnd};
 ghost use Rattle.rds_threads.specs.Cuts.{IsCutEnd};
 ghost use Rattle.rds_threads.specs.Ends.{IsEndOfRun};
 ghost use Rattle.rds_threads.specs.Settled.{HaveDoneSpared, HaveSettled};
-ghost use Rattle.rds_threads.specs.Taking.{HaveSameStreams};
+ghost use Rattle.rds_threads.specs.Taking.{HaveSameStreams, HaveTied};
 
 use crate::answers::{end_by_fault, end_by_report, end_by_spent, end_unfinished};
 use crate::form::{Form, RunEnd};
@@ -44,6 +44,7 @@ pub(crate) fn end_run<K: Sink, W: Wire, R: Threads + Wait + Sync>(
     sink: &mut K,
 ) -> Result<RunEnd, Memory>
     requires done { (limit hosts : ℕ) × AreDone W.End.means limit hosts (rows_of lines.items) }
+    requires tied { HaveTied callers.items (rows_of lines.items) }
     requires settled { IsQuietEnd end → HaveSettled callers.items (rows_of lines.items) }
     requires drained { W.End.means.tells ≡ true → end ≡ rounds.Done → AreDrainedLines (rows_of lines.items) }
     requires acknowledged { end ≡ rounds.Done → alive_in_rows (rows_of lines.items) ≡ 0 }
@@ -89,7 +90,7 @@ pub(crate) fn end_run<K: Sink, W: Wire, R: Threads + Wait + Sync>(
             end_unfinished(alloc, count, ends, sink)
         }
         Rounds::Fault { low, high } => {
-            let (one, other) = journals(rt, wire, lines, low, high);
+            let (one, other) = journals(rt, alloc, wire, callers, lines, low, high)?;
             if !start.has_faulted(wire.tells(), wire.counts()) {
                 return Err(Memory);
             }
@@ -100,7 +101,7 @@ pub(crate) fn end_run<K: Sink, W: Wire, R: Threads + Wait + Sync>(
             peer,
             entries,
         } => {
-            let (own, other) = journals(rt, wire, lines, host, peer);
+            let (own, other) = journals(rt, alloc, wire, callers, lines, host, peer)?;
             end_by_spent(alloc, host, peer, entries, own, other, sink)
         }
         Rounds::Memory => {

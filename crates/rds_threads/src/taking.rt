@@ -1,71 +1,129 @@
-//! The two lines of two hosts to each other, taken out of those of all hosts.
-ghost use Rattle.std.specs.Prelude.{◌≡◌, ◌≢◌, ◌<◌, ◌+◌, ◌-◌, ℕ, Some, length, slice_get};
+//! The journals of two hosts' lines to each other, taken out of all that hosts have.
+ghost use Rattle.std.specs.Prelude.{◌≡◌, ◌≢◌, ◌<◌, ◌-◌, ℕ, IfOk, Ok, Some, length, slice_get};
 ghost use Rattle.rds_fmap.specs.Readers.{WriterView};
 ghost use Rattle.rds_line.specs.Line.{LineView};
 ghost use Rattle.rds_host.specs.Held.{ends_in, ends_of_all};
+ghost use Rattle.rds_callers.specs.Places.{CallerView};
 ghost use Rattle.rds_rounds.specs.Done.{AreDone};
-ghost use Rattle.rds_rounds.specs.Grid.{peer_at, rows_of};
-ghost use Rattle.rds_rounds.specs.Sound.{AreSoundJournals};
-ghost use Rattle.rds_threads.specs.Taking.{IsJournalOf, IsJournalOfLine};
+ghost use Rattle.rds_rounds.specs.Grid.{rows_of};
+ghost use Rattle.rds_settling.specs.Tied.{AreTied};
+ghost use Rattle.rds_threads.specs.Causes.{BeginsOrders, BeginsOrdersAt};
+ghost use Rattle.rds_threads.specs.Taking.{HaveTied, IsJournalOf, IsJournalOfLine};
 
-use crate::giving::end_lines;
+use crate::giving::{end_lines, end_row};
+use rds_callers::Caller;
+use rds_final::address;
 use rds_fmap::Writer;
-use rds_gather::end_line;
+use rds_gather::gather;
 use rds_line::Line;
 use rds_link::Wire;
 use rds_model::Journal;
 use rds_rounds::Lines;
+use rds_settling::laws::tied_ends;
+use rds_wire::Memory;
+use std::alloc::Global;
 use std::sync::Wait;
 
-// The place of a peer in a host's row.
-fn place_of(host: u8, peer: u8) -> usize
-    requires { peer ≢ host }
-    ensures place { peer_at host result ≡ peer }
-    ensures only { (place : ℕ) → peer_at host place ≡ peer → place ≡ result }
-{
-    if peer < host {
-        return usize::from(peer);
-    }
-    usize::from(peer) - 1
-}
-
-// Takes a line out of a host's row, gives its ends back to the wire, and answers its journal.
-fn take_line<W: Wire, R: Wait>(
+// Ends a host, and answers the journal of its line at a place. Every end of its lines is given back, after a memory error too.
+fn end_host<W: Wire, R: Wait>(
     rt: &R,
+    alloc: Global,
     wire: &mut W,
-    row: &mut Vec<Line<W::End, Writer>>,
+    addr: u32,
+    caller: Caller,
+    lines: Vec<Line<W::End, Writer>>,
     place: usize,
-) -> Journal
-    requires { place < length row.old.items }
-    ensures journal { (line : LineView W.End WriterView) → slice_get row.old.items place ≡ Some line → IsJournalOfLine line result.past }
-    ensures out { (n : ℕ) × (ends_in row.old.items ≡ ends_in row.new.items + n) × (W.out wire.new ≡ W.out wire.old - n) }
+) -> Result<Journal, Memory>
+    requires place { place < length lines.items }
+    requires tied { AreTied caller.places lines.items }
+    ensures journal { (line : LineView W.End WriterView) → slice_get lines.items place ≡ Some line → IfOk result (λ journal. IsJournalOfLine line journal.past) }
+    ensures orders { IfOk result (λ journal. BeginsOrdersAt place caller.places journal.past) }
+    ensures out { W.out wire.new ≡ W.out wire.old - ends_in lines.items }
 {
-    let line = row.swap_remove(place);
+    let line = &lines[place];
     line.known();
-    end_line(rt, wire, line)
+    let Ok((kept, closed)) = caller.end(rt, alloc) else {
+        end_row(rt, wire, lines);
+        return Err(Memory);
+    };
+    tied_ends::<W::End>();
+    let mut end = gather(rt, alloc, wire, addr, kept, closed, lines)?;
+    let (_, journal) = end.journals.swap_remove(place);
+    Ok(journal)
 }
 
-/// The journals of two hosts' lines to each other: that of `host`, and that of `peer`. Every end of all lines is given back.
+// Both of two journals, unless memory ran out for one.
+fn both(
+    own: Result<Journal, Memory>,
+    other: Result<Journal, Memory>,
+) -> Result<(Journal, Journal), Memory>
+    ensures own { IfOk result (λ journals. own ≡ Ok journals.0) }
+    ensures other { IfOk result (λ journals. other ≡ Ok journals.1) }
+{
+    Ok((own?, other?))
+}
+
+// The journals of two hosts' lines to each other, the lower host first.
+fn low_and_high<W: Wire, R: Wait>(
+    rt: &R,
+    alloc: Global,
+    wire: &mut W,
+    mut callers: Vec<Caller>,
+    mut lines: Lines<W::End>,
+    low: u8,
+    high: u8,
+) -> Result<(Journal, Journal), Memory>
+    requires done { (limit hosts : ℕ) × AreDone W.End.means limit hosts (rows_of lines.items) }
+    requires tied { HaveTied callers.items (rows_of lines.items) }
+    requires ordered { low < high }
+    requires known { high < length lines.items }
+    ensures low { IfOk result (λ journals. IsJournalOf (rows_of lines.items) low high journals.0.past) }
+    ensures high { IfOk result (λ journals. IsJournalOf (rows_of lines.items) high low journals.1.past) }
+    ensures low_orders { (caller : CallerView) → slice_get callers.items low ≡ Some caller →
+        IfOk result (λ journals. BeginsOrders low high caller.places journals.0.past) }
+    ensures high_orders { (caller : CallerView) → slice_get callers.items high ≡ Some caller →
+        IfOk result (λ journals. BeginsOrders high low caller.places journals.1.past) }
+    ensures out { W.out wire.new ≡ W.out wire.old - ends_of_all (rows_of lines.items) }
+{
+    let one = usize::from(low);
+    let two = usize::from(high);
+    let caller = callers.swap_remove(two);
+    let row = lines.swap_remove(two);
+    let other = end_host(rt, alloc, wire, address(high), caller, row, one);
+    let caller = callers.swap_remove(one);
+    let row = lines.swap_remove(one);
+    let own = end_host(rt, alloc, wire, address(low), caller, row, two - 1);
+    end_lines(rt, wire, lines);
+    both(own, other)
+}
+
+/// The journals of two hosts' lines to each other: that of `host`, and that of `peer`. Every end of all lines is given back, after a memory
+/// error too.
 pub(crate) fn journals<W: Wire, R: Wait>(
     rt: &R,
+    alloc: Global,
     wire: &mut W,
-    mut lines: Lines<W::End>,
+    callers: Vec<Caller>,
+    lines: Lines<W::End>,
     host: u8,
     peer: u8,
-) -> (Journal, Journal)
+) -> Result<(Journal, Journal), Memory>
     requires done { (limit hosts : ℕ) × AreDone W.End.means limit hosts (rows_of lines.items) }
+    requires tied { HaveTied callers.items (rows_of lines.items) }
     requires host { host < length lines.items }
     requires peer { peer < length lines.items }
     requires apart { peer ≢ host }
-    ensures sound { AreSoundJournals W.End.means.tells result.0.past result.1.past }
-    ensures own { IsJournalOf (rows_of lines.items) host peer result.0.past }
-    ensures other { IsJournalOf (rows_of lines.items) peer host result.1.past }
+    ensures own { IfOk result (λ journals. IsJournalOf (rows_of lines.items) host peer journals.0.past) }
+    ensures other { IfOk result (λ journals. IsJournalOf (rows_of lines.items) peer host journals.1.past) }
+    ensures own_orders { (caller : CallerView) → slice_get callers.items host ≡ Some caller →
+        IfOk result (λ journals. BeginsOrders host peer caller.places journals.0.past) }
+    ensures other_orders { (caller : CallerView) → slice_get callers.items peer ≡ Some caller →
+        IfOk result (λ journals. BeginsOrders peer host caller.places journals.1.past) }
     ensures out { W.out wire.new ≡ W.out wire.old - ends_of_all (rows_of lines.items) }
 {
-    let place = place_of(host, peer);
-    let own = take_line(rt, wire, &mut lines[usize::from(host)], place);
-    let place = place_of(peer, host);
-    let other = take_line(rt, wire, &mut lines[usize::from(peer)], place);
-    end_lines(rt, wire, lines);
-    (own, other)
+    if host < peer {
+        return low_and_high(rt, alloc, wire, callers, lines, host, peer);
+    }
+    let (other, own) = low_and_high(rt, alloc, wire, callers, lines, peer, host)?;
+    Ok((own, other))
 }

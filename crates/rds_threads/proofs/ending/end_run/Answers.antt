@@ -1,4 +1,4 @@
-use Rattle.std.proofs.Common.{Bool, ap, arith, refl, rules, subst, sym, true, ◌∙◌, ◌≡◌}
+use Rattle.std.proofs.Common.{Bool, ap, arith, length, refl, rules, subst, sym, true, ◌<◌, ◌∙◌, ◌≡◌}
 use Rattle.rds_link.specs.Streaming.{HasRisen, HasRisenBy}
 use Rattle.rds_link.specs.declared.wire.WireCounts.{WireCounts}
 use Rattle.rds_model.specs.Past.{newest_stream}
@@ -18,32 +18,8 @@ use Rattle.rds_threads.proofs.Spent.{full_journal, full_two}
 use Rattle.rds_threads.proofs.Written.{end_written, on_ok}
 use Rattle.rds_text.specs.Lines.{spent_line}
 use Rattle.rds_threads.proofs.Begun.{begun_ok}
+use Rattle.rds_threads.proofs.Taken.{of_commands_at}
 use Rattle.rds_threads.proofs.ending.end_run.Goals as goal
-
-pub journals-own-requires-clause-host : goal.journals-own-requires-clause-host
-journals-own-requires-clause-host g c =
-    let entries = c.in-Spent.entries in
-    let two = full_two g.W.End.End.means c.requires.done.0 c.requires.done.1 (rows_of c.args.lines.items) c.requires.done.2 c.in-Spent.host c.in-Spent.peer entries
-    (c.requires.spent c.in-Spent.host c.in-Spent.peer entries c.in-Spent.is) in
-    let first = two.first in
-    let count = c.requires.done.2.shape.count in
-    omega (arith, first, count, rows_count c.args.lines.items)
-
-pub journals-own-requires-clause-peer : goal.journals-own-requires-clause-peer
-journals-own-requires-clause-peer g c =
-    let entries = c.in-Spent.entries in
-    let two = full_two g.W.End.End.means c.requires.done.0 c.requires.done.1 (rows_of c.args.lines.items) c.requires.done.2 c.in-Spent.host c.in-Spent.peer entries
-    (c.requires.spent c.in-Spent.host c.in-Spent.peer entries c.in-Spent.is) in
-    let second = two.second in
-    let count = c.requires.done.2.shape.count in
-    omega (arith, second, count, rows_count c.args.lines.items)
-
-pub journals-own-requires-clause-apart : goal.journals-own-requires-clause-apart
-journals-own-requires-clause-apart g c =
-    let entries = c.in-Spent.entries in
-    let two = full_two g.W.End.End.means c.requires.done.0 c.requires.done.1 (rows_of c.args.lines.items) c.requires.done.2 c.in-Spent.host c.in-Spent.peer entries
-    (c.requires.spent c.in-Spent.host c.in-Spent.peer entries c.in-Spent.is) in
-    two.apart
 
 pub end_by_spent-requires-clause-host : goal.end_by_spent-requires-clause-host
 end_by_spent-requires-clause-host g c =
@@ -59,16 +35,25 @@ end_by_spent-requires-clause-peer g c =
     (c.requires.spent c.in-Spent.host c.in-Spent.peer entries c.in-Spent.is) in
     two.few_peers
 
-pub returns-in-Spent-clause-end : goal.returns-in-Spent-clause-end
-returns-in-Spent-clause-end g c = λ limit hosts commands before after done did counted.
+pub returns-in_ok-own-in-Spent-clause-end : goal.returns-in_ok-own-in-Spent-clause-end
+returns-in_ok-own-in-Spent-clause-end g c = λ limit hosts commands before after done did counted.
     let host = c.in-Spent.host in
     let peer = c.in-Spent.peer in
     let entries = c.in-Spent.entries in
-    let own = c.journals-own.result.0 in
-    let other = c.journals-own.result.1 in
+    let own = c.in_ok-own-in-Spent.own in
+    let other = c.in_ok-own-in-Spent.other in
+    let m = g.W.End.End.means in
+    let rows = rows_of c.args.lines.items in
+    let two = full_two m limit hosts rows done host peer entries (c.requires.spent host peer entries c.in-Spent.is) in
+    let first = two.first in
+    let second = two.second in
+    let count = done.shape.count in
     let full =
-    full_journal g.W.End.End.means limit hosts (rows_of c.args.lines.items) done host peer entries (c.requires.spent host peer entries c.in-Spent.is) own.past
-    other.past c.journals-own.ensures.own c.journals-own.ensures.other c.journals-own.ensures.sound commands before after counted in
+    full_journal m limit hosts rows done host peer entries (c.requires.spent host peer entries c.in-Spent.is) own.past other.past c.in_ok-own-in-Spent.ensures.own
+    c.in_ok-own-in-Spent.ensures.other commands before after counted
+    (of_commands_at hosts commands c.args.callers.items rows did c.requires.tied host peer (omega (arith, first, count)) own.past c.in_ok-own-in-Spent.ensures.own_orders)
+    (of_commands_at hosts commands c.args.callers.items rows did c.requires.tied peer host (omega (arith, second, count)) other.past
+    c.in_ok-own-in-Spent.ensures.other_orders) in
     let sink : Written = record {
       held_before = g.K.Sink.held c.args.sink.now;
       held_after = g.K.Sink.held c.end_by_spent.new.sink;
@@ -120,12 +105,19 @@ pub returns-else-not-has_faulted-clause-end : goal.returns-else-not-has_faulted-
 returns-else-not-has_faulted-clause-end g c = λ limit hosts commands before after done did counted.
     let low = c.in-Fault.low in
     let high = c.in-Fault.high in
-    let own = c.journals-one.result.0 in
-    let other = c.journals-one.result.1 in
+    let own = c.in_ok-one-in-Fault.one in
+    let other = c.in_ok-one-in-Fault.other in
     let stream = newest_stream own.past in
+    let found_hosts = c.requires.fault low high c.in-Fault.is in
+    let less = found_hosts.0 in
+    let known : high < length (rows_of c.args.lines.items) = omega (arith, found_hosts.1, rows_count c.args.lines.items) in
     let lacking =
     lacking_of g.W.End.End.means limit hosts (rows_of c.args.lines.items) done c.requires.streams low high (c.requires.lacks low high c.in-Fault.is) commands
-    before after counted own.past other.past c.journals-one.ensures.own c.journals-one.ensures.other c.journals-one.ensures.sound in
+    before after counted own.past other.past c.in_ok-one-in-Fault.ensures.own c.in_ok-one-in-Fault.ensures.other
+    (of_commands_at hosts commands c.args.callers.items (rows_of c.args.lines.items) did c.requires.tied low high (omega (arith, less, known)) own.past
+    c.in_ok-one-in-Fault.ensures.own_orders)
+    (of_commands_at hosts commands c.args.callers.items (rows_of c.args.lines.items) did c.requires.tied high low known other.past
+    c.in_ok-one-in-Fault.ensures.other_orders) in
     let sink : Written = record {
       held_before = g.K.Sink.held c.args.sink.now;
       held_after = g.K.Sink.held c.end_by_fault.new.sink;
@@ -148,10 +140,10 @@ returns-in_ok-ends-in-Done-clause-counted g c =
     } in
     counted_ok _ _ _ _ _ sink (text_of c.args.form (host_views ends.items)) (ended.Ok ends) c.end_by_report.result tt c.end_by_report.ensures.end
 
-pub returns-in-Spent-clause-counted : goal.returns-in-Spent-clause-counted
-returns-in-Spent-clause-counted g c =
-    let own = c.journals-own.result.0 in
-    let other = c.journals-own.result.1 in
+pub returns-in_ok-own-in-Spent-clause-counted : goal.returns-in_ok-own-in-Spent-clause-counted
+returns-in_ok-own-in-Spent-clause-counted g c =
+    let own = c.in_ok-own-in-Spent.own in
+    let other = c.in_ok-own-in-Spent.other in
     let sink : Written = record {
       held_before = g.K.Sink.held c.args.sink.now;
       held_after = g.K.Sink.held c.end_by_spent.new.sink;
@@ -166,10 +158,10 @@ pub returns-else-not-has_faulted-clause-counted : goal.returns-else-not-has_faul
 returns-else-not-has_faulted-clause-counted g c =
     let low = c.in-Fault.low in
     let high = c.in-Fault.high in
-    let own = c.journals-one.result.0 in
-    let other = c.journals-one.result.1 in
+    let own = c.in_ok-one-in-Fault.one in
+    let other = c.in_ok-one-in-Fault.other in
     let stream = newest_stream own.past in
-    let wire = c.journals-one.new.wire in
+    let wire = c.journals.new.wire in
     let now : WireCounts = record { faults = g.W.Wire.faults wire; nothings = g.W.Wire.nothings wire; fulls = g.W.Wire.fulls wire } in
     let start = c.args.start in
     let is : c.has_faulted.result ≡ true = search rules in
@@ -236,17 +228,26 @@ returns-in_ok-ends-in-Done-clause-begun g c = λ limit hosts commands before aft
       refl,
     ) tt c.end_by_report.result c.end_by_report.ensures.end
 
-pub returns-in-Spent-clause-begun : goal.returns-in-Spent-clause-begun
-returns-in-Spent-clause-begun g c = λ limit hosts commands before after done did counted.
+pub returns-in_ok-own-in-Spent-clause-begun : goal.returns-in_ok-own-in-Spent-clause-begun
+returns-in_ok-own-in-Spent-clause-begun g c = λ limit hosts commands before after done did counted.
     let host = c.in-Spent.host in
     let peer = c.in-Spent.peer in
     let entries = c.in-Spent.entries in
-    let own = c.journals-own.result.0 in
-    let other = c.journals-own.result.1 in
+    let own = c.in_ok-own-in-Spent.own in
+    let other = c.in_ok-own-in-Spent.other in
+    let m = g.W.End.End.means in
+    let rows = rows_of c.args.lines.items in
+    let two = full_two m limit hosts rows done host peer entries (c.requires.spent host peer entries c.in-Spent.is) in
+    let first = two.first in
+    let second = two.second in
+    let count = done.shape.count in
     let full =
-    full_journal g.W.End.End.means limit hosts (rows_of c.args.lines.items) done host peer entries (c.requires.spent host peer entries c.in-Spent.is) own.past
-    other.past c.journals-own.ensures.own c.journals-own.ensures.other c.journals-own.ensures.sound commands before after counted in
-    let wire = c.journals-own.new.wire in
+    full_journal m limit hosts rows done host peer entries (c.requires.spent host peer entries c.in-Spent.is) own.past other.past c.in_ok-own-in-Spent.ensures.own
+    c.in_ok-own-in-Spent.ensures.other commands before after counted
+    (of_commands_at hosts commands c.args.callers.items rows did c.requires.tied host peer (omega (arith, first, count)) own.past c.in_ok-own-in-Spent.ensures.own_orders)
+    (of_commands_at hosts commands c.args.callers.items rows did c.requires.tied peer host (omega (arith, second, count)) other.past
+    c.in_ok-own-in-Spent.ensures.other_orders) in
+    let wire = c.journals-in-Spent.new.wire in
     let now : WireCounts = record { faults = g.W.Wire.faults wire; nothings = g.W.Wire.nothings wire; fulls = g.W.Wire.fulls wire } in
     let start = c.args.start in
     let sink : Written = record {
@@ -263,13 +264,20 @@ pub returns-else-not-has_faulted-clause-begun : goal.returns-else-not-has_faulte
 returns-else-not-has_faulted-clause-begun g c = λ limit hosts commands before after done did counted.
     let low = c.in-Fault.low in
     let high = c.in-Fault.high in
-    let own = c.journals-one.result.0 in
-    let other = c.journals-one.result.1 in
+    let own = c.in_ok-one-in-Fault.one in
+    let other = c.in_ok-one-in-Fault.other in
     let stream = newest_stream own.past in
+    let found_hosts = c.requires.fault low high c.in-Fault.is in
+    let less = found_hosts.0 in
+    let known : high < length (rows_of c.args.lines.items) = omega (arith, found_hosts.1, rows_count c.args.lines.items) in
     let lacking =
     lacking_of g.W.End.End.means limit hosts (rows_of c.args.lines.items) done c.requires.streams low high (c.requires.lacks low high c.in-Fault.is) commands
-    before after counted own.past other.past c.journals-one.ensures.own c.journals-one.ensures.other c.journals-one.ensures.sound in
-    let wire = c.journals-one.new.wire in
+    before after counted own.past other.past c.in_ok-one-in-Fault.ensures.own c.in_ok-one-in-Fault.ensures.other
+    (of_commands_at hosts commands c.args.callers.items (rows_of c.args.lines.items) did c.requires.tied low high (omega (arith, less, known)) own.past
+    c.in_ok-one-in-Fault.ensures.own_orders)
+    (of_commands_at hosts commands c.args.callers.items (rows_of c.args.lines.items) did c.requires.tied high low known other.past
+    c.in_ok-one-in-Fault.ensures.other_orders) in
+    let wire = c.journals.new.wire in
     let now : WireCounts = record { faults = g.W.Wire.faults wire; nothings = g.W.Wire.nothings wire; fulls = g.W.Wire.fulls wire } in
     let start = c.args.start in
     let is : c.has_faulted.result ≡ true = search rules in
@@ -349,8 +357,8 @@ pub returns-else-not-has_faulted-clause-cut : goal.returns-else-not-has_faulted-
 returns-else-not-has_faulted-clause-cut g c = λ limit hosts commands before done did counted fits.
     let low = c.in-Fault.low in
     let high = c.in-Fault.high in
-    let own = c.journals-one.result.0 in
-    let other = c.journals-one.result.1 in
+    let own = c.in_ok-one-in-Fault.one in
+    let other = c.in_ok-one-in-Fault.other in
     let stream = newest_stream own.past in
     let sink : Written = record {
       held_before = g.K.Sink.held c.args.sink.now;
@@ -360,10 +368,10 @@ returns-else-not-has_faulted-clause-cut g c = λ limit hosts commands before don
     } in
     cut_ok commands before _ sink (fault_line low high stream) (ended.WireFault low high stream own other) c.end_by_fault.result tt c.end_by_fault.ensures.end
 
-pub returns-in-Spent-clause-cut : goal.returns-in-Spent-clause-cut
-returns-in-Spent-clause-cut g c = λ limit hosts commands before done did counted fits.
-    let own = c.journals-own.result.0 in
-    let other = c.journals-own.result.1 in
+pub returns-in_ok-own-in-Spent-clause-cut : goal.returns-in_ok-own-in-Spent-clause-cut
+returns-in_ok-own-in-Spent-clause-cut g c = λ limit hosts commands before done did counted fits.
+    let own = c.in_ok-own-in-Spent.own in
+    let other = c.in_ok-own-in-Spent.other in
     let sink : Written = record {
       held_before = g.K.Sink.held c.args.sink.now;
       held_after = g.K.Sink.held c.end_by_spent.new.sink;
@@ -372,3 +380,28 @@ returns-in-Spent-clause-cut g c = λ limit hosts commands before done did counte
     } in
     cut_ok commands before _ sink _ (ended.Spent c.in-Spent.host c.in-Spent.peer c.in-Spent.entries own other) c.end_by_spent.result tt
     c.end_by_spent.ensures.end
+
+pub journals-requires-in-Spent-clause-host : goal.journals-requires-in-Spent-clause-host
+journals-requires-in-Spent-clause-host g c =
+    let entries = c.in-Spent.entries in
+    let two = full_two g.W.End.End.means c.requires.done.0 c.requires.done.1 (rows_of c.args.lines.items) c.requires.done.2 c.in-Spent.host c.in-Spent.peer entries
+    (c.requires.spent c.in-Spent.host c.in-Spent.peer entries c.in-Spent.is) in
+    let first = two.first in
+    let count = c.requires.done.2.shape.count in
+    omega (arith, first, count, rows_count c.args.lines.items)
+
+pub journals-requires-in-Spent-clause-peer : goal.journals-requires-in-Spent-clause-peer
+journals-requires-in-Spent-clause-peer g c =
+    let entries = c.in-Spent.entries in
+    let two = full_two g.W.End.End.means c.requires.done.0 c.requires.done.1 (rows_of c.args.lines.items) c.requires.done.2 c.in-Spent.host c.in-Spent.peer entries
+    (c.requires.spent c.in-Spent.host c.in-Spent.peer entries c.in-Spent.is) in
+    let second = two.second in
+    let count = c.requires.done.2.shape.count in
+    omega (arith, second, count, rows_count c.args.lines.items)
+
+pub journals-requires-in-Spent-clause-apart : goal.journals-requires-in-Spent-clause-apart
+journals-requires-in-Spent-clause-apart g c =
+    let entries = c.in-Spent.entries in
+    let two = full_two g.W.End.End.means c.requires.done.0 c.requires.done.1 (rows_of c.args.lines.items) c.requires.done.2 c.in-Spent.host c.in-Spent.peer entries
+    (c.requires.spent c.in-Spent.host c.in-Spent.peer entries c.in-Spent.is) in
+    two.apart

@@ -1,7 +1,7 @@
 use Rattle.std.proofs.Common.{◌≡◌, ◌-◌, length, ap, ◌∙◌, arith, rules}
 use Rattle.rds_rounds.specs.Grid.{rows_of}
 use Rattle.rds_parties.specs.HeldLaws.{going_as_many, kept_as_many}
-use Rattle.rds_threads.proofs.Finished.{all_settled, done_spared}
+use Rattle.rds_threads.proofs.Finished.{all_settled, all_tied, done_spared}
 use Rattle.rds_threads.proofs.Keeping.{rows_same}
 use Rattle.rds_threads.proofs.SameStreams.{streams_end}
 use Rattle.rds_threads.proofs.running.finish.Goals as goal
@@ -49,6 +49,16 @@ end_run-requires-clause-settled g c = λ κs within quiet.
     let same : length c.args.callers.items ≡ length old = omega (arith, callers, rows) in
     all_settled c.tied_keeps.ensures.lines c.requires.hosts.1 c.args.callers.items c.tell_all.new.callers.items old told (rows_of c.last_rounds-end.new.lines.items)
     c.requires.hosts.2.shape (omega (arith, count, rows, many)) same c.tell_all.ensures c.last_rounds-end.ensures.rows (c.last_rounds-end.ensures.quiet quiet)
+
+pub end_run-requires-clause-tied : goal.end_run-requires-clause-tied
+end_run-requires-clause-tied g c = λ κs within.
+    let old = rows_of c.args.lines.items in
+    let told = rows_of c.tell_all.new.lines.items in
+    let callers = c.requires.parties.2.callers_count in
+    let rows = c.requires.parties.2.rows_count in
+    let same : length c.args.callers.items ≡ length old = omega (arith, callers, rows) in
+    all_tied c.tied_keeps.ensures.lines c.args.callers.items c.tell_all.new.callers.items old told (rows_of c.last_rounds-end.new.lines.items) same
+    c.tell_all.ensures c.last_rounds-end.ensures.rows
 
 -- refused where a line isn't drained
 pub end_run-requires-clause-drained : goal.end_run-requires-clause-drained
