@@ -72,8 +72,8 @@ pub record HasFilled (tells : Bool) (s : Meaning) (held_before held_after : Opti
   pub full : IsFullJournal tells MAX_ENTRIES s.hosts s.commands host peer entries own other
   pub written : SinkGained held_before held_after (spent_line host peer entries)
 
--- Two hosts of the script, which have these journals of their connection, lack a stream, and the sink took the line that says so. The wire counted a fault in the call, and at least three
--- where its ends tell their bytes.
+-- Two hosts of the script, which have these journals of their connection, lack a stream, and the sink took the line that says so. The wire
+-- counted a fault in the call, and at least three where its ends tell their bytes.
 pub record IsWireFault (seen : WireSeen) (s : Meaning) (held_before held_after : Option (List ℕ)) : Type 0 where
   pub low : ℕ
   pub high : ℕ
