@@ -1,5 +1,5 @@
 -- A run that ended so is one of which the status says so.
-use Rattle.std.proofs.Common.{◌≡◌, ◌≢◌, ◌⊎◌, inl, inr, ℕ, Bool, true, List, [], Vec, refl, subst}
+use Rattle.std.proofs.Common.{◌≡◌, ◌≢◌, ◌⊎◌, inl, inr, ℕ, true, List, [], Vec, refl, subst}
 use Rattle.std.specs.Global.{Global}
 use Rattle.rds_script.specs.Grammar.{Meaning}
 use Rattle.rds_final.specs.Views.{host_views}
@@ -54,11 +54,20 @@ module _ (seen : WireSeen) (form : Form) (s : Meaning) (sink : Written) (result 
     may_of low high stream own other is counted = (subst IsCounted is counted).0
 
     pub unfinished_of : (count : ℕ) (ends : Vec HostEnd Global) → result ≡ ended.Unfinished count ends → IsEnd result → IsCounted result →
-        IsRunUnfinished seen s sink.held_before sink.held_after
-    unfinished_of count ends is end counted =
+        IsCutEnd s.commands seen.before.faults seen.after.faults result → IsRunUnfinished seen s sink.held_before sink.held_after
+    unfinished_of count ends is end counted cut =
         let ran = subst IsEnd is end in
         let why = subst IsCounted is counted in
-        record { count = count; ends = host_views ends.items; did = ran.0; unacknowledged = ran.1; full = why.0; waited = why.1; written = ran.2 }
+        record {
+          count = count;
+          ends = host_views ends.items;
+          did = ran.0;
+          unacknowledged = ran.1;
+          full = why.0;
+          waited = why.1;
+          cut = subst (IsCutEnd s.commands seen.before.faults seen.after.faults) is cut;
+          written = ran.2;
+        }
 
   pub filled_of : (host peer entries : ℕ) (own other : Log) → result ≡ ended.Spent host peer entries own other → IsEnd result →
       HasFilled seen.tells s sink.held_before sink.held_after

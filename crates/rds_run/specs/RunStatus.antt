@@ -87,7 +87,7 @@ pub record IsWireFault (seen : WireSeen) (s : Meaning) (held_before held_after :
 
 -- The hosts did the script's commands, and what they have then is sound. So many datagrams aren't acknowledged, and the sink took the line
 -- that says so. No journal owes anything to its open stream, or the wire counted in the call that there was no room; and it counted at least
--- 20,000,000 times that no bytes were there, or no stream is open.
+-- 20,000,000 times that no bytes were there, or no stream is open. No cut of the commands is lost.
 pub record IsRunUnfinished (seen : WireSeen) (s : Meaning) (held_before held_after : Option (List ℕ)) : Type 0 where
   pub count : ℕ
   pub ends : List FinalHost
@@ -95,6 +95,7 @@ pub record IsRunUnfinished (seen : WireSeen) (s : Meaning) (held_before held_aft
   pub unacknowledged : AreUnacknowledged seen.tells count ends
   pub full : EndsOweNothing ends ⊎ HasRisen seen.before.fulls seen.after.fulls
   pub waited : AreEndsClosed ends ⊎ HasRisenBy 20000000 seen.before.nothings seen.after.nothings
+  pub cut : AreCutsOfEnds s.commands seen.before.faults seen.after.faults ends
   pub written : SinkGained held_before held_after (unfinished_line count)
 
 -- What a run of the script has to write, in a text of this form: the text of an end that the run may come to, by what was counted of the

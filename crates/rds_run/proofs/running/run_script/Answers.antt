@@ -81,7 +81,7 @@ returns-in-Unfinished-clause-ends g c =
       before = record { faults = g.W.Wire.faults c.args.wire.now; nothings = g.W.Wire.nothings c.args.wire.now; fulls = g.W.Wire.fulls c.args.wire.now };
       after = record { faults = g.W.Wire.faults c.run.new.wire; nothings = g.W.Wire.nothings c.run.new.wire; fulls = g.W.Wire.fulls c.run.new.wire };
     } in
-    unfinished_of seen c.args.form (meaning c.args.script.now) sink c.run.result _ _ _ c.in-Unfinished.is c.run.ensures.end c.run.ensures.counted
+    unfinished_of seen c.args.form (meaning c.args.script.now) sink c.run.result _ _ _ c.in-Unfinished.is c.run.ensures.end c.run.ensures.counted c.run.ensures.cut
 
 -- refused where a text of another form is begun
 pub returns-in-WriteFault-clause-ends : goal.returns-in-WriteFault-clause-ends
