@@ -9,9 +9,10 @@ use Rattle.rds_conn.specs.declared.freed.Freed.{Freed}
 abbrev pub with_freed : ℕ → ℕ → List ℕ → List ℕ
 with_freed slot bytes freed = slice_set freed slot (slice_index freed slot + bytes)
 
--- the bytes of a slot are handed out, as far as one datagram may have so many; those of the others stay
+-- the bytes of the lowest slot that has any are handed out, as far as one datagram may have so many; those of the others stay
 pub record HandsOutFreed (old new : List ℕ) (f : Freed) : Type 0 where
   pub slot_is : f.slot < length old
+  pub lowest : sum (take f.slot old) ≡ 0
   pub some : 0 < f.bytes
   pub all : f.bytes ≡ min (slice_index old f.slot) MAX_LENGTH
   pub rest : new ≡ slice_set old f.slot (slice_index old f.slot - f.bytes)

@@ -1,12 +1,12 @@
 -- A list of bytes that begins with a whole header.
-use Rattle.std.proofs.Common.{◌≡◌, ℕ, ◌+◌, ◌<◌, ◌≤◌, List, ◌++◌, length, take, drop, None, Some, sym, ap, ◌∙◌, arith, inr, append_assoc, length-append}
+use Rattle.std.proofs.Common.{◌≡◌, ℕ, ◌+◌, ◌<◌, ◌≤◌, List, ◌++◌, length, take, drop, None, Some, sym, ap, subst, ◌∙◌, arith, inr, append_assoc, length-append}
 use Rattle.std.proofs.lemmas.List.{drop-drop, length-take-le, take-append-drop}
 use Rattle.rds_wire.specs.declared.header.Header.{Header}
 use Rattle.rds_wire.specs.declared.kind.Malformed.{Malformed}
 use Rattle.rds_wire.specs.Bytes.{frame_bytes, header_bytes, IsHeader}
 use Rattle.rds_wire.specs.Kinds.{cause}
-use Rattle.rds_wire.specs.HeaderLaws.{length-header_bytes}
-use Rattle.rds_frame.specs.Splitting.{BeginsMalformed, IsPartial, IsSound}
+use Rattle.rds_wire.specs.HeaderLaws.{header_bytes-append, length-header_bytes}
+use Rattle.rds_frame.specs.Splitting.{BeginsMalformed, IsClear, IsPartial, IsSound}
 
 -- the first 48 bytes are those of this header, and the others follow
 pub record IsFront (bytes head body : List ℕ) (d : Header) : Type 0 where
@@ -37,6 +37,17 @@ IsPartial-front bytes head body d front short = inr (record {
   bytes_are = front-whole bytes head body d front;
   short = short;
 })
+
+pub IsClear-front : (highest : ℕ) (bytes head body : List ℕ) (d : Header)
+    → IsFront bytes head body d → cause d highest ≡ None → IsClear highest bytes
+IsClear-front highest bytes head body d front none h more fits same =
+    let one = header_bytes-append h d more body fits front.fits (sym same ∙ front-whole bytes head body d front) in
+    subst (λ (g : Header). cause g highest ≡ None) (sym one.0) none
+
+-- fewer bytes than a header has begin with none
+pub IsClear-short : (highest : ℕ) (bytes : List ℕ) → length bytes < 48 → IsClear highest bytes
+IsClear-short highest bytes short h more fits same =
+    absurd (omega (arith, short, ap length same ∙ length-append (header_bytes h) more, length-header_bytes h fits))
 
 pub IsSound-front : (highest : ℕ) (bytes head body payload : List ℕ) (d : Header)
     → IsFront bytes head body d → cause d highest ≡ None → d.len ≤ length body → payload ≡ take d.len body

@@ -2,7 +2,7 @@ ghost use Rattle.std.specs.Prelude.{◌≡◌, List, ℕ, ◌+◌, ◌++◌, ◌
 ghost use Rattle.rds_wire.specs.declared.frame.Frame.{Frame};
 ghost use Rattle.rds_wire.specs.declared.kind.Malformed.{Malformed};
 ghost use Rattle.rds_wire.specs.Bytes.{frame_bytes};
-ghost use Rattle.rds_frame.specs.Splitting.{BeginsMalformed, IsMalformed, IsPartial, IsSound, Splits};
+ghost use Rattle.rds_frame.specs.Splitting.{BeginsMalformed, IsClear, IsMalformed, IsPartial, IsSound, Splits};
 
 use crate::FrameError;
 use rds_wire::{Frame, Payload, check, decode};
@@ -11,7 +11,8 @@ use std::alloc::Global;
 /// The frames of a whole list of bytes, read off one after another as the definition says: what `frames_of` gives,
 /// with no state between pieces.
 pub fn frames_in(alloc: Global, bytes: &[u8], highest: u64) -> Result<Vec<Frame>, FrameError>
-    ensures split { IfOk result (λ frames. (rest : List ℕ) × Splits bytes.now frames.items rest) }
+    // And what is left then begins with no malformed header.
+    ensures split { IfOk result (λ frames. (rest : List ℕ) × Splits bytes.now frames.items rest × IsClear highest rest) }
     ensures only { IfOk result (λ frames. (others : List Frame) (rest : List ℕ) →
         Splits bytes.now others rest → frames.items ≡ others) }
     ensures sound { IfOk result (λ frames. All (IsSound highest) frames.items) }
@@ -32,6 +33,7 @@ fn first_frame(alloc: Global, bytes: &[u8], highest: u64) -> Result<Option<Frame
     ensures found { IfOk result (λ found. MatchOption found (IsPartial bytes.now)
         (λ f. IsSound highest f × (48 + length f.payload ≤ length bytes.now)
         × (bytes.now ≡ frame_bytes f ++ drop (48 + length f.payload) bytes.now))) }
+    ensures clear { IfOk result (λ found. MatchOption found (IsClear highest bytes.now) (λ _. Unit {0})) }
     ensures malformed { (fault : Malformed) → result ≡ Err (FrameError.Malformed fault)
         → BeginsMalformed highest bytes.now fault }
     ensures never_closed { IsErrOf result FrameError.Closed → ⊥ }

@@ -2,7 +2,7 @@ ghost use Rattle.std.specs.Prelude.{◌≡◌, ◌≢◌, List, ℕ, ◌++◌, A
 ghost use Rattle.std.specs.List.{flat_map};
 ghost use Rattle.rds_wire.specs.declared.frame.Frame.{Frame};
 ghost use Rattle.rds_wire.specs.declared.kind.Malformed.{Malformed};
-ghost use Rattle.rds_frame.specs.Splitting.{IsMalformed, IsSound, Splits};
+ghost use Rattle.rds_frame.specs.Splitting.{IsClear, IsMalformed, IsSound, Splits};
 ghost use Rattle.rds_frame.specs.Holding.{IsFed};
 
 use crate::{FrameError, Splitter};
@@ -11,9 +11,9 @@ use std::alloc::Global;
 
 /// The frames of a stream that comes in these pieces, where the reader has pulled no number above `highest`.
 pub fn frames_of(alloc: Global, pieces: &[Vec<u8>], highest: u64) -> Result<Vec<Frame>, FrameError>
-    // Up to less than a whole frame, the stream is these frames.
+    // Up to less than a whole frame, which begins with no malformed header, the stream is these frames.
     ensures split { IfOk result (λ frames. (rest : List ℕ) ×
-        Splits (flat_map (λ piece. piece.items) pieces.now) frames.items rest) }
+        Splits (flat_map (λ piece. piece.items) pieces.now) frames.items rest × IsClear highest rest) }
     // It is no others, so it doesn't matter how the stream was cut.
     ensures only { IfOk result (λ frames. (others : List Frame) (rest : List ℕ) →
         Splits (flat_map (λ piece. piece.items) pieces.now) others rest → frames.items ≡ others) }

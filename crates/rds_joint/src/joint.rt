@@ -78,6 +78,7 @@ impl Joint {
         ensures same { self.new ≡ self.old }
         ensures room { OnOk result (HasRoomForTwo (of_end end self.old)) }
         ensures spent { (entries : ℕ) → result ≡ Err (errors.Spent entries) → IsFull entries (of_end end self.old) }
+        ensures full { (entries : ℕ) → IsFull entries (of_end end self.old) → result ≡ Err (errors.Spent entries) }
     {
         self.pair.reserve(end)
     }

@@ -34,6 +34,7 @@ impl Model for Inbox {
 }
 
 impl Inbox {
+    /// A mailbox with its getter.
     pub fn new(mail: Arc<Mail<Datagram>>, get: GetPass<Datagram>) -> Inbox
         requires { get.mail ≡ (arc_value mail).line }
         ensures { result ≡ record { bell = (arc_value mail).bell; get = get } }
@@ -41,6 +42,7 @@ impl Inbox {
         Inbox { mail, get }
     }
 
+    /// The mailbox and its getter.
     pub fn into_parts(self) -> (Arc<Mail<Datagram>>, GetPass<Datagram>)
         ensures get { result.1 ≡ self.get }
         ensures mail { self.get.mail ≡ (arc_value result.0).line }
@@ -60,7 +62,11 @@ impl Inbox {
         self.mail.get(rt, &mut self.get)
     }
 
-    /// Registers at the bell and then takes the first datagram.
+    /// Registers at the bell and then takes the first datagram. `Pending` where its own step, after that, found the mailbox empty.
+    ///
+    /// # Errors
+    ///
+    /// Where there is no memory to register. Nothing was taken.
     pub fn poll_get<W: Wait>(
         &mut self,
         rt: &W,

@@ -32,6 +32,7 @@ impl Model for Ports {
 }
 
 impl Ports {
+    /// The seat of a slot, with its table.
     pub fn new(table: Arc<BindTable>, seat: BindSeat) -> Ports
         requires { seat.table ≡ arc_value table }
         ensures { result ≡ seat }
@@ -39,6 +40,7 @@ impl Ports {
         Ports { table, seat }
     }
 
+    /// The table and the seat.
     pub fn into_parts(self) -> (Arc<BindTable>, BindSeat)
         ensures seat { result.1 ≡ self }
         ensures table { self.table ≡ arc_value result.0 }
@@ -48,6 +50,10 @@ impl Ports {
     }
 
     /// Claims a port for the slot.
+    ///
+    /// # Errors
+    ///
+    /// As `BindTable::claim`: the port is reserved, or its word was found with another slot in it. Nothing was claimed.
     pub fn claim(&mut self, port: u16) -> Result<(), BindError>
         requires slot { IsSome self.old.view.slot }
         requires port { self.old.view.port ≡ None }

@@ -29,12 +29,14 @@ impl<R: MapReader> Model for Routes<R> {
 }
 
 impl<R: MapReader> Routes<R> {
+    /// These routes, in this order.
     pub fn new(routes: Vec<Route<R>>) -> Routes<R>
         ensures { result ≡ routes.items }
     {
         Routes { routes }
     }
 
+    /// The routes, in the same order.
     pub fn into_vec(self) -> Vec<Route<R>>
         ensures { result.items ≡ self }
     {
@@ -42,6 +44,7 @@ impl<R: MapReader> Routes<R> {
         routes
     }
 
+    /// How many routes there are.
     pub fn len(&self) -> usize
         ensures { result ≡ length self.now }
     {
@@ -75,6 +78,10 @@ impl<R: MapReader> Routes<R> {
     }
 
     /// Looks a port up in a peer's map.
+    ///
+    /// # Errors
+    ///
+    /// Where there is no route to the peer.
     pub fn look_up(&mut self, peer: u32, port: u16) -> Result<Seen, NoRoute>
         ensures look { IfOk result (λ seen. IsLookTo R.is_look peer port seen self.old self.new) }
         ensures none { IfErr result (λ e. (e.peer ≡ peer) × NoneTo self.old peer × (self.new ≡ self.old)) }
@@ -102,6 +109,10 @@ impl<R: MapReader> Routes<R> {
     }
 
     /// Puts an order on a peer's queue.
+    ///
+    /// # Errors
+    ///
+    /// `NoRoute` where there is no route to the peer, and `Memory` where there is none for the order. Nothing was put.
     pub fn ask<W: Wait>(&mut self, rt: &W, peer: u32, item: Asked) -> Result<(), CancelError>
         ensures put { OnOk result (IsPutTo peer item self.old self.new) }
         ensures refused { IfErr result (λ e. AskRefused peer self.old e × (self.new ≡ self.old)) }

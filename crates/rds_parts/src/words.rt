@@ -38,6 +38,7 @@ impl Model for Words {
 }
 
 impl Words {
+    /// The seat of a slot that has taken nothing yet, with its meter.
     pub fn new(meter: Arc<Meter>, seat: MeterSeat, slot: u16) -> Words
         requires table { seat.table ≡ arc_value meter }
         requires slot { (seat.slot ≡ Some slot) × (slot < MAX_SLOTS) }
@@ -52,6 +53,7 @@ impl Words {
         }
     }
 
+    /// The meter and the seat.
     pub fn into_parts(self) -> (Arc<Meter>, MeterSeat)
         ensures seat { result.1 ≡ self.seat }
         ensures table { self.seat.table ≡ arc_value result.0 }
@@ -60,6 +62,7 @@ impl Words {
         (meter, seat)
     }
 
+    /// The slot.
     pub fn slot(&self) -> u16
         ensures slot { result ≡ self.now.slot }
         ensures small { result < MAX_SLOTS }

@@ -1,6 +1,6 @@
-ghost use Rattle.std.specs.Prelude.{◌≡◌, ◌≢◌, ℕ, ◌+◌, ◌<◌, [], OnOk, OnErr, IfSome, IsSome, length};
+ghost use Rattle.std.specs.Prelude.{◌≡◌, ◌≢◌, ℕ, ◌+◌, ◌<◌, [], ◌↔◌, OnOk, OnErr, IfSome, IsSome, IsTrue, length};
 ghost use Rattle.rds_wire.specs.declared.kind.Malformed.{Malformed};
-ghost use Rattle.rds_conn.specs.Connection.{with_room};
+ghost use Rattle.rds_conn.specs.Connection.{IsReady, with_room};
 ghost use Rattle.rds_conn.specs.Readying.{unready_as};
 ghost use Rattle.rds_conn.specs.declared.conn.ConnError.TheVariants as errors;
 
@@ -25,6 +25,9 @@ impl Conn {
         ensures closed { result ≢ Err errors.Closed }
         ensures malformed { (fault : Malformed) → result ≢ Err (errors.Malformed fault) }
     {
+        if self.is_ready() {
+            return Ok(());
+        }
         match self.journal.reserve(2) {
             Ok(()) => {}
             Err(error) => return Err(unready(error)),
@@ -38,6 +41,12 @@ impl Conn {
         self.spare = self.spare.max(2);
         self.store_spare = self.store_spare.max(1);
         Ok(())
+    }
+
+    fn is_ready(&self) -> bool
+        ensures { IsTrue result ↔ IsReady self.now }
+    {
+        self.spare >= 2 && self.store_spare >= 1 && self.pong.is_some()
     }
 }
 

@@ -25,6 +25,7 @@ impl ConnPair {
         ensures same { self.new ≡ self.old }
         ensures room { OnOk result (HasRoomForTwo (of_end end self.old)) }
         ensures spent { (entries : ℕ) → result ≡ Err (errors.Spent entries) → IsFull entries (of_end end self.old) }
+        ensures full { (entries : ℕ) → IsFull entries (of_end end self.old) → result ≡ Err (errors.Spent entries) }
     {
         match end {
             PairEnd::First => self.first.ready(),
