@@ -32,7 +32,7 @@ pub fn gen_text<K: Sink, G: Gate + Sync, R: Threads + Wait + Net + Sync>(
         Ok(script) => run_in_memory(
             rt,
             alloc,
-            &script,
+            script,
             Form::Summary { seed, sends },
             sink,
             gate,

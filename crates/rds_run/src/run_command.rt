@@ -72,7 +72,7 @@ where
     ensures tcp_unused { wire ≡ wires.Memory → tcp.new ≡ tcp.old }
 {
     match read_script(alloc, source, sink) {
-        Ok(script) => run_over(rt, alloc, wire, &script, sink, tcp, gate),
+        Ok(script) => run_over(rt, alloc, wire, script, sink, tcp, gate),
         Err(status) => status,
     }
 }
@@ -82,25 +82,25 @@ fn run_over<K: Sink, W: Wire, G: Gate + Sync, R: Threads + Wait + Net + Sync>(
     rt: &R,
     alloc: Global,
     wire: RunWire,
-    script: &Script,
+    script: Script,
     sink: &mut K,
     tcp: &mut W,
     gate: &G,
 ) -> Status
 where
     W::End: Send,
-    requires { IsScript script.now }
+    requires { IsScript script }
     ensures ends { IsEndOfRunOver (seen_over wire
         record {
           tells = W.End.means.tells;
           before = record { faults = W.faults tcp.old; nothings = W.nothings tcp.old; fulls = W.fulls tcp.old };
           after = record { faults = W.faults tcp.new; nothings = W.nothings tcp.new; fulls = W.fulls tcp.new };
-        }) wire (meaning script.now)
+        }) wire (meaning script)
         record { held_before = K.held sink.old; held_after = K.held sink.new; faults_before = K.faults sink.old; faults_after = K.faults sink.new }
         result }
     ensures tcp_unused { wire ≡ wires.Memory → tcp.new ≡ tcp.old }
 {
-    let streams = prepared_streams(script);
+    let streams = prepared_streams(&script);
     if are_too_many(wire, streams) {
         return refuse_streams(alloc, streams, sink);
     }

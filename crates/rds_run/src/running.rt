@@ -17,6 +17,7 @@ use rds_threads::{Form, RunEnd, run};
 use std::alloc::Global;
 use std::net::Net;
 use std::sync::Wait;
+use std::thread;
 use std::thread::Threads;
 
 /// How many quiet rounds a run waits for acknowledgements at most, over streams that don't tell their bytes.
@@ -26,13 +27,13 @@ const BUDGET: u64 = 20_000_000;
 pub(crate) fn run_in_memory<K: Sink, G: Gate + Sync, R: Threads + Wait + Net + Sync>(
     rt: &R,
     alloc: Global,
-    script: &Script,
+    script: Script,
     form: Form,
     sink: &mut K,
     gate: &G,
 ) -> Status
-    requires script { IsScript script.now }
-    ensures { IsEndOfScript memory_seen form (meaning script.now)
+    requires script { IsScript script }
+    ensures { IsEndOfScript memory_seen form (meaning script)
         record { held_before = K.held sink.old; held_after = K.held sink.new; faults_before = K.faults sink.old; faults_after = K.faults sink.new }
         result }
 {
@@ -44,7 +45,7 @@ pub(crate) fn run_in_memory<K: Sink, G: Gate + Sync, R: Threads + Wait + Net + S
 pub(crate) fn run_script<K: Sink, W: Wire, G: Gate + Sync, R: Threads + Wait + Net + Sync>(
     rt: &R,
     alloc: Global,
-    script: &Script,
+    script: Script,
     form: Form,
     wire: &mut W,
     sink: &mut K,
@@ -52,18 +53,18 @@ pub(crate) fn run_script<K: Sink, W: Wire, G: Gate + Sync, R: Threads + Wait + N
 ) -> Status
 where
     W::End: Send,
-    requires script { IsScript script.now }
+    requires script { IsScript script }
     ensures ends { IsEndOfScript
         record {
           tells = W.End.means.tells;
           before = record { faults = W.faults wire.old; nothings = W.nothings wire.old; fulls = W.fulls wire.old };
           after = record { faults = W.faults wire.new; nothings = W.nothings wire.new; fulls = W.fulls wire.new };
         }
-        form (meaning script.now)
+        form (meaning script)
         record { held_before = K.held sink.old; held_after = K.held sink.new; faults_before = K.faults sink.old; faults_after = K.faults sink.new }
         result }
     ensures may_fail { result ≡ status.WireFault → W.may_fail wire.old }
-    ensures begun { result ≡ status.WriteFault → HasBegun form W.End.means.tells MAX_ENTRIES script.now.hosts script.now.commands.items
+    ensures begun { result ≡ status.WriteFault → HasBegun form W.End.means.tells MAX_ENTRIES script.hosts script.commands.items
         (IsCountedEnd W.End.means.tells (W.may_fail wire.old) 20000000
         record { faults = W.faults wire.old; nothings = W.nothings wire.old; fulls = W.fulls wire.old }
         record { faults = W.faults wire.new; nothings = W.nothings wire.new; fulls = W.fulls wire.new })
@@ -72,7 +73,7 @@ where
     match run(
         rt,
         alloc,
-        script,
+        &script,
         wire,
         gate,
         form,
@@ -81,7 +82,7 @@ where
         sink,
     ) {
         RunEnd::Ok { ends } => {
-            let_go(rt, ends);
+            let_go(rt, ends, script);
             Status::Written
         }
         RunEnd::WireFault { .. } => Status::WireFault,
@@ -92,8 +93,12 @@ where
     }
 }
 
-// Lets go of what the hosts of a run have, that of each host in a thread of its own.
-fn let_go<R: Threads + Sync>(rt: &R, ends: Vec<HostEnd>) {
+// Lets go of the script beside what the hosts of a run have, that of each host in a thread of its own.
+fn let_go<R: Threads + Sync>(rt: &R, ends: Vec<HostEnd>, script: Script) {
+    thread::join(rt, move || drop(script), move || let_hosts_go(rt, ends));
+}
+
+fn let_hosts_go<R: Threads + Sync>(rt: &R, ends: Vec<HostEnd>) {
     ends.into_par_iter()
         .with_min_len(1)
         .for_each(rt, |end: HostEnd| drop(end));

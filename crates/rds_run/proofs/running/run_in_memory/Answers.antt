@@ -14,8 +14,8 @@ returns g c =
       faults_before = g.K.Sink.faults c.args.sink.now;
       faults_after = g.K.Sink.faults c.run_script.new.sink;
     } in
-    in_memory_of _ _ c.args.form (meaning c.args.script.now) sink c.run_script.result
+    in_memory_of _ _ c.args.form (meaning c.args.script) sink c.run_script.result
     (λ fault. never_fails _ _ (search rules) (search rules) (c.run_script.ensures.may_fail fault))
-    (λ fault. begun_in_memory c.args.form (meaning c.args.script.now) _ (never_fails _ _ (search rules) (search rules)) _ _ sink
-    (risen_of _ c.args.form (meaning c.args.script.now) sink c.run_script.result fault c.run_script.ensures.ends) (c.run_script.ensures.begun fault))
+    (λ fault. begun_in_memory c.args.form (meaning c.args.script) _ (never_fails _ _ (search rules) (search rules)) _ _ sink
+    (risen_of _ c.args.form (meaning c.args.script) sink c.run_script.result fault c.run_script.ensures.ends) (c.run_script.ensures.begun fault))
     c.run_script.ensures.ends

@@ -21,7 +21,7 @@ returns-in-Ok-clause-ends g c =
       before = record { faults = g.W.Wire.faults c.args.wire.now; nothings = g.W.Wire.nothings c.args.wire.now; fulls = g.W.Wire.fulls c.args.wire.now };
       after = record { faults = g.W.Wire.faults c.run.new.wire; nothings = g.W.Wire.nothings c.run.new.wire; fulls = g.W.Wire.fulls c.run.new.wire };
     } in
-    ran_of seen c.args.form (meaning c.args.script.now) sink c.run.result _ c.in-Ok.is c.run.ensures.end c.run.ensures.cut
+    ran_of seen c.args.form (meaning c.args.script) sink c.run.result _ c.in-Ok.is c.run.ensures.end c.run.ensures.cut
 
 pub returns-in-WireFault-clause-ends : goal.returns-in-WireFault-clause-ends
 returns-in-WireFault-clause-ends g c =
@@ -36,7 +36,7 @@ returns-in-WireFault-clause-ends g c =
       before = record { faults = g.W.Wire.faults c.args.wire.now; nothings = g.W.Wire.nothings c.args.wire.now; fulls = g.W.Wire.fulls c.args.wire.now };
       after = record { faults = g.W.Wire.faults c.run.new.wire; nothings = g.W.Wire.nothings c.run.new.wire; fulls = g.W.Wire.fulls c.run.new.wire };
     } in
-    lacking_of seen c.args.form (meaning c.args.script.now) sink c.run.result _ _ _ _ _ _ c.in-WireFault.is c.run.ensures.end c.run.ensures.counted
+    lacking_of seen c.args.form (meaning c.args.script) sink c.run.result _ _ _ _ _ _ c.in-WireFault.is c.run.ensures.end c.run.ensures.counted
 
 pub returns-in-WireFault-clause-may_fail : goal.returns-in-WireFault-clause-may_fail
 returns-in-WireFault-clause-may_fail g c = λ same.
@@ -51,7 +51,7 @@ returns-in-WireFault-clause-may_fail g c = λ same.
       before = record { faults = g.W.Wire.faults c.args.wire.now; nothings = g.W.Wire.nothings c.args.wire.now; fulls = g.W.Wire.fulls c.args.wire.now };
       after = record { faults = g.W.Wire.faults c.run.new.wire; nothings = g.W.Wire.nothings c.run.new.wire; fulls = g.W.Wire.fulls c.run.new.wire };
     } in
-    may_of seen c.args.form (meaning c.args.script.now) sink c.run.result _ _ _ _ _ _ c.in-WireFault.is c.run.ensures.counted
+    may_of seen c.args.form (meaning c.args.script) sink c.run.result _ _ _ _ _ _ c.in-WireFault.is c.run.ensures.counted
 
 pub returns-in-Spent-clause-ends : goal.returns-in-Spent-clause-ends
 returns-in-Spent-clause-ends g c =
@@ -66,7 +66,7 @@ returns-in-Spent-clause-ends g c =
       before = record { faults = g.W.Wire.faults c.args.wire.now; nothings = g.W.Wire.nothings c.args.wire.now; fulls = g.W.Wire.fulls c.args.wire.now };
       after = record { faults = g.W.Wire.faults c.run.new.wire; nothings = g.W.Wire.nothings c.run.new.wire; fulls = g.W.Wire.fulls c.run.new.wire };
     } in
-    filled_of seen c.args.form (meaning c.args.script.now) sink c.run.result _ _ _ _ _ c.in-Spent.is c.run.ensures.end
+    filled_of seen c.args.form (meaning c.args.script) sink c.run.result _ _ _ _ _ c.in-Spent.is c.run.ensures.end
 
 pub returns-in-Unfinished-clause-ends : goal.returns-in-Unfinished-clause-ends
 returns-in-Unfinished-clause-ends g c =
@@ -81,7 +81,7 @@ returns-in-Unfinished-clause-ends g c =
       before = record { faults = g.W.Wire.faults c.args.wire.now; nothings = g.W.Wire.nothings c.args.wire.now; fulls = g.W.Wire.fulls c.args.wire.now };
       after = record { faults = g.W.Wire.faults c.run.new.wire; nothings = g.W.Wire.nothings c.run.new.wire; fulls = g.W.Wire.fulls c.run.new.wire };
     } in
-    unfinished_of seen c.args.form (meaning c.args.script.now) sink c.run.result _ _ _ c.in-Unfinished.is c.run.ensures.end c.run.ensures.counted c.run.ensures.cut
+    unfinished_of seen c.args.form (meaning c.args.script) sink c.run.result _ _ _ c.in-Unfinished.is c.run.ensures.end c.run.ensures.counted c.run.ensures.cut
 
 -- refused where a text of another form is begun
 pub returns-in-WriteFault-clause-ends : goal.returns-in-WriteFault-clause-ends
@@ -97,6 +97,6 @@ returns-in-WriteFault-clause-ends g c =
       before = record { faults = g.W.Wire.faults c.args.wire.now; nothings = g.W.Wire.nothings c.args.wire.now; fulls = g.W.Wire.fulls c.args.wire.now };
       after = record { faults = g.W.Wire.faults c.run.new.wire; nothings = g.W.Wire.nothings c.run.new.wire; fulls = g.W.Wire.fulls c.run.new.wire };
     } in
-    let m = meaning c.args.script.now in
+    let m = meaning c.args.script in
     begun_of seen c.args.form m (g.W.Wire.may_fail c.args.wire.now) sink
     (subst (IsEndOfRun c.args.form seen.tells MAX_ENTRIES m.hosts m.commands sink) c.in-WriteFault.is c.run.ensures.end) (c.run.ensures.begun c.in-WriteFault.is)
