@@ -88,7 +88,6 @@ impl Half {
         ensures ok { OnOk result (side_of self.new ≡ ordered order.now (side_of self.old)) }
         ensures err { OnErr result (side_of self.new ≡ side_of self.old) }
         ensures spent { (entries : ℕ) → result ≡ Err (errors.Spent entries) → IsFull entries (side_of self.old) }
-        ensures full { (entries : ℕ) → IsFull entries (side_of self.old) → result ≡ Err (errors.Spent entries) }
         ensures whole { IsWhole self.new.conn.log.past }
     {
         if !is_allowed(self.conn.slots(), order) {
@@ -107,7 +106,6 @@ impl Half {
         ensures ok { OnOk result (side_of self.new ≡ pulled map.now (side_of self.old)) }
         ensures err { OnErr result (side_of self.new ≡ side_of self.old) }
         ensures spent { (entries : ℕ) → result ≡ Err (errors.Spent entries) → IsFull entries (side_of self.old) }
-        ensures full { (entries : ℕ) → IsFull entries (side_of self.old) → result ≡ Err (errors.Spent entries) }
         ensures whole { IsWhole self.new.conn.log.past }
     {
         self.ready()?;
@@ -128,7 +126,6 @@ impl Half {
         ensures ok { OnOk result (side_of self.new ≡ passed slot (side_of self.old)) }
         ensures err { OnErr result (side_of self.new ≡ side_of self.old) }
         ensures spent { (entries : ℕ) → result ≡ Err (errors.Spent entries) → IsFull entries (side_of self.old) }
-        ensures full { (entries : ℕ) → IsFull entries (side_of self.old) → result ≡ Err (errors.Spent entries) }
         ensures whole { IsWhole self.new.conn.log.past }
     {
         self.ready()?;
