@@ -15,6 +15,10 @@ abbrev pub SourceGave : Option (List ℕ) → Option (List ℕ) → List ℕ →
 SourceGave None new bytes = Unit {0}
 SourceGave (Some old) new bytes = MatchOption new ⊥ (λ rest. old ≡ bytes ++ rest)
 
+-- where a source or a sink told its bytes, it tells the same
+abbrev pub TellsSame : Option (List ℕ) → Option (List ℕ) → Type 0
+TellsSame old new = MatchOption old (Unit {0}) (λ bytes. new ≡ Some bytes)
+
 -- where a source tells what it has left, nothing is
 abbrev pub IsAtEnd : Option (List ℕ) → Type 0
 IsAtEnd left = MatchOption left (Unit {0}) (λ rest. rest ≡ [])
@@ -35,6 +39,11 @@ SinkGained (Some old) new bytes = new ≡ Some (old ++ bytes)
 -- where a sink tells what it holds, it took a beginning of these bytes
 abbrev pub SinkGainedFront : Option (List ℕ) → Option (List ℕ) → List ℕ → Type 0
 SinkGainedFront old new bytes = (n : ℕ) × SinkGained old new (take n bytes)
+
+-- a reader or a writer, and how often it has failed
+pub record WithFaults (T : Type 0) : Type 0 where
+  pub inner : T
+  pub faults : ℕ
 
 -- a source in memory: what is left, how often it has failed, and which of its reads fail
 pub record Supply : Type 0 where

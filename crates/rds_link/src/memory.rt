@@ -60,7 +60,7 @@ impl Source for MemSource {
         ensures end { result ≡ Ok 0 → self.old.left ≡ [] }
         ensures kept { OnErr result (self.new.left ≡ self.old.left) }
         ensures failed { OnErr result (HasRisen self.old.faults self.new.faults) }
-        ensures faults { OnOk result (self.new.faults ≡ self.old.faults) }
+        ensures quiet { OnOk result (self.new.faults ≡ self.old.faults) }
         ensures counts { self.old.faults ≤ self.new.faults }
         ensures number { IsErr result ↔ NextFails self.old.calls.fail self.old.calls.made }
         ensures calls { self.new.calls ≡ record self.old.calls { made = next_call self.old.calls.made } }
@@ -140,7 +140,7 @@ impl Sink for MemSink {
         ensures bytes { OnOk result (self.new.held ≡ self.old.held ++ piece.now) }
         ensures kept { OnErr result (self.new.held ≡ self.old.held) }
         ensures failed { OnErr result (HasRisen self.old.faults self.new.faults) }
-        ensures faults { OnOk result (self.new.faults ≡ self.old.faults) }
+        ensures quiet { OnOk result (self.new.faults ≡ self.old.faults) }
         ensures counts { self.old.faults ≤ self.new.faults }
         ensures number { NextFails self.old.calls.fail self.old.calls.made → IsErr result }
         ensures calls { self.new.calls ≡ record self.old.calls { made = next_call self.old.calls.made } }

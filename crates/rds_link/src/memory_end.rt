@@ -53,7 +53,7 @@ impl MemEnd {
     {
         let fails = self.calls.fails();
         if fails && !self.standing.is_shut() {
-            self.standing.fail();
+            self.standing.fail_before_a_look();
             return true;
         }
         self.standing.is_over()

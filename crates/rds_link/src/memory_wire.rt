@@ -133,6 +133,9 @@ impl Wire for MemWire {
         ensures room { IfOk result (λ ends. (memory_means.room ends.0 ≡ 65536) × (memory_means.room ends.1 ≡ 65536)) }
         ensures fail { IfOk result (λ ends. (memory_means.fail ends.0 ≡ self.old.fail_end) × (memory_means.fail ends.1 ≡ self.old.fail_end)) }
         ensures fault { IsErrOf result errors.Fault → HasRisen self.old.faults self.new.faults }
+        ensures once { IsErrOf result errors.Fault → RisesBy 1 self.old.faults self.new.faults }
+        ensures short { IsErrOf result errors.Memory → self.new.faults ≡ self.old.faults }
+        ensures quiet { IfOk result (λ _. self.new.faults ≡ self.old.faults) }
         ensures number { IsErrOf result errors.Fault ↔ NextFails self.old.openings.fail self.old.openings.made }
         ensures counts { self.new ≡ record self.old { openings = record self.old.openings { made = next_call self.old.openings.made }; faults = self.new.faults; out = self.new.out } }
         ensures faults { self.old.faults ≤ self.new.faults }

@@ -1,5 +1,5 @@
 ghost use Rattle.std.specs.Prelude.{◌≡◌, ◌≤◌, ◌<◌, List, ℕ, Option, length, take, IfOk, OnOk, OnErr};
-ghost use Rattle.rds_link.specs.Streaming.{HasRisen, SinkGained, SinkGainedFront};
+ghost use Rattle.rds_link.specs.Streaming.{HasRisen, SinkGained, SinkGainedFront, TellsSame};
 
 use crate::Failed;
 
@@ -17,8 +17,9 @@ pub trait Sink {
         ensures some { IfOk result (λ n. 1 ≤ n) }
         ensures count { IfOk result (λ n. n ≤ length piece.now) }
         ensures bytes { IfOk result (λ n. SinkGained (held self.old) (held self.new) (take n piece.now)) }
-        ensures kept { OnErr result (held self.new ≡ held self.old) }
+        ensures kept { OnErr result (TellsSame (held self.old) (held self.new)) }
         ensures failed { OnErr result (HasRisen (faults self.old) (faults self.new)) }
+        ensures quiet { OnOk result (faults self.new ≡ faults self.old) }
         ensures counts { faults self.old ≤ faults self.new };
 }
 

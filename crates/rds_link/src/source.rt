@@ -1,5 +1,5 @@
-ghost use Rattle.std.specs.Prelude.{◌≡◌, ◌≤◌, ◌<◌, List, ℕ, Option, length, take, IfOk, OnErr, IsErrOf};
-ghost use Rattle.rds_link.specs.Streaming.{HasRisen, SourceGave, SourceGaveFront, SourceGaveAll, IsAtEnd};
+ghost use Rattle.std.specs.Prelude.{◌≡◌, ◌≤◌, ◌<◌, List, ℕ, Option, length, take, IfOk, OnOk, OnErr, IsErrOf};
+ghost use Rattle.rds_link.specs.Streaming.{HasRisen, SourceGave, SourceGaveFront, SourceGaveAll, TellsSame, IsAtEnd};
 ghost use Rattle.rds_link.specs.declared.source.ReadError.TheVariants as errors;
 
 use crate::Failed;
@@ -19,8 +19,9 @@ pub trait Source {
         ensures count { IfOk result (λ n. n ≤ length buf.old) }
         ensures bytes { IfOk result (λ n. SourceGave (left self.old) (left self.new) (take n buf.new)) }
         ensures end { result ≡ Ok 0 → IsAtEnd (left self.old) }
-        ensures kept { OnErr result (left self.new ≡ left self.old) }
+        ensures kept { OnErr result (TellsSame (left self.old) (left self.new)) }
         ensures failed { OnErr result (HasRisen (faults self.old) (faults self.new)) }
+        ensures quiet { OnOk result (faults self.new ≡ faults self.old) }
         ensures counts { faults self.old ≤ faults self.new };
 }
 

@@ -84,8 +84,18 @@ impl Standing {
         saw
     }
 
-    /// Counts the end's first fault, and shuts it.
+    /// Counts the end's first fault, and shuts it. An end that knows that the other has shut has no fault: its stream is over.
     pub fn fail(&mut self)
+        requires shut { self.old.stand.is_shut ≡ false }
+        requires other { self.old.stand.other_shut ≡ false }
+        ensures stream { self.new ≡ standing self.old self.new.stand }
+        ensures failed { Failed self.old.stand self.new.stand }
+    {
+        self.fail_before_a_look();
+    }
+
+    // The same for a call that is asked to fail, which it does before it looks whether the other end has shut.
+    pub(crate) fn fail_before_a_look(&mut self)
         requires { self.old.stand.is_shut ≡ false }
         ensures stream { self.new ≡ standing self.old self.new.stand }
         ensures failed { Failed self.old.stand self.new.stand }

@@ -69,6 +69,9 @@ pub trait Wire {
         ensures fresh { IfOk result (λ ends. IsFresh Self.End.means ends.0 × IsFresh Self.End.means ends.1) }
         ensures pair { IfOk result (λ ends. Self.End.means.meets ends.0 ends.1) }
         ensures fault { IsErrOf result errors.Fault → HasRisen (faults self.old) (faults self.new) }
+        ensures once { IsErrOf result errors.Fault → RisesBy 1 (faults self.old) (faults self.new) }
+        ensures short { IsErrOf result errors.Memory → faults self.new ≡ faults self.old }
+        ensures quiet { IfOk result (λ _. faults self.new ≡ faults self.old) }
         ensures faults { faults self.old ≤ faults self.new }
         ensures nothings { nothings self.new ≡ nothings self.old }
         ensures fulls { fulls self.new ≡ fulls self.old }
