@@ -1,5 +1,5 @@
 -- What the loops over a sink and a source keep, and how one turn keeps it.
-use Rattle.std.proofs.Common.{◌≡◌, ℕ, ◌+◌, ◌≤◌, List, [], ◌++◌, length, take, drop, Option, Some, None, sym, ap, subst, ◌∙◌, append_assoc}
+use Rattle.std.proofs.Common.{◌≡◌, ℕ, ◌+◌, ◌≤◌, List, ◌++◌, length, take, drop, Option, Some, None, sym, ap, subst, ◌∙◌, append_assoc}
 use Rattle.std.proofs.lemmas.List.{drop-drop, take-append-drop, append-nil}
 use Rattle.rds_link.specs.Streaming.{SourceGave, SourceGaveAll, IsAtEnd, SinkGained}
 
@@ -7,13 +7,13 @@ use Rattle.rds_link.specs.Streaming.{SourceGave, SourceGaveAll, IsAtEnd, SinkGai
 pub record Written (held_then held_now : Option (List ℕ)) (faults_then faults_now : ℕ) (bytes : List ℕ) (written : ℕ) : Type 0 where
   pub took : SinkGained held_then held_now (take written bytes)
   pub within : written ≤ length bytes
-  pub counts : faults_then ≤ faults_now
+  pub quiet : faults_now ≡ faults_then
 
 -- the bytes came from the front of the source
 pub record Collected (left_then left_now : Option (List ℕ)) (faults_then faults_now : ℕ) (bytes : List ℕ) (most : ℕ) : Type 0 where
   pub handed : SourceGave left_then left_now bytes
   pub within : length bytes ≤ most
-  pub counts : faults_then ≤ faults_now
+  pub quiet : faults_now ≡ faults_then
 
 -- a sink that took bytes and then more took both
 pub Takes-then : (old mid new : Option (List ℕ)) (xs ys zs : List ℕ) → zs ≡ xs ++ ys → SinkGained old mid xs → SinkGained mid new ys → SinkGained old new zs

@@ -1,5 +1,5 @@
 -- Each step on the two words of a stream keeps what holds of them.
-use Rattle.std.proofs.Common.{◌≡◌, ◌≢◌, ◌⊎◌, ℕ, zero, suc, ◌+◌, ◌-◌, ◌%◌, ◌<◌, ◌≤◌, List, [], ◌∷◌, ◌++◌, length, set, eqb, cond, Bool, true, false, refl, sym, ap, ◌∙◌, subst, inl, inr, ⊎_elim, arith, eq-eqb, ne_eqb}
+use Rattle.std.proofs.Common.{◌≡◌, ◌≢◌, ◌⊎◌, ℕ, zero, suc, ◌+◌, ◌%◌, ◌<◌, ◌≤◌, List, [], ◌∷◌, ◌++◌, length, set, eqb, cond, true, refl, sym, ap, ◌∙◌, subst, inl, inr, ⊎_elim, arith, eq-eqb, ne_eqb}
 use Rattle.std.proofs.Math.Nat.{mod-eq_of_lt}
 use Rattle.std.proofs.lemmas.List.{get_or-set_same, get_or-set_other, length-set, set-get_or}
 use Rattle.std.specs.Prelude.{slice_index}
@@ -7,12 +7,11 @@ use mathlib.Core.Logic.{dite}
 use mathlib.Core.Option.{some-ne-none, some-injective}
 use native.Mathlib.Decide.{ℕ_discrete}
 use prog.Atomic.{either}
-use lib.ListN.{get_elem?}
 use Rattle.atomic_table.specs.Seated.{TableId}
 use Rattle.atomic_table.specs.Table.{Me, Allows, Splits, Joins, keeps}
 use Rattle.atomic_table.proofs.Lists.{at_set, at_snoc, set_again, set_else}
-use Rattle.rds_views.specs.Views.{At, Each, total}
-use Rattle.rds_views.specs.ViewLaws.{at_here, at_there, each_set, each_snoc, total_set, total_snoc, total_at}
+use Rattle.rds_views.specs.Views.{At}
+use Rattle.rds_views.specs.ViewLaws.{each_set, each_snoc, total_set, total_snoc, total_at}
 use Rattle.rds_link.specs.declared.words.view.View.{View}
 use Rattle.rds_link.specs.Seats.{first_view, kept_half, given_half, after_draw, after_look, after_shut, note_of, heard, spent, FitsKnown}
 use Rattle.rds_link.specs.Rule.{Fits, Shared, Ruled}

@@ -1,5 +1,5 @@
 -- What contracts see of an end of a stream in memory. This project's own.
-use Rattle.std.specs.Prelude.{◌≡◌, ◌≢◌, ◌⊎◌, ℕ, List, [], true}
+use Rattle.std.specs.Prelude.{◌≢◌, ◌⊎◌, ℕ, List, [], true}
 use Rattle.rtrb.specs.Ring.{sent, received, known_items, known_free, IsPair}
 use Rattle.rds_link.specs.declared.memory_end.MemEnd.{MemEnd}
 use Rattle.rds_link.specs.Ends.{Means}

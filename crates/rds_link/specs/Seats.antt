@@ -1,5 +1,5 @@
 -- What an end knows of the two words of its stream, and what each of its steps leaves it with. This project's own.
-use Rattle.std.specs.Prelude.{◌≡◌, ◌≢◌, ℕ, ◌+◌, ◌-◌, ◌≤◌, ◌==◌, if◌then◌else◌, true, false}
+use Rattle.std.specs.Prelude.{◌≡◌, ◌≢◌, ℕ, ◌-◌, ◌≤◌, ◌==◌, if◌then◌else◌, true, false}
 use Rattle.atomic_table.specs.Seated.{TableId}
 use Rattle.rds_link.specs.declared.words.view.View.{View}
 

@@ -1,5 +1,5 @@
 -- How an end stands towards the end of its stream, and what each call does to that. This project's own.
-use Rattle.std.specs.Prelude.{◌≡◌, ◌≢◌, ◌⊎◌, ℕ, ◌≤◌, ◌==◌, ◌&&◌, Bool, true, false, not}
+use Rattle.std.specs.Prelude.{◌≡◌, ◌≢◌, ◌⊎◌, ℕ, ◌==◌, ◌&&◌, Bool, true, false, not}
 use Rattle.atomic_table.specs.Seated.{TableId}
 use Rattle.rds_link.specs.declared.words.view.View.{View}
 

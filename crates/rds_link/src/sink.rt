@@ -28,6 +28,7 @@ pub fn write_all<K: Sink>(sink: &mut K, bytes: &[u8]) -> Result<(), Failed>
     ensures ok { OnOk result (SinkGained (K.held sink.old) (K.held sink.new) bytes.now) }
     ensures front { SinkGainedFront (K.held sink.old) (K.held sink.new) bytes.now }
     ensures failed { OnErr result (HasRisen (K.faults sink.old) (K.faults sink.new)) }
+    ensures quiet { OnOk result (K.faults sink.new ≡ K.faults sink.old) }
     ensures counts { K.faults sink.old ≤ K.faults sink.new }
 {
     let mut written = 0;

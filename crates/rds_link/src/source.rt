@@ -49,6 +49,8 @@ pub fn read_all<S: Source>(alloc: Global, source: &mut S, most: usize) -> Result
     ensures left { IfOk result (λ v. SourceGave (S.left source.old) (S.left source.new) v.items) }
     ensures end { IfOk result (λ v. length v.items < most → SourceGaveAll (S.left source.old) (S.left source.new) v.items) }
     ensures failed { IsErrOf result errors.Failed → HasRisen (S.faults source.old) (S.faults source.new) }
+    ensures short { IsErrOf result errors.Memory → S.faults source.new ≡ S.faults source.old }
+    ensures quiet { OnOk result (S.faults source.new ≡ S.faults source.old) }
     ensures counts { S.faults source.old ≤ S.faults source.new }
 {
     let mut bytes = Vec::new(alloc);

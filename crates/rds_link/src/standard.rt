@@ -4,8 +4,8 @@ use crate::{Failed, Sink, Source};
 use std::io::{Read, Write};
 use std::marker::Model;
 
-/// Standard input, or any other reader. It tells of content what the reader tells. Contracts see the reader and the count of
-/// faults.
+/// Standard input, or any other reader. It tells of content what the reader tells, which is nothing at standard input.
+/// Contracts see the reader and the count of faults.
 #[derive(Drop)]
 pub struct StdSource<R: Read + Drop> {
     reader: R,
@@ -45,8 +45,8 @@ impl<R: Read + Drop> Source for StdSource<R> {
     }
 }
 
-/// Standard output, or any other writer. It tells of content what the writer tells. Contracts see the writer and the count of
-/// faults.
+/// Standard output, or any other writer. It tells of content what the writer tells, which is nothing at standard output.
+/// Contracts see the writer and the count of faults.
 #[derive(Drop)]
 pub struct StdSink<W: Write + Drop> {
     writer: W,

@@ -1,6 +1,6 @@
-use Rattle.std.proofs.Common.{sym, ap, ◌∙◌, arith}
+use Rattle.std.proofs.Common.{ap, ◌∙◌, arith}
 use Rattle.rds_link.specs.Plays.{Seated}
-use Rattle.rds_link.proofs.Steps.{halves, opens, within}
+use Rattle.rds_link.proofs.Steps.{halves, opens}
 use Rattle.rds_link.proofs.words.seat.EndSeat.pair.Goals as goal
 
 pub of_words-requires : goal.of_words-requires
