@@ -1,7 +1,12 @@
 //! An end of a stream over TCP.
-ghost use Rattle.std.specs.Prelude.{◌≡◌, ◌++◌, ◌≤◌, ◌<◌, length, take, drop, false};
+ghost use Rattle.std.specs.Prelude.{◌≡◌, ◌≢◌, ◌++◌, ◌≤◌, ◌<◌, ℕ, length, take, drop, false};
 ghost use Rattle.rtrb.specs.Ring.{sent, received};
-ghost use Rattle.rds_link.specs.Standing.{standing as standing_of, Failed};
+ghost use Rattle.rds_link.specs.Answers.{bytes_got, bytes_put};
+ghost use Rattle.rds_link.specs.declared.end.Got.TheVariants as got;
+ghost use Rattle.rds_link.specs.declared.end.Put.TheVariants as put;
+ghost use Rattle.rds_link.specs.Ends.{Remains, SendsNothing, GetsNothing, RisesBy};
+ghost use Rattle.rds_link.specs.Standing.{standing as standing_of, Failed, IsOver, GoesOn};
+ghost use Rattle.rds_tcp.specs.Tcp.{tcp_means};
 
 use crate::pipe::Pipe;
 use crate::rings::Near;
@@ -82,7 +87,19 @@ impl End for TcpEnd {
     ghost means = { tcp_means };
 
     // Whether the TCP stream broke is loaded before the two words: where it broke because the other end shut, they tell so.
-    fn read(&mut self, buf: &mut [u8]) -> Got {
+    fn read(&mut self, buf: &mut [u8]) -> Got
+        requires { 0 < length buf.old }
+        ensures count { (n : ℕ) → result ≡ got.Bytes n → (1 ≤ n) × (n ≤ length buf.old) }
+        ensures rest { drop (bytes_got result) buf.new ≡ drop (bytes_got result) buf.old }
+        ensures got { tcp_means.got self.new ≡ tcp_means.got self.old ++ take (bytes_got result) buf.new }
+        ensures sent { SendsNothing tcp_means self.old self.new }
+        ensures goes { result ≢ got.Over → GoesOn (tcp_means.stand self.old) (tcp_means.stand self.new) }
+        ensures over { result ≡ got.Over → IsOver (tcp_means.stand self.old) (tcp_means.stand self.new) }
+        ensures nothings { result ≡ got.Nothing → RisesBy 1 (tcp_means.nothings self.old) (tcp_means.nothings self.new) }
+        ensures others { result ≢ got.Nothing → tcp_means.nothings self.new ≡ tcp_means.nothings self.old }
+        ensures fulls { tcp_means.fulls self.new ≡ tcp_means.fulls self.old }
+        ensures meets { Remains tcp_means self.old self.new }
+    {
         let is_broken = self.pipe.is_broken();
         if self.standing.is_over() {
             return Got::Over;
@@ -99,7 +116,18 @@ impl End for TcpEnd {
         Got::Nothing
     }
 
-    fn write(&mut self, piece: &[u8]) -> Put {
+    fn write(&mut self, piece: &[u8]) -> Put
+        requires { 0 < length piece.now }
+        ensures count { (n : ℕ) → result ≡ put.Took n → (1 ≤ n) × (n ≤ length piece.now) }
+        ensures sent { tcp_means.sent self.new ≡ tcp_means.sent self.old ++ take (bytes_put result) piece.now }
+        ensures got { GetsNothing tcp_means self.old self.new }
+        ensures goes { result ≢ put.Over → GoesOn (tcp_means.stand self.old) (tcp_means.stand self.new) }
+        ensures over { result ≡ put.Over → IsOver (tcp_means.stand self.old) (tcp_means.stand self.new) }
+        ensures fulls { result ≡ put.Full → RisesBy 1 (tcp_means.fulls self.old) (tcp_means.fulls self.new) }
+        ensures others { result ≢ put.Full → tcp_means.fulls self.new ≡ tcp_means.fulls self.old }
+        ensures nothings { tcp_means.nothings self.new ≡ tcp_means.nothings self.old }
+        ensures meets { Remains tcp_means self.old self.new }
+    {
         let is_broken = self.pipe.is_broken();
         if self.standing.is_over() {
             return Put::Over;

@@ -1,11 +1,11 @@
 //! What an end shares with its two threads: the TCP stream, flags, and bells on which each of them sleeps.
 ghost use Rattle.std.specs.Prelude.{◌≡◌, true};
-ghost use Rattle.std.specs.Io.{ReadsAtMost, WritesAtMost};
+ghost use Rattle.std.specs.Io.{ReadsAtMost};
 
 use rds_link::Standing;
 use std::alloc::{AllocError, Global};
 use std::io;
-use std::io::{Read, Write};
+use std::io::Read;
 use std::net::{Shutdown, TcpStream};
 use std::sync::atomic::{AtomicBool, Ordering};
 use std::sync::{Arc, Wait};
@@ -69,11 +69,9 @@ impl Shared {
         tcp.read(buf)
     }
 
-    pub(crate) fn write(&self, piece: &[u8]) -> io::Result<usize>
-        ensures { WritesAtMost result piece.now }
-    {
-        let mut tcp = &self.tcp;
-        tcp.write(piece)
+    /// Where the writer writes.
+    pub(crate) fn writes(&self) -> &TcpStream {
+        &self.tcp
     }
 
     /// Whether what waits is still to be written, and nothing more comes.

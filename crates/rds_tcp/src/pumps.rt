@@ -1,10 +1,12 @@
 //! What the two threads of an end do.
 ghost use Rattle.std.specs.Prelude.{◌≡◌, ◌++◌, IsTrue};
 ghost use Rattle.rtrb.specs.Ring.{sent};
+ghost use Rattle.std.specs.Io.KnownBytes.{Appends};
 
 use crate::pipe::Shared;
 use rtrb::{Consumer, Producer};
 use std::io;
+use std::io::Write;
 use std::sync::Wait;
 
 /// How many bytes a thread moves at once at most.
@@ -62,7 +64,7 @@ pub(crate) fn write_on<R: Wait>(rt: &R, shared: &Shared, mut ring: Consumer<u8>)
         let count = ring.pop_partial_slice(&mut piece);
         if count > 0 {
             shared.note_room();
-            if !write_all(rt, shared, &piece[..count]) {
+            if !write_all(rt, shared, &mut shared.writes(), &piece[..count]) {
                 shared.note_broken();
                 break;
             }
@@ -76,14 +78,16 @@ pub(crate) fn write_on<R: Wait>(rt: &R, shared: &Shared, mut ring: Consumer<u8>)
 }
 
 // Writes the whole piece. Whether it did: a closing end waits for its peer only so often.
-fn write_all<R: Wait>(rt: &R, shared: &Shared, piece: &[u8]) -> bool {
+fn write_all<R: Wait, W: Write>(rt: &R, shared: &Shared, writer: &mut W, piece: &[u8]) -> bool
+    ensures { IsTrue result → Appends (W.contents writer.old) (W.contents writer.new) piece.now }
+{
     let mut rest = piece;
     let mut patience = PATIENCE;
     for _ in rt.forever() {
         if rest.is_empty() {
             return true;
         }
-        match shared.write(rest) {
+        match writer.write(rest) {
             Ok(count) if count > 0 => rest = &rest[count..],
             Err(error) if may_go_on(&error) && patience > 0 => {
                 if shared.is_closing() {

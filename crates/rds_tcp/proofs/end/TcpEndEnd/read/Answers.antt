@@ -3,3 +3,6 @@ use Rattle.rds_tcp.proofs.end.TcpEndEnd.read.Goals as goal
 
 pub returns-clause-nothings : goal.returns-clause-nothings
 returns-clause-nothings c = search rules
+
+pub returns-clause-got : goal.returns-clause-got
+returns-clause-got c = search rules
