@@ -1,0 +1,1 @@
+//! What was read of pieces is put together.
