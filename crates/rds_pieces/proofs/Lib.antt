@@ -1,2 +1,4 @@
 pub mod Lines
 pub mod Cuts
+pub mod Lowering
+pub mod Numbered

@@ -11,7 +11,8 @@ use rds_script::{Command, Placed};
 /// How many lines a text has.
 pub(crate) fn line_count(text: &[u8]) -> u32
     requires { length text.now ≤ 16777216 }
-    ensures { result ≡ length (lines text.now) }
+    ensures count { result ≡ length (lines text.now) }
+    ensures few { result ≤ 16777217 }
 {
     let ends = end_count(text);
     let Some(last) = text.last() else {

@@ -1,1 +1,63 @@
 //! What was read of pieces is put together.
+
+ghost use Rattle.std.specs.Prelude.{◌≡◌, ◌≤◌, ◌++◌, ℕ, List, All, length, map, IfSome};
+ghost use Rattle.rds_script.specs.Grammar.{meaning};
+ghost use Rattle.rds_pieces.specs.Pieces.{EndsLine};
+ghost use Rattle.rds_pieces.specs.Parts.{AreInLines, IsHead, IsPart, continued, lowered};
+
+use crate::part::Part;
+use rds_script::laws::one_script;
+use rds_script::{MAX_CUTS, MAX_LINES, MAX_TOTAL, Placed, Script};
+
+/// What was read of two pieces, one behind the other, of a text whose head has so many lines; or none, where a limit is
+/// passed or memory runs out.
+fn followed(whole: Part, head_lines: u32, part: Part) -> Option<Part>
+    requires head { head_lines ≤ 16777217 }
+    requires lines { AreInLines part.script.commands.items }
+    ensures { IfSome result (λ both. (head done piece : List ℕ) → IsHead head head_lines → EndsLine (head ++ done)
+        → length (head ++ (done ++ piece)) ≤ 16777216 → IsPart head done whole → IsPart head piece part
+        → IsPart head (done ++ piece) both) }
+{
+    one_script();
+    let lines = whole.lines + part.lines;
+    let bytes = whole.bytes + part.bytes;
+    let cuts = whole.cuts + part.cuts;
+    if head_lines + lines > MAX_LINES || bytes > MAX_TOTAL || cuts > MAX_CUTS {
+        return None;
+    }
+    let script = appended(whole.script, whole.lines, part.script)?;
+    Some(Part {
+        script,
+        lines,
+        bytes,
+        cuts,
+    })
+}
+
+/// The first script with the commands of the other one behind its own, so many lines further down.
+fn appended(first: Script, by: u32, other: Script) -> Option<Script>
+    requires by { by ≤ 16777217 }
+    requires lines { AreInLines other.commands.items }
+    ensures { IfSome result (λ both. meaning both ≡ continued (meaning first) by other.commands.items) }
+{
+    let mut commands = other.commands;
+    lower(commands.as_mut_slice(), by);
+    let mut all = first.commands;
+    all.append(&mut commands).ok()?;
+    Some(Script {
+        hosts: first.hosts,
+        hosts_line: first.hosts_line,
+        commands: all,
+    })
+}
+
+/// Moves each command so many lines further down.
+fn lower(commands: &mut [Placed], by: u32)
+    requires by { by ≤ 16777217 }
+    requires lines { AreInLines commands.old }
+    ensures { commands.new ≡ map (lowered by) commands.old }
+{
+    for placed in commands.iter_mut() {
+        placed.line += by;
+    }
+}

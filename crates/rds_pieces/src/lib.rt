@@ -5,6 +5,7 @@ mod counting;
 mod cutting;
 mod joining;
 mod part;
+mod piece;
 mod reading;
 
 pub use reading::read_by_threads;

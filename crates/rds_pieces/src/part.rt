@@ -1,34 +1,19 @@
-ghost use Rattle.std.specs.Prelude.{IfOk};
-ghost use Rattle.rds_pieces.specs.Pieces.{IsPart};
+ghost use Rattle.std.specs.Prelude.{◌≤◌};
 
-use crate::counting::{cut_sum, line_count, payload_sum};
-use rds_script::{Script, ScriptError, read};
-use std::alloc::Global;
+use rds_script::Script;
 
-/// What was read of a text, and what its limits count.
+/// What was read of a piece of a text, with the head of the text in front of it.
 #[derive(Drop)]
 pub(crate) struct Part {
+    /// The script of the head and the piece.
     pub(crate) script: Script,
-    /// How many lines the text has.
+    /// How many lines the piece has.
     pub(crate) lines: u32,
-    /// How many bytes its payloads have.
+    /// How many bytes all payloads have.
     pub(crate) bytes: u32,
-    /// How many cuts it has.
+    /// How many cuts there are.
     pub(crate) cuts: u32,
-}
-
-/// What is read of a text, and what its limits count.
-pub(crate) fn read_part(alloc: Global, text: &[u8]) -> Result<Part, ScriptError>
-    ensures { IfOk result (IsPart text.now) }
-{
-    let script = read(alloc, text)?;
-    let lines = line_count(text);
-    let bytes = payload_sum(script.commands.as_slice());
-    let cuts = cut_sum(script.commands.as_slice());
-    Ok(Part {
-        script,
-        lines,
-        bytes,
-        cuts,
-    })
+    ghost few_lines: { lines ≤ 16777217 },
+    ghost few_bytes: { bytes ≤ 16777216 },
+    ghost few_cuts: { cuts ≤ 1024 },
 }
