@@ -2,3 +2,4 @@ pub mod Lines
 pub mod Cuts
 pub mod Lowering
 pub mod Numbered
+pub mod Joins

@@ -1,14 +1,15 @@
 -- The lines with a command, with their numbers, from any number on.
-use Rattle.std.proofs.Common.{◌≡◌, ℕ, ◌+◌, ◌≤◌, suc, Bool, true, false, cond, List, [], ◌∷◌, ◌++◌, length, map, filter, arith, refl, sym, ap, subst, ◌∙◌, add-zero}
-use Rattle.std.specs.Prelude.{All}
+use Rattle.std.proofs.Common.{◌≡◌, ℕ, ◌+◌, ◌≤◌, suc, Bool, true, false, cond, List, [], ◌∷◌, ◌++◌, length, map, filter, arith, refl, sym, ap, ◌∙◌, add-zero}
+use Rattle.std.specs.Prelude.{◌≢◌}
+use Rattle.std.specs.Str.Lines.{lines as lines_of}
 use Rattle.std.specs.List.{enumerate_from, AllZip, AllByRecursion}
 use Rattle.std.proofs.lemmas.List.{map-append, length-map}
 use Rattle.std.proofs.lemmas.List.Elements.{filter-append, All-from_recursion}
 use Rattle.rds_script.specs.declared.script.Placed.{Placed}
 use Rattle.rds_script.specs.Text.{words}
 use Rattle.rds_script.specs.Line.{has_command}
-use Rattle.rds_script.specs.Grammar.{SpellsPlaced}
-use Rattle.rds_pieces.specs.Parts.{lowered}
+use Rattle.rds_script.specs.Grammar.{Meaning, command_lines, SpellsPlaced, SpellsLines, Spells}
+use Rattle.rds_pieces.specs.Parts.{lowered, AreInLines}
 
 abbrev pub Line : Type 0
 Line = ℕ × List (List ℕ)
@@ -48,19 +49,29 @@ module _ (hosts : ℕ) where
       go true (c ∷ cs) more h = ((ap (λ (k : ℕ). k + by) h.0.0 ∙ sym e, h.0.1), more cs h.1)
       go false cs more h = more cs h
 
-  in_lines : (most n : ℕ) (lines : List (List ℕ)) (cs : List Placed) → n + length lines ≤ most + 1 → AllZip (SpellsPlaced hosts) (numbered n lines) cs → AllByRecursion (λ p. p.line ≤ most) cs
-  in_lines most n [] [] le h = tt
-  in_lines most n [] (c ∷ cs) le h = absurd h
-  in_lines most n (l ∷ lines) cs le h = go (has_command (words l)) cs (λ ds. in_lines most (n + 1) lines ds (omega arith)) h
-    where
-      go : (b : Bool) (cs : List Placed)
-          → ((ds : List Placed) → AllZip (SpellsPlaced hosts) (numbered (n + 1) lines) ds → AllByRecursion (λ p. p.line ≤ most) ds)
-          → AllZip (SpellsPlaced hosts) (cond b ((n, words l) ∷ numbered (n + 1) lines) (numbered (n + 1) lines)) cs
-          → AllByRecursion (λ p. p.line ≤ most) cs
-      go true [] more h = absurd h
-      go true (c ∷ cs) more h = let at = h.0.0 in (omega arith, more cs h.1)
-      go false cs more h = more cs h
+  placed_within : (most : ℕ) (ls : List Line) (cs : List Placed) → AllByRecursion (λ l. l.0 ≤ most) ls → AllZip (SpellsPlaced hosts) ls cs → AllByRecursion (λ p. p.line ≤ most) cs
+  placed_within most [] [] all h = tt
+  placed_within most [] (c ∷ cs) all h = absurd h
+  placed_within most (l ∷ ls) [] all h = absurd h
+  placed_within most (l ∷ ls) (c ∷ cs) all h =
+      let at = h.0.0 in
+      let within = all.0 in
+      (omega arith, placed_within most ls cs all.1 h.1)
 
-  -- no command stands behind the last line
-  pub all_in_lines : (most n : ℕ) (lines : List (List ℕ)) (cs : List Placed) → n + length lines ≤ most + 1 → AllZip (SpellsPlaced hosts) (numbered n lines) cs → All (λ p. p.line ≤ most) cs
-  all_in_lines most n lines cs le h = All-from_recursion (λ p. p.line ≤ most) cs (in_lines most n lines cs le h)
+numbers_within : (most n : ℕ) (lines : List (List ℕ)) → n + length lines ≤ most + 1 → AllByRecursion (λ l. l.0 ≤ most) (numbered n lines)
+numbers_within most n [] le = tt
+numbers_within most n (l ∷ lines) le = go (has_command (words l)) (numbers_within most (n + 1) lines (omega arith))
+  where
+    go : (b : Bool) → AllByRecursion (λ l. l.0 ≤ most) (numbered (n + 1) lines) → AllByRecursion (λ l. l.0 ≤ most) (cond b ((n, words l) ∷ numbered (n + 1) lines) (numbered (n + 1) lines))
+    go true more = (omega arith, more)
+    go false more = more
+
+-- no command stands behind the last line
+pub spelled_in_lines : (text : List ℕ) (s : Meaning) → Spells text s → AreInLines s.commands
+spelled_in_lines text s h =
+    let few = h.kept.few in
+    All-from_recursion (λ p. p.line ≤ 200000) s.commands (go (command_lines (lines_of text)) h.some h.kept.spelled (numbers_within 200000 1 (lines_of text) (omega arith)))
+  where
+    go : (ls : List Line) → ls ≢ [] → SpellsLines ls s → AllByRecursion (λ l. l.0 ≤ 200000) ls → AllByRecursion (λ p. p.line ≤ 200000) s.commands
+    go [] some sp all = absurd (some refl)
+    go (f ∷ os) some sp all = placed_within s.hosts 200000 os s.commands all.1 sp.2

@@ -1,0 +1,20 @@
+use Rattle.std.proofs.Common.{◌≡◌, ◌++◌, ◌∙◌, List, ℕ, sym, ap, subst}
+use Rattle.rds_script.specs.Grammar.{meaning, Spells}
+use Rattle.rds_pieces.specs.Parts.{IsPart}
+use Rattle.rds_pieces.proofs.Numbered.{spelled_in_lines}
+use Rattle.rds_pieces.proofs.piece.read_piece.Goals as goal
+
+pub returns : goal.returns
+returns c =
+    let script = c.in_ok-script.script in
+    let text = c.args.head.now ++ c.args.piece.now in
+    let read = c.in_ok-script.ensures {u = tt} in
+    let spells : Spells text (meaning script) = ? in
+    record {
+      spells = spells;
+      known = read.known;
+      placed = spelled_in_lines text (meaning script) spells;
+      lines = c.line_count-lines.ensures.count;
+      bytes = c.payload_sum-bytes.ensures ∙ ?;
+      cuts = c.cut_sum-cuts.ensures ∙ ?;
+    }
