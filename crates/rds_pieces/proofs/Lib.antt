@@ -3,3 +3,4 @@ pub mod Cuts
 pub mod Lowering
 pub mod Numbered
 pub mod Joins
+pub mod Halfway

@@ -1,11 +1,12 @@
 -- What is read of a text in pieces. The words are this project's own.
 use Rattle.std.specs.Prelude.{◌≡◌, ℕ, ◌+◌, ◌≤◌, List, [], ◌∷◌, ◌++◌, length, map, All}
+use Rattle.std.specs.List.{AllZip, concat}
 use Rattle.std.specs.Str.Lines.{lines as lines_of}
 use Rattle.rds_script.specs.declared.script.Placed.{Placed}
 use Rattle.rds_script.specs.Script.{payload_total, cut_total, IsScript}
 use Rattle.rds_script.specs.Grammar.{Meaning, meaning, command_lines, Spells}
 use Rattle.rds_pieces.specs.declared.part.Part.{Part}
-use Rattle.rds_pieces.specs.Pieces.{EndsLine}
+use Rattle.rds_pieces.specs.Pieces.{EndsLine, AreCut}
 
 -- the command, so many lines further down
 abbrev pub lowered : ℕ → Placed → Placed
@@ -34,3 +35,11 @@ pub record IsHead (head : List ℕ) (count : ℕ) : Type 0 where
   pub ended : EndsLine head
   pub lines : count ≡ length (lines_of head)
   pub one : (line : ℕ × List (List ℕ)) × (command_lines (lines_of head) ≡ line ∷ [])
+
+-- a text is cut into a head of so many lines and pieces, and this was read of the head alone and of each piece
+pub record AreRead (head : List ℕ) (count : ℕ) (pieces : List (List ℕ)) (first : Part) (parts : List Part) : Type 0 where
+  pub is_head : IsHead head count
+  pub cut : AreCut pieces
+  pub small : length (head ++ concat pieces) ≤ 16777216
+  pub alone : IsPart head [] first
+  pub each : AllZip (IsPart head) pieces parts

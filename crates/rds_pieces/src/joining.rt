@@ -1,13 +1,30 @@
 //! What was read of pieces is put together.
 
 ghost use Rattle.std.specs.Prelude.{◌≡◌, ◌≤◌, ◌++◌, ℕ, List, All, length, map, IfSome};
-ghost use Rattle.rds_script.specs.Grammar.{meaning};
+ghost use Rattle.std.specs.List.{AllByRecursion, concat};
+ghost use Rattle.rds_script.specs.Script.{IsScript};
+ghost use Rattle.rds_script.specs.Grammar.{meaning, Spells};
 ghost use Rattle.rds_pieces.specs.Pieces.{EndsLine};
-ghost use Rattle.rds_pieces.specs.Parts.{AreInLines, IsHead, IsPart, continued, lowered};
+ghost use Rattle.rds_pieces.specs.Parts.{AreInLines, AreRead, IsHead, IsPart, continued, lowered};
 
 use crate::part::Part;
 use rds_script::laws::one_script;
 use rds_script::{MAX_CUTS, MAX_LINES, MAX_TOTAL, Placed, Script};
+
+/// The script of a whole text, from what was read of its head and of each of its pieces, where the head has so many lines;
+/// or none, where a limit is passed or memory runs out.
+pub(crate) fn joined(first: Part, head_lines: u32, parts: Vec<Part>) -> Option<Script>
+    requires head { head_lines ≤ 16777217 }
+    requires lines { AllByRecursion (λ p. AreInLines p.script.commands.items) parts.items }
+    ensures { IfSome result (λ script. (head : List ℕ) (pieces : List (List ℕ)) → AreRead head head_lines pieces first parts.items
+        → Spells (head ++ concat pieces) (meaning script) × IsScript script) }
+{
+    let mut whole = first;
+    for part in parts {
+        whole = followed(whole, head_lines, part)?;
+    }
+    Some(whole.script)
+}
 
 /// What was read of two pieces, one behind the other, of a text whose head has so many lines; or none, where a limit is
 /// passed or memory runs out.
