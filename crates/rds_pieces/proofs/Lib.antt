@@ -4,3 +4,4 @@ pub mod Lowering
 pub mod Numbered
 pub mod Joins
 pub mod Halfway
+pub mod Pieced

@@ -16,7 +16,7 @@ use crate::piece::read_piece;
 use rayon::prelude::*;
 use rds_script::laws::{one_script, spelled_or_refused};
 use rds_script::{MAX_TEXT, Script, ScriptError, read};
-use std::alloc::Global;
+use std::alloc::{AllocError, Global};
 use std::thread::Threads;
 
 /// The script that the text spells, or the first line at which it is refused and why, as `rds_script::read` gives it. A
@@ -88,7 +88,7 @@ fn read_each<R: Threads + Sync>(
 ) -> Option<Vec<Part>>
     ensures { IfSome result (λ parts. AllZip (IsPart head.now) (contents pieces.now) parts.items) }
 {
-    let parts: Result<Vec<Part>, ScriptError> = pieces
+    let read: Result<Result<Vec<Part>, ScriptError>, AllocError> = pieces
         .par_iter()
         .with_min_len(1)
         .map(
@@ -96,7 +96,9 @@ fn read_each<R: Threads + Sync>(
                 ensures { IfOk result (IsPart head.entry.now piece.now.now) }
             { read_piece(alloc, head, piece) },
         )
-        .collect(rt, alloc)
-        .ok()?;
+        .collect(rt, alloc);
+    let Ok(parts) = read else {
+        return None;
+    };
     parts.ok()
 }
