@@ -21,5 +21,6 @@ mod Stepping
 mod Storing
 mod Taking
 mod Obeying
+mod Ordering
 mod Unlogged
 mod Written

@@ -1,5 +1,6 @@
 ghost use Rattle.std.specs.Prelude.{◌≡◌, ◌⊎◌, ◌<◌, ◌+◌, nat_lt, ℕ, true, Err, IfOk, OnOk, length, sum};
 ghost use Rattle.rds_model.specs.declared.journal.JournalError.TheVariants as errors;
+ghost use Rattle.rds_mail.specs.Learning.{AllGot};
 ghost use Rattle.rds_line.specs.Line.{IsFull, line_past, pulls_in};
 ghost use Rattle.rds_line.specs.Stays.{LineStays};
 ghost use Rattle.rds_line.specs.Steps.{StaysQuiet};
@@ -24,6 +25,9 @@ impl<E: End, M: MapWriter> Line<E, M> {
         ensures moved { result ≡ turn.Moved → HasMoved E.means self.old self.new }
         ensures idle { result ≡ turn.Idle → IsIdleTurn E.means self.old self.new }
         ensures over { result ≡ turn.Over → IsOverTurn self.old self.new }
+        ensures ordered { (result ≡ turn.Moved) ⊎ ((result ≡ turn.Idle) ⊎ (result ≡ turn.Over)) →
+            TakesOrder self.old.orders self.new.orders ⊎ ((self.new.orders ≡ self.old.orders) × AllGot self.new.orders) }
+        ensures at_most { TakesOrder self.old.orders self.new.orders ⊎ (self.new.orders ≡ self.old.orders) }
         ensures goes_on { (result ≡ turn.Moved) ⊎ (result ≡ turn.Idle) →
             TakesOrder self.old.orders self.new.orders ⊎ ((self.new.channel.streams.is_open ≡ true)
             ⊎ (self.new.channel.streams.opened < length self.new.channel.streams.list)) }
@@ -47,6 +51,7 @@ impl<E: End, M: MapWriter> Line<E, M> {
         ensures stays { LineStays E.means M.pair self.old self.new }
         ensures pulls { (pulls_in (line_past self.new) ≡ pulls_in (line_past self.old)) ⊎ PullsOwn self.old self.new }
         ensures did { IfOk result (Did E.means self.old self.new) }
+        ensures at_most { TakesOrder self.old.orders self.new.orders ⊎ (self.new.orders ≡ self.old.orders) }
         ensures spent { (entries : ℕ) → result ≡ Err (errors.Spent entries) → IsFull entries self.new }
         ensures full { self.old.channel.conn.log.limit < length (line_past self.old) + 2 → result ≡ Err (errors.Spent (length (line_past self.old))) }
         ensures freed { OnOk result (sum self.new.channel.conn.freed ≡ 0) }

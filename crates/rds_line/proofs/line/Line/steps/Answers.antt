@@ -1,8 +1,9 @@
-use Rattle.std.proofs.Common.{Ok, ap}
+use Rattle.std.proofs.Common.{inr, Ok, ap, ◌∙◌}
 use Rattle.rds_line.specs.declared.outcome.Done.{Done}
 use Rattle.rds_line.specs.declared.outcome.Sent.TheVariants as sent
 use Rattle.rds_line.specs.Line.{LineView}
 use Rattle.rds_line.proofs.Looking.{leaves_of, leaves_none, leaves_same, leaves_through, loads_wider, pulls_wider}
+use Rattle.rds_line.proofs.Ordering.{at_most_one}
 use Rattle.rds_line.proofs.Quiet.{leaves_quiet}
 use Rattle.rds_line.proofs.Staying.{line_through}
 use Rattle.rds_line.proofs.Stepping.{StepsDid, did_idle, did_none, did_took, gets_wider, sends_wider, moment_back, moment_longer, same_sent}
@@ -160,3 +161,34 @@ returns-clause-pulls g c =
     (leaves_quiet c.receive.ensures.quiet)))
     (leaves_quiet c.relieve.ensures.quiet)
     c.send.ensures.pulls
+
+pub returns-in_err-open_next-clause-at_most : goal.returns-in_err-open_next-clause-at_most
+returns-in_err-open_next-clause-at_most g c =
+    inr (ap (λ (v : LineView g.row.E.Denot g.row.M.Denot). v.orders) c.open_next.ensures.alone)
+
+pub returns-in_err-took-clause-at_most : goal.returns-in_err-took-clause-at_most
+returns-in_err-took-clause-at_most g c =
+    inr ((c.in_err-took.ensures {u = tt}).err.0 ∙ ap (λ (v : LineView g.row.E.Denot g.row.M.Denot). v.orders) c.open_next.ensures.alone)
+
+pub returns-in_err-heard-clause-at_most : goal.returns-in_err-heard-clause-at_most
+returns-in_err-heard-clause-at_most g c =
+    let taking = c.in_ok-took.ensures {u = tt} in
+    at_most_one c.in_ok-took.took
+    (ap (λ (v : LineView g.row.E.Denot g.row.M.Denot). v.orders) c.open_next.ensures.alone)
+    (λ e. taking.took (ap Ok e)) (λ e. taking.none (ap Ok e)) c.receive.ensures.quiet.orders
+
+pub returns-in_err-sent-clause-at_most : goal.returns-in_err-sent-clause-at_most
+returns-in_err-sent-clause-at_most g c =
+    let taking = c.in_ok-took.ensures {u = tt} in
+    at_most_one c.in_ok-took.took
+    (ap (λ (v : LineView g.row.E.Denot g.row.M.Denot). v.orders) c.open_next.ensures.alone)
+    (λ e. taking.took (ap Ok e)) (λ e. taking.none (ap Ok e))
+    (c.send.ensures.orders ∙ c.receive.ensures.quiet.orders)
+
+pub returns-clause-at_most : goal.returns-clause-at_most
+returns-clause-at_most g c =
+    let taking = c.in_ok-took.ensures {u = tt} in
+    at_most_one c.in_ok-took.took
+    (ap (λ (v : LineView g.row.E.Denot g.row.M.Denot). v.orders) c.open_next.ensures.alone)
+    (λ e. taking.took (ap Ok e)) (λ e. taking.none (ap Ok e))
+    (c.relieve.ensures.quiet.orders ∙ (c.send.ensures.orders ∙ c.receive.ensures.quiet.orders))

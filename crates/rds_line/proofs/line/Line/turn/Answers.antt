@@ -5,6 +5,7 @@ use Rattle.rds_line.specs.declared.outcome.Turn.TheVariants as turn
 use Rattle.rds_line.specs.Line.{LineView, line_past}
 use Rattle.rds_line.specs.Turns.{is_bytes_heard, is_bytes_sent}
 use Rattle.rds_line.proofs.Judging.{answer_goes_on, answer_idle, answer_moved, answer_over, answer_unspent, goes_on_of, idle_of, moved_of, over_of}
+use Rattle.rds_line.proofs.Ordering.{took_or_not}
 use Rattle.rds_line.proofs.line.Line.turn.Goals as goal
 
 pub returns-in-Ok-clause-moved : goal.returns-in-Ok-clause-moved
@@ -62,3 +63,17 @@ returns-in-Err-Spent-clause-goes_on g c = search rules
 
 pub returns-in-Err-Spent-clause-freed : goal.returns-in-Err-Spent-clause-freed
 returns-in-Err-Spent-clause-freed g c = search rules
+
+pub returns-in-Ok-clause-ordered : goal.returns-in-Ok-clause-ordered
+returns-in-Ok-clause-ordered g c = λ is.
+    let did = (c.in-Ok.ensures {u = tt}).did in
+    took_or_not c.in-Ok.done.took did.took did.none
+
+pub returns-in-Ok-clause-at_most : goal.returns-in-Ok-clause-at_most
+returns-in-Ok-clause-at_most g c = c.steps.ensures.at_most
+
+pub returns-in-Err-Spent-clause-ordered : goal.returns-in-Err-Spent-clause-ordered
+returns-in-Err-Spent-clause-ordered g c = search rules
+
+pub returns-in-Err-Spent-clause-at_most : goal.returns-in-Err-Spent-clause-at_most
+returns-in-Err-Spent-clause-at_most g c = c.steps.ensures.at_most
