@@ -5,7 +5,7 @@ BELOW := rds_wire rds_views rds_frame rds_model rds_cong rds_script rds_link rds
 	rds_final rds_report rds_history rds_pair rds_joint rds_mesh rds_hosts rds_world rds_play \
 	rds_bindtab rds_meter rds_mail rds_fmap rds_parts rds_socket rds_joins rds_line_parts rds_line_streams \
 	rds_line_channel rds_line rds_host rds_gather rds_callers rds_rounds rds_settling rds_parties rds_threads \
-	rds_words rds_generator rds_run rds_tcp
+	rds_words rds_generator rds_pieces rds_run rds_tcp
 
 .PHONY: hello test below $(BELOW)
 
@@ -23,7 +23,7 @@ $(BELOW):
 	@cd crates/$@ && { rt check > out/make.log 2>&1 || { cat out/make.log; exit 1; }; }
 
 rds_frame rds_model rds_cong rds_script rds_words: rds_wire
-rds_generator: rds_script
+rds_generator rds_pieces: rds_script
 rds_link: rds_wire rds_views
 rds_counts rds_tcp: rds_link
 rds_msgs rds_text: rds_model
@@ -53,7 +53,7 @@ rds_rounds: rds_host rds_final
 rds_settling: rds_host rds_callers
 rds_parties: rds_rounds rds_settling
 rds_threads: rds_counts rds_gather rds_history rds_report rds_parties
-rds_run: rds_play rds_threads rds_words rds_generator
+rds_run: rds_play rds_threads rds_words rds_generator rds_pieces
 
 # Every proof, test, must-fail edit and program.
 test:

@@ -14,10 +14,16 @@ use rds_model::MAX_ENTRIES;
 use rds_play::{PlayEnd, play};
 use rds_script::Script;
 use std::alloc::Global;
+use std::thread::Threads;
 
 /// The command `play`: reads a script from the source to its end, plays it, and writes its transcript and its report to the
 /// sink. A script that is refused is answered by a text line, and so is a source that fails.
-pub fn play_text<S: Source, K: Sink>(alloc: Global, source: &mut S, sink: &mut K) -> Status
+pub fn play_text<S: Source, K: Sink, R: Threads + Sync>(
+    rt: &R,
+    alloc: Global,
+    source: &mut S,
+    sink: &mut K,
+) -> Status
     ensures ends { IsEndOfCall
         record { left = S.left source.old; faults_before = S.faults source.old; faults_after = S.faults source.new }
         record { held_before = K.held sink.old; held_after = K.held sink.new; faults_before = K.faults sink.old; faults_after = K.faults sink.new }
@@ -32,7 +38,7 @@ pub fn play_text<S: Source, K: Sink>(alloc: Global, source: &mut S, sink: &mut K
         (result ≡ ended.Written) ⊎ ((result ≡ ended.Memory) ⊎ (result ≡ ended.Spent)) }
     ensures play { result ≢ ended.Usage }
 {
-    match read_script(alloc, source, sink) {
+    match read_script(rt, alloc, source, sink) {
         Ok(script) => play_script(alloc, &script, sink),
         Err(status) => status,
     }

@@ -8,8 +8,10 @@ ghost use Rattle.rds_run.specs.ExitStatus.{IsEndOfRefusal, IsSpelled, IsToldRefu
 use crate::answer::say;
 use crate::status::Status;
 use rds_link::{ReadError, Sink, Source, read_all};
-use rds_script::{Cause, MAX_TEXT, Script, ScriptError, read};
+use rds_pieces::read_by_threads;
+use rds_script::{Cause, MAX_TEXT, Script, ScriptError};
 use std::alloc::Global;
+use std::thread::Threads;
 
 const READ_FAULT: &str = "read fault\n";
 
@@ -18,7 +20,8 @@ const READ_FAULT: &str = "read fault\n";
 /// # Errors
 ///
 /// The status that the program ends with, where there is no script.
-pub fn read_script<S: Source, K: Sink>(
+pub fn read_script<S: Source, K: Sink, R: Threads + Sync>(
+    rt: &R,
     alloc: Global,
     source: &mut S,
     sink: &mut K,
@@ -44,7 +47,7 @@ pub fn read_script<S: Source, K: Sink>(
         Err(ReadError::Failed) => return Err(say(sink, READ_FAULT, Status::ReadFault)),
         Err(ReadError::Memory) => return Err(Status::Memory),
     };
-    match read(alloc, &text) {
+    match read_by_threads(rt, alloc, &text) {
         Ok(script) => Ok(script),
         Err(ScriptError::BadLine { line, cause }) => Err(refuse(alloc, line, cause, sink)),
         Err(ScriptError::Memory) => Err(Status::Memory),

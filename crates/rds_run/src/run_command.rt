@@ -71,7 +71,7 @@ where
         ⊎ (result ≡ ended.Memory) }
     ensures tcp_unused { wire ≡ wires.Memory → tcp.new ≡ tcp.old }
 {
-    match read_script(alloc, source, sink) {
+    match read_script(rt, alloc, source, sink) {
         Ok(script) => run_over(rt, alloc, wire, script, sink, tcp, gate),
         Err(status) => status,
     }

@@ -209,7 +209,7 @@ where
     ensures tcp_unused { (AreRun words.now wires.Tcp → ⊥) → tcp.new ≡ tcp.old }
 {
     match work_of(alloc, words) {
-        Ok(Some(Work::Play)) => play_text(alloc, source, sink),
+        Ok(Some(Work::Play)) => play_text(rt, alloc, source, sink),
         Ok(Some(Work::Run { wire })) => run_text(rt, alloc, wire, source, sink, tcp, gate),
         Ok(Some(Work::Gen { sends, seed })) => gen_text(rt, alloc, sends, seed, sink, gate),
         Ok(None) => say(sink, USAGE, Status::Usage),

@@ -3,9 +3,9 @@ use Rattle.rds_run.specs.ExitStatus.{SourceSeen, SinkSeen}
 use Rattle.rds_run.proofs.Whole.{spelled, ends_of_refused, refused_told, refuses_same, spelled_told, ends_of_fault}
 use Rattle.rds_run.proofs.reading.read_script.Goals as goal
 
-pub returns-in-Ok-read-clause-spelled : goal.returns-in-Ok-read-clause-spelled
-returns-in-Ok-read-clause-spelled g c =
-    let spells = rw c.deref.ensures.value at c.in-Ok-read.ensures.found in
+pub returns-in-Ok-read_by_threads-clause-spelled : goal.returns-in-Ok-read_by_threads-clause-spelled
+returns-in-Ok-read_by_threads-clause-spelled g c =
+    let spells = rw c.deref.ensures.value at c.in-Ok-read_by_threads.ensures.found in
     spelled _ _ _ c.in-Ok.ensures.bytes spells
 
 pub returns-in-Err-BadLine-clause-ends : goal.returns-in-Err-BadLine-clause-ends
@@ -25,9 +25,9 @@ returns-in-Err-BadLine-clause-ends g c =
     } in
     ends_of_refused _ _ _ source sink c.refuse.result c.in-Ok.ensures.bytes refused c.refuse.ensures
 
-pub returns-in-Ok-read-clause-refuses : goal.returns-in-Ok-read-clause-refuses
-returns-in-Ok-read-clause-refuses g c line why told =
-    let refuses = rw c.deref.ensures.value at c.in-Ok-read.ensures.refuses in
+pub returns-in-Ok-read_by_threads-clause-refuses : goal.returns-in-Ok-read_by_threads-clause-refuses
+returns-in-Ok-read_by_threads-clause-refuses g c line why told =
+    let refuses = rw c.deref.ensures.value at c.in-Ok-read_by_threads.ensures.refuses in
     absurd (refuses line why (refused_told _ _ line why c.in-Ok.ensures.bytes told))
 
 pub returns-in-Err-BadLine-clause-refuses : goal.returns-in-Err-BadLine-clause-refuses
@@ -43,9 +43,9 @@ returns-in-Err-BadLine-clause-refuses g c line why told =
     } in
     inl (refuses_same _ _ _ _ sink c.refuse.result same c.refuse.ensures)
 
-pub returns-in-Ok-read-clause-reads : goal.returns-in-Ok-read-clause-reads
-returns-in-Ok-read-clause-reads g c m told =
-    let only = rw c.deref.ensures.value at c.in-Ok-read.ensures.only in
+pub returns-in-Ok-read_by_threads-clause-reads : goal.returns-in-Ok-read_by_threads-clause-reads
+returns-in-Ok-read_by_threads-clause-reads g c m told =
+    let only = rw c.deref.ensures.value at c.in-Ok-read_by_threads.ensures.only in
     only m (spelled_told _ _ m c.in-Ok.ensures.bytes told)
 
 pub returns-in-Err-BadLine-clause-reads : goal.returns-in-Err-BadLine-clause-reads
