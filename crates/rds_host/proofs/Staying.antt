@@ -15,6 +15,8 @@ use Rattle.rds_mail.specs.Passes.{Putter}
 use Rattle.rds_line_streams.specs.ChangeLaws.{same_length, each_through}
 use Rattle.rds_line_streams.specs.Streams.{StreamsView}
 use Rattle.rds_line_channel.specs.Channel.{ChannelView}
+use Rattle.rds_line.specs.Acts.{nothing}
+use Rattle.rds_line.specs.ActLaws.{acts_through}
 use Rattle.rds_line.specs.Line.{LineView}
 use Rattle.rds_bindtab.specs.declared.view.View.{View as PortView}
 use Rattle.rds_meter.specs.declared.view.View.{View as MeterView}
@@ -104,10 +106,9 @@ module _ {E : Type 0} (m : Means E) where
   }
 
   module _ {M Name : Type 0} (pair : M → Name) where
-    -- a line whose channel is the same, and all else as it was
-    pub line_stays : (old : LineView E M) (channel : ChannelView E) → ChannelStays m old.channel channel → LineStays m pair old (record old { channel = channel })
-    line_stays old channel stays = record {
-      channel = stays;
+    pub line_same : (old : LineView E M) → LineStays m pair old old
+    line_same old = record {
+      channel = channel_same old.channel;
       mail = refl;
       told = refl;
       joined = refl;
@@ -121,11 +122,9 @@ module _ {E : Type 0} (m : Means E) where
       slot = refl;
       meter_view = refl;
       steps = same_list old.words.view.steps;
+      acts = nothing;
       map = refl;
     }
-
-    pub line_same : (old : LineView E M) → LineStays m pair old old
-    line_same old = line_stays old old.channel (channel_same old.channel)
 
     pub line_through : (old middle new : LineView E M) → LineStays m pair old middle → LineStays m pair middle new → LineStays m pair old new
     line_through old middle new first second = record {
@@ -145,6 +144,7 @@ module _ {E : Type 0} (m : Means E) where
           second.meter_view
           ∙ ap (λ (v : MeterView). record v { checks = new.words.view.checks; steps = new.words.view.steps }) first.meter_view;
       steps = begins_through old.words.view.steps middle.words.view.steps new.words.view.steps first.steps second.steps;
+      acts = acts_through first.acts second.acts;
       map = second.map ∙ first.map;
     }
 

@@ -1,5 +1,6 @@
 -- What a line keeps, where its journal gets an entry that delivers nothing and is no map, or where all of it stays.
-use Rattle.std.proofs.Common.{◌≡◌, ℕ, ◌+◌, ◌<◌, ◌≤◌, Bool, Option, List, ◌∷◌, Some, None, slice_index, length, refl, sym, ap, subst, ◌∙◌}
+use Rattle.std.proofs.Common.{◌≡◌, ℕ, ◌+◌, ◌<◌, ◌≤◌, Bool, Option, List, [], ◌∷◌, ◌++◌, Some, None, slice_index, length, refl, sym, ap, subst, ◌∙◌}
+use Rattle.std.proofs.lemmas.List.{append-nil}
 use Rattle.rds_model.specs.declared.entry.Entry.{Entry}
 use Rattle.rds_model.specs.declared.entry.Entry.TheVariants as entry
 use Rattle.rds_model.specs.declared.entry.TheConstants.{MAX_SLOTS}
@@ -12,7 +13,8 @@ use Rattle.rds_mail.specs.Numbers.{Numbered, bare_items}
 use Rattle.rds_mail.specs.Passes.{Getter}
 use Rattle.rds_views.specs.Views.{Table}
 use Rattle.rds_bindtab.specs.declared.view.Step.{Step}
-use Rattle.rds_bindtab.specs.Seats.{PortSeat, after_look, knowing}
+use Rattle.rds_bindtab.specs.declared.view.View.{View as PortView}
+use Rattle.rds_bindtab.specs.Seats.{PortSeat, after_look, joined, knowing}
 use Rattle.rds_meter.specs.declared.view.Check.{Check}
 use Rattle.rds_meter.specs.declared.view.Step.{Step as MeterStep}
 use Rattle.rds_conn.specs.Connection.{Connection, freed_bytes_of, stream_of}
@@ -23,6 +25,9 @@ use Rattle.rds_line_channel.specs.Channel.{ChannelView}
 use Rattle.rds_line.specs.Keeps.{KeepsLine, IsPulled, uncut, cuts_among}
 use Rattle.rds_line.specs.Line.{LineView, line_past}
 use Rattle.rds_line.specs.Seats.{AreFoundSet, AreLooksFor}
+use Rattle.rds_line.specs.Acts as act
+use Rattle.rds_line.specs.Acts.{Acted, Acts, acted}
+use Rattle.rds_line.proofs.Acting.{ActsOn, IsNoFrame, more_past, still_acts}
 use Rattle.rds_line.proofs.Grounding.{found_beside}
 use Rattle.rds_line.proofs.PortLooks.{looks_again, looks_beside}
 
@@ -34,6 +39,7 @@ pub record HasSameSums (past later : List Entry) : Type 0 where
   pub checks : (list : List Check) → AreChecksOf past list → AreChecksOf later list
   pub looks : (size : ℕ) (steps : List Step) → AreLooksFor size past steps → AreLooksFor size later steps
   pub pulled : (steps : List MeterStep) → AreFoundSet past steps → AreFoundSet later steps
+  pub acts : ActsOn past later
 
 pub sums_same : (past : List Entry) → HasSameSums past past
 sums_same past = record {
@@ -43,20 +49,11 @@ sums_same past = record {
   checks = λ list are. are;
   looks = λ size steps are. are;
   pulled = λ steps are. are;
+  acts = still_acts past past refl;
 }
 
 pub sums_of : (past later middle : List Entry) → later ≡ middle → HasSameSums past middle → HasSameSums past later
 sums_of past later middle is same = subst (λ (l : List Entry). HasSameSums past l) (sym is) same
-
--- the entry is neither a reading nor a pull
-abbrev pub IsNoFrame : Entry → Type 0
-IsNoFrame (entry.Accept slot sport dport payload) = Unit {0}
-IsNoFrame (entry.Cancel slot target) = Unit {0}
-IsNoFrame (entry.Open stream) = Unit {0}
-IsNoFrame (entry.Pull stream frame) = ⊥
-IsNoFrame (entry.Read stream frame outcome) = ⊥
-IsNoFrame (entry.Shut stream) = Unit {0}
-IsNoFrame (entry.Bad stream header cause) = Unit {0}
 
 looks_unread : {size : ℕ} (e : Entry) (past : List Entry) (steps : List Step) → IsNoFrame e → AreLooksFor size past steps → AreLooksFor size (e ∷ past) steps
 looks_unread {size} e past steps no_frame =
@@ -73,6 +70,7 @@ sums_more (entry.Accept slot sport dport payload) past no_frame = record {
   checks = λ list are. are;
   looks = λ size steps. looks_unread (entry.Accept slot sport dport payload) past steps no_frame;
   pulled = λ steps. unpulled (entry.Accept slot sport dport payload) past steps no_frame;
+  acts = (more_past (entry.Accept slot sport dport payload) no_frame refl).acts;
 }
 sums_more (entry.Cancel slot target) past no_frame = record {
   maps = refl;
@@ -81,6 +79,7 @@ sums_more (entry.Cancel slot target) past no_frame = record {
   checks = λ list are. are;
   looks = λ size steps. looks_unread (entry.Cancel slot target) past steps no_frame;
   pulled = λ steps. unpulled (entry.Cancel slot target) past steps no_frame;
+  acts = (more_past (entry.Cancel slot target) no_frame refl).acts;
 }
 sums_more (entry.Open stream) past no_frame = record {
   maps = refl;
@@ -89,6 +88,7 @@ sums_more (entry.Open stream) past no_frame = record {
   checks = λ list are. are;
   looks = λ size steps. looks_unread (entry.Open stream) past steps no_frame;
   pulled = λ steps. unpulled (entry.Open stream) past steps no_frame;
+  acts = (more_past (entry.Open stream) no_frame refl).acts;
 }
 sums_more (entry.Pull stream frame) past no_frame = absurd no_frame
 sums_more (entry.Read stream frame outcome) past no_frame = absurd no_frame
@@ -99,6 +99,7 @@ sums_more (entry.Shut stream) past no_frame = record {
   checks = λ list are. are;
   looks = λ size steps. looks_unread (entry.Shut stream) past steps no_frame;
   pulled = λ steps. unpulled (entry.Shut stream) past steps no_frame;
+  acts = (more_past (entry.Shut stream) no_frame refl).acts;
 }
 sums_more (entry.Bad stream header cause) past no_frame = record {
   maps = refl;
@@ -107,6 +108,7 @@ sums_more (entry.Bad stream header cause) past no_frame = record {
   checks = λ list are. are;
   looks = λ size steps. looks_unread (entry.Bad stream header cause) past steps no_frame;
   pulled = λ steps. unpulled (entry.Bad stream header cause) past steps no_frame;
+  acts = (more_past (entry.Bad stream header cause) no_frame refl).acts;
 }
 
 -- for each slot the freed bytes that are held grew as the bytes did that aren't alive any more
@@ -180,6 +182,7 @@ module _ {E M : Type 0} (published : M → List (List ℕ)) where
     pulled = sums.pulled v.words.view.steps k.pulled;
     ported = sums.looks v.ports.table.slots v.ports.view.steps k.ported;
     stored = k.stored;
+    acts = (k.acts.0, k.acts.1, sums.acts k.acts.0 (acted v) refl k.acts.2);
   }
 
   -- the getter was told of orders, and got none
@@ -199,13 +202,15 @@ module _ {E M : Type 0} (published : M → List (List ℕ)) where
     pulled = k.pulled;
     ported = k.ported;
     stored = k.stored;
+    acts = k.acts;
   }
 
   -- the seat at the port table did what leaves its looks as the journal tells
   keeps_ports : (v : LineView E M) (ports : PortSeat) → ports.table ≡ v.ports.table →
       (AreLooksFor v.ports.table.slots (line_past v) v.ports.view.steps → AreLooksFor v.ports.table.slots (line_past v) ports.view.steps) →
+      ((a : Acted) → Acts a (acted v) → Acts a (record (acted v) { ports = ports })) →
       KeepsLine published v → KeepsLine published (record v { ports = ports })
-  keeps_ports v ports table looks k = record {
+  keeps_ports v ports table are acts k = record {
     taken = k.taken;
     cuts = k.cuts;
     put = k.put;
@@ -217,14 +222,20 @@ module _ {E M : Type 0} (published : M → List (List ℕ)) where
     few = subst (λ (t : Table). t.slots ≤ MAX_SLOTS) (sym table) k.few;
     slots = k.slots;
     pulled = k.pulled;
-    ported = subst (λ (t : Table). AreLooksFor t.slots (line_past v) ports.view.steps) (sym table) (looks k.ported);
+    ported = subst (λ (t : Table). AreLooksFor t.slots (line_past v) ports.view.steps) (sym table) (are k.ported);
     stored = k.stored;
+    acts = (k.acts.0, k.acts.1, acts k.acts.0 k.acts.2);
   }
 
   -- it was told of no step
-  pub keeps_heard : (v : LineView E M) (ports : PortSeat) → ports.table ≡ v.ports.table → ports.view.steps ≡ v.ports.view.steps →
-      KeepsLine published v → KeepsLine published (record v { ports = ports })
-  keeps_heard v ports table steps k = keeps_ports v ports table (λ was. subst (AreLooksFor v.ports.table.slots (line_past v)) (sym steps) was) k
+  pub keeps_heard : (v : LineView E M) (ports : PortSeat) (note : PortView) → note.steps ≡ [] →
+      ports ≡ knowing v.ports (joined v.ports.view note) → KeepsLine published v → KeepsLine published (record v { ports = ports })
+  keeps_heard v ports note none is k =
+      let steps : ports.view.steps ≡ v.ports.view.steps =
+      ap (λ (h : PortSeat). h.view.steps) is ∙ (ap (λ (l : List Step). v.ports.view.steps ++ l) none ∙ append-nil _) in
+      keeps_ports v ports (ap (λ (h : PortSeat). h.table) is)
+      (λ was. subst (AreLooksFor v.ports.table.slots (line_past v)) (sym steps) was)
+      (λ a acts. subst (λ (h : PortSeat). Acts a (record (acted v) { ports = h })) (sym is) (act.hears note none acts)) k
 
   -- it looked at a port
   pub keeps_looked : (v : LineView E M) (ports : PortSeat) (port : ℕ) (found : Option ℕ) →
@@ -235,7 +246,7 @@ module _ {E M : Type 0} (published : M → List (List ℕ)) where
       (λ was.
       subst (λ (h : PortSeat). AreLooksFor v.ports.table.slots (line_past v) h.view.steps) (sym is)
       (looks_again (line_past v) v.ports.view.steps port found v.ports.view.told was))
-      k
+      (λ a acts. subst (λ (h : PortSeat). Acts a (record (acted v) { ports = h })) (sym is) (act.looks port found acts)) k
 
   -- nothing that it keeps of its channel changed
   pub keeps_still : (v : LineView E M) (channel : ChannelView E) → channel.conn.log.past ≡ line_past v → channel.conn.peer ≡ v.channel.conn.peer

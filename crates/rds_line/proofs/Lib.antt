@@ -1,3 +1,4 @@
+mod Acting
 mod Verdicts
 mod Delivering
 mod Feeding

@@ -17,11 +17,12 @@ use Rattle.rds_conn.specs.Released.{released_bytes}
 use Rattle.rds_line_channel.specs.Channel.{ChannelView, with_conn}
 use Rattle.rds_line_channel.specs.Changes.{ShutsStream}
 use Rattle.rds_line.specs.Keeps.{KeepsLine, IsPulled}
-use Rattle.rds_line.specs.Line.{LineView, line_past, pulls_in}
+use Rattle.rds_line.specs.Line.{LineView, line_past}
 use Rattle.rds_line.specs.Stays.{ChannelStays}
+use Rattle.rds_line.proofs.Acting.{IsQuietPast}
 use Rattle.rds_line.proofs.Keeping.{keeps_still, pulled_off, pulled_still}
 use Rattle.rds_line.proofs.Staying.{channel_of, channel_through, order_stays, room_stays, streams_same}
-use Rattle.rds_line.proofs.Taking.{uncut_of, TakesCut, cut_pulls, takes_cut, ordered_pulls, cut_off, cut_stays, keeps_cut, keeps_ordered, pulled_ordered}
+use Rattle.rds_line.proofs.Taking.{uncut_of, TakesCut, cut_past, takes_cut, orders_past, cut_off, cut_stays, keeps_cut, keeps_ordered, pulled_ordered}
 
 -- room was made for the note of a cut, or there was no memory for it
 pub cut_room : {E : Type 0} (old new : ChannelView E) (r : Result (Unit {0}) Memory) → OnOk r (new ≡ record old { cuts = record old.cuts { has_room = true } }) → OnErr r (new ≡ old)
@@ -112,9 +113,9 @@ module _ {E M : Type 0} (m : Means E) (v : LineView E M) (channel : ChannelView 
         go (inl cut) = cut_stays v channel getter number m (is ∙ ap (after_get v.orders number) cut) (cut_of cut)
         go (inr other) = order_stays m o v.channel channel (did.entry other)
 
-    pub obeyed_pulls : pulls_in channel.conn.log.past ≡ pulls_in (line_past v)
-    obeyed_pulls = go (cut_or_not o)
+    pub obeyed_past : IsQuietPast (line_past v) channel.conn.log.past
+    obeyed_past = go (cut_or_not o)
       where
-        go : (o ≡ order.Cut) ⊎ (o ≢ order.Cut) → pulls_in channel.conn.log.past ≡ pulls_in (line_past v)
-        go (inl cut) = cut_pulls v channel getter number m (cut_of cut)
-        go (inr other) = ordered_pulls o v.channel channel (did.entry other)
+        go : (o ≡ order.Cut) ⊎ (o ≢ order.Cut) → IsQuietPast (line_past v) channel.conn.log.past
+        go (inl cut) = cut_past v channel getter number m (cut_of cut)
+        go (inr other) = orders_past o v.channel channel (did.entry other)

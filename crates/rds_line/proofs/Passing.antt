@@ -30,6 +30,7 @@ use Rattle.rds_line_parts.specs.Counted.{IsCountedFor, IsPutFor}
 use Rattle.rds_line_parts.specs.CountedLaws.{freed_for_account}
 use Rattle.rds_line_parts.specs.Own.{Own, IsAsRead}
 use Rattle.rds_line_channel.specs.Channel.{ChannelView, with_conn}
+use Rattle.rds_line.specs.Acts.{Acted, Acts, acted, enters}
 use Rattle.rds_line.specs.Keeps.{KeepsLine, IsPulled, cuts_among, uncut}
 use Rattle.rds_line.specs.Line.{LineView, line_past}
 use Rattle.rds_line.specs.Seats.{AreFoundSet, AreLooksFor, StoresNothing}
@@ -117,10 +118,28 @@ module _ (s : ℕ) (f : Frame) (o : Outcome) (past : List Entry) where
   found_after (Some port) steps was =
       found_beside (Read s f o ∷ past) steps (Accept NO_SLOT 0 port []) (λ stream frame is. absurd (cc)) (found_beside past steps (Read s f o) (λ stream frame is. absurd (cc)) was)
 
+  -- nor is a port asked for it
+  pub acts_after : (a b : Acted) (port : Option ℕ) → Acts a (record b { past = Read s f o ∷ past }) →
+      Acts a (record b { past = read_past port s f o past })
+  acts_after a b None acts = acts
+  acts_after a b (Some port) acts = enters (Accept NO_SLOT 0 port []) tt acts
+
 -- the bytes that are freed or released are accounted for
 abbrev pub AccountsFreed : Connection → Connection → Type 0
 AccountsFreed old new = (slot : ℕ) → slot < old.slots →
     freed_bytes_of slot new + released_bytes slot old.log.past ≡ freed_bytes_of slot old + released_bytes slot new.log.past
+
+module _ {E M : Type 0} where
+  -- the line acted on, and its journal got the reading of the frame
+  abbrev pub ActsOnRead : ℕ → Frame → Outcome → LineView E M → LineView E M → Type 0
+  ActsOnRead s f o old new = (a : Acted) → Acts a (acted old) → Acts a (record (acted new) { past = Read s f o ∷ line_past old })
+
+  -- and what follows from it
+  pub acts_passed : {port : Option ℕ} {s : ℕ} {f : Frame} {o : Outcome} (old new : LineView E M) →
+      ReadsFrame port s f o old.channel.conn new.channel.conn → ActsOnRead s f o old new → (a : Acted) → Acts a (acted old) → Acts a (acted new)
+  acts_passed {port} {s} {f} {o} old new r acts a was =
+      subst (λ (l : List Entry). Acts a (record (acted new) { past = l })) (sym r.past)
+      (acts_after s f o (line_past old) a (acted new) port (acts a was))
 
 module _ {E M : Type 0} (published : M → List (List ℕ)) where
   -- A frame was passed, and what had to be done with it was done: a datagram was put and counted where it was delivered, and a
@@ -143,6 +162,7 @@ module _ {E M : Type 0} (published : M → List (List ℕ)) where
     pub looks : AreLooksFor old.ports.table.slots (line_past old) old.ports.view.steps → AreLooksFor old.ports.table.slots (Read s f o ∷ line_past old) new.ports.view.steps
     pub stored : StoresNothing old.words.view.steps → StoresNothing new.words.view.steps
     pub steps : Begins old.words.view.steps new.words.view.steps
+    pub acts : ActsOnRead s f o old new
 
   -- the line keeps all that it keeps
   keeps_passed_line : {port : Option ℕ} {s : ℕ} {f : Frame} {o : Outcome} {old new : LineView E M} →
@@ -182,6 +202,7 @@ module _ {E M : Type 0} (published : M → List (List ℕ)) where
             (subst (λ (l : List Entry). AreLooksFor old.ports.table.slots l new.ports.view.steps) (sym r.past)
             (looks_after s f o past port new.ports.view.steps (p.looks was.ported)));
         stored = p.stored was.stored;
+        acts = (was.acts.0, was.acts.1, acts_passed old new r p.acts was.acts.0 was.acts.2);
       }
 
   pub keeps_passed : {port : Option ℕ} {s : ℕ} {f : Frame} {o : Outcome} {old new : LineView E M} (pulled : Bool) →
@@ -216,6 +237,7 @@ module _ {E M : Type 0} (published : M → List (List ℕ)) where
       pulled = was.0.pulled;
       ported = was.0.ported;
       stored = was.0.stored;
+      acts = was.0.acts;
     },
     was.1,
   )

@@ -18,10 +18,13 @@ use Rattle.rds_line_parts.specs.CountedLaws.{counted_for_steps}
 use Rattle.rds_line_parts.specs.Own.{Own, IsRefresh, loads_from}
 use Rattle.rds_line_parts.specs.OwnLaws.{refreshed}
 use Rattle.rds_line_parts.specs.Words.{AddsNothing}
+use Rattle.rds_line.specs.Acts as act
+use Rattle.rds_line.specs.Acts.{acted}
 use Rattle.rds_line.specs.Keeps.{IsPulled, KeepsLine}
 use Rattle.rds_line.specs.Line.{LineView, line_past}
 use Rattle.rds_line.specs.Stays.{LineStays}
 use Rattle.rds_line.specs.Steps.{HasBits}
+use Rattle.rds_line.proofs.Acting.{ActsOn, entry_acts, still_acts}
 use Rattle.rds_line.proofs.Grounding.{found_pulled, found_still}
 use Rattle.rds_line.proofs.PortLooks.{looks_beside}
 use Rattle.rds_line.proofs.Staying.{streams_same}
@@ -37,9 +40,10 @@ pub record LeavesConn (old new : Connection) : Type 0 where
   pub past : Moment old.log.past new.log.past
   pub waiting : new.waiting ≡ old.waiting
   pub stream : stream_of new ≡ stream_of old
+  pub acts : ActsOn old.log.past new.log.past
 
 pub leaves_same : (conn : Connection) → LeavesConn conn conn
-leaves_same conn = record { me = refl; peer = refl; slots = refl; limit = refl; past = now; waiting = refl; stream = refl }
+leaves_same conn = record { me = refl; peer = refl; slots = refl; limit = refl; past = now; waiting = refl; stream = refl; acts = still_acts _ _ refl }
 
 leaves_pulled : (s : ℕ) (f : Frame) (conn : Connection) → LeavesConn conn (with_entries (Pull s f ∷ []) conn)
 leaves_pulled s f conn = record {
@@ -50,6 +54,7 @@ leaves_pulled s f conn = record {
   past = before now;
   waiting = refl;
   stream = refl;
+  acts = entry_acts (Pull s f) conn.log.past (Pull s f ∷ conn.log.past) tt refl;
 }
 
 pub pull_leaves : (s : ℕ) (owed : Option Frame) (old new : Connection) (out out_new : List ℕ) (came : Pulled) →
@@ -82,6 +87,7 @@ module _ {E M : Type 0} where
     pulled = k.pulled;
     ported = k.ported;
     stored = k.stored;
+    acts = k.acts;
   }
 
   -- if the frame is a map, each port of it was found set
@@ -104,6 +110,7 @@ module _ {E M : Type 0} where
     pulled = found_pulled (line_past v) v.words.view.steps s f ground k.pulled;
     ported = looks_beside (line_past v) v.ports.view.steps (Pull s f) (λ stream slot frame is. absurd (cc)) (λ stream frame is. absurd (cc)) k.ported;
     stored = k.stored;
+    acts = (k.acts.0, k.acts.1, entry_acts (Pull s f) (line_past v) (Pull s f ∷ line_past v) tt refl k.acts.0 (acted v) refl k.acts.2);
   }
 
   -- a pull changes nothing of what a line keeps
@@ -138,6 +145,7 @@ module _ {E M : Type 0} where
         found_still (line_past v) v.words.view.steps words.view.steps (_, ap (λ (h : MeterSeat). h.view.steps) r.steps) k.pulled;
     ported = k.ported;
     stored = refresh_stores r k.stored;
+    acts = (k.acts.0, k.acts.1, act.reads r k.acts.2);
   }
 
   -- and where no word was loaded, it is the map that it was
@@ -175,6 +183,7 @@ module _ {E M : Type 0} where
         same_view v.words.view words.view v.words.view.checks (v.words.view.steps ++ Loaded change_word r.number ∷ loads_from 0 r.words)
         (ap (λ (h : MeterSeat). h.view) r.steps);
     steps = (_, ap (λ (h : MeterSeat). h.view.steps) r.steps);
+    acts = leaves.acts (acted v) (acted (with_own v own words)) refl (act.reads r act.nothing);
     map = refl;
   }
 

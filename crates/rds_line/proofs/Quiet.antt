@@ -2,9 +2,10 @@
 use Rattle.std.proofs.Common.{◌≡◌, ℕ, ◌+◌, ◌<◌, length, refl, sym, subst, ◌∙◌}
 use Rattle.rds_link.specs.Ends.{Means}
 use Rattle.rds_line_channel.specs.Channel.{ChannelView}
-use Rattle.rds_line.specs.Line.{IsFull, LineView, line_past, pulls_in}
+use Rattle.rds_line.specs.Line.{IsFull, LineView, line_past}
 use Rattle.rds_line.specs.Stays.{ChannelStays}
 use Rattle.rds_line.specs.Steps.{StaysQuiet}
+use Rattle.rds_line.proofs.Acting.{IsQuietPast}
 use Rattle.rds_line.proofs.Looking.{LeavesOwn, leaves_of}
 use Rattle.rds_line.proofs.Staying.{line_same, line_stays, line_through}
 
@@ -24,21 +25,21 @@ module _ {E M Name : Type 0} {m : Means E} {pair : M → Name} where
   quiet_of {a} {b} {c} is q = subst (λ (v : LineView E M). StaysQuiet m pair a v) (sym is) q
 
   pub quiet_channel : (v : LineView E M) (channel : ChannelView E) → ChannelStays m v.channel channel →
-      pulls_in channel.conn.log.past ≡ pulls_in (line_past v) → StaysQuiet m pair v (record v { channel = channel })
-  quiet_channel v channel stays pulls = record {
-    stays = line_stays m pair v channel stays;
+      IsQuietPast (line_past v) channel.conn.log.past → StaysQuiet m pair v (record v { channel = channel })
+  quiet_channel v channel stays past = record {
+    stays = line_stays m pair v channel stays past.acts;
     orders = refl;
     own = refl;
-    pulls = pulls;
+    pulls = past.pulls;
   }
 
   -- the same where the fields of a line are known by its view
   pub quiet_inside : (inside shown : LineView E M) → inside ≡ shown → (channel : ChannelView E) →
-      ChannelStays m inside.channel channel → pulls_in channel.conn.log.past ≡ pulls_in (line_past inside) →
+      ChannelStays m inside.channel channel → IsQuietPast (line_past inside) channel.conn.log.past →
       StaysQuiet m pair shown (record inside { channel = channel })
-  quiet_inside inside shown is channel stays pulls =
+  quiet_inside inside shown is channel stays past =
       subst (λ (v : LineView E M). StaysQuiet m pair v (record inside { channel = channel })) is
-      (quiet_channel inside channel stays pulls)
+      (quiet_channel inside channel stays past)
 
   -- the host's own map stays so, too
   pub leaves_quiet : {old new : LineView E M} → StaysQuiet m pair old new → LeavesOwn old new

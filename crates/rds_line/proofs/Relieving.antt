@@ -12,10 +12,12 @@ use Rattle.rds_line_parts.specs.Relief.{IsRelief}
 use Rattle.rds_line_parts.specs.ReliefLaws.{relieved_others, read_after_relief}
 use Rattle.rds_line_channel.specs.Channel.{ChannelView, with_conn}
 use Rattle.rds_link.specs.Ends.{Means}
+use Rattle.rds_line.specs.Acts.{Acts, Acted, acted, frees, nothing}
 use Rattle.rds_line.specs.Keeps.{KeepsLine}
 use Rattle.rds_line.specs.Line.{LineView, line_past}
 use Rattle.rds_line.specs.Seats.{AreFoundSet, AreLooksFor}
 use Rattle.rds_line.specs.Stays.{LineStays}
+use Rattle.rds_line.proofs.Acting.{still_acts}
 use Rattle.rds_line.proofs.Grounding.{found_still}
 use Rattle.rds_line.proofs.Staying.{relief_stays}
 use Rattle.rds_line.proofs.Same.{boxes_same, same_view}
@@ -30,6 +32,11 @@ room_to_relieve conn seat legal few freed slot small =
     omega arith
 
 module _ {E M : Type 0} (v : LineView E M) (channel : ChannelView E) (words : MeterSeat) (rest : channel ≡ with_conn v.channel (record v.channel.conn { freed = channel.conn.freed })) (relief : IsRelief v.channel.conn.freed v.words words) where
+  acts_relieved : (a : Acted) → Acts a (acted v) → Acts a (acted (record v { channel = channel; words = words }))
+  acts_relieved a acts =
+      still_acts (line_past v) channel.conn.log.past (ap (λ (c : ChannelView E). c.conn.log.past) rest) a
+      (record (acted v) { words = words }) refl (frees relief acts)
+
   pub keeps_relieved : (published : M → List (List ℕ)) → sum channel.conn.freed ≡ 0 → KeepsLine published v → KeepsLine published (record v { channel = channel; words = words })
   keeps_relieved published none k = record {
     taken = k.taken ∙ sym (ap (λ (c : ChannelView E). orders c.conn.log.past) rest);
@@ -50,6 +57,7 @@ module _ {E M : Type 0} (v : LineView E M) (channel : ChannelView E) (words : Me
         (found_still (line_past v) v.words.view.steps words.view.steps (relief.steps, ap (λ (h : MeterSeat). h.view.steps) relief.seat) k.pulled);
     ported = subst (λ (c : ChannelView E). AreLooksFor v.ports.table.slots c.conn.log.past v.ports.view.steps) (sym rest) k.ported;
     stored = relief_stores relief k.stored;
+    acts = (k.acts.0, k.acts.1, acts_relieved k.acts.0 k.acts.2);
   }
 
   pub stays_relieved : {Name : Type 0} (m : Means E) (pair : M → Name) → LineStays m pair v (record v { channel = channel; words = words })
@@ -68,5 +76,6 @@ module _ {E M : Type 0} (v : LineView E M) (channel : ChannelView E) (words : Me
     slot = ap (λ (h : MeterSeat). h.slot) relief.seat;
     meter_view = same_view v.words.view words.view v.words.view.checks (v.words.view.steps ++ relief.steps) (ap (λ (h : MeterSeat). h.view) relief.seat);
     steps = (relief.steps, ap (λ (h : MeterSeat). h.view.steps) relief.seat);
+    acts = acts_relieved (acted v) nothing;
     map = refl;
   }

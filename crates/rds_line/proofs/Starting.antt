@@ -17,6 +17,7 @@ use Rattle.rds_conn.specs.Released.{released_bytes}
 use Rattle.rds_line_parts.specs.Counted.{AreChecksOf, IsFreedFor}
 use Rattle.rds_line_parts.specs.Own.{Own}
 use Rattle.rds_line_channel.specs.Channel.{ChannelView, new_channel}
+use Rattle.rds_line.specs.Acts.{acted, nothing}
 use Rattle.rds_line.specs.Keeps.{KeepsLine, uncut, cuts_among}
 use Rattle.rds_line.specs.Line.{LineView}
 use Rattle.rds_line.specs.Seats.{AreFoundSet, AreLooksFor, StoresNothing}
@@ -59,6 +60,11 @@ module _ {E M : Type 0} (published : M → List (List ℕ)) (me peer slots limit
         subst (λ (c : ChannelView E). AreLooksFor v.ports.table.slots c.conn.log.past v.ports.view.steps) (sym is)
         (subst (AreLooksFor v.ports.table.slots []) (sym looks) looks_none);
     stored = subst StoresNothing (sym steps) stores_none;
+    acts = (
+      acted v,
+      record { past = ap (λ (c : ChannelView E). c.conn.log.past) is; looks = looks; steps = steps; checks = checks; unread = unread },
+      nothing,
+    );
   }
     where
       none_some : {n : ℕ} → None ≡ Some n → ⊥

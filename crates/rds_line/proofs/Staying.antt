@@ -20,8 +20,11 @@ use Rattle.rds_line_streams.specs.Meeting.{StayPaired}
 use Rattle.rds_line_streams.specs.Streams.{StreamsView}
 use Rattle.rds_line_channel.specs.Channel.{ChannelView, with_conn}
 use Rattle.rds_line_channel.specs.Changes.{OpensNext, EndsStream, ShutsStream}
+use Rattle.rds_line.specs.Acts.{Acts, acted, nothing}
+use Rattle.rds_line.specs.ActLaws.{acts_through}
 use Rattle.rds_line.specs.Line.{LineView}
 use Rattle.rds_line.specs.Stays.{GoesFurther, StreamsStay, ChannelStays, LineStays}
+use Rattle.rds_line.proofs.Acting.{ActsOn, still_acts}
 use Rattle.rds_line.proofs.Same.{begins_through, begins_of, moment_through, moment_of, boxes_same, boxes_through}
 
 module _ {E : Type 0} (m : Means E) where
@@ -201,8 +204,9 @@ module _ {E : Type 0} (m : Means E) where
 
   module _ {M Name : Type 0} (pair : M → Name) where
     -- a line whose channel is the same, and all else as it was
-    pub line_stays : (old : LineView E M) (channel : ChannelView E) → ChannelStays m old.channel channel → LineStays m pair old (record old { channel = channel })
-    line_stays old channel stays = record {
+    pub line_stays : (old : LineView E M) (channel : ChannelView E) → ChannelStays m old.channel channel →
+        ActsOn old.channel.conn.log.past channel.conn.log.past → LineStays m pair old (record old { channel = channel })
+    line_stays old channel stays acts = record {
       channel = stays;
       mail = refl;
       told = refl;
@@ -217,11 +221,12 @@ module _ {E : Type 0} (m : Means E) where
       slot = refl;
       meter_view = refl;
       steps = same_list old.words.view.steps;
+      acts = acts (acted old) (acted old) refl nothing;
       map = refl;
     }
 
     pub line_same : (old : LineView E M) → LineStays m pair old old
-    line_same old = line_stays old old.channel (channel_same old.channel)
+    line_same old = line_stays old old.channel (channel_same old.channel) (still_acts _ _ refl)
 
     pub line_of : (old new middle : LineView E M) → new ≡ middle → LineStays m pair old middle → LineStays m pair old new
     line_of old new middle is stays = subst (λ (v : LineView E M). LineStays m pair old v) (sym is) stays
@@ -230,9 +235,11 @@ module _ {E : Type 0} (m : Means E) where
     pub line_shown : (inside shown new : LineView E M) → inside ≡ shown → LineStays m pair inside new → LineStays m pair shown new
     line_shown inside shown new is stays = subst (λ (v : LineView E M). LineStays m pair v new) is stays
 
-    pub line_inside : (inside shown : LineView E M) → inside ≡ shown → (channel : ChannelView E) → ChannelStays m inside.channel channel → LineStays m pair shown (record inside { channel = channel })
-    line_inside inside shown is channel stays =
-        line_shown inside shown (record inside { channel = channel }) is (line_stays inside channel stays)
+    pub line_inside : (inside shown : LineView E M) → inside ≡ shown → (channel : ChannelView E) → ChannelStays m inside.channel channel →
+        channel.conn.log.past ≡ inside.channel.conn.log.past → LineStays m pair shown (record inside { channel = channel })
+    line_inside inside shown is channel stays past =
+        line_shown inside shown (record inside { channel = channel }) is
+        (line_stays inside channel stays (still_acts inside.channel.conn.log.past channel.conn.log.past past))
 
     pub line_through : (old middle new : LineView E M) → LineStays m pair old middle → LineStays m pair middle new → LineStays m pair old new
     line_through old middle new first second = record {
@@ -252,5 +259,6 @@ module _ {E : Type 0} (m : Means E) where
           second.meter_view
           ∙ ap (λ (v : MeterView). record v { checks = new.words.view.checks; steps = new.words.view.steps }) first.meter_view;
       steps = begins_through old.words.view.steps middle.words.view.steps new.words.view.steps first.steps second.steps;
+      acts = acts_through first.acts second.acts;
       map = second.map ∙ first.map;
     }

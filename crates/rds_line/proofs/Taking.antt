@@ -21,8 +21,10 @@ use Rattle.rds_line_channel.specs.Channel.{ChannelView, CutsView, with_conn}
 use Rattle.rds_line_streams.specs.Streams.{StreamsView}
 use Rattle.rds_line_channel.specs.Changes.{ShutsStream}
 use Rattle.rds_line.specs.Keeps.{KeepsLine, IsPulled, uncut, cuts_among}
-use Rattle.rds_line.specs.Line.{LineView, line_past, pulls_in}
+use Rattle.rds_line.specs.Acts.{acted, nothing}
+use Rattle.rds_line.specs.Line.{LineView, line_past}
 use Rattle.rds_line.specs.Stays.{StreamsStay, ChannelStays, LineStays}
+use Rattle.rds_line.proofs.Acting.{ActsOn, IsQuietPast, more_past, past_through, still_past}
 use Rattle.rds_line.proofs.Keeping.{HasSameSums, sums_same, sums_of, sums_more, held_same, keeps_taken, pulled_still, plain_released}
 use Rattle.rds_line.proofs.Staying.{shutting_stays, streams_same}
 use Rattle.rds_line.proofs.Same.{boxes_same}
@@ -180,9 +182,9 @@ module _ {E M : Type 0} (v : LineView E M) (channel : ChannelView E) (getter : G
     }
 
   -- a cut pulls no frame
-  pub cut_pulls : (m : Means E) → TakesCut m → pulls_in channel.conn.log.past ≡ pulls_in (line_past v)
-  cut_pulls m (inl did) = ap (λ (c : Connection). pulls_in c.log.past) did.1.conn
-  cut_pulls m (inr did) = ap (λ (c : Connection). pulls_in c.log.past) did.0
+  pub cut_past : (m : Means E) → TakesCut m → IsQuietPast (line_past v) channel.conn.log.past
+  cut_past m (inl did) = more_past (entry.Shut did.0) tt (ap (λ (c : Connection). c.log.past) did.1.conn)
+  cut_past m (inr did) = still_past (ap (λ (c : Connection). c.log.past) did.0)
 
   -- what the cut of a channel did
   pub takes_cut : (m : Means E) → ((n : ℕ) → stream_of v.channel.conn ≡ Some n → ShutsStream m n v.channel channel × (channel.cuts ≡ record { numbers = v.channel.cuts.numbers ++ n ∷ []; has_room = false }))
@@ -201,21 +203,22 @@ module _ {E M : Type 0} (v : LineView E M) (channel : ChannelView E) (getter : G
       go None none = shut v.channel.streams.is_open refl none
 
 -- an order pulls no frame
-order_pulls : (o : Order) (c : Connection) → pulls_in (after_order o c).log.past ≡ pulls_in c.log.past
-order_pulls (order.Send slot sport dport payload) c = refl
-order_pulls (order.Cancel slot dport) c = refl
-order_pulls (order.CloseSocket slot) c = refl
-order_pulls order.Cut c = refl
+order_past : (o : Order) (c : Connection) → IsQuietPast c.log.past (after_order o c).log.past
+order_past (order.Send slot sport dport payload) c = more_past (entry.Accept slot sport dport payload) tt refl
+order_past (order.Cancel slot dport) c = more_past (entry.Cancel slot (target.Port dport)) tt refl
+order_past (order.CloseSocket slot) c = more_past (entry.Cancel slot target.All) tt refl
+order_past order.Cut c = still_past refl
 
-pub ordered_pulls : {E : Type 0} (o : Order) (old new : ChannelView E) →
+pub orders_past : {E : Type 0} (o : Order) (old new : ChannelView E) →
     new ≡ with_conn old (record (after_order o old.conn) { freed = new.conn.freed }) →
-    pulls_in new.conn.log.past ≡ pulls_in old.conn.log.past
-ordered_pulls {E} o old new is = ap (λ (c : ChannelView E). pulls_in c.conn.log.past) is ∙ order_pulls o old.conn
+    IsQuietPast old.conn.log.past new.conn.log.past
+orders_past {E} o old new is =
+    past_through (order_past o old.conn) (still_past (ap (λ (c : ChannelView E). c.conn.log.past) is))
 
 -- a line whose channel is the same, and whose getter got one order more
 pub stays_taken : {E M Name : Type 0} (m : Means E) (pair : M → Name) (v : LineView E M) (channel : ChannelView E) (getter : Getter Order) (number : Number) (o : Order) → getter ≡ after_get v.orders number o
-    → ChannelStays m v.channel channel → LineStays m pair v (record v { channel = channel; orders = getter })
-stays_taken m pair v channel getter number o is stays = record {
+    → ChannelStays m v.channel channel → ActsOn (line_past v) channel.conn.log.past → LineStays m pair v (record v { channel = channel; orders = getter })
+stays_taken m pair v channel getter number o is stays acts = record {
   channel = stays;
   mail = ap (λ (h : Getter Order). h.mail) is;
   told = ap (λ (h : Getter Order). h.told) is;
@@ -230,5 +233,6 @@ stays_taken m pair v channel getter number o is stays = record {
   slot = refl;
   meter_view = refl;
   steps = same_list v.words.view.steps;
+  acts = acts (acted v) (acted v) refl nothing;
   map = refl;
 }

@@ -15,10 +15,11 @@ use Rattle.rds_line_streams.specs.Streams.{StreamsView, newest_place, numbers, w
 use Rattle.rds_line_channel.specs.Channel.{ChannelView, CutsView, with_conn}
 use Rattle.rds_line_channel.specs.Changes.{ShutsStream}
 use Rattle.rds_line.specs.Keeps.{IsPulled, KeepsLine}
-use Rattle.rds_line.specs.Line.{LineView, line_past, pulls_in}
+use Rattle.rds_line.specs.Line.{LineView, line_past}
 use Rattle.rds_line.specs.Stays.{ChannelStays, GoesFurther}
 use Rattle.rds_line.specs.Steps.{StaysQuiet}
 use Rattle.rds_line.specs.Turns.{FindsNoRoom, GetsBytes, HearsNothing, LeavesNothing, SendsBytes}
+use Rattle.rds_line.proofs.Acting.{still_past}
 use Rattle.rds_line.proofs.Keeping.{keeps_plain, pulled_off}
 use Rattle.rds_line.proofs.Quiet.{quiet_inside, quiet_through}
 use Rattle.rds_line.proofs.Staying.{channel_moved, channel_of, channel_through, read_stays, room_stays, shutting_stays, write_stays}
@@ -38,12 +39,12 @@ nil_front : (front back : List ℕ) → front ++ back ≡ [] → front ≡ []
 nil_front [] back e = refl
 nil_front (x ∷ front) back e = absurd (cc)
 
--- no frame is pulled by a write
-pub written_pulls : {E : Type 0} (old ready new : ChannelView E) (out : List ℕ) → ready ≡ with_conn old (with_room old.conn) →
+-- no entry is appended by a write
+pub written_past : {E : Type 0} (old ready new : ChannelView E) (out : List ℕ) → ready ≡ with_conn old (with_room old.conn) →
     new ≡ record ready { out = out; streams = with_list ready.streams new.streams.list } →
-    pulls_in new.conn.log.past ≡ pulls_in old.conn.log.past
-written_pulls {E} old ready new out room rest =
-    ap (λ (c : ChannelView E). pulls_in c.conn.log.past) rest ∙ ap (λ (c : ChannelView E). pulls_in c.conn.log.past) room
+    new.conn.log.past ≡ old.conn.log.past
+written_past {E} old ready new out room rest =
+    ap (λ (c : ChannelView E). c.conn.log.past) rest ∙ ap (λ (c : ChannelView E). c.conn.log.past) room
 
 -- nor is anything that came touched
 pub leaves_written : {E M : Type 0} {inside shown : LineView E M} (ready new : ChannelView E) (out : List ℕ) → inside ≡ shown →
@@ -135,7 +136,7 @@ module _ {E : Type 0} (m : Means E) where
       quiet_through stays
       (quiet_inside v shown is new
       (channel_through m v.channel ready new (made_room v.channel ready room) (got_on ready new answer new.piece change rest))
-      (ap (λ (c : ChannelView E). pulls_in c.conn.log.past) rest ∙ ap (λ (c : ChannelView E). pulls_in c.conn.log.past) room))
+      (still_past (ap (λ (c : ChannelView E). c.conn.log.past) rest ∙ ap (λ (c : ChannelView E). c.conn.log.past) room)))
 
   -- the open stream is over
   pub over_stays : (number : ℕ) (old new : ChannelView E) → ShutsStream m number old new → new.cuts ≡ old.cuts →

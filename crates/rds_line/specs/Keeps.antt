@@ -9,6 +9,7 @@ use Rattle.rds_mail.specs.Numbers.{bare_items}
 use Rattle.rds_conn.specs.Connection.{stream_of}
 use Rattle.rds_line_parts.specs.Counted.{IsCountedFor, IsFreedFor, IsPutFor}
 use Rattle.rds_line_parts.specs.Own.{IsAsRead}
+use Rattle.rds_line.specs.Acts.{HasOnlyActed, acted}
 use Rattle.rds_line.specs.Line.{LineView, line_past}
 use Rattle.rds_line.specs.Seats.{AreFoundSet, AreLooksFor, StoresNothing}
 
@@ -50,6 +51,8 @@ module _ {E M : Type 0} where
     pub ported : AreLooksFor v.ports.table.slots (line_past v) v.ports.view.steps
     -- its seat at the meter has stored no receive limit
     pub stored : StoresNothing v.words.view.steps
+    -- each look at the port table, each step on a word of the meter and each entry is of one of its acts, one after the other
+    pub acts : HasOnlyActed (acted v)
 
   -- where the line notes that, the host's own map as it read that last is the one that was pulled last on the open stream
   abbrev pub IsPulled : Bool → LineView E M → Type 0

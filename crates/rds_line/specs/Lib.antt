@@ -1,5 +1,7 @@
 pub mod Line
 pub mod Seats
+pub mod Acts
+pub mod ActLaws
 pub mod Keeps
 pub mod Stays
 pub mod Steps

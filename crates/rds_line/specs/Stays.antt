@@ -10,6 +10,7 @@ use Rattle.rds_line_parts.specs.Boxes.{IsBoxOf}
 use Rattle.rds_line_streams.specs.Meeting.{AtEach, StayPaired}
 use Rattle.rds_line_streams.specs.Streams.{StreamsView, numbers}
 use Rattle.rds_line_channel.specs.Channel.{ChannelView}
+use Rattle.rds_line.specs.Acts.{Acts, acted}
 use Rattle.rds_line.specs.Line.{LineView}
 use Rattle.rds_line.specs.Seats.{WasAlwaysTold}
 
@@ -59,4 +60,6 @@ module _ {E : Type 0} (m : Means E) where
       pub slot : new.words.slot ≡ old.words.slot
       pub meter_view : new.words.view ≡ record old.words.view { checks = new.words.view.checks; steps = new.words.view.steps }
       pub steps : Begins old.words.view.steps new.words.view.steps
+      -- each look, each step on a word and each entry that came is of an act of the line
+      pub acts : Acts (acted old) (acted new)
       pub map : pair new.map ≡ pair old.map

@@ -1,8 +1,10 @@
 use Rattle.std.proofs.Common.{◌≡◌, ℕ, ◌<◌, Option, None, List, length, refl, sym, ap, subst, ◌∙◌, arith}
 use Rattle.rds_bindtab.specs.Seats.{PortSeat, after_look, knowing}
 use Rattle.rds_mail.specs.Passes.{Putter}
+use Rattle.rds_line.specs.Acts.{acted}
 use Rattle.rds_line.specs.Keeps.{IsPulled, KeepsLine}
 use Rattle.rds_line.specs.Line.{LineView}
+use Rattle.rds_line.proofs.Acting.{looked_acts}
 use Rattle.rds_line.proofs.Fields.{view_in}
 use Rattle.rds_line.proofs.Keeping.{keeps_looked}
 use Rattle.rds_line.proofs.PortLooks.{found_none}
@@ -17,19 +19,27 @@ use Rattle.rds_line_parts.specs.Delivery.{IsDelivery}
 use Rattle.rds_line.proofs.Staying.{channel_same}
 use Rattle.rds_line.proofs.Same.{boxes_same}
 use Rattle.rds_line.proofs.Passing.{keeps_passed}
-use Rattle.rds_line.proofs.Delivering.{delivery_fits, nobody_looks, passes_delivery, passes_quietly}
+use Rattle.rds_line.proofs.Delivering.{delivered_acts, delivery_fits, missed_acts, nobody_looks, passes_delivery, passes_quietly}
 use Rattle.rds_line.proofs.Verdicts.{datagram_is, port_is, ready_inside, verdict_here, waits_inside}
-use Rattle.rds_line.proofs.StaysPassed.{at_err, at_ok, boxes_as, line_quiet, passed_one, passed_pulls, passed_stays, put_same, same_seats, seats_looked, seats_through}
+use Rattle.rds_line.proofs.StaysPassed.{at_err, at_ok, boxes_as, line_quiet, passed_acts, passed_one, passed_pulls, passed_stays, put_same, same_seats, seats_looked, seats_through}
 use Rattle.rds_line.proofs.line.Line.deliver.Goals as goal
 
 pub returns-in_default : goal.returns-in_default
 returns-in_default g c =
     let i = c.self.inside in
     let did = c.pass.ensures in
+    let p = did.passes in
+    let is = verdict_here (waits_inside c.self.view_is c.requires.waits) p in
+    let looked : c.look.new.self ≡ knowing i.ports (after_look i.ports.view c.args.port None) =
+    c.look.ensures.seat
+    ∙ ap (λ (o : Option ℕ). knowing i.ports (after_look i.ports.view c.args.port o)) (found_none c.look.result c.in_default.not-Some) in
+    let new : LineView g.row.E.Denot g.row.M.Denot = record (view_in i) { channel = c.pass.new.self; ports = c.look.new.self } in
     record {
       quiet =
           line_quiet c.self.view_is (passed_stays did.passes did.rest) (passed_pulls did.passes) refl (boxes_same i.boxes)
-          (seats_looked i.words i.ports c.look.new.self c.args.port _ c.look.ensures.seat) refl refl;
+          (seats_looked i.words i.ports c.look.new.self c.args.port _ c.look.ensures.seat) refl refl
+          (passed_acts (view_in i) new p outcome.NoSocket (ap (λ (v : Verdict). outcome_of v found.NoSocket) is)
+          (missed_acts (view_in i) new c.args.port p.stream p.frame looked (port_is _ p.frame.header c.args.port is) refl refl));
       passed = passed_one c.self.view_is c.pass.new.self did.passes did.rest;
       err = tt;
     }
@@ -48,6 +58,8 @@ invariant_of-self g c =
     (passes_quietly published found.NoSocket _ _ p outcome.NoSocket none refl (λ payload earlier. refl)
     c.pass.ensures.rest table
     (nobody_looks c.self.inside.ports c.look.new.self c.args.port p.stream p.frame _ looked (port_is _ p.frame.header c.args.port is))
+    (missed_acts (view_in c.self.inside) (record (view_in c.self.inside) { channel = c.pass.new.self; ports = c.look.new.self }) c.args.port p.stream p.frame looked
+    (port_is _ p.frame.header c.args.port is) refl refl)
     refl)
     c.self.invariant
 
@@ -75,7 +87,8 @@ returns-in_default-datagram g c =
     record {
       quiet =
           line_quiet c.self.view_is (channel_same g.E.End.means i.channel) refl refl (boxes_same i.boxes)
-          (seats_looked i.words i.ports c.look.new.self c.args.port _ c.look.ensures.seat) refl refl;
+          (seats_looked i.words i.ports c.look.new.self c.args.port _ c.look.ensures.seat) refl refl
+          (looked_acts (acted (view_in i)) c.look.new.self c.args.port c.look.result c.look.ensures.seat);
       passed = tt;
       err = refl;
     }
@@ -87,7 +100,8 @@ returns-then-is_err g c =
     record {
       quiet =
           line_quiet c.self.view_is (channel_same g.E.End.means i.channel) refl refl (boxes_as i.boxes c.put.new.self same)
-          (seats_looked i.words i.ports c.look.new.self c.args.port _ c.look.ensures.seat) refl refl;
+          (seats_looked i.words i.ports c.look.new.self c.args.port _ c.look.ensures.seat) refl refl
+          (looked_acts (acted (view_in i)) c.look.new.self c.args.port c.look.result c.look.ensures.seat);
       passed = tt;
       err = refl;
     }
@@ -138,11 +152,23 @@ returns g c =
     let i = c.self.inside in
     let put = at_ok c.put.result c.if-is_err.ensures.value c.put.ensures.put in
     let did = c.pass-2.ensures in
+    let p = did.passes in
+    let is = verdict_here (waits_inside c.self.view_is c.requires.waits) p in
+    let here = datagram_is c.in-Ok.datagram _ c.in-Ok.ensures p.waits in
+    let bytes = c.len-bytes.ensures.len ∙ ap (λ (d : Datagram). length d.payload) here in
+    let words = c.deliver.new.self in
+    let ports = c.look.new.self in
+    let delivery = subst (λ (n : ℕ). IsDelivery c.in-Some.slot c.args.port n i.words words ports c.deliver.new.ports) bytes
+    c.deliver.ensures.delivery in
+    let looked = c.look.ensures.seat ∙ ap (λ (o : Option ℕ). knowing i.ports (after_look i.ports.view c.args.port o)) c.in-Some.is in
+    let new : LineView g.row.E.Denot g.row.M.Denot = record (view_in i) { channel = c.pass-2.new.self; boxes = c.put.new.self; ports = c.deliver.new.ports; words = words } in
     record {
       quiet =
           line_quiet c.self.view_is (passed_stays did.passes did.rest) (passed_pulls did.passes) refl (put_same _ _ _ _ put)
           (seats_through (seats_looked i.words i.ports c.look.new.self c.args.port _ c.look.ensures.seat)
-          (same_seats c.deliver.ensures.delivery)) refl refl;
+          (same_seats c.deliver.ensures.delivery)) refl refl
+          (passed_acts (view_in i) new p (outcome.Slot c.in-Some.slot) (ap (λ (v : Verdict). outcome_of v (found.Slot c.in-Some.slot)) is)
+          (delivered_acts (view_in i) new c.in-Some.slot c.args.port p.stream p.frame ports looked (port_is _ p.frame.header c.args.port is) delivery refl));
       passed = passed_one c.self.view_is c.pass-2.new.self did.passes did.rest;
       err = tt;
     }

@@ -2,7 +2,8 @@ use Rattle.std.proofs.Common.{List, ◌∷◌, length, ap, refl, ◌∙◌, arit
 use Rattle.rds_model.specs.declared.entry.Entry.{Entry}
 use Rattle.rds_model.specs.declared.entry.Entry.TheVariants as entry
 use Rattle.rds_line_channel.specs.Channel.{ChannelView}
-use Rattle.rds_line.specs.Line.{LineView, line_past, pulls_in}
+use Rattle.rds_line.specs.Line.{LineView, line_past}
+use Rattle.rds_line.proofs.Acting.{more_past, still_past}
 use Rattle.rds_line.proofs.Fields.{view_in}
 use Rattle.rds_line.proofs.Keeping.{keeps_plain}
 use Rattle.rds_line.proofs.Quiet.{quiet_inside, quiet_of}
@@ -35,7 +36,7 @@ returns-in_err-reserve-clause-quiet g c =
     let same = (c.in_err-reserve.ensures {u = tt}).err in
     quiet_inside (view_in c.self.inside) c.args.self.now c.self.view_is c.reserve.new.self
     (channel_of m i c.reserve.new.self i same (channel_same m i))
-    (ap (λ (k : ChannelView g.row.E.Denot). pulls_in k.conn.log.past) same)
+    (still_past (ap (λ (k : ChannelView g.row.E.Denot). k.conn.log.past) same))
 
 pub returns-then-open_next-clause-quiet : goal.returns-then-open_next-clause-quiet
 returns-then-open_next-clause-quiet g c =
@@ -46,8 +47,9 @@ returns-then-open_next-clause-quiet g c =
     quiet_inside (view_in c.self.inside) c.args.self.now c.self.view_is c.open_next.new.self
     (channel_through m i c.reserve.new.self c.open_next.new.self (made_room m i c.reserve.new.self room)
     (opening_stays m c.reserve.new.self c.open_next.new.self opens))
-    (ap (λ (k : ChannelView g.row.E.Denot). pulls_in k.conn.log.past) opens.is
-    ∙ ap (λ (k : ChannelView g.row.E.Denot). pulls_in k.conn.log.past) room)
+    (more_past (entry.Open opens.number) tt
+    (ap (λ (k : ChannelView g.row.E.Denot). k.conn.log.past) opens.is
+    ∙ ap (λ (k : ChannelView g.row.E.Denot). entry.Open opens.number ∷ k.conn.log.past) room))
 
 pub returns-else-not-is_open-clause-quiet : goal.returns-else-not-is_open-clause-quiet
 returns-else-not-is_open-clause-quiet g c =
@@ -56,16 +58,16 @@ returns-else-not-is_open-clause-quiet g c =
     let i = c.self.inside.channel in
     let room = (c.in_ok-reserve.ensures {u = tt}).ok in
     let roomy = made_room m i c.reserve.new.self room in
-    let pulls = ap (λ (k : ChannelView g.row.E.Denot). pulls_in k.conn.log.past) room in
+    let past = ap (λ (k : ChannelView g.row.E.Denot). k.conn.log.past) room in
     elim c.else-not-is_open.branch [
       | else-not-is_open-via-then-not-is_open+else-open_next w ↦
           let same = ((w.if-open_next.ensures {u = tt}).none refl).0 in
           quiet_of w.self-is
           (quiet_inside v c.args.self.now c.self.view_is w.open_next.new.self
           (channel_of m i w.open_next.new.self c.reserve.new.self same roomy)
-          (ap (λ (k : ChannelView g.row.E.Denot). pulls_in k.conn.log.past) same ∙ pulls))
+          (still_past (ap (λ (k : ChannelView g.row.E.Denot). k.conn.log.past) same ∙ past)))
       | else-not-is_open-via-else-not-is_open w ↦
-          quiet_of w.self-is (quiet_inside v c.args.self.now c.self.view_is c.reserve.new.self roomy pulls)
+          quiet_of w.self-is (quiet_inside v c.args.self.now c.self.view_is c.reserve.new.self roomy (still_past past))
     ]
 
 pub returns-then-open_next-clause-streams : goal.returns-then-open_next-clause-streams

@@ -3,12 +3,19 @@ use Rattle.std.proofs.lemmas.Option.{same_Some}
 use Rattle.rds_wire.specs.declared.frame.Frame.{Frame}
 use Rattle.rds_wire.specs.declared.kind.TheConstants.{MAP_LENGTH}
 use Rattle.rds_model.specs.SumLaws.{few_maps}
+use Rattle.rds_model.specs.declared.entry.Outcome.TheVariants as outcome
+use Rattle.rds_model.specs.declared.entry.Verdict.{Verdict}
+use Rattle.rds_conn.specs.declared.conn.Found.TheVariants as found
+use Rattle.rds_conn.specs.Passing.{outcome_of}
+use Rattle.rds_line.specs.Acts.{nothing}
+use Rattle.rds_line.specs.Line.{LineView}
+use Rattle.rds_line.proofs.Fields.{view_in}
 use Rattle.rds_line.proofs.Staying.{channel_same}
 use Rattle.rds_line.proofs.Same.{boxes_same}
 use Rattle.rds_line.proofs.Passing.{keeps_passed, keeps_unpublished}
-use Rattle.rds_line.proofs.Delivering.{passes_map}
+use Rattle.rds_line.proofs.Delivering.{map_acts, passes_map}
 use Rattle.rds_line.proofs.Verdicts.{map_is, map_length, ready_inside, verdict_here, waits_inside}
-use Rattle.rds_line.proofs.StaysPassed.{at_err, at_value, line_quiet, passed_one, passed_pulls, passed_stays, seats_same}
+use Rattle.rds_line.proofs.StaysPassed.{at_err, at_value, line_quiet, passed_acts, passed_one, passed_pulls, passed_stays, seats_same}
 use Rattle.rds_line.proofs.line.Line.publish.Goals as goal
 
 pub publish-requires : goal.publish-requires
@@ -33,7 +40,7 @@ returns-then-is_err g c =
     record {
       quiet =
           line_quiet c.self.view_is (channel_same g.E.End.means i.channel) refl refl (boxes_same i.boxes)
-          (seats_same i.words i.ports) c.publish.ensures.pair refl;
+          (seats_same i.words i.ports) c.publish.ensures.pair refl nothing;
       passed = tt;
       err = refl;
     }
@@ -59,10 +66,15 @@ pub returns : goal.returns
 returns g c =
     let i = c.self.inside in
     let did = c.pass.ensures in
+    let p = did.passes in
+    let is = verdict_here (waits_inside c.self.view_is c.requires.waits) p in
+    let new : LineView g.row.E.Denot g.row.M.Denot = record (view_in i) { channel = c.pass.new.self; map = c.publish.new.self } in
     record {
       quiet =
           line_quiet c.self.view_is (passed_stays did.passes did.rest) (passed_pulls did.passes) refl (boxes_same i.boxes)
-          (seats_same i.words i.ports) c.publish.ensures.pair refl;
+          (seats_same i.words i.ports) c.publish.ensures.pair refl
+          (passed_acts (view_in i) new p outcome.Map (ap (λ (k : Verdict). outcome_of k found.Unasked) is)
+          (map_acts (view_in i) new p.stream p.frame refl refl refl));
       passed = passed_one c.self.view_is c.pass.new.self did.passes did.rest;
       err = tt;
     }

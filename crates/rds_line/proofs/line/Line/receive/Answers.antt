@@ -1,10 +1,12 @@
 use Rattle.std.proofs.Common.{◌≡◌, ◌<◌, ◌≤◌, ℕ, Some, true, Ok, length, sym, ap, subst, ◌∙◌, refl, arith}
 use Rattle.rds_link.specs.declared.end.Got.TheVariants as got
+use Rattle.rds_model.specs.declared.entry.Entry.TheVariants.{Shut}
 use Rattle.rds_conn.specs.Connection.{Connection, stream_of, with_room}
 use Rattle.rds_line_streams.specs.Streams.{StreamsView, newest_place}
 use Rattle.rds_line_channel.specs.Channel.{ChannelView}
-use Rattle.rds_line.specs.Line.{LineView, line_past, pulls_in}
+use Rattle.rds_line.specs.Line.{LineView, line_past}
 use Rattle.rds_line.specs.Turns.{GetsBytes}
+use Rattle.rds_line.proofs.Acting.{more_past, still_past}
 use Rattle.rds_line.proofs.Fields.{view_in}
 use Rattle.rds_line.proofs.Longer.{longer}
 use Rattle.rds_line.proofs.Quiet.{quiet_channel, quiet_inside, quiet_same, quiet_through}
@@ -51,7 +53,7 @@ returns-in_err-reserve-clause-quiet g c =
     quiet_through c.pass_all.ensures.quiet
     (quiet_inside (view_in c.self-2.inside) c.pass_all.new.self c.self-2.view_is c.reserve.new.self
     (channel_of m i c.reserve.new.self i same (channel_same m i))
-    (ap (λ (k : ChannelView g.row.E.Denot). pulls_in k.conn.log.past) same))
+    (still_past (ap (λ (k : ChannelView g.row.E.Denot). k.conn.log.past) same)))
 
 pub returns-in-Nothing : goal.returns-in-Nothing
 returns-in-Nothing g c =
@@ -126,7 +128,7 @@ returns-in-Over g c =
           (reads_line m pair start c.pass_all.new.self v c.reserve.new.self middle c.receive.result c.self-2.view_is
           c.pass_all.ensures.quiet c.in_ok-reserve.ensures.ok c.receive.ensures.received c.receive.ensures.rest)
           (quiet_channel (record v { channel = middle }) new (over_stays m (one g c).0 middle new shuts c.end_over.ensures.cuts)
-          (ap (λ (k : Connection). pulls_in k.log.past) shuts.conn));
+          (more_past (Shut (one g c).0) tt (ap (λ (k : Connection). k.log.past) shuts.conn)));
       closed = λ e. absurd (cc);
       nothing = λ e. absurd (cc);
       on = λ e. absurd (cc);

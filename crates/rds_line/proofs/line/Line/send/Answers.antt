@@ -41,6 +41,7 @@ returns-in_err-reserve-clause-stays g c =
     let i = c.self.inside.channel in
     line_inside m g.M.MapWriter.pair (view_in c.self.inside) c.args.self.now c.self.view_is c.reserve.new.self
     (channel_of m i c.reserve.new.self i c.in_err-reserve.ensures.err (channel_same m i))
+    (ap (λ (k : ChannelView g.row.E.Denot). k.conn.log.past) c.in_err-reserve.ensures.err)
 
 module _ (g : given.Over) (c : goal.After-write g) where
   -- the line once it was ready
@@ -52,6 +53,7 @@ module _ (g : given.Over) (c : goal.After-write g) where
       let m = g.E.End.means in
       line_inside m g.M.MapWriter.pair (view_in c.self.inside) c.args.self.now c.self.view_is c.reserve.new.self
       (made_room m c.self.inside.channel c.reserve.new.self c.in_ok-reserve.ensures.ok)
+      (ap (λ (k : ChannelView g.row.E.Denot). k.conn.log.past) c.in_ok-reserve.ensures.ok)
 
   middle_stays : LineStays g.E.End.means g.M.MapWriter.pair c.args.self.now c.else-unwritten-eq0.self
   middle_stays = elim c.else-unwritten-eq0.branch [
@@ -103,7 +105,8 @@ returns-in_err-pull-clause-stays g c =
     let ready : LineView g.row.E.Denot g.row.M.Denot = record (view_in c.self.inside) { channel = c.reserve.new.self } in
     line_through m pair now ready c.pull.new.self
     (line_inside m pair (view_in c.self.inside) now c.self.view_is c.reserve.new.self
-    (made_room m c.self.inside.channel c.reserve.new.self c.in_ok-reserve.ensures.ok)) c.pull.ensures.stays
+    (made_room m c.self.inside.channel c.reserve.new.self c.in_ok-reserve.ensures.ok)
+    (ap (λ (k : ChannelView g.row.E.Denot). k.conn.log.past) c.in_ok-reserve.ensures.ok)) c.pull.ensures.stays
 
 pub returns-then-not-branch-clause-stays : goal.returns-then-not-branch-clause-stays
 returns-then-not-branch-clause-stays g c =
@@ -113,7 +116,8 @@ returns-then-not-branch-clause-stays g c =
     let ready : LineView g.row.E.Denot g.row.M.Denot = record (view_in c.self.inside) { channel = c.reserve.new.self } in
     line_through m pair now ready c.pull.new.self
     (line_inside m pair (view_in c.self.inside) now c.self.view_is c.reserve.new.self
-    (made_room m c.self.inside.channel c.reserve.new.self c.in_ok-reserve.ensures.ok)) c.pull.ensures.stays
+    (made_room m c.self.inside.channel c.reserve.new.self c.in_ok-reserve.ensures.ok)
+    (ap (λ (k : ChannelView g.row.E.Denot). k.conn.log.past) c.in_ok-reserve.ensures.ok)) c.pull.ensures.stays
 
 pub returns-then-not-branch-clause-pulls : goal.returns-then-not-branch-clause-pulls
 returns-then-not-branch-clause-pulls g c =

@@ -1,11 +1,11 @@
-use Rattle.std.proofs.Common.{ap, ◌∙◌}
+use Rattle.std.proofs.Common.{ap}
 use Rattle.rds_line_channel.specs.Channel.{ChannelView}
-use Rattle.rds_line.specs.Line.{pulls_in}
+use Rattle.rds_line.proofs.Acting.{past_through, still_past}
 use Rattle.rds_line.proofs.Feeding.{keeps_fed}
 use Rattle.rds_line.proofs.Fields.{view_in}
 use Rattle.rds_line.proofs.Quiet.{quiet_inside}
 use Rattle.rds_line.proofs.Staying.{channel_of, channel_same, channel_through}
-use Rattle.rds_line.proofs.StaysPassed.{taken_pulls, taken_stays}
+use Rattle.rds_line.proofs.StaysPassed.{taken_past, taken_stays}
 use Rattle.rds_line.proofs.Written.{made_room}
 use Rattle.rds_line.proofs.Unlogged.{keeps_alike}
 use Rattle.rds_line.proofs.line.Line.take.Goals as goal
@@ -17,7 +17,7 @@ returns-in_err-reserve-clause-quiet g c =
     let same = c.in_err-reserve.ensures.err in
     quiet_inside (view_in c.self.inside) c.args.self.now c.self.view_is c.reserve.new.self
     (channel_of m i c.reserve.new.self i same (channel_same m i))
-    (ap (λ (k : ChannelView g.row.E.Denot). pulls_in k.conn.log.past) same)
+    (still_past (ap (λ (k : ChannelView g.row.E.Denot). k.conn.log.past) same))
 
 pub invariant_of-self-2 : goal.invariant_of-self-2
 invariant_of-self-2 g c =
@@ -34,8 +34,8 @@ returns-clause-quiet g c =
     quiet_inside (view_in c.self.inside) c.args.self.now c.self.view_is c.take.new.self
     (channel_through m i c.reserve.new.self c.take.new.self (made_room m i c.reserve.new.self room)
     (taken_stays c.take.result did.frame did.part did.refused did.err))
-    (taken_pulls {m = m} c.take.result did.frame did.part did.refused did.err
-    ∙ ap (λ (k : ChannelView g.row.E.Denot). pulls_in k.conn.log.past) room)
+    (past_through (still_past (ap (λ (k : ChannelView g.row.E.Denot). k.conn.log.past) room))
+    (taken_past {m = m} c.take.result did.frame did.part did.refused did.err))
 
 pub invariant_of-self : goal.invariant_of-self
 invariant_of-self g c =

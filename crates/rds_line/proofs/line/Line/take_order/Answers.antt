@@ -5,9 +5,10 @@ use Rattle.rds_mail.specs.Passes.{Getter, after_get}
 use Rattle.rds_line_channel.specs.Channel.{ChannelView}
 use Rattle.rds_line.specs.Keeps.{IsPulled, KeepsLine}
 use Rattle.rds_line.specs.Line.{LineView, line_past, pulls_in}
+use Rattle.rds_line.proofs.Acting.{still_acts}
 use Rattle.rds_line.proofs.Fields.{view_in}
 use Rattle.rds_line.proofs.Taking.{stays_taken}
-use Rattle.rds_line.proofs.Obeying.{Obeys, asked_allowed, cut_room, keeps_roomy, pulled_roomy, roomy_past, roomy_stays, roomy_streams, keeps_obeyed, obeyed_pulls, obeyed_stays}
+use Rattle.rds_line.proofs.Obeying.{Obeys, asked_allowed, cut_room, keeps_roomy, pulled_roomy, roomy_past, roomy_stays, roomy_streams, keeps_obeyed, obeyed_past, obeyed_stays}
 use Rattle.rds_line.proofs.Staying.{channel_of, channel_same, line_inside, line_of, line_shown, line_stays, line_through}
 use Rattle.rds_line.proofs.Unlogged.{keeps_alike}
 use Rattle.rds_line.proofs.line.Line.take_order.Given as given
@@ -19,6 +20,7 @@ returns-in_err-reserve-clause-stays g c =
     let i = c.self.inside.channel in
     line_inside m g.M.MapWriter.pair (view_in c.self.inside) c.args.self.now c.self.view_is c.reserve.new.self
     (channel_of m i c.reserve.new.self i (c.in_err-reserve.ensures {u = tt}).err (channel_same m i))
+    (ap (λ (k : ChannelView g.row.E.Denot). k.conn.log.past) (c.in_err-reserve.ensures {u = tt}).err)
 
 pub returns-in_err-reserve-clause-own : goal.returns-in_err-reserve-clause-own
 returns-in_err-reserve-clause-own g c = ap (λ (l : LineView g.row.E.Denot g.row.M.Denot). l.own) c.self.view_is
@@ -39,7 +41,7 @@ returns-then-is_err g c =
     record {
       stays =
           line_inside m g.M.MapWriter.pair v c.args.self.now c.self.view_is new
-          (roomy_stays v c.reserve.new.self new first second m);
+          (roomy_stays v c.reserve.new.self new first second m) past;
       own = ap (λ (l : LineView g.row.E.Denot g.row.M.Denot). l.own) c.self.view_is;
       pulls = ap pulls_in past ∙ ap (λ (l : LineView g.row.E.Denot g.row.M.Denot). pulls_in (line_past l)) c.self.view_is;
       took = λ e. absurd (cc);
@@ -68,7 +70,7 @@ returns-in_default g c =
           line_shown m pair v c.args.self.now new c.self.view_is
           (line_of m pair v new (record v { channel = room })
           (ap (λ (h : Getter Order). record v { channel = room; orders = h }) none.same)
-          (line_stays m pair v room (roomy_stays v c.reserve.new.self room first second m)));
+          (line_stays m pair v room (roomy_stays v c.reserve.new.self room first second m) (still_acts _ _ past)));
       own = ap (λ (l : LineView g.row.E.Denot g.row.M.Denot). l.own) c.self.view_is;
       pulls = ap pulls_in past ∙ ap (λ (l : LineView g.row.E.Denot g.row.M.Denot). pulls_in (line_past l)) c.self.view_is;
       took = λ e. absurd (cc);
@@ -130,16 +132,18 @@ returns g c =
     let getter = c.take_order.new.self in
     let got = (c.in-Some.ensures {u = tt}).got in
     let o = c.in-Some.order in
+    let past = roomy_past v c.reserve.new.self mid.channel first (second g c) in
+    let obeyed = obeyed_past m mid channel getter got.0 o got.1 (obeys g c) in
     let new : LineView g.row.E.Denot g.row.M.Denot = record v { channel = channel; orders = getter } in
     record {
       stays =
           line_shown m pair v c.args.self.now new c.self.view_is
-          (line_through m pair v mid new (line_stays m pair v mid.channel (roomy_stays v c.reserve.new.self mid.channel first (second g c) m))
-          (stays_taken m pair mid channel getter got.0 o got.1 (obeyed_stays m mid channel getter got.0 o got.1 (obeys g c))));
+          (line_through m pair v mid new
+          (line_stays m pair v mid.channel (roomy_stays v c.reserve.new.self mid.channel first (second g c) m) (still_acts _ _ past))
+          (stays_taken m pair mid channel getter got.0 o got.1 (obeyed_stays m mid channel getter got.0 o got.1 (obeys g c)) obeyed.acts));
       own = ap (λ (l : LineView g.row.E.Denot g.row.M.Denot). l.own) c.self.view_is;
       pulls =
-          obeyed_pulls m mid channel getter got.0 o got.1 (obeys g c)
-          ∙ ap pulls_in (roomy_past v c.reserve.new.self mid.channel first (second g c))
+          obeyed.pulls ∙ ap pulls_in past
           ∙ ap (λ (l : LineView g.row.E.Denot g.row.M.Denot). pulls_in (line_past l)) c.self.view_is;
       took = λ _. (got.0, o, got.1 ∙ ap (λ (w : LineView g.row.E.Denot g.row.M.Denot). after_get w.orders got.0 o) c.self.view_is);
       none = λ e. absurd (cc);

@@ -1,14 +1,16 @@
 use Rattle.std.proofs.Common.{◌≡◌, ◌<◌, ℕ, Some, true, [], take, drop, length, ap, subst, ◌∙◌, refl}
 use Rattle.rds_link.specs.declared.end.Put.TheVariants as put
+use Rattle.rds_model.specs.declared.entry.Entry.TheVariants.{Shut}
 use Rattle.rds_conn.specs.Connection.{Connection, stream_of, with_room}
 use Rattle.rds_line_streams.specs.Streams.{StreamsView, newest_place}
 use Rattle.rds_line_channel.specs.Channel.{ChannelView}
-use Rattle.rds_line.specs.Line.{LineView, line_past, pulls_in}
+use Rattle.rds_line.specs.Line.{LineView, line_past}
 use Rattle.rds_line.specs.Turns.{SendsBytes}
+use Rattle.rds_line.proofs.Acting.{more_past, past_through, still_past}
 use Rattle.rds_line.proofs.Fields.{view_in}
 use Rattle.rds_line.proofs.Quiet.{quiet_inside}
 use Rattle.rds_line.proofs.Staying.{channel_of, channel_same, channel_through}
-use Rattle.rds_line.proofs.Written.{the_one, over_stays, sends_bytes, more_entries, keeps_over, leaves_written, found_full, streams_shown, written_pulls, wrote_on}
+use Rattle.rds_line.proofs.Written.{the_one, over_stays, sends_bytes, more_entries, keeps_over, leaves_written, found_full, streams_shown, written_past, wrote_on}
 use Rattle.rds_line.proofs.Unlogged.{keeps_alike, keeps_with_room}
 use Rattle.rds_line.proofs.line.Line.write.Given as given
 use Rattle.rds_line.proofs.line.Line.write.Goals as goal
@@ -20,7 +22,7 @@ returns-in_err-reserve-clause-quiet g c =
     let same = c.in_err-reserve.ensures.err in
     quiet_inside (view_in c.self.inside) c.args.self.now c.self.view_is c.reserve.new.self
     (channel_of m i c.reserve.new.self i same (channel_same m i))
-    (ap (λ (k : ChannelView g.row.E.Denot). pulls_in k.conn.log.past) same)
+    (still_past (ap (λ (k : ChannelView g.row.E.Denot). k.conn.log.past) same))
 
 pub returns-in-Took : goal.returns-in-Took
 returns-in-Took g c =
@@ -36,7 +38,7 @@ returns-in-Took g c =
       quiet =
           quiet_inside (view_in c.self.inside) c.args.self.now c.self.view_is new
           (wrote_on m i ready new (put.Took n) (take n ready.out) (drop n ready.out) room did.sent did.rest)
-          (written_pulls i ready new (drop n ready.out) room did.rest);
+          (still_past (written_past i ready new (drop n ready.out) room did.rest));
       came = leaves_written ready new (drop n ready.out) c.self.view_is room did.rest;
       written = (λ e. absurd (cc), λ e. absurd (cc));
       full = λ e. absurd (cc);
@@ -60,7 +62,7 @@ returns-in-Full g c =
       quiet =
           quiet_inside (view_in c.self.inside) c.args.self.now c.self.view_is new
           (wrote_on m i ready new put.Full [] ready.out room did.sent did.rest)
-          (written_pulls i ready new ready.out room did.rest);
+          (still_past (written_past i ready new ready.out room did.rest));
       came = leaves_written ready new ready.out c.self.view_is room did.rest;
       written = (λ e. absurd (cc), λ e. absurd (cc));
       full = λ _. found_full m ready new c.self.view_is room did.sent did.rest c.requires.open c.requires.some;
@@ -107,7 +109,8 @@ returns-in-Over g c =
           quiet_inside (view_in c.self.inside) c.args.self.now c.self.view_is new
           (channel_through m i middle new (wrote_on m i ready middle put.Over [] ready.out room did.sent did.rest)
           (over_stays m (one g c).0 middle new shuts c.end_over.ensures.cuts))
-          (ap (λ (k : Connection). pulls_in k.log.past) shuts.conn ∙ written_pulls i ready middle ready.out room did.rest);
+          (past_through (still_past (written_past i ready middle ready.out room did.rest))
+          (more_past (Shut (one g c).0) tt (ap (λ (k : Connection). k.log.past) shuts.conn)));
       came = λ none left. (ap (λ (v : Connection). v.waiting) shuts.conn, shuts.piece);
       written = (λ e. absurd (cc), λ e. absurd (cc));
       full = λ e. absurd (cc);
