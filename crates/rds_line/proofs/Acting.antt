@@ -1,5 +1,5 @@
 -- Acts of a line where its journal has more entries for which no port is asked, or none.
-use Rattle.std.proofs.Common.{◌≡◌, ℕ, Option, List, [], ◌∷◌, refl, sym, subst, ◌∙◌}
+use Rattle.std.proofs.Common.{◌≡◌, ℕ, Option, List, ◌∷◌, refl, sym, subst, ◌∙◌}
 use Rattle.rds_model.specs.declared.entry.Entry.{Entry}
 use Rattle.rds_model.specs.declared.entry.Entry.TheVariants as entry
 use Rattle.rds_bindtab.specs.Seats.{PortSeat, after_look, knowing}

@@ -37,7 +37,6 @@ use Rattle.rds_line.specs.Acts as act
 use Rattle.rds_line.specs.Acts.{Acted, Acts, AsksNoPort, acted}
 use Rattle.rds_line.specs.Line.{LineView, line_past}
 use Rattle.rds_line.specs.Seats.{AreLooksFor, HasLooked, StoresNothing}
-use Rattle.rds_line.proofs.Acting.{entry_acts}
 use Rattle.rds_line.proofs.Passing.{ActsOnRead, PassesWith, passes_reads}
 use Rattle.rds_line.proofs.PortLooks.{looked_last, looks_again, looks_beside, looks_nobody, looks_slot}
 use Rattle.rds_line.proofs.Storing.{delivery_stores}

@@ -20,7 +20,7 @@ use Rattle.rds_line_streams.specs.Meeting.{StayPaired}
 use Rattle.rds_line_streams.specs.Streams.{StreamsView}
 use Rattle.rds_line_channel.specs.Channel.{ChannelView, with_conn}
 use Rattle.rds_line_channel.specs.Changes.{OpensNext, EndsStream, ShutsStream}
-use Rattle.rds_line.specs.Acts.{Acts, acted, nothing}
+use Rattle.rds_line.specs.Acts.{acted, nothing}
 use Rattle.rds_line.specs.ActLaws.{acts_through}
 use Rattle.rds_line.specs.Line.{LineView}
 use Rattle.rds_line.specs.Stays.{GoesFurther, StreamsStay, ChannelStays, LineStays}
