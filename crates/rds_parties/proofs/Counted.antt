@@ -1,12 +1,12 @@
 -- How many streams were prepared, and with which numbers.
-use Rattle.std.proofs.Common.{◌≡◌, ◌<◌, ◌≤◌, ◌+◌, inl, inr, ⊎_elim, ℕ, suc, List, Vec, [], ◌∷◌, ◌++◌, Some, length, slice_get, sym, ap, subst, ◌∙◌, arith}
+use Rattle.std.proofs.Common.{◌≡◌, ◌<◌, ◌≤◌, ◌+◌, ◌-◌, inl, inr, ⊎_elim, ℕ, suc, List, Vec, [], ◌∷◌, ◌++◌, Some, length, slice_get, sym, ap, subst, ◌∙◌, arith}
 use Rattle.std.specs.Global.{Global}
 use Rattle.std.proofs.lemmas.Bool.{cases_lt}
 use Rattle.std.proofs.lemmas.List.{map-append}
 use Rattle.std.proofs.lemmas.List.Elements.{All-map}
 use Rattle.rds_fmap.specs.Readers.{WriterView}
 use Rattle.rds_link.specs.Ends.{Means}
-use Rattle.rds_link.specs.Streaming.{HasRisen}
+use Rattle.rds_link.specs.Streaming.{HasRisen, HasRisenBy}
 use Rattle.rds_model.specs.Alive.{up_to}
 use Rattle.rds_line.specs.Line.{LineView}
 use Rattle.rds_line_streams.specs.Streams.{numbers}
@@ -14,10 +14,12 @@ use Rattle.rds_script.specs.declared.script.Placed.{Placed}
 use Rattle.rds_rounds.specs.Connection.{AreSameConnections}
 use Rattle.rds_rounds.specs.Grid.{EachRow, IsAt}
 use Rattle.rds_rounds.specs.Quiet.{LinesGoOn}
+use Rattle.rds_parties.specs.Growing.{IsCount}
 use Rattle.rds_parties.specs.Preparing.{AreAllCounted, ArePrepared, HaveCounted, HaveNumbered}
-use Rattle.rds_parties.specs.Streams.{AreAllUnlessRisen, AreNumbersOf, streams_between}
+use Rattle.rds_parties.specs.Streams.{AreAllUnlessRisen, AreNumbersOf, cuts_between, streams_between}
 use Rattle.rds_parties.proofs.At.{stood_at}
 use Rattle.rds_parties.proofs.Growing.{IsHalfway}
+use Rattle.rds_parties.proofs.Missing.{risen_by_later, risen_by_since}
 
 -- a count that rose once has risen later too
 risen_later : (first before after : ℕ) → first ≤ before → before ≤ after → HasRisen first before → HasRisen first after
@@ -42,12 +44,13 @@ pub all_refused : (n first before after : ℕ) (list : List ℕ) → first ≤ b
 all_refused n first before after list low risen calm = absurd (calm (risen_since first before after low risen))
 
 -- numbers of prepared streams, counted up to a later moment
-later_numbers : (count first before after : ℕ) (list : List ℕ) → first ≤ before → before ≤ after → AreNumbersOf count first before list →
+later_numbers : (count first before after : ℕ) (list : List ℕ) → first ≤ before → before ≤ after → IsCount after → AreNumbersOf count first before list →
     AreNumbersOf count first after list
-later_numbers count first before after list low high of = record {
+later_numbers count first before after list low high small of = record {
   rising = of.rising;
   most = of.most;
   whole = all_later count first before after list low high of.whole;
+  missing = risen_by_later (count - length list) first before after high small of.missing;
 }
 
 -- and those that were counted from a later moment
@@ -57,6 +60,7 @@ numbers_since count first before after list low of = record {
   rising = of.rising;
   most = of.most;
   whole = λ calm. of.whole (λ risen. calm (risen_since first before after low risen));
+  missing = risen_by_since (count - length list) first before after low of.missing;
 }
 
 module _ {E : Type 0} where
@@ -72,11 +76,12 @@ module _ {E : Type 0} where
 
   -- the numbers of streams that were prepared
   pub numbers_of : (m : Means E) (count first after : ℕ) (low high : List (ℕ × E)) → ArePrepared m count low high →
-      AreAllUnlessRisen count first after (numbers low) → AreNumbersOf count first after (numbers low)
-  numbers_of m count first after low high prepared whole = record {
+      AreAllUnlessRisen count first after (numbers low) → HasRisenBy (count - length (numbers low)) first after → AreNumbersOf count first after (numbers low)
+  numbers_of m count first after low high prepared whole missing = record {
     rising = prepared.one_numbered;
     most = All-map (λ (n : ℕ). n ≤ count) (λ (s : ℕ × E). s.0) low prepared.one_most;
     whole = whole;
+    missing = missing;
   }
 
   -- the streams of two hosts are those that were to be prepared
@@ -90,8 +95,8 @@ module _ {E : Type 0} where
 
   -- they still are where more were opened elsewhere
   pub halfway_later : (commands : List Placed) (first before after host low : ℕ) (rows : List (List (Vec (ℕ × E) Global))) (own : List (Vec (ℕ × E) Global)) →
-      first ≤ before → before ≤ after → IsHalfway (IsCounted commands first before) host low rows own → IsHalfway (IsCounted commands first after) host low rows own
-  halfway_later commands first before after host low rows own least most half = record {
+      first ≤ before → before ≤ after → IsCount after → IsHalfway (IsCounted commands first before) host low rows own → IsHalfway (IsCounted commands first after) host low rows own
+  halfway_later commands first before after host low rows own least most small half = record {
     count = half.count;
     done = half.done;
     rest = half.rest;
@@ -102,8 +107,18 @@ module _ {E : Type 0} where
     where
       both_later : (l h : ℕ) (one other : Vec (ℕ × E) Global) → IsCounted commands first before l h one other → IsCounted commands first after l h one other
       both_later l h one other both = (
-        later_numbers (streams_between l h commands) first before after (numbers one.items) least most both.0,
-        later_numbers (streams_between l h commands) first before after (numbers other.items) least most both.1,
+        later_numbers (streams_between l h commands) first before after (numbers one.items) least most small both.0,
+        later_numbers (streams_between l h commands) first before after (numbers other.items) least most small both.1,
+      )
+
+  -- they are for commands with as many cuts between each two hosts too
+  pub counted_alike : (some commands : List Placed) (first after : ℕ) (rows : List (List (Vec (ℕ × E) Global))) →
+      ((low high : ℕ) → cuts_between low high some ≡ cuts_between low high commands) → AreAllCounted some first after rows → AreAllCounted commands first after rows
+  counted_alike some commands first after rows alike counted low place one other le at_one at_other =
+      let count = ap (λ (n : ℕ). n + 3) (alike low (suc place)) in
+      let was = counted low place one other le at_one at_other in (
+        subst (λ (n : ℕ). AreNumbersOf n first after (numbers one.items)) count was.0,
+        subst (λ (n : ℕ). AreNumbersOf n first after (numbers other.items)) count was.1,
       )
 
   -- no host has any

@@ -10,4 +10,5 @@ pub mod Jobs
 pub mod Led
 pub mod Cuts
 pub mod Counted
+pub mod Missing
 pub mod Held

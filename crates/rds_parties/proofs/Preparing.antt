@@ -49,7 +49,7 @@ module _ {E : Type 0} (m : Means E) where
       All-append (λ (s : ℕ × E). IsUnused m s.1) xs ((b + 1, a) ∷ []) all
       (All-cons (λ (s : ℕ × E). IsUnused m s.1) (b + 1, a) [] (fresh_unused a fresh) (All-nil (λ (s : ℕ × E). IsUnused m s.1)))
 
-  same_count : (xs ys : List (ℕ × E)) → numbers ys ≡ numbers xs → length xs ≡ length ys
+  pub same_count : (xs ys : List (ℕ × E)) → numbers ys ≡ numbers xs → length xs ≡ length ys
   same_count xs ys same = sym (length_numbers xs) ∙ (ap length (sym same) ∙ length_numbers ys)
     where
       length_numbers : (zs : List (ℕ × E)) → length (numbers zs) ≡ length zs

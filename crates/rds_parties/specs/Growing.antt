@@ -1,10 +1,15 @@
 -- Private: it serves the contracts of the private functions that open the streams of a run. Source: this project's own.
-use Rattle.std.specs.Prelude.{◌≡◌, ℕ, List, Vec, [], ◌∷◌, ◌++◌, Some, slice_get, slice_set}
+use Rattle.std.specs.Prelude.{◌≡◌, ◌≤◌, ◌<◌, ◌+◌, ◌*◌, ◌^◌, ℕ, List, Vec, [], ◌∷◌, ◌++◌, Some, slice_get, slice_set}
 use Rattle.std.specs.Global.{Global}
 use Rattle.rds_link.specs.Ends.{Means}
+use Rattle.rds_link.specs.Streaming.{HasRisenBy}
 use Rattle.rds_line_streams.specs.Streams.{numbers}
 use Rattle.rds_parties.specs.Preparing.{ArePrepared}
 use Rattle.rds_parties.specs.Streams.{AreNumbersOf}
+
+-- the values that a count has
+abbrev pub IsCount : ℕ → Type 0
+IsCount n = n < 2 ^ 64
 
 -- The streams between a host and a later one were prepared: the ends of the host stand behind those that it had, and those of the later
 -- one behind those in its own row. So many were to be prepared, and the wire's count of faults was this before and that afterwards.
@@ -17,4 +22,10 @@ pub record GrowsBy {E : Type 0} (m : Means E) (host count faults faults_after : 
   pub lower : after ≡ slice_set rows host (stood ++ one ∷ [])
   pub later : own ≡ row ++ other ∷ []
   pub prepared : ArePrepared m newest one.items other.items
-  pub counted : AreNumbersOf count faults faults_after (numbers one.items)
+  pub counted : IsCount faults_after → AreNumbersOf count faults faults_after (numbers one.items)
+
+-- Hosts that had so many ends of streams have that many afterwards. Of so many streams that were to be prepared for them some may be missing,
+-- and the wire's count of faults rose from this to that, by at least as many.
+abbrev pub AreMissingBeside : (streams ends ends_after faults faults_after : ℕ) → Type 0
+AreMissingBeside streams ends ends_after faults faults_after =
+    (missing : ℕ) × (streams * 2 + ends ≤ ends_after + missing * 2) × HasRisenBy missing faults faults_after

@@ -1,5 +1,6 @@
 pub mod Obeyed
 pub mod Streams
+pub mod Cuts
 pub mod Preparing
 pub mod Parties
 pub mod Growing

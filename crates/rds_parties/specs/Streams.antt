@@ -1,8 +1,8 @@
 -- How many streams are prepared for a run. Source: this project's own.
-use Rattle.std.specs.Prelude.{◌≡◌, ◌≤◌, ◌+◌, ◌==◌, ◌&&◌, ◌||◌, ℕ, Bool, false, List, ◌∷◌, All, filter, length, sum_by}
+use Rattle.std.specs.Prelude.{◌≡◌, ◌≤◌, ◌+◌, ◌-◌, ◌*◌, ◌==◌, ◌&&◌, ◌||◌, ℕ, Bool, false, List, ◌∷◌, All, filter, length, sum_by}
 use Rattle.std.specs.List.{range_with_len}
 use Rattle.std.specs.List.Sorted.{IsStrictlyIncreasing}
-use Rattle.rds_link.specs.Streaming.{HasRisen}
+use Rattle.rds_link.specs.Streaming.{HasRisen, HasRisenBy}
 use Rattle.rds_model.specs.Alive.{up_to}
 use Rattle.rds_script.specs.Grammar.{Meaning}
 use Rattle.rds_script.specs.declared.script.Command.{Command}
@@ -35,8 +35,15 @@ abbrev pub AreAllUnlessRisen : (count before after : ℕ) → List ℕ → Type 
 AreAllUnlessRisen count before after list = (HasRisen before after → ⊥) → list ≡ up_to count
 
 -- These are the numbers of streams of which so many were to be prepared, where the wire's count of faults was this before and that
--- afterwards: they ascend from 1 and end there at the latest, and are all of them where that count didn't rise.
+-- afterwards: they ascend from 1 and end there at the latest, and are all of them where that count didn't rise. It rose by at least as many
+-- as are missing.
 pub record AreNumbersOf (count before after : ℕ) (list : List ℕ) : Type 0 where
   pub rising : IsStrictlyIncreasing (0 ∷ list)
   pub most : All (λ n. n ≤ count) list
   pub whole : AreAllUnlessRisen count before after list
+  pub missing : HasRisenBy (count - length list) before after
+
+-- Of so many streams that were to be prepared some may be missing; so many ends of the others are there, two of each. The wire's count of
+-- faults rose from this to that, by at least as many as are missing.
+abbrev pub AreMissing : (streams ends before after : ℕ) → Type 0
+AreMissing streams ends before after = (missing : ℕ) × (streams * 2 ≤ ends + missing * 2) × HasRisenBy missing before after

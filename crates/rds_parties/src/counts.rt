@@ -1,10 +1,13 @@
 //! How many streams are prepared for a run.
-ghost use Rattle.std.specs.Prelude.{◌≡◌, ◌≤◌, ◌*◌, ◌+◌, filter, length};
+ghost use Rattle.std.specs.Prelude.{◌≡◌, ◌≤◌, ◌*◌, ◌+◌, ℕ, IfOk, filter, filter_map, length};
 ghost use Rattle.rds_script.specs.Grammar.{meaning};
 ghost use Rattle.rds_script.specs.Script.{IsScript};
+ghost use Rattle.rds_parties.specs.Cuts.{cut_of as cut_alone, AreFewCuts};
 ghost use Rattle.rds_parties.specs.Streams.{cuts_between as cuts_of, is_cut_between as is_cut_of, prepared_streams as streams_of, streams_below as streams_of_host, streams_between as streams_of_pair};
 
 use rds_script::{Command, Placed, Script};
+use rds_wire::Memory;
+use std::alloc::{AllocError, Global};
 
 /// How many streams more are prepared between two hosts than the script has cuts between them.
 pub(crate) const MORE_STREAMS: u32 = 3;
@@ -42,16 +45,48 @@ fn streams_between(script: &Script, low: u8, high: u8) -> u32
     ensures count { result ≡ streams_of_pair low high script.now.commands.items }
     ensures most { result ≤ 1027 }
 {
-    cuts_between(script, low, high) + MORE_STREAMS
+    cuts_between(script.commands.as_slice(), low, high) + MORE_STREAMS
+}
+
+/// The cuts among the commands of a script, so that no other command is looked at again for each two hosts.
+pub(crate) fn cuts_of(alloc: Global, script: &Script) -> Result<Vec<Placed>, Memory>
+    requires { IsScript script.now }
+    ensures few { IfOk result (λ cuts. AreFewCuts cuts.items) }
+    ensures all { IfOk result (λ cuts. (low high : ℕ) → cuts_of low high cuts.items ≡ cuts_of low high script.now.commands.items) }
+{
+    Ok(only_cuts(alloc, script.commands.as_slice())?)
+}
+
+// The cuts among commands.
+fn only_cuts(alloc: Global, commands: &[Placed]) -> Result<Vec<Placed>, AllocError>
+    ensures { IfOk result (λ cuts. cuts.items ≡ filter_map cut_alone commands.now) }
+{
+    commands
+        .iter()
+        .filter_map(|placed| cut_of(placed))
+        .collect(alloc)
+}
+
+// The command, if it is a cut.
+fn cut_of(placed: &Placed) -> Option<Placed>
+    ensures { result ≡ cut_alone placed.now }
+{
+    match placed.command {
+        Command::Cut { host, to } => Some(Placed {
+            line: placed.line,
+            command: Command::Cut { host, to },
+        }),
+        _ => None,
+    }
 }
 
 /// How many cuts there are between two hosts, whichever of them cuts.
-pub(crate) fn cuts_between(script: &Script, low: u8, high: u8) -> u32
-    requires { IsScript script.now }
-    ensures count { result ≡ cuts_of low high script.now.commands.items }
+pub(crate) fn cuts_between(commands: &[Placed], low: u8, high: u8) -> u32
+    requires { AreFewCuts commands.now }
+    ensures count { result ≡ cuts_of low high commands.now }
     ensures most { result ≤ 1024 }
 {
-    cuts_among(script.commands.as_slice(), low, high) as u32
+    cuts_among(commands, low, high) as u32
 }
 
 // How many of the commands are cuts between two hosts.

@@ -1,18 +1,21 @@
 //! The streams of a run.
-ghost use Rattle.std.specs.Prelude.{◌≡◌, ℕ, ◌+◌, ◌≤◌, ◌<◌, [], ◌∷◌, ◌++◌, IfOk, OnOk, length};
+ghost use Rattle.std.specs.Prelude.{◌≡◌, ℕ, ◌+◌, ◌-◌, ◌≤◌, ◌<◌, [], ◌∷◌, ◌++◌, IfOk, OnOk, length};
+ghost use Rattle.rds_link.specs.Streaming.{HasRisenBy};
 ghost use Rattle.rds_line_streams.specs.Streams.{numbers};
 ghost use Rattle.rds_rounds.specs.Grid.{rows_of};
+ghost use Rattle.rds_script.specs.Grammar.{meaning};
 ghost use Rattle.rds_script.specs.Script.{IsScript};
-ghost use Rattle.rds_parties.specs.Growing.{GrowsBy};
+ghost use Rattle.rds_parties.specs.Cuts.{AreFewCuts};
+ghost use Rattle.rds_parties.specs.Growing.{AreMissingBeside, GrowsBy, IsCount};
 ghost use Rattle.rds_parties.specs.Held.{ends_of_row, ends_prepared};
 ghost use Rattle.rds_parties.specs.Preparing.{AreAllCounted, AreAllPrepared, ArePrepared};
-ghost use Rattle.rds_parties.specs.Streams.{AreAllUnlessRisen, AreNumbersOf, streams_between};
+ghost use Rattle.rds_parties.specs.Streams.{AreAllUnlessRisen, AreMissing, AreNumbersOf, prepared_streams, streams_below, streams_between};
 
-use crate::counts::{MORE_STREAMS, cuts_between};
+use crate::counts::{MORE_STREAMS, cuts_between, cuts_of};
 use rds_final::address;
 use rds_link::{End, Wire, WireError};
 use rds_rounds::Wanted;
-use rds_script::Script;
+use rds_script::{Placed, Script};
 use rds_wire::Memory;
 use std::alloc::Global;
 use std::net::Net;
@@ -72,17 +75,28 @@ pub fn prepare<W: Wire, R: Threads + Wait + Net>(
     requires { IsScript script.now }
     ensures prepared { IfOk result (λ p. AreAllPrepared W.End.means script.now.hosts (rows_of p.streams.items)) }
     ensures counted { IfOk result (λ p. AreAllCounted script.now.commands.items (W.faults wire.old) (W.faults wire.new) (rows_of p.streams.items)) }
+    ensures missing { IfOk result (λ p. AreMissing (prepared_streams (meaning script.now)) (ends_prepared (rows_of p.streams.items)) (W.faults wire.old) (W.faults wire.new)) }
     ensures grows { W.faults wire.old ≤ W.faults wire.new }
     ensures out { IfOk result (λ p. W.out wire.new ≤ W.out wire.old + ends_prepared (rows_of p.streams.items)) }
 {
+    let cuts = cuts_of(alloc, script)?;
     let mut prepared = Prepared {
         streams: Vec::new(alloc),
         wanted: Vec::new(alloc),
     };
     for host in 0..script.hosts {
-        add_host(rt, alloc, wire, script, host, &mut prepared)?;
+        add_host(rt, alloc, wire, cuts.as_slice(), host, &mut prepared)?;
     }
+    faults_of(wire);
     Ok(prepared)
+}
+
+// How many faults the wire has counted, which is a number of 64 bits.
+fn faults_of<W: Wire>(wire: &W) -> u64
+    ensures value { result ≡ W.faults wire.now }
+    ensures fits { IsCount (W.faults wire.now) }
+{
+    wire.counts().faults
 }
 
 // Opens the streams between this host and each one below it. Those are all that were prepared so far.
@@ -90,18 +104,19 @@ fn add_host<W: Wire, R: Threads + Wait + Net>(
     rt: &R,
     alloc: Global,
     wire: &mut W,
-    script: &Script,
+    all_cuts: &[Placed],
     host: u8,
     prepared: &mut Prepared<W::End>,
 ) -> Result<(), Memory>
-    requires script { IsScript script.now }
+    requires cuts { AreFewCuts all_cuts.now }
     requires prepared { AreAllPrepared W.End.means host (rows_of prepared.old.streams.items) }
     requires wanted { length prepared.old.wanted.items ≡ host }
     ensures prepared { OnOk result (AreAllPrepared W.End.means (host + 1) (rows_of prepared.new.streams.items)) }
     ensures wanted { OnOk result (length prepared.new.wanted.items ≡ host + 1) }
-    ensures counted { (before : ℕ) → before ≤ W.faults wire.old →
-        AreAllCounted script.now.commands.items before (W.faults wire.old) (rows_of prepared.old.streams.items) →
-        OnOk result (AreAllCounted script.now.commands.items before (W.faults wire.new) (rows_of prepared.new.streams.items)) }
+    ensures counted { (before : ℕ) → before ≤ W.faults wire.old → IsCount (W.faults wire.new) →
+        AreAllCounted all_cuts.now before (W.faults wire.old) (rows_of prepared.old.streams.items) →
+        OnOk result (AreAllCounted all_cuts.now before (W.faults wire.new) (rows_of prepared.new.streams.items)) }
+    ensures missing { IsCount (W.faults wire.new) → OnOk result (AreMissingBeside (streams_below host all_cuts.now) (ends_prepared (rows_of prepared.old.streams.items)) (ends_prepared (rows_of prepared.new.streams.items)) (W.faults wire.old) (W.faults wire.new)) }
     ensures grows { W.faults wire.old ≤ W.faults wire.new }
     ensures out { OnOk result (W.out wire.new + ends_prepared (rows_of prepared.old.streams.items) ≤ W.out wire.old + ends_prepared (rows_of prepared.new.streams.items)) }
 {
@@ -110,7 +125,7 @@ fn add_host<W: Wire, R: Threads + Wait + Net>(
         wanted: Vec::new(alloc),
     };
     for low in 0..host {
-        add_pair(rt, alloc, wire, script, low, host, prepared, &mut row)?;
+        add_pair(rt, alloc, wire, all_cuts, low, host, prepared, &mut row)?;
     }
     prepared.streams.push(row.streams)?;
     prepared.wanted.push(row.wanted)?;
@@ -122,22 +137,24 @@ fn add_pair<W: Wire, R: Threads + Wait + Net>(
     rt: &R,
     alloc: Global,
     wire: &mut W,
-    script: &Script,
+    all_cuts: &[Placed],
     low: u8,
     high: u8,
     prepared: &mut Prepared<W::End>,
     row: &mut Row<W::End>,
 ) -> Result<(), Memory>
-    requires script { IsScript script.now }
+    requires cuts { AreFewCuts all_cuts.now }
     requires streams { low < length prepared.old.streams.items }
     requires wanted { low < length prepared.old.wanted.items }
-    ensures grows { OnOk result (GrowsBy W.End.means low (streams_between low high script.now.commands.items) (W.faults wire.old) (W.faults wire.new) (rows_of prepared.old.streams.items) (rows_of prepared.new.streams.items) row.old.streams.items row.new.streams.items) }
+    ensures grows { OnOk result (GrowsBy W.End.means low (streams_between low high all_cuts.now) (W.faults wire.old) (W.faults wire.new) (rows_of prepared.old.streams.items) (rows_of prepared.new.streams.items) row.old.streams.items row.new.streams.items) }
+    ensures missing { IsCount (W.faults wire.new) → OnOk result (AreMissingBeside (streams_between low high all_cuts.now) (ends_prepared (rows_of prepared.old.streams.items) + ends_of_row row.old.streams.items)
+        (ends_prepared (rows_of prepared.new.streams.items) + ends_of_row row.new.streams.items) (W.faults wire.old) (W.faults wire.new)) }
     ensures wanted { length prepared.new.wanted.items ≡ length prepared.old.wanted.items }
     ensures faults { W.faults wire.old ≤ W.faults wire.new }
     ensures out { OnOk result (W.out wire.new + (ends_prepared (rows_of prepared.old.streams.items) + ends_of_row row.old.streams.items) ≤
         W.out wire.old + (ends_prepared (rows_of prepared.new.streams.items) + ends_of_row row.new.streams.items)) }
 {
-    let cuts = cuts_between(script, low, high);
+    let cuts = cuts_between(all_cuts, low, high);
     let opened = open_all(rt, alloc, wire, low, high, cuts + MORE_STREAMS)?;
     let lacks = opened.lacks;
     let low = usize::from(low);
@@ -158,7 +175,7 @@ fn open_all<W: Wire, R: Threads + Wait + Net>(
     count: u32,
 ) -> Result<Opened<W::End>, Memory>
     ensures prepared { IfOk result (λ opened. (newest : ℕ) × ArePrepared W.End.means newest opened.low.items opened.high.items) }
-    ensures counted { IfOk result (λ opened. AreNumbersOf count (W.faults wire.old) (W.faults wire.new) (numbers opened.low.items)) }
+    ensures counted { IsCount (W.faults wire.new) → IfOk result (λ opened. AreNumbersOf count (W.faults wire.old) (W.faults wire.new) (numbers opened.low.items)) }
     ensures grows { W.faults wire.old ≤ W.faults wire.new }
     ensures out { IfOk result (λ opened. W.out wire.new ≤ W.out wire.old + (length opened.low.items + length opened.high.items)) }
 {
@@ -187,6 +204,8 @@ fn open_next<W: Wire, R: Threads + Wait + Net>(
     ensures prepared { OnOk result (ArePrepared W.End.means (before + 1) opened.new.low.items opened.new.high.items) }
     ensures whole { (first : ℕ) → first ≤ W.faults wire.old → AreAllUnlessRisen before first (W.faults wire.old) (numbers opened.old.low.items) →
         OnOk result (AreAllUnlessRisen (before + 1) first (W.faults wire.new) (numbers opened.new.low.items)) }
+    ensures missing { (first : ℕ) → IsCount (W.faults wire.new) → HasRisenBy (before - length (numbers opened.old.low.items)) first (W.faults wire.old) →
+        OnOk result (HasRisenBy (before + 1 - length (numbers opened.new.low.items)) first (W.faults wire.new)) }
     ensures grows { W.faults wire.old ≤ W.faults wire.new }
     ensures out { OnOk result (W.out wire.new + (length opened.old.low.items + length opened.old.high.items) ≤
         W.out wire.old + (length opened.new.low.items + length opened.new.high.items)) }

@@ -1,16 +1,19 @@
-use Rattle.std.proofs.Common.{◌≡◌, ◌≤◌, ◌<◌, ℕ, suc, ◌+◌, List, Vec, [], ◌∷◌, ◌++◌, set, ap, sym, ◌∙◌, subst, arith}
+use Rattle.std.proofs.Common.{◌≡◌, ◌≤◌, ◌<◌, ℕ, suc, ◌+◌, List, Vec, [], ◌∷◌, ◌++◌, set, sum_by, ap, sym, ◌∙◌, subst, arith}
 use Rattle.std.specs.Global.{Global}
+use Rattle.std.specs.List.{range_with_len}
 use Rattle.std.proofs.lemmas.List.{map-append}
 use Rattle.std.proofs.lemmas.List.Sums.{sum_by_push}
 use Rattle.rds_rounds.specs.Grid.{rows_of}
 use Rattle.rds_link.specs.Ends.{Means}
 use Rattle.rds_line_streams.specs.Streams.{numbers}
-use Rattle.rds_parties.specs.Growing.{GrowsBy}
+use Rattle.rds_parties.specs.Growing.{AreMissingBeside, GrowsBy}
 use Rattle.rds_parties.specs.Held.{ends_of_row, ends_prepared}
 use Rattle.rds_parties.specs.Preparing.{AreAllCounted, AreAllPrepared}
 use Rattle.rds_parties.specs.Streams.{streams_between}
 use Rattle.rds_parties.proofs.Counted.{IsCounted, both_numbered, halfway_later, numbers_since}
 use Rattle.rds_parties.proofs.At.{length_map}
+use Rattle.rds_parties.proofs.Cuts.{sum_below_more}
+use Rattle.rds_parties.proofs.Missing.{missing_both, none_missing}
 use Rattle.rds_parties.proofs.Growing.{IsHalfway, halfway_more, halfway_pairs, halfway_rows, halfway_start}
 use Rattle.rds_parties.proofs.Made.{IsPair}
 use Rattle.rds_parties.proofs.streams.add_host.Goals as goal
@@ -26,10 +29,13 @@ loop-low-init g c =
           subst (λ (l : List (EndsOf g.row.W-End.Denot)). IsHalfway (IsPair m) c.args.host 0 rows l) (sym c.new.ensures.items)
           (halfway_start (IsPair m) c.args.host rows c.requires.prepared.shape c.requires.prepared.pairs);
       wanted = c.requires.wanted;
-      counted = λ before least all.
-          let holds = IsCounted c.args.script.now.commands.items before (g.W.Wire.faults c.args.wire.now) in
+      counted = λ before least small all.
+          let holds = IsCounted c.args.all_cuts.now before (g.W.Wire.faults c.args.wire.now) in
           subst (λ (l : List (EndsOf g.row.W-End.Denot)). IsHalfway holds c.args.host 0 rows l) (sym c.new.ensures.items)
           (halfway_start holds c.args.host rows c.requires.prepared.shape all);
+      missing = λ small.
+          none_missing (ends_prepared rows) (ends_prepared rows + ends_of_row c.new.result.items) (g.W.Wire.faults c.args.wire.now) (g.W.Wire.faults c.args.wire.now)
+          (omega arith) (omega arith);
       grows = omega arith;
       out = (let none : ends_of_row c.new.result.items ≡ 0 = ap ends_of_row c.new.ensures.items in omega (arith, none));
     }
@@ -57,7 +63,7 @@ loop-low-preserved g c =
     let grows = c.in_ok-add_pair.ensures.grows in
     let host = c.args.host in
     let low = c.loop-low.low in
-    let commands = c.args.script.now.commands.items in
+    let commands = c.args.all_cuts.now in
     let faults = g.W.Wire.faults c.loop-low.wire in
     let after = g.W.Wire.faults c.add_pair.new.wire in
     let rows = rows_of c.loop-low.prepared.streams.items in
@@ -70,12 +76,20 @@ loop-low-preserved g c =
           one_pair_more m (IsPair m) host low (streams_between low host commands) faults after rows new row own c.loop-low-test.true grows
           (grows.newest, grows.prepared) c.loop-low.invariant.half;
       wanted = c.add_pair.ensures.wanted ∙ c.loop-low.invariant.wanted;
-      counted = λ before least all.
+      counted = λ before least small all.
           let lower : before ≤ faults = omega (arith, least, so_far) in
           one_pair_more m (IsCounted commands before after) host low (streams_between low host commands) faults after rows new row own c.loop-low-test.true grows
           (both_numbered m grows.newest (streams_between low host commands) before after grows.one.items grows.other.items grows.prepared
-          (numbers_since (streams_between low host commands) before faults after (numbers grows.one.items) lower grows.counted))
-          (halfway_later commands before faults after host low rows row lower more (c.loop-low.invariant.counted before least all));
+          (numbers_since (streams_between low host commands) before faults after (numbers grows.one.items) lower (grows.counted small)))
+          (halfway_later commands before faults after host low rows row lower more small
+          (c.loop-low.invariant.counted before least (omega (arith, more, small)) all));
+      missing = λ small.
+          let old = rows_of c.args.prepared.now.streams.items in
+          subst (λ n. AreMissingBeside n (ends_prepared old) (ends_prepared new + ends_of_row own) (g.W.Wire.faults c.args.wire.now) after)
+          (sym (sum_below_more (λ low. streams_between low host commands) low))
+          (missing_both (sum_by (λ low. streams_between low host commands) (range_with_len 0 low)) (streams_between low host commands) (ends_prepared old)
+          (ends_prepared rows + ends_of_row row) (ends_prepared new + ends_of_row own) (g.W.Wire.faults c.args.wire.now) faults after more small
+          (c.loop-low.invariant.missing (omega (arith, more, small))) (c.in_ok-add_pair.ensures.missing small));
       grows = omega (arith, more, so_far);
       out = (let one = c.in_ok-add_pair.ensures.out in let past = c.loop-low.invariant.out in omega (arith, one, past));
     }
@@ -101,15 +115,15 @@ returns-clause-prepared g c =
     (record { shape = halfway_rows (IsPair m) host rows own half; pairs = halfway_pairs (IsPair m) host rows own half }))
 
 pub returns-clause-counted : goal.returns-clause-counted
-returns-clause-counted g c = λ before least counted.
-    let commands = c.args.script.now.commands.items in
+returns-clause-counted g c = λ before least small counted.
+    let commands = c.args.all_cuts.now in
     let after = g.W.Wire.faults c.loop-low.wire in
     let holds = IsCounted commands before after in
     let host = c.args.host in
     let rows = rows_of c.loop-low.prepared.streams.items in
     let own = c.loop-low.row.streams.items in
     let end : c.loop-low.low ≡ host = (let t = c.loop-low-test.false in let a = c.loop-low.auto.low-end in omega (arith, t, a)) in
-    let half = subst (λ n. IsHalfway holds host n rows own) end (c.loop-low.invariant.counted before least counted) in
+    let half = subst (λ n. IsHalfway holds host n rows own) end (c.loop-low.invariant.counted before least small counted) in
     let all = with_own c.loop-low.prepared.streams.items c.loop-low.row.streams c.push.new.self.items c.in_ok-push.ensures.items in
     subst (λ (l : List (List (EndsOf g.row.W-End.Denot))). AreAllCounted commands before after l) (sym all) (halfway_pairs holds host rows own half)
 
@@ -121,3 +135,18 @@ returns-clause-out g c =
     let one = sum_by_push ends_of_row rows own in
     let past = c.loop-low.invariant.out in
     omega (arith, all, one, past)
+
+pub returns-clause-missing : goal.returns-clause-missing
+returns-clause-missing g c = λ small.
+    let before = g.W.Wire.faults c.args.wire.now in
+    let after = g.W.Wire.faults c.loop-low.wire in
+    let host = c.args.host in
+    let old = ends_prepared (rows_of c.args.prepared.now.streams.items) in
+    let rows = rows_of c.loop-low.prepared.streams.items in
+    let own = c.loop-low.row.streams.items in
+    let end : c.loop-low.low ≡ host = (let t = c.loop-low-test.false in let a = c.loop-low.auto.low-end in omega (arith, t, a)) in
+    let all = ap ends_prepared (with_own c.loop-low.prepared.streams.items c.loop-low.row.streams c.push.new.self.items c.in_ok-push.ensures.items) in
+    subst (λ n. AreMissingBeside (sum_by (λ low. streams_between low host c.args.all_cuts.now) (range_with_len 0 host)) old n before after)
+    (sym (all ∙ sum_by_push ends_of_row rows own))
+    (subst (λ n. AreMissingBeside (sum_by (λ low. streams_between low host c.args.all_cuts.now) (range_with_len 0 n)) old (ends_prepared rows + ends_of_row own) before after)
+    end (c.loop-low.invariant.missing small))

@@ -1,4 +1,4 @@
-use Rattle.std.proofs.Common.{◌≡◌, ℕ, List, [], refl, rules, sym, subst, arith}
+use Rattle.std.proofs.Common.{◌≡◌, inl, ℕ, List, [], refl, rules, sym, subst, arith}
 use Rattle.rds_line_streams.specs.Streams.{numbers}
 use Rattle.rds_parties.specs.Preparing.{ArePrepared}
 use Rattle.rds_parties.specs.Streams.{AreAllUnlessRisen, AreNumbersOf}
@@ -18,6 +18,7 @@ loop-before-init g c =
       whole =
           subst (λ (l : List (ℕ × g.row.W-End.Denot)). AreAllUnlessRisen 0 (g.W.Wire.faults c.args.wire.now) (g.W.Wire.faults c.args.wire.now) (numbers l)) (sym low)
           (λ calm. refl);
+      missing = λ small. inl (omega arith);
       grows = omega arith;
       out = omega arith;
     }
@@ -26,6 +27,8 @@ pub loop-before-preserved : goal.loop-before-preserved
 loop-before-preserved g c = record {
   prepared = c.in_ok-open_next.ensures.prepared;
   whole = c.in_ok-open_next.ensures.whole (g.W.Wire.faults c.args.wire.now) c.loop-before.invariant.grows c.loop-before.invariant.whole;
+  missing = λ small. c.in_ok-open_next.ensures.missing (g.W.Wire.faults c.args.wire.now) small
+      (c.loop-before.invariant.missing (let more = c.open_next.ensures.grows in omega (arith, more, small)));
   grows = (let more = c.open_next.ensures.grows in let so_far = c.loop-before.invariant.grows in omega (arith, more, so_far));
   out = (let more = c.in_ok-open_next.ensures.out in let so_far = c.loop-before.invariant.out in omega (arith, more, so_far));
 }
@@ -34,10 +37,10 @@ pub returns-clause-prepared : goal.returns-clause-prepared
 returns-clause-prepared g c = (_, c.loop-before.invariant.prepared)
 
 pub returns-clause-counted : goal.returns-clause-counted
-returns-clause-counted g c =
+returns-clause-counted g c = λ small.
     let test = c.loop-before-test.false in
     let most = c.loop-before.auto.before-end in
     let end : c.loop-before.before ≡ c.args.count = omega (arith, test, most) in
     subst (λ n. AreNumbersOf n (g.W.Wire.faults c.args.wire.now) (g.W.Wire.faults c.loop-before.wire) (numbers c.loop-before.opened.low.items)) end
     (numbers_of g.W.End.End.means c.loop-before.before (g.W.Wire.faults c.args.wire.now) (g.W.Wire.faults c.loop-before.wire) c.loop-before.opened.low.items
-    c.loop-before.opened.high.items c.loop-before.invariant.prepared c.loop-before.invariant.whole)
+    c.loop-before.opened.high.items c.loop-before.invariant.prepared c.loop-before.invariant.whole (c.loop-before.invariant.missing small))

@@ -1,5 +1,7 @@
-use Rattle.std.proofs.Common.{◌≤◌, ◌+◌, length}
+use Rattle.std.proofs.Common.{◌≤◌, ◌+◌, ◌-◌, length}
+use Rattle.rds_link.specs.Streaming.{HasRisenBy}
 use Rattle.rds_line_streams.specs.Streams.{numbers}
+use Rattle.rds_parties.specs.Growing.{IsCount}
 use Rattle.rds_parties.specs.Preparing.{ArePrepared}
 use Rattle.rds_parties.specs.Streams.{AreAllUnlessRisen}
 use Rattle.rds_parties.proofs.streams.open_all.Given as goal
@@ -8,6 +10,7 @@ abbrev pub invariant-loop-before : goal.invariant-loop-before
 invariant-loop-before g l = record {
   prepared : ArePrepared g.W.End.End.means l.before l.opened.low.items l.opened.high.items;
   whole : AreAllUnlessRisen l.before (g.W.Wire.faults l.fn.wire) (g.W.Wire.faults l.wire) (numbers l.opened.low.items);
+  missing : IsCount (g.W.Wire.faults l.wire) → HasRisenBy (l.before - length (numbers l.opened.low.items)) (g.W.Wire.faults l.fn.wire) (g.W.Wire.faults l.wire);
   grows : g.W.Wire.faults l.fn.wire ≤ g.W.Wire.faults l.wire;
   out : g.W.Wire.out l.wire ≤ g.W.Wire.out l.fn.wire + (length l.opened.low.items + length l.opened.high.items);
 }

@@ -1,9 +1,10 @@
-use Rattle.std.proofs.Common.{rules, ℕ, ◌+◌, List, [], ◌∷◌, ◌++◌, sym, subst}
+use Rattle.std.proofs.Common.{rules, ℕ, ◌+◌, ◌-◌, length, List, [], ◌∷◌, ◌++◌, sym, subst}
 use Rattle.rds_parties.specs.Preparing.{ArePrepared}
-use Rattle.rds_link.specs.Streaming.{HasRisen}
+use Rattle.rds_link.specs.Streaming.{HasRisen, HasRisenBy}
 use Rattle.rds_line_streams.specs.Streams.{numbers}
 use Rattle.rds_parties.specs.Streams.{AreAllUnlessRisen}
 use Rattle.rds_parties.proofs.Counted.{all_more, all_refused}
+use Rattle.rds_parties.proofs.Missing.{missing_more, missing_refused}
 use Rattle.rds_parties.proofs.Preparing.{prepared_less, prepared_more}
 use Rattle.rds_parties.proofs.streams.open_next.Goals as goal
 
@@ -32,3 +33,18 @@ returns-in-Err-Fault-clause-whole g c = λ first least whole.
     let after = g.W.Wire.faults c.open.new.self in
     let risen : HasRisen before after = search rules in
     all_refused c.args.before first before after (numbers c.args.opened.now.low.items) least risen
+
+pub returns-in_ok-add-in-Ok-clause-missing : goal.returns-in_ok-add-in-Ok-clause-missing
+returns-in_ok-add-in-Ok-clause-missing g c = λ first small risen.
+    let n = c.args.before + 1 in
+    let after = g.W.Wire.faults c.open.new.self in
+    subst (λ (l : List (ℕ × g.row.W-End.Denot)). HasRisenBy (n - length (numbers l)) first after) (sym c.in_ok-add-in-Ok.ensures.low)
+    (missing_more c.args.before first (g.W.Wire.faults c.args.wire.now) after c.args.opened.now.low.items (n, c.in-Ok.first) c.open.ensures.faults small risen)
+
+-- refused where a stream is left out and no fault was counted
+pub returns-in-Err-Fault-clause-missing : goal.returns-in-Err-Fault-clause-missing
+returns-in-Err-Fault-clause-missing g c = λ first small risen.
+    let before = g.W.Wire.faults c.args.wire.now in
+    let after = g.W.Wire.faults c.open.new.self in
+    let refused : HasRisen before after = search rules in
+    missing_refused c.args.before (length (numbers c.args.opened.now.low.items)) first before after c.open.ensures.faults small refused risen

@@ -1,8 +1,17 @@
-use Rattle.std.proofs.Common.{ℕ, List, Vec, length, ap, sym, subst, arith}
+use Rattle.std.proofs.Common.{◌≡◌, ℕ, List, Vec, length, sum_by, ap, sym, ◌∙◌, subst, arith}
 use Rattle.std.specs.Global.{Global}
+use Rattle.std.specs.List.{range_with_len}
 use Rattle.rds_rounds.specs.Grid.{rows_of}
+use Rattle.rds_script.specs.Grammar.{meaning}
+use Rattle.rds_script.specs.declared.script.Placed.{Placed}
+use Rattle.rds_script.specs.declared.script.Script.{Script}
 use Rattle.rds_parties.specs.Preparing.{AreAllCounted, AreAllPrepared}
-use Rattle.rds_parties.proofs.Counted.{none_counted}
+use Rattle.rds_parties.specs.Growing.{AreMissingBeside}
+use Rattle.rds_parties.specs.Held.{ends_prepared}
+use Rattle.rds_parties.specs.Streams.{AreMissing, cuts_between, prepared_streams, streams_below}
+use Rattle.rds_parties.proofs.Counted.{counted_alike, none_counted}
+use Rattle.rds_parties.proofs.Cuts.{same_streams, sum_below_more}
+use Rattle.rds_parties.proofs.Missing.{missing_both, none_missing}
 use Rattle.rds_parties.proofs.Made.{none_prepared}
 use Rattle.rds_parties.proofs.streams.prepare.Goals as goal
 
@@ -12,10 +21,12 @@ loop-host-init g c = record {
       subst (λ (l : List (Vec (Vec (ℕ × g.row.W-End.Denot) Global) Global)). AreAllPrepared g.W.End.End.means 0 (rows_of l)) (sym c.new.ensures.items)
       (none_prepared g.W.End.End.means);
   wanted = ap length c.new-2.ensures.items;
-  counted =
+  counted = λ small.
       subst (λ (l : List (Vec (Vec (ℕ × g.row.W-End.Denot) Global) Global)).
-      AreAllCounted c.args.script.now.commands.items (g.W.Wire.faults c.args.wire.now) (g.W.Wire.faults c.args.wire.now) (rows_of l)) (sym c.new.ensures.items)
-      (none_counted c.args.script.now.commands.items (g.W.Wire.faults c.args.wire.now) (g.W.Wire.faults c.args.wire.now));
+      AreAllCounted c.in_ok-cuts.cuts.items (g.W.Wire.faults c.args.wire.now) (g.W.Wire.faults c.args.wire.now) (rows_of l)) (sym c.new.ensures.items)
+      (none_counted c.in_ok-cuts.cuts.items (g.W.Wire.faults c.args.wire.now) (g.W.Wire.faults c.args.wire.now));
+  missing = λ small.
+      none_missing 0 (ends_prepared (rows_of c.new.result.items)) (g.W.Wire.faults c.args.wire.now) (g.W.Wire.faults c.args.wire.now) (omega arith) (omega arith);
   grows = omega arith;
   out = omega arith;
 }
@@ -24,7 +35,48 @@ pub loop-host-preserved : goal.loop-host-preserved
 loop-host-preserved g c = record {
   prepared = c.in_ok-add_host.ensures.prepared;
   wanted = c.in_ok-add_host.ensures.wanted;
-  counted = c.in_ok-add_host.ensures.counted (g.W.Wire.faults c.args.wire.now) c.loop-host.invariant.grows c.loop-host.invariant.counted;
+  counted = λ small.
+      let more = c.add_host.ensures.grows in
+      let first = g.W.Wire.faults c.args.wire.now in
+      let same = c.as_slice.ensures.value in
+      subst (λ (l : List Placed). AreAllCounted l first (g.W.Wire.faults c.add_host.new.wire) (rows_of c.add_host.new.prepared.streams.items)) same
+      (c.in_ok-add_host.ensures.counted first c.loop-host.invariant.grows small
+      (subst (λ (l : List Placed). AreAllCounted l first (g.W.Wire.faults c.loop-host.wire) (rows_of c.loop-host.prepared.streams.items)) (sym same)
+      (c.loop-host.invariant.counted (omega (arith, more, small)))));
+  missing = λ small.
+      let more = c.add_host.ensures.grows in
+      let host = c.loop-host.host in
+      let old = ends_prepared (rows_of c.loop-host.prepared.streams.items) in
+      let new = ends_prepared (rows_of c.add_host.new.prepared.streams.items) in
+      let first = g.W.Wire.faults c.args.wire.now in
+      let before = g.W.Wire.faults c.loop-host.wire in
+      let after = g.W.Wire.faults c.add_host.new.wire in
+      let cuts = c.in_ok-cuts.cuts.items in
+      subst (λ n. AreMissingBeside n 0 new first after) (sym (sum_below_more (λ h. streams_below h cuts) host))
+      (missing_both (sum_by (λ h. streams_below h cuts) (range_with_len 0 host)) (streams_below host cuts) 0 old new first before after more small
+      (c.loop-host.invariant.missing (omega (arith, more, small)))
+      (subst (λ (l : List Placed). AreMissingBeside (streams_below host l) old new before after) c.as_slice.ensures.value (c.in_ok-add_host.ensures.missing small)));
   grows = (let more = c.add_host.ensures.grows in let so_far = c.loop-host.invariant.grows in omega (arith, more, so_far));
   out = (let one = c.in_ok-add_host.ensures.out in let past = c.loop-host.invariant.out in omega (arith, one, past));
 }
+
+pub returns-clause-counted : goal.returns-clause-counted
+returns-clause-counted g c =
+    counted_alike c.in_ok-cuts.cuts.items c.args.script.now.commands.items (g.W.Wire.faults c.args.wire.now) (g.W.Wire.faults c.loop-host.wire)
+    (rows_of c.loop-host.prepared.streams.items) c.in_ok-cuts.ensures.all (c.loop-host.invariant.counted c.faults_of.ensures.fits)
+
+-- for all hosts of a script
+of_script : (s : Script) (hosts ends before after : ℕ) (cuts : List Placed) → hosts ≡ s.hosts →
+    ((low high : ℕ) → cuts_between low high cuts ≡ cuts_between low high s.commands.items) →
+    AreMissingBeside (sum_by (λ host. streams_below host cuts) (range_with_len 0 hosts)) 0 ends before after → AreMissing (prepared_streams (meaning s)) ends before after
+unfolding prepared_streams
+of_script s hosts ends before after cuts all same missing =
+    let least = missing.1 in
+    let streams = ap (λ (n : ℕ). sum_by (λ host. streams_below host cuts) (range_with_len 0 n)) all ∙ same_streams cuts s.commands.items same s.hosts in
+    (missing.0, omega (arith, least, streams), missing.2)
+
+pub returns-clause-missing : goal.returns-clause-missing
+returns-clause-missing g c =
+    let end : c.loop-host.host ≡ c.args.script.now.hosts = (let t = c.loop-host-test.false in let a = c.loop-host.auto.host-end in omega (arith, t, a)) in
+    of_script c.args.script.now c.loop-host.host (ends_prepared (rows_of c.loop-host.prepared.streams.items)) (g.W.Wire.faults c.args.wire.now)
+    (g.W.Wire.faults c.loop-host.wire) c.in_ok-cuts.cuts.items end c.in_ok-cuts.ensures.all (c.loop-host.invariant.missing c.faults_of.ensures.fits)
