@@ -1,4 +1,4 @@
-ghost use Rattle.std.specs.Prelude.{◌≡◌, ◌⊎◌, ◌↔◌, ◌<◌, ℕ, IsTrue};
+ghost use Rattle.std.specs.Prelude.{◌≡◌, ◌⊎◌, ℕ, IfNone, IfSome};
 ghost use Rattle.rds_link.specs.Streaming.{HasRisen};
 ghost use Rattle.rds_script.specs.Script.{IsScript};
 ghost use Rattle.rds_script.specs.declared.cause.Cause.{Cause as Why};
@@ -100,8 +100,7 @@ where
         result }
     ensures tcp_unused { wire ≡ wires.Memory → tcp.new ≡ tcp.old }
 {
-    let streams = prepared_streams(&script);
-    if are_too_many(wire, streams) {
+    if let Some(streams) = too_many(wire, &script) {
         return refuse_streams(alloc, streams, sink);
     }
     match wire {
@@ -110,11 +109,21 @@ where
     }
 }
 
-// Whether so many streams are more than may be prepared for a run over this wire.
-fn are_too_many(wire: RunWire, streams: u64) -> bool
-    ensures { IsTrue result ↔ ((wire ≡ wires.Tcp) × (96 < streams)) }
+// How many streams would be prepared for the script, where those are more than may be prepared for a run over this wire. For a run in memory
+// they aren't counted.
+fn too_many(wire: RunWire, script: &Script) -> Option<u64>
+    requires { IsScript script.now }
+    ensures many { IfSome result (λ streams. (streams ≡ streams_of (meaning script.now)) × IsTooMany wire (meaning script.now)) }
+    ensures few { IfNone result (IsTooMany wire (meaning script.now) → ⊥) }
 {
-    wire == RunWire::Tcp && MAX_STREAMS < streams
+    if wire == RunWire::Memory {
+        return None;
+    }
+    let streams = prepared_streams(script);
+    if MAX_STREAMS < streams {
+        return Some(streams);
+    }
+    None
 }
 
 // Says how many streams would be prepared for the script.

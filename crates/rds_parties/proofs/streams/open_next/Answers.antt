@@ -41,10 +41,16 @@ returns-in_ok-add-in-Ok-clause-missing g c = λ first small risen.
     subst (λ (l : List (ℕ × g.row.W-End.Denot)). HasRisenBy (n - length (numbers l)) first after) (sym c.in_ok-add-in-Ok.ensures.low)
     (missing_more c.args.before first (g.W.Wire.faults c.args.wire.now) after c.args.opened.now.low.items (n, c.in-Ok.first) c.open.ensures.faults small risen)
 
--- refused where a stream is left out and no fault was counted
 pub returns-in-Err-Fault-clause-missing : goal.returns-in-Err-Fault-clause-missing
 returns-in-Err-Fault-clause-missing g c = λ first small risen.
     let before = g.W.Wire.faults c.args.wire.now in
     let after = g.W.Wire.faults c.open.new.self in
     let refused : HasRisen before after = search rules in
     missing_refused c.args.before (length (numbers c.args.opened.now.low.items)) first before after c.open.ensures.faults small refused risen
+
+-- refused where a stream is left out and no fault was counted
+pub returns-in-Err-Memory-clause-whole : goal.returns-in-Err-Memory-clause-whole
+returns-in-Err-Memory-clause-whole g c = search rules
+
+pub returns-in-Err-Memory-clause-missing : goal.returns-in-Err-Memory-clause-missing
+returns-in-Err-Memory-clause-missing g c = search rules
