@@ -31,12 +31,11 @@ use Rattle.rds_line_parts.specs.Counted.{IsCountedFor, IsPutFor}
 use Rattle.rds_line_parts.specs.CountedLaws.{counted_for_more, counted_for_read, put_for_more, put_for_read}
 use Rattle.rds_line_parts.specs.Delivery.{IsDelivery}
 use Rattle.rds_line_parts.specs.DeliveryLaws.{delivery_part, read_after_delivery}
-use Rattle.rds_line_parts.specs.Own.{IsAsRead, Own}
+use Rattle.rds_line_parts.specs.Own.{IsAsRead}
 use Rattle.rds_line_channel.specs.Channel.{with_conn}
-use Rattle.rds_line.specs.Acts as act
-use Rattle.rds_line.specs.Acts.{Acted, Acts, AsksNoPort, acted}
 use Rattle.rds_line.specs.Line.{LineView, line_past}
 use Rattle.rds_line.specs.Seats.{AreLooksFor, HasLooked, StoresNothing}
+use Rattle.rds_line.proofs.FrameActs.{delivered_acts, map_acts}
 use Rattle.rds_line.proofs.Passing.{ActsOnRead, PassesWith, passes_reads}
 use Rattle.rds_line.proofs.PortLooks.{looked_last, looks_again, looks_beside, looks_nobody, looks_slot}
 use Rattle.rds_line.proofs.Storing.{delivery_stores}
@@ -81,59 +80,6 @@ unasked_looks {size} verdict.Map other s f past steps was =
     looks_beside past steps (Read s f outcome.Map) (λ stream slot frame is. absurd (cc)) (λ stream frame is. absurd (cc)) was
 unasked_looks {size} verdict.OddMap other s f past steps was =
     looks_beside past steps (Read s f outcome.OddMap) (λ stream slot frame is. absurd (cc)) (λ stream frame is. absurd (cc)) was
-
-pub unasked_port : (v : Verdict) → ((port : ℕ) → v ≢ verdict.Deliver port) → (s : ℕ) (f : Frame) → AsksNoPort (Read s f (outcome_of v found.Unasked))
-unasked_port (verdict.Deliver port) other s f = absurd (other port refl)
-unasked_port verdict.Old other s f = tt
-unasked_port verdict.Ping other s f = tt
-unasked_port verdict.Void other s f = tt
-unasked_port verdict.AckOnly other s f = tt
-unasked_port verdict.Map other s f = tt
-unasked_port verdict.OddMap other s f = tt
-
--- how the line acted
-module _ {E M : Type 0} (old new : LineView E M) where
-  -- nothing was done with the frame at the tables
-  beside_acts : (s : ℕ) (f : Frame) (o : Outcome) → AsksNoPort (Read s f o) → new.ports ≡ old.ports → new.words ≡ old.words → new.own ≡ old.own →
-      ActsOnRead s f o old new
-  beside_acts s f o asks ports words own a acts =
-      subst (λ (h : PortSeat). Acts a (record { past = Read s f o ∷ line_past old; ports = h; words = new.words; own = new.own })) (sym ports)
-      (subst (λ (h : MeterSeat). Acts a (record { past = Read s f o ∷ line_past old; ports = old.ports; words = h; own = new.own })) (sym words)
-      (subst (λ (h : Own). Acts a (record { past = Read s f o ∷ line_past old; ports = old.ports; words = old.words; own = h })) (sym own)
-      (act.enters (Read s f o) asks acts)))
-
-  pub unasked_acts : (v : Verdict) → ((port : ℕ) → v ≢ verdict.Deliver port) → (s : ℕ) (f : Frame) →
-      new.ports ≡ old.ports → new.words ≡ old.words → new.own ≡ old.own → ActsOnRead s f (outcome_of v found.Unasked) old new
-  unasked_acts v other s f = beside_acts s f (outcome_of v found.Unasked) (unasked_port v other s f)
-
-  pub map_acts : (s : ℕ) (f : Frame) → new.ports ≡ old.ports → new.words ≡ old.words → new.own ≡ old.own → ActsOnRead s f outcome.Map old new
-  map_acts s f = beside_acts s f outcome.Map tt
-
-  -- a look found nobody
-  pub missed_acts : (port s : ℕ) (f : Frame) → new.ports ≡ knowing old.ports (after_look old.ports.view port None) → f.header.dport ≡ port →
-      new.words ≡ old.words → new.own ≡ old.own → ActsOnRead s f outcome.NoSocket old new
-  missed_acts port s f is there words own a acts =
-      let past = Read s f outcome.NoSocket ∷ line_past old in
-      let ports : new.ports ≡ act.looked_up old.ports f.header.dport None =
-      is ∙ ap (λ (p : ℕ). act.looked_up old.ports p None) (sym there) in
-      subst (λ (h : PortSeat). Acts a (record { past = past; ports = h; words = new.words; own = new.own })) (sym ports)
-      (subst (λ (h : MeterSeat). Acts a (record { past = past; ports = act.looked_up old.ports f.header.dport None; words = h; own = new.own })) (sym words)
-      (subst (λ (o : Own). Acts a (record { past = past; ports = act.looked_up old.ports f.header.dport None; words = old.words; own = o })) (sym own)
-      (act.misses s f acts)))
-
-  -- a look found a slot, and the datagram was counted there
-  pub delivered_acts : (slot port s : ℕ) (f : Frame) (ports : PortSeat) → ports ≡ knowing old.ports (after_look old.ports.view port (Some slot)) →
-      f.header.dport ≡ port → IsDelivery slot port (length f.payload) old.words new.words ports new.ports → new.own ≡ old.own →
-      ActsOnRead s f (outcome.Slot slot) old new
-  delivered_acts slot port s f ports is there delivery own a acts =
-      let n = length f.payload in
-      let looked : ports ≡ act.looked_up old.ports f.header.dport (Some slot) =
-      is ∙ ap (λ (p : ℕ). act.looked_up old.ports p (Some slot)) (sym there) in
-      let named : IsDelivery slot f.header.dport n old.words new.words ports new.ports =
-      subst (λ (k : ℕ). IsDelivery slot k n old.words new.words ports new.ports) (sym there) delivery in
-      let counted = subst (λ (h : PortSeat). IsDelivery slot f.header.dport n old.words new.words h new.ports) looked named in
-      subst (λ (o : Own). Acts a (record { past = Read s f (outcome.Slot slot) ∷ line_past old; ports = new.ports; words = new.words; own = o })) (sym own)
-      (act.delivers s slot f counted acts)
 
 -- a look was made at the port that the header names, and it found this
 looked_there : (seat : PortSeat) (port dport : ℕ) (found : Option ℕ) → dport ≡ port →

@@ -13,7 +13,19 @@ use Rattle.rds_line_channel.specs.declared.channel.Taken.{Taken}
 use Rattle.rds_line_channel.specs.declared.channel.Taken.TheVariants as taken
 use Rattle.rds_line.specs.Keeps.{KeepsLine, IsPulled}
 use Rattle.rds_line.specs.Line.{LineView, line_past}
+use Rattle.rds_line.proofs.Acting.{IsQuietPast, more_past, still_past}
 use Rattle.rds_line.proofs.Keeping.{keeps_plain, keeps_still, pulled_off, pulled_still}
+
+-- no frame was pulled, and no port asked, where bytes were taken
+pub taken_past : {E : Type 0} (m : Means E) (came : Result Taken Memory) {old new : ChannelView E} → (came ≡ Ok taken.Frame → TakesBytes true old new) →
+    (came ≡ Ok taken.Part → TakesBytes false old new × (new.piece ≡ [])) → (came ≡ Ok taken.Refused → EndsRefused m old new) →
+    OnErr came (new ≡ old) → IsQuietPast old.conn.log.past new.conn.log.past
+taken_past {E} m (Ok taken.Frame) frame part refused err = still_past (ap (λ (c : Connection). c.log.past) (frame refl).feeds.rest_same)
+taken_past {E} m (Ok taken.Part) frame part refused err = still_past (ap (λ (c : Connection). c.log.past) (part refl).0.feeds.rest_same)
+taken_past {E} m (Ok taken.Refused) frame part refused err =
+    let r = (refused refl).refuses in
+    more_past (Bad r.s r.header (refused refl).fault) tt (ap (λ (c : Connection). c.log.past) r.entry)
+taken_past {E} m (Err why) frame part refused err = still_past (ap (λ (c : ChannelView E). c.conn.log.past) err)
 
 module _ {E M : Type 0} (published : M → List (List ℕ)) (pulled : Bool) where
   -- all that a line keeps

@@ -2,6 +2,7 @@ mod Acting
 mod Verdicts
 mod Delivering
 mod Feeding
+mod FrameActs
 mod Fields
 mod Grounding
 mod Judging

@@ -17,7 +17,6 @@ use Rattle.rds_meter.specs.Places.{taken_word}
 use Rattle.rds_meter.specs.Seats.{MeterSeat}
 use Rattle.rds_wire.specs.declared.frame.Frame.{Frame}
 use Rattle.rds_model.specs.declared.entry.Entry.{Entry}
-use Rattle.rds_model.specs.declared.entry.Entry.TheVariants.{Bad, Read}
 use Rattle.rds_model.specs.declared.order.Datagram.{Datagram}
 use Rattle.rds_model.specs.declared.order.Order.{Order}
 use Rattle.rds_model.specs.Honest.{Begins}
@@ -38,13 +37,12 @@ use Rattle.rds_line_channel.specs.Channel.{ChannelView, CutsView, with_conn}
 use Rattle.rds_line_channel.specs.Changes.{EndsRefused, TakesBytes}
 use Rattle.rds_line_channel.specs.declared.channel.Taken.{Taken}
 use Rattle.rds_line_channel.specs.declared.channel.Taken.TheVariants as taken
-use Rattle.rds_line.specs.Acts.{Acts, AsksNoPort, acted, nothing}
+use Rattle.rds_line.specs.Acts.{Acts, acted}
 use Rattle.rds_line.specs.Line.{LineView, line_past, pulls_in}
 use Rattle.rds_line.specs.Seats.{WasAlwaysTold}
 use Rattle.rds_line.specs.Stays.{AreSameBoxes, ChannelStays}
 use Rattle.rds_line.specs.Steps.{PassesOne, StaysQuiet}
-use Rattle.rds_line.proofs.Acting.{IsQuietPast, entry_acts, more_past, still_past}
-use Rattle.rds_line.proofs.Passing.{ActsOnRead, acts_after, acts_passed, moment_after, passes_reads, read_past}
+use Rattle.rds_line.proofs.Passing.{moment_after, passes_reads, read_past}
 use Rattle.rds_line.proofs.PortLooks.{told_looked}
 use Rattle.rds_line.proofs.Staying.{channel_of, channel_same, conn_stays, ending_stays}
 use Rattle.rds_line.proofs.Same.{begins_of, begins_through, boxes_same, same_port_view, same_view}
@@ -204,26 +202,6 @@ passed_pulls {came} {old} {new} p =
     let r = passes_reads came old new p o refl in
     ap pulls_in r.past ∙ read_pulls p.stream p.frame o old.log.past (pong_for o p.frame.header.sport)
 
--- no frame was pulled, and no port asked, where the line has acted so whatever its seats were
-pub passed_past : {came : Found} {old new : Connection} (p : Passes came old new) →
-    AsksNoPort (Read p.stream p.frame (outcome_of (verdict_of old.log.past p.frame.header) came)) → IsQuietPast old.log.past new.log.past
-passed_past {came} {old} {new} p asks =
-    let o = outcome_of (verdict_of old.log.past p.frame.header) came in
-    let r = passes_reads came old new p o refl in
-    record {
-      pulls = passed_pulls p;
-      acts = λ a b is acts.
-          subst (λ (l : List Entry). Acts a (record b { past = l })) (sym r.past)
-          (acts_after p.stream p.frame o old.log.past a b (pong_for o p.frame.header.sport)
-          (entry_acts (Read p.stream p.frame o) old.log.past (Read p.stream p.frame o ∷ old.log.past) asks refl a b is acts));
-    }
-
--- and the line acted on
-pub passed_acts : {E M : Type 0} {came : Found} (old new : LineView E M) (p : Passes came old.channel.conn new.channel.conn) (o : Outcome) →
-    outcome_of (verdict_of (line_past old) p.frame.header) came ≡ o → ActsOnRead p.stream p.frame o old new → Acts (acted old) (acted new)
-passed_acts {E} {M} {came} old new p o is acts =
-    acts_passed old new (passes_reads came old.channel.conn new.channel.conn p o is) acts (acted old) nothing
-
 -- and it was passed as the view of the line tells
 pub passed_one : {E M : Type 0} {came : Found} {inside old : LineView E M} → inside ≡ old → (new : ChannelView E) →
     Passes came inside.channel.conn new.conn → new ≡ with_conn inside.channel new.conn → PassesOne old.channel new
@@ -279,16 +257,6 @@ module _ {E : Type 0} {m : Means E} where
   taken_stays (Ok taken.Part) {old} {new} frame part refused err = fed_stays false old new (part refl).0
   taken_stays (Ok taken.Refused) {old} {new} frame part refused err = refused_stays old new (refused refl)
   taken_stays (Err why) {old} {new} frame part refused err = channel_of m old new old err (channel_same m old)
-
-  pub taken_past : (came : Result Taken Memory) {old new : ChannelView E} → (came ≡ Ok taken.Frame → TakesBytes true old new) →
-      (came ≡ Ok taken.Part → TakesBytes false old new × (new.piece ≡ [])) → (came ≡ Ok taken.Refused → EndsRefused m old new) →
-      OnErr came (new ≡ old) → IsQuietPast old.conn.log.past new.conn.log.past
-  taken_past (Ok taken.Frame) frame part refused err = still_past (ap (λ (c : Connection). c.log.past) (frame refl).feeds.rest_same)
-  taken_past (Ok taken.Part) frame part refused err = still_past (ap (λ (c : Connection). c.log.past) (part refl).0.feeds.rest_same)
-  taken_past (Ok taken.Refused) frame part refused err =
-      let r = (refused refl).refuses in
-      more_past (Bad r.s r.header (refused refl).fault) tt (ap (λ (c : Connection). c.log.past) r.entry)
-  taken_past (Err why) frame part refused err = still_past (ap (λ (c : ChannelView E). c.conn.log.past) err)
 
   module _ {M Name : Type 0} {pair : M → Name} where
     -- the line took no order and pulled no frame, and each of its parts stays the same one

@@ -19,9 +19,10 @@ use Rattle.rds_line_parts.specs.Delivery.{IsDelivery}
 use Rattle.rds_line.proofs.Staying.{channel_same}
 use Rattle.rds_line.proofs.Same.{boxes_same}
 use Rattle.rds_line.proofs.Passing.{keeps_passed}
-use Rattle.rds_line.proofs.Delivering.{delivered_acts, delivery_fits, missed_acts, nobody_looks, passes_delivery, passes_quietly}
+use Rattle.rds_line.proofs.Delivering.{delivery_fits, nobody_looks, passes_delivery, passes_quietly}
+use Rattle.rds_line.proofs.FrameActs.{delivered_acts, missed_acts, passed_acts}
 use Rattle.rds_line.proofs.Verdicts.{datagram_is, port_is, ready_inside, verdict_here, waits_inside}
-use Rattle.rds_line.proofs.StaysPassed.{at_err, at_ok, boxes_as, line_quiet, passed_acts, passed_one, passed_pulls, passed_stays, put_same, same_seats, seats_looked, seats_through}
+use Rattle.rds_line.proofs.StaysPassed.{at_err, at_ok, boxes_as, line_quiet, passed_one, passed_pulls, passed_stays, put_same, same_seats, seats_looked, seats_through}
 use Rattle.rds_line.proofs.line.Line.deliver.Goals as goal
 
 pub returns-in_default : goal.returns-in_default

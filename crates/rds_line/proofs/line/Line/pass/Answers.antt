@@ -4,11 +4,12 @@ use Rattle.rds_model.specs.Reading.{verdict_of}
 use Rattle.rds_conn.specs.declared.conn.Found.TheVariants as found
 use Rattle.rds_conn.specs.Passing.{outcome_of}
 use Rattle.rds_line.proofs.Passing.{keeps_passed}
-use Rattle.rds_line.proofs.Delivering.{passes_quietly, unasked_acts, unasked_kept, unasked_looks, unasked_port, unmapped}
+use Rattle.rds_line.proofs.Delivering.{passes_quietly, unasked_kept, unasked_looks, unmapped}
+use Rattle.rds_line.proofs.FrameActs.{passed_past, unasked_acts, unasked_port}
 use Rattle.rds_line.proofs.Verdicts.{verdict_there}
 use Rattle.rds_line.proofs.Fields.{view_in}
 use Rattle.rds_line.proofs.Quiet.{quiet_inside}
-use Rattle.rds_line.proofs.StaysPassed.{passed_one, passed_past, passed_stays}
+use Rattle.rds_line.proofs.StaysPassed.{passed_one, passed_stays}
 use Rattle.rds_line.proofs.line.Line.pass.Goals as goal
 
 pub invariant_of-self : goal.invariant_of-self

@@ -13,9 +13,10 @@ use Rattle.rds_line.proofs.Fields.{view_in}
 use Rattle.rds_line.proofs.Staying.{channel_same}
 use Rattle.rds_line.proofs.Same.{boxes_same}
 use Rattle.rds_line.proofs.Passing.{keeps_passed, keeps_unpublished}
-use Rattle.rds_line.proofs.Delivering.{map_acts, passes_map}
+use Rattle.rds_line.proofs.Delivering.{passes_map}
+use Rattle.rds_line.proofs.FrameActs.{map_acts, passed_acts}
 use Rattle.rds_line.proofs.Verdicts.{map_is, map_length, ready_inside, verdict_here, waits_inside}
-use Rattle.rds_line.proofs.StaysPassed.{at_err, at_value, line_quiet, passed_acts, passed_one, passed_pulls, passed_stays, seats_same}
+use Rattle.rds_line.proofs.StaysPassed.{at_err, at_value, line_quiet, passed_one, passed_pulls, passed_stays, seats_same}
 use Rattle.rds_line.proofs.line.Line.publish.Goals as goal
 
 pub publish-requires : goal.publish-requires

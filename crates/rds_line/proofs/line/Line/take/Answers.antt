@@ -1,11 +1,11 @@
 use Rattle.std.proofs.Common.{ap}
 use Rattle.rds_line_channel.specs.Channel.{ChannelView}
 use Rattle.rds_line.proofs.Acting.{past_through, still_past}
-use Rattle.rds_line.proofs.Feeding.{keeps_fed}
+use Rattle.rds_line.proofs.Feeding.{keeps_fed, taken_past}
 use Rattle.rds_line.proofs.Fields.{view_in}
 use Rattle.rds_line.proofs.Quiet.{quiet_inside}
 use Rattle.rds_line.proofs.Staying.{channel_of, channel_same, channel_through}
-use Rattle.rds_line.proofs.StaysPassed.{taken_past, taken_stays}
+use Rattle.rds_line.proofs.StaysPassed.{taken_stays}
 use Rattle.rds_line.proofs.Written.{made_room}
 use Rattle.rds_line.proofs.Unlogged.{keeps_alike}
 use Rattle.rds_line.proofs.line.Line.take.Goals as goal
@@ -35,7 +35,7 @@ returns-clause-quiet g c =
     (channel_through m i c.reserve.new.self c.take.new.self (made_room m i c.reserve.new.self room)
     (taken_stays c.take.result did.frame did.part did.refused did.err))
     (past_through (still_past (ap (λ (k : ChannelView g.row.E.Denot). k.conn.log.past) room))
-    (taken_past {m = m} c.take.result did.frame did.part did.refused did.err))
+    (taken_past m c.take.result did.frame did.part did.refused did.err))
 
 pub invariant_of-self : goal.invariant_of-self
 invariant_of-self g c =
