@@ -14,3 +14,4 @@ pub mod Counted
 pub mod Totalled
 pub mod Parted
 pub mod Parting
+pub mod Added

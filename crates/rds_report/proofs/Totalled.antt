@@ -100,7 +100,7 @@ module _ (ends : List FinalHost) (are : AreFinalHosts ends) (to : ℕ) (sorted :
 
 -- counts of two lists of pairs together
 
-plus_nothing : (c : Counts) → plus (total []) c ≡ c
+pub plus_nothing : (c : Counts) → plus (total []) c ≡ c
 plus_nothing c =
     same_counts (zero-add c.accepted) (zero-add c.received) (zero-add c.unread) (zero-add c.dropped) (zero-add c.port0) (zero-add c.cancelled)
 

@@ -1,6 +1,6 @@
 -- Private: it serves the contracts of the private functions that count items, add them up and print the counts.
 -- Source: this project's own.
-use Rattle.std.specs.Prelude.{◌≡◌, ℕ, zero, suc, ◌+◌, ◌==◌, if◌then◌else◌, List, [], ◌∷◌, length, map, codes}
+use Rattle.std.specs.Prelude.{◌≡◌, ◌<◌, ◌^◌, ℕ, zero, suc, ◌+◌, ◌==◌, if◌then◌else◌, List, [], ◌∷◌, length, map, codes}
 use Rattle.std.specs.List.{flat_map, sum_by}
 use Rattle.std.specs.Fmt.{decimal}
 use Rattle.rds_text.specs.Lines.{phrase}
@@ -12,6 +12,7 @@ use Rattle.rds_model.specs.declared.order.Datagram.{Datagram}
 use Rattle.rds_report.specs.declared.totals.Totals.{Totals}
 use Rattle.rds_final.specs.FinalState.{FinalHost}
 use Rattle.rds_final.specs.Hosts.{address_of}
+use Rattle.rds_final.specs.Views.{AreFinalHosts}
 use Rattle.rds_final.specs.Report.{Counts, ascending, counts, received}
 use Rattle.rds_report.specs.Summary.{plus, total}
 use Rattle.rds_report.specs.ItemReport.{accepted_pairs, count_of, groups_to, is_accepted, of_pair}
@@ -73,7 +74,24 @@ abbrev pub bytes_below : List FinalHost → (n : ℕ) → ℕ
 bytes_below hosts zero = 0
 bytes_below hosts (suc n) = bytes_below hosts n + bytes_to hosts (address_of n)
 
+-- the counts and the bytes of totals
+abbrev pub totals_counts : Totals → Counts
+totals_counts t = seen_counts t.counts
+
+abbrev pub totals_bytes : Totals → ℕ
+totals_bytes t = t.bytes
+
 -- the totals are these counts and bytes
 pub record AreTotals (t : Totals) (c : Counts) (n : ℕ) : Type 0 where
   pub counts : seen_counts t.counts ≡ c
   pub bytes : t.bytes ≡ n
+
+-- the totals of so many hosts as there may be don't overflow where each is like these
+pub record IsSmall (t : Totals) : Type 0 where
+  pub few : count_all (totals_counts t) < 2 ^ 64
+  pub short : t.bytes < 2 ^ 96
+
+-- the totals are those of all port pairs to the host at an address
+pub record AreTotalsTo (hosts : List FinalHost) (to : ℕ) (t : Totals) : Type 0 where
+  pub exact : AreFinalHosts hosts → AreTotals t (counts_to hosts to) (bytes_to hosts to)
+  pub small : IsSmall t

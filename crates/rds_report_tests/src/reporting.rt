@@ -176,7 +176,7 @@ fn receiver(alloc: Global) -> Result<HostEnd, Fail> {
 fn a_summary(rt: HostRuntime) -> Result<(), Fail> {
     let mut text = String::new(rt.alloc());
     let hosts = vec![in rt.alloc(); sender(rt.alloc())?, receiver(rt.alloc())?]?;
-    summary(rt.alloc(), &mut text, &hosts, 7, 1500)?;
+    summary(&rt, rt.alloc(), &mut text, &hosts, 7, 1500)?;
     let lines =
         "seed 7 sends 1500 hosts 8 sockets 32 cuts 3 accepted 17 received 3 unread 2 dropped 1 port0 5 cancelled 4 bytes 15
 end ok

@@ -55,7 +55,7 @@ fn texts_of<R: Threads + Sync>(
         Form::Report => report_parts(rt, alloc, ends),
         Form::Summary { seed, sends } => {
             let mut text = String::new(alloc);
-            summary(alloc, &mut text, ends, seed, sends)?;
+            summary(rt, alloc, &mut text, ends, seed, sends)?;
             Ok(vec![in alloc; text]?)
         }
     }

@@ -6,7 +6,7 @@ use Rattle.rds_report.specs.Summary.{all_counts, received_bytes, summary_line}
 use Rattle.rds_report.proofs.summing.summary.Goals as goal
 
 pub returns-clause-exact : goal.returns-clause-exact
-returns-clause-exact c = λ are.
+returns-clause-exact g c = λ are.
     let ends = host_views c.args.hosts.now in
     let old = string_bytes c.args.text.now in
     let line : Counts → ℕ → List ℕ = summary_line c.args.seed c.args.sends in
