@@ -1,5 +1,5 @@
 -- The totals of the hosts, one by one, together are those of all.
-use Rattle.std.proofs.Common.{◌≡◌, ◌+◌, ◌∙◌, ◌++◌, ℕ, zero, suc, zero-add, List, [], ◌∷◌, length, map, Result, Ok, IfOk, arith, refl, sym, ap, subst}
+use Rattle.std.proofs.Common.{◌≡◌, ◌+◌, ◌∙◌, ◌++◌, ℕ, zero, suc, zero-add, List, [], ◌∷◌, length, map, Result, Ok, IfOk, arith, refl, sym, ap}
 use Rattle.std.specs.List.{All, AllZip, range_with_len, sum_by}
 use Rattle.std.proofs.lemmas.List.Elements.{All-cons, All-nil}
 use Rattle.std.proofs.lemmas.List.Sums.{sum_by-append, sum_by-cons}
@@ -10,7 +10,7 @@ use Rattle.rds_final.specs.Report.{Counts}
 use Rattle.rds_final.specs.Views.{AreFinalHosts}
 use Rattle.rds_report.specs.declared.totals.Totals.{Totals}
 use Rattle.rds_report.specs.Summary.{all_counts, plus, received_bytes, total}
-use Rattle.rds_report.specs.ItemTotals.{AreTotals, AreTotalsTo, IsSmall, bytes_below, bytes_to, counts_below, counts_to, totals_bytes, totals_counts}
+use Rattle.rds_report.specs.ItemTotals.{AreTotals, AreTotalsTo, IsSmall, bytes_below, bytes_to, counts_below, totals_bytes, totals_counts}
 use Rattle.rds_text.specs.declared.host.TheConstants.{MAX_HOSTS}
 use Rattle.rds_report.proofs.Counted.{plus_assoc, same_counts}
 use Rattle.rds_report.proofs.Totalled.{bytes_all, counts_all, plus_nothing}

@@ -7,7 +7,7 @@ use Rattle.std.proofs.lemmas.Grind.{flat_map-append}
 use Rattle.rds_model.specs.declared.entry.Entry.{Entry}
 use Rattle.rds_model.specs.declared.entry.Entry.TheVariants.{Accept, Cancel, Open, Pull, Read, Shut, Bad}
 use Rattle.rds_model.specs.Past.{accepted}
-use Rattle.rds_report.specs.declared.item.Item.{Item}
+use Rattle.rds_report.specs.Item.{Item}
 use Rattle.rds_model.specs.Streams.{was_passed}
 use Rattle.rds_report.specs.Items.{acceptance_items, came_items, arrival_items, has_cancellation, is_lost, sent_items, accepted_items}
 use Rattle.rds_report.proofs.Walked.{untaken}

@@ -6,7 +6,7 @@ use Rattle.std.proofs.lemmas.List.Folds.{list_any-append}
 use Rattle.rds_model.specs.declared.entry.Entry.{Entry}
 use Rattle.rds_model.specs.declared.entry.Entry.TheVariants.{Accept}
 use Rattle.rds_model.specs.Past.{accepted}
-use Rattle.rds_report.specs.declared.item.Item.{Item}
+use Rattle.rds_report.specs.Item.{Item}
 use Rattle.rds_final.specs.Hosts.{IsAddress}
 use Rattle.rds_final.specs.FinalState.{FinalJournal, FinalHost, past_of}
 use Rattle.rds_final.specs.Report.{Group, accepted_groups}

@@ -11,8 +11,7 @@ use Rattle.rds_model.specs.declared.entry.Entry.TheVariants.{Accept, Read}
 use Rattle.rds_model.specs.declared.entry.Outcome.{Outcome}
 use Rattle.rds_model.specs.declared.entry.Outcome.TheVariants as outcome
 use Rattle.rds_model.specs.Past.{accepted}
-use Rattle.rds_report.specs.declared.item.What.TheVariants.{Received, Unread}
-use Rattle.rds_report.specs.declared.item.Item.{Item}
+use Rattle.rds_report.specs.Item.{Received, Unread, Item}
 use Rattle.rds_model.specs.Log.{Log}
 use Rattle.rds_final.specs.Views.{side_view}
 use Rattle.rds_final.specs.FinalState.{FinalJournal, FinalHost, FinalSocket, past_of}

@@ -6,7 +6,7 @@ use Rattle.std.proofs.lemmas.List.{append-nil}
 use Rattle.std.proofs.lemmas.Grind.{flat_map-append}
 use Rattle.rds_wire.specs.declared.memory.Memory.{Memory}
 use Rattle.rds_text.specs.declared.host.TheConstants.{MAX_HOSTS}
-use Rattle.rds_report.specs.declared.item.Item.{Item}
+use Rattle.rds_report.specs.Item.{Item}
 use Rattle.rds_final.specs.Hosts.{IsAddress, address_of}
 use Rattle.rds_final.specs.FinalState.{FinalHost}
 use Rattle.rds_final.specs.Report.{Group, is_before, ascending, groups, group_text}

@@ -9,9 +9,7 @@ use Rattle.rds_model.specs.declared.entry.Entry.TheVariants.{Accept, Read}
 use Rattle.rds_model.specs.declared.entry.Outcome.{Outcome}
 use Rattle.rds_model.specs.declared.entry.Outcome.TheVariants as outcome
 use Rattle.rds_model.specs.Past.{accepted}
-use Rattle.rds_report.specs.declared.item.What.{What}
-use Rattle.rds_report.specs.declared.item.What.TheVariants.{Accepted, Received, Unread, Dropped, Port0, Cancelled}
-use Rattle.rds_report.specs.declared.item.Item.{Item}
+use Rattle.rds_report.specs.Item.{What, Accepted, Received, Unread, Dropped, Port0, Cancelled, Item}
 use Rattle.rds_final.specs.FinalState.{FinalSocket}
 use Rattle.rds_final.specs.Report.{Group}
 use Rattle.rds_report.specs.Items.{item, accepted_items, sent_items, read_items, came_items, socket_items}

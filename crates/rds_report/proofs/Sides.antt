@@ -5,8 +5,7 @@ use Rattle.std.specs.List.{flat_map}
 use Rattle.std.proofs.lemmas.Bool.{eqb-true}
 use Rattle.std.proofs.lemmas.List.{append-nil}
 use Rattle.rds_model.specs.declared.entry.Entry.{Entry}
-use Rattle.rds_report.specs.declared.item.What.{What}
-use Rattle.rds_report.specs.declared.item.Item.{Item}
+use Rattle.rds_report.specs.Item.{What, Item}
 use Rattle.rds_final.specs.FinalState.{FinalSocket, FinalJournal, FinalHost, past_with, past_of, sockets_of}
 use Rattle.rds_final.specs.Report.{Group}
 use Rattle.rds_report.specs.Items.{sent_items, came_items, socket_items, is_lost, side_items, host_items, items}

@@ -13,9 +13,7 @@ use Rattle.rds_model.specs.Past.{accepted, number}
 use Rattle.rds_model.specs.Alive.{was_taken_back}
 use Rattle.rds_model.specs.Streams.{was_passed}
 use Rattle.rds_model.specs.Pairs.{accepted_for, read_with, is_drop, is_port_0}
-use Rattle.rds_report.specs.declared.item.What.{What}
-use Rattle.rds_report.specs.declared.item.What.TheVariants.{Accepted, Received, Unread, Dropped, Port0, Cancelled}
-use Rattle.rds_report.specs.declared.item.Item.{Item}
+use Rattle.rds_report.specs.Item.{What, Accepted, Received, Unread, Dropped, Port0, Cancelled, Item}
 use Rattle.rds_final.specs.FinalState.{FinalSocket, FinalHost, past_of, sockets_of}
 use Rattle.rds_final.specs.Report.{Group, Counts, of_group, received, unread, counts, counts_line, data_line, group_text, pair_text}
 use Rattle.rds_report.specs.Items.{item, accepted_items, sent_items, read_items, came_items, socket_items, is_lost, items}

@@ -2,9 +2,7 @@
 use Rattle.std.specs.Prelude.{◌≡◌, ℕ, zero, suc, ⊤, ◌==◌, if◌then◌else◌, ◌&&◌, Bool, true, false, List, [], ◌∷◌, ◌++◌, length, filter, map, codes}
 use Rattle.std.specs.List.{flat_map, list_any}
 use Rattle.rds_text.specs.Words.{hex}
-use Rattle.rds_report.specs.declared.item.What.{What}
-use Rattle.rds_report.specs.declared.item.What.TheVariants.{Accepted, Received, Unread, Dropped, Port0, Cancelled}
-use Rattle.rds_report.specs.declared.item.Item.{Item}
+use Rattle.rds_report.specs.Item.{What, Accepted, Received, Unread, Dropped, Port0, Cancelled, Item}
 use Rattle.rds_final.specs.FinalState.{FinalHost}
 use Rattle.rds_final.specs.Hosts.{IsAddress, address_of}
 use Rattle.rds_text.specs.Lines.{text_line}

@@ -5,9 +5,7 @@ use Rattle.std.specs.List.{flat_map, sum_by}
 use Rattle.std.specs.Fmt.{decimal}
 use Rattle.rds_text.specs.Lines.{phrase}
 use Rattle.rds_report.specs.declared.counts.Counts.{Counts as Fates}
-use Rattle.rds_report.specs.declared.item.What.{What}
-use Rattle.rds_report.specs.declared.item.What.TheVariants.{Received}
-use Rattle.rds_report.specs.declared.item.Item.{Item}
+use Rattle.rds_report.specs.Item.{What, Received, Item}
 use Rattle.rds_model.specs.declared.order.Datagram.{Datagram}
 use Rattle.rds_report.specs.declared.totals.Totals.{Totals}
 use Rattle.rds_final.specs.FinalState.{FinalHost}

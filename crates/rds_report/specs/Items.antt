@@ -12,9 +12,7 @@ use Rattle.rds_model.specs.Log.{Log}
 use Rattle.rds_model.specs.Alive.{up_to, was_taken_back}
 use Rattle.rds_model.specs.Streams.{was_passed}
 use Rattle.rds_report.specs.declared.item.Group.{Group as Key}
-use Rattle.rds_report.specs.declared.item.What.{What}
-use Rattle.rds_report.specs.declared.item.What.TheVariants.{Accepted, Received, Unread, Dropped, Port0, Cancelled}
-use Rattle.rds_report.specs.declared.item.Item.{Item}
+use Rattle.rds_report.specs.Item.{What, Accepted, Received, Unread, Dropped, Port0, Cancelled, Item}
 use Rattle.rds_final.specs.FinalState.{FinalSocket, FinalJournal, FinalHost, past_of}
 use Rattle.rds_final.specs.Report.{Group}
 

@@ -3,3 +3,5 @@ pub mod ItemReport
 pub mod TakenBackWalk
 pub mod Summary
 pub mod ItemTotals
+pub mod Item
+pub mod Held

@@ -1,7 +1,7 @@
 ghost use Rattle.std.specs.Prelude.{◌≡◌, ◌++◌, IfOk, OnOk, filter, map, option_copied};
 ghost use Rattle.std.specs.List.{flat_map};
 ghost use Rattle.rds_model.specs.declared.order.Datagram.{Datagram as Message};
-ghost use Rattle.rds_report.specs.declared.item.What.TheVariants as what;
+ghost use Rattle.rds_report.specs.Item as what;
 ghost use Rattle.rds_final.specs.FinalState.{past_of, past_with};
 ghost use Rattle.rds_final.specs.Views.{host_view, host_views, side_view, socket_view};
 ghost use Rattle.rds_report.specs.Items.{is_to, item, items_to as items_of, host_items, side_items, came_items, read_items, arrival_items, socket_items, past_in};
@@ -14,7 +14,7 @@ use rds_wire::Memory;
 use std::alloc::Global;
 
 /// The items of the port pairs to the host at an address.
-pub fn items_to(alloc: Global, hosts: &[HostEnd], to: u32) -> Result<Vec<Item>, Memory>
+pub fn items_to<'a>(alloc: Global, hosts: &'a [HostEnd], to: u32) -> Result<Vec<Item<'a>>, Memory>
     ensures { IfOk result (λ found. found.items ≡ items_of to (host_views hosts.now)) }
 {
     let mut items = Vec::new(alloc);
@@ -25,11 +25,11 @@ pub fn items_to(alloc: Global, hosts: &[HostEnd], to: u32) -> Result<Vec<Item>, 
 }
 
 // The items of a host of the pairs to the host at an address.
-fn add_host(
+fn add_host<'a>(
     alloc: Global,
-    items: &mut Vec<Item>,
+    items: &mut Vec<Item<'a>>,
     hosts: &[HostEnd],
-    host: &HostEnd,
+    host: &'a HostEnd,
     to: u32,
 ) -> Result<(), Memory>
     ensures { OnOk result (items.new.items ≡ items.old.items ++ filter (is_to to) (host_items (host_views hosts.now) (host_view host.now))) }
@@ -46,7 +46,7 @@ fn add_host(
 // The items of a host's journal of its connection with a peer, of the pairs to the host at an address.
 fn add_journal(
     alloc: Global,
-    items: &mut Vec<Item>,
+    items: &mut Vec<Item<'_>>,
     hosts: &[HostEnd],
     host: u32,
     peer: u32,
@@ -89,7 +89,7 @@ fn journal_with(journals: &[(u32, Journal)], peer: u32) -> Option<&Journal>
 }
 
 // The items of what came from a peer to a host and went to no socket.
-fn add_came(items: &mut Vec<Item>, from: u32, to: u32, journal: &Journal) -> Result<(), Memory>
+fn add_came(items: &mut Vec<Item<'_>>, from: u32, to: u32, journal: &Journal) -> Result<(), Memory>
     ensures { OnOk result (items.new.items ≡ items.old.items ++ came_items from to journal.now.past) }
 {
     for i in 0..journal.len() {
@@ -102,7 +102,7 @@ fn add_came(items: &mut Vec<Item>, from: u32, to: u32, journal: &Journal) -> Res
 }
 
 // The items of an entry, where it is a read of what went to no socket.
-fn add_read(items: &mut Vec<Item>, from: u32, to: u32, entry: &Entry) -> Result<(), Memory>
+fn add_read(items: &mut Vec<Item<'_>>, from: u32, to: u32, entry: &Entry) -> Result<(), Memory>
     ensures { OnOk result (items.new.items ≡ items.old.items ++ arrival_items from to entry.now) }
 {
     if let Entry::Read { frame, outcome, .. } = entry {
@@ -118,7 +118,7 @@ fn add_read(items: &mut Vec<Item>, from: u32, to: u32, entry: &Entry) -> Result<
 }
 
 // The items of a datagram that was read.
-fn add_outcome(items: &mut Vec<Item>, group: Group, outcome: Outcome) -> Result<(), Memory>
+fn add_outcome(items: &mut Vec<Item<'_>>, group: Group, outcome: Outcome) -> Result<(), Memory>
     ensures { OnOk result (items.new.items ≡ items.old.items ++ read_items group.to group.dport group.from group.sport outcome) }
 {
     match outcome {
@@ -136,7 +136,7 @@ fn add_outcome(items: &mut Vec<Item>, group: Group, outcome: Outcome) -> Result<
 }
 
 // The items of the sockets of the host at an address.
-fn add_sockets(items: &mut Vec<Item>, addr: u32, sockets: &[Kept]) -> Result<(), Memory>
+fn add_sockets<'a>(items: &mut Vec<Item<'a>>, addr: u32, sockets: &'a [Kept]) -> Result<(), Memory>
     ensures { OnOk result (items.new.items ≡ items.old.items ++ flat_map (socket_items addr) (map socket_view sockets.now)) }
 {
     for kept in sockets {
@@ -147,14 +147,13 @@ fn add_sockets(items: &mut Vec<Item>, addr: u32, sockets: &[Kept]) -> Result<(),
 }
 
 // The items of what a socket received.
-fn add_received(items: &mut Vec<Item>, addr: u32, got: &[Datagram]) -> Result<(), Memory>
+fn add_received<'a>(items: &mut Vec<Item<'a>>, addr: u32, got: &'a [Datagram]) -> Result<(), Memory>
     ensures { OnOk result (items.new.items ≡ items.old.items ++ map (λ (d : Message). item addr d.dport d.from d.sport (what.Received d.payload)) got.now) }
 {
     for datagram in got {
-        let payload = datagram.payload.share()?;
         let received = Item {
             group: group_of(addr, datagram),
-            what: What::Received(payload),
+            what: What::Received(&datagram.payload),
         };
         items.push(received)?;
     }
@@ -162,7 +161,7 @@ fn add_received(items: &mut Vec<Item>, addr: u32, got: &[Datagram]) -> Result<()
 }
 
 // The items of what a socket left unread.
-fn add_unread(items: &mut Vec<Item>, addr: u32, unread: &[Datagram]) -> Result<(), Memory>
+fn add_unread(items: &mut Vec<Item<'_>>, addr: u32, unread: &[Datagram]) -> Result<(), Memory>
     ensures { OnOk result (items.new.items ≡ items.old.items ++ map (λ (d : Message). item addr d.dport d.from d.sport what.Unread) unread.now) }
 {
     for datagram in unread {

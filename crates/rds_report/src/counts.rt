@@ -18,7 +18,7 @@ pub struct Counts {
 
 impl Counts {
     /// Counts the items of a group.
-    pub fn of(items: &[Item]) -> Counts
+    pub fn of(items: &[Item<'_>]) -> Counts
         ensures accepted { result.accepted ≡ count_of is_accepted items.now }
         ensures received { result.received ≡ count_of is_received items.now }
         ensures unread { result.unread ≡ count_of is_unread items.now }
@@ -35,7 +35,7 @@ impl Counts {
     }
 
     // One more item.
-    fn add(&mut self, item: &Item)
+    fn add(&mut self, item: &Item<'_>)
         requires { count_all (seen_counts self.old) + 1 < 2 ^ 128 }
         ensures { seen_counts self.new ≡ together (seen_counts self.old) (tally (item.now ∷ [])) }
     {

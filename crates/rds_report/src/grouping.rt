@@ -1,4 +1,4 @@
-ghost use Rattle.std.specs.Prelude.{◌≡◌, OnOk};
+ghost use Rattle.std.specs.Prelude.{◌≡◌, ◌≤◌, OnOk, length};
 ghost use Rattle.std.specs.List.{prefix_len};
 ghost use Rattle.rds_final.specs.Report.{Group as Pair};
 ghost use Rattle.rds_report.specs.Items.{seen};
@@ -8,17 +8,22 @@ use crate::item::{Group, Item};
 use rds_wire::Memory;
 
 /// Sorts items by their groups. Those of one group stay in their order.
-pub fn sort(items: &mut Vec<Item>) -> Result<(), Memory>
+pub fn sort(items: &mut Vec<Item<'_>>) -> Result<(), Memory>
     ensures up { OnOk result (IsUp items.new.items) }
     ensures stable { OnOk result ((g : Pair) → of_pair g items.new.items ≡ of_pair g items.old.items) }
 {
-    items.sort_by_key(|item: &Item| item.group)?;
+    items.sort_by_key(
+        |item: &Item<'_>| -> Group
+            ensures { result ≡ item.now.group }
+        { item.group() },
+    )?;
     Ok(())
 }
 
 /// How many items of a group stand in front.
-pub fn run_length(items: &[Item], group: Group) -> usize
-    ensures { result ≡ prefix_len (is_of (seen group)) items.now }
+pub fn run_length(items: &[Item<'_>], group: Group) -> usize
+    ensures run { result ≡ prefix_len (is_of (seen group)) items.now }
+    ensures within { result ≤ length items.now }
 {
     for i in 0..items.len() {
         if !is_in(group, &items[i]) {
@@ -29,8 +34,8 @@ pub fn run_length(items: &[Item], group: Group) -> usize
 }
 
 // Whether an item is of a group.
-fn is_in(group: Group, item: &Item) -> bool
+fn is_in(group: Group, item: &Item<'_>) -> bool
     ensures { result ≡ is_of (seen group) item.now }
 {
-    group == item.group
+    group == item.group()
 }

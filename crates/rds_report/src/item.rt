@@ -1,4 +1,7 @@
+ghost use Rattle.std.specs.Prelude.{◌≡◌};
+
 use rds_wire::Payload;
+use std::marker::Model;
 
 /// A port pair, in the order of the report: from port `sport` of the host at `from` to port `dport` of the host at `to`.
 #[derive(Clone, Copy, Debug, PartialEq, Eq, PartialOrd, Ord)]
@@ -9,11 +12,11 @@ pub struct Group {
     pub sport: u16,
 }
 
-/// What the report counts of one datagram.
+/// What the report counts of one datagram. The bytes are those that a host keeps.
 #[derive(Drop)]
-pub enum What {
+pub enum What<'a> {
     Accepted,
-    Received(Payload),
+    Received(&'a Payload),
     Unread,
     Dropped,
     Port0,
@@ -22,7 +25,25 @@ pub enum What {
 
 /// One datagram of a port pair, counted once.
 #[derive(Drop)]
-pub struct Item {
+pub struct Item<'a> {
     pub group: Group,
-    pub what: What,
+    pub what: What<'a>,
+}
+
+impl<'a> Model for Item<'a> {
+    ghost use Rattle.rds_report.specs.Item.{Item as Piece};
+    ghost use Rattle.rds_report.specs.Held.{counted};
+
+    ghost Value = { Piece };
+
+    ghost view = { λ i. record { group = i.group; what = counted i.what } };
+}
+
+impl<'a> Item<'a> {
+    /// Its port pair.
+    pub fn group(&self) -> Group
+        ensures { result ≡ self.now.group }
+    {
+        self.group
+    }
 }

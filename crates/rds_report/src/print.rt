@@ -1,6 +1,6 @@
 ghost use Rattle.std.specs.Prelude.{◌≡◌, ◌++◌, ◌∷◌, [], ◌==◌, false, OnOk, string_bytes};
 ghost use Rattle.std.specs.List.{flat_map};
-ghost use Rattle.rds_report.specs.declared.item.Item.{Item as Piece};
+ghost use Rattle.rds_report.specs.Item.{Item as Piece};
 ghost use Rattle.std.specs.Fmt.{decimal};
 ghost use Rattle.rds_final.specs.Hosts.{IsAddress};
 ghost use Rattle.rds_final.specs.Report.{pair_text, counts_line};
@@ -17,22 +17,23 @@ use rds_text::{Hex, HostName};
 use rds_wire::Memory;
 
 /// Prints the groups of items, which stand in the order of their groups.
-pub fn print_groups(text: &mut String, items: &[Item]) -> Result<(), Memory>
+pub fn print_groups(text: &mut String, items: &[Item<'_>]) -> Result<(), Memory>
     requires up { IsUp items.now }
     ensures { AreKnown items.now → OnOk result (string_bytes text.new ≡ string_bytes text.old ++ groups_text items.now) }
 {
     let mut rest = items;
     while !rest.is_empty() {
-        let group = rest[0].group;
-        let (run, others) = rest.split_at(run_length(rest, group));
+        let group = rest[0].group();
+        let length = run_length(rest, group);
+        let run = &rest[..length];
+        rest = &rest[length..];
         print_group(text, group, run)?;
-        rest = others;
     }
     Ok(())
 }
 
 // Prints the items of a group, unless none was accepted.
-fn print_group(text: &mut String, group: Group, items: &[Item]) -> Result<(), Memory>
+fn print_group(text: &mut String, group: Group, items: &[Item<'_>]) -> Result<(), Memory>
     ensures { ((count_of is_accepted items.now == 0) ≡ false → IsAddress group.to × IsAddress group.from) →
         OnOk result (string_bytes text.new ≡ string_bytes text.old ++ lines_of (seen group) items.now) }
 {
@@ -58,19 +59,19 @@ fn print_pair(text: &mut String, group: Group) -> Result<(), Memory>
 }
 
 // A line for each item that was received.
-fn print_received(text: &mut String, items: &[Item]) -> Result<(), Memory>
+fn print_received(text: &mut String, items: &[Item<'_>]) -> Result<(), Memory>
     ensures { OnOk result (string_bytes text.new ≡ string_bytes text.old ++ flat_map (λ (i : Piece). data_lines i.what) items.now) }
 {
     for item in items {
-        print_data(text, &item.what)?;
+        print_data(text, item)?;
     }
     Ok(())
 }
 
-fn print_data(text: &mut String, what: &What) -> Result<(), Memory>
-    ensures { OnOk result (string_bytes text.new ≡ string_bytes text.old ++ data_lines what.now) }
+fn print_data(text: &mut String, item: &Item<'_>) -> Result<(), Memory>
+    ensures { OnOk result (string_bytes text.new ≡ string_bytes text.old ++ data_lines item.now.what) }
 {
-    if let What::Received(payload) = what {
+    if let What::Received(payload) = &item.what {
         let bytes = Hex(payload.as_slice());
         writeln!(text, " data={bytes}")?;
     }

@@ -1,7 +1,7 @@
 //! The items of what a host sent.
 ghost use Rattle.std.specs.Prelude.{◌≡◌, ◌++◌, ℕ, Bool, Ok, List, OnOk, false, length, option_copied, take, true};
 ghost use Rattle.rds_model.specs.Past.{accepted};
-ghost use Rattle.rds_report.specs.declared.item.Item.{Item as Piece};
+ghost use Rattle.rds_report.specs.Item.{Item as Piece};
 ghost use Rattle.rds_report.specs.Items.{acceptance_items, accepted_items, flags, has_cancellation, is_cancellation as cancels, is_lost, past_in, sent_items};
 
 use crate::flags::flag;
@@ -14,7 +14,7 @@ use std::alloc::Global;
 /// The items of what a host sent, by its journal and that of the peer. A journal without cancellations is walked once.
 pub fn add_sent(
     alloc: Global,
-    items: &mut Vec<Item>,
+    items: &mut Vec<Item<'_>>,
     from: u32,
     to: u32,
     journal: &Journal,
@@ -34,7 +34,7 @@ pub fn add_sent(
 
 // The items of what a host sent, as long as nothing was taken back, and whether its journal has no cancellation.
 fn add_unless_cancelled(
-    items: &mut Vec<Item>,
+    items: &mut Vec<Item<'_>>,
     from: u32,
     to: u32,
     journal: &Journal,
@@ -62,7 +62,12 @@ fn is_cancellation(entry: &Entry) -> bool
 }
 
 // The item of an entry, where it is an acceptance, which isn't lost.
-fn add_acceptance(items: &mut Vec<Item>, from: u32, to: u32, entry: &Entry) -> Result<(), Memory>
+fn add_acceptance(
+    items: &mut Vec<Item<'_>>,
+    from: u32,
+    to: u32,
+    entry: &Entry,
+) -> Result<(), Memory>
     ensures { OnOk result (items.new.items ≡ items.old.items ++ acceptance_items from to entry.now) }
 {
     if let Entry::Accept { sport, dport, .. } = entry {
@@ -79,7 +84,7 @@ fn add_acceptance(items: &mut Vec<Item>, from: u32, to: u32, entry: &Entry) -> R
 
 // The items of what a host sent, where such numbers are lost, counted from 1.
 fn add_acceptances(
-    items: &mut Vec<Item>,
+    items: &mut Vec<Item<'_>>,
     from: u32,
     to: u32,
     journal: &Journal,
@@ -108,7 +113,7 @@ fn add_acceptances(
 }
 
 // The items of an acceptance, which is lost or not.
-fn add_accepted(items: &mut Vec<Item>, group: Group, is_lost: bool) -> Result<(), Memory>
+fn add_accepted(items: &mut Vec<Item<'_>>, group: Group, is_lost: bool) -> Result<(), Memory>
     ensures { OnOk result (items.new.items ≡ items.old.items ++ accepted_items group.from group.to group.sport group.dport is_lost) }
 {
     items.push(Item {

@@ -16,7 +16,7 @@ pub struct Totals {
 
 impl Totals {
     /// The totals of items, which stand in the order of their groups. A group without an accepted item is left out.
-    pub fn of(items: &[Item]) -> Totals
+    pub fn of(items: &[Item<'_>]) -> Totals
         requires up { IsUp items.now }
         ensures counts { seen_counts result.counts ≡ tally (grouped items.now) }
         ensures bytes { result.bytes ≡ bytes_of (grouped items.now) }
@@ -26,10 +26,11 @@ impl Totals {
         let mut totals = Totals::none();
         let mut rest = items;
         while !rest.is_empty() {
-            let group = rest[0].group;
-            let (run, others) = rest.split_at(run_length(rest, group));
+            let group = rest[0].group();
+            let length = run_length(rest, group);
+            let run = &rest[..length];
+            rest = &rest[length..];
             totals = totals.plus(run);
-            rest = others;
         }
         totals
     }
@@ -59,7 +60,7 @@ impl Totals {
     }
 
     // With the items of one more group, unless none was accepted.
-    fn plus(self, items: &[Item]) -> Totals
+    fn plus(self, items: &[Item<'_>]) -> Totals
         requires counts { count_all (seen_counts self.counts) + length items.now < 2 ^ 128 }
         requires bytes { self.bytes + length items.now * 2 ^ 32 < 2 ^ 128 }
         ensures counts { seen_counts result.counts ≡ together (seen_counts self.counts) (tally (with_accepted items.now)) }
@@ -78,21 +79,21 @@ impl Totals {
 }
 
 // How many payload bytes were received.
-fn received_bytes(items: &[Item]) -> u128
+fn received_bytes(items: &[Item<'_>]) -> u128
     ensures bytes { result ≡ bytes_of items.now }
     ensures limit { result ≤ length items.now * 2 ^ 32 }
 {
     let mut bytes = 0u128;
     for item in items {
-        bytes += u128::from(received_length(&item.what));
+        bytes += u128::from(received_length(item));
     }
     bytes
 }
 
-fn received_length(what: &What) -> u32
-    ensures { result ≡ payload_bytes what.now }
+fn received_length(item: &Item<'_>) -> u32
+    ensures { result ≡ payload_bytes item.now.what }
 {
-    match what {
+    match &item.what {
         What::Received(payload) => payload.len(),
         _ => 0,
     }

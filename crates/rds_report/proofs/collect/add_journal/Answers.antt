@@ -1,7 +1,7 @@
 use Rattle.std.proofs.Common.{◌≡◌, ◌∙◌, ◌++◌, List, [], filter, ap, sym}
 use Rattle.std.proofs.lemmas.List.{append-nil}
 use Rattle.rds_model.specs.declared.entry.Entry.{Entry}
-use Rattle.rds_report.specs.declared.item.Item.{Item}
+use Rattle.rds_report.specs.Item.{Item}
 use Rattle.rds_final.specs.FinalState.{FinalJournal}
 use Rattle.rds_final.specs.Views.{host_views}
 use Rattle.rds_report.specs.Items.{is_lost, is_to, came_items, sent_items}

@@ -1,6 +1,6 @@
 use Rattle.std.proofs.Common.{◌≡◌, ◌++◌, map, take}
 use Rattle.rds_model.specs.declared.order.Datagram.{Datagram}
-use Rattle.rds_report.specs.declared.item.What.TheVariants as what
+use Rattle.rds_report.specs.Item as what
 use Rattle.rds_report.specs.Items.{item}
 use Rattle.rds_report.proofs.collect.add_received.Given as goal
 

@@ -1,7 +1,6 @@
 use Rattle.std.proofs.Common.{rules, arith, ◌∙◌, ◌+◌, get_or, sym}
 use Rattle.std.proofs.lemmas.List.Sorted.{answers_always}
-use Rattle.rds_report.specs.declared.item.Item.{Item}
-use Rattle.rds_report.specs.declared.item.What.TheVariants.{Accepted}
+use Rattle.rds_report.specs.Item.{Item, Accepted}
 use Rattle.rds_report.specs.Items.{seen}
 use Rattle.rds_report.proofs.Orders.{cmp_before, ties_by}
 use Rattle.rds_report.proofs.Chunks.{filter_tests, up_of}

@@ -1,5 +1,5 @@
 use Rattle.std.proofs.Common.{Ok, ◌∙◌, ◌++◌, List, ap, option_copied}
-use Rattle.rds_report.specs.declared.item.Item.{Item}
+use Rattle.rds_report.specs.Item.{Item}
 use Rattle.rds_report.specs.Items.{past_in}
 use Rattle.rds_report.proofs.Gathered.{none_lost}
 use Rattle.rds_report.proofs.sent.add_sent.Goals as goal

@@ -1,4 +1,4 @@
-use Rattle.std.proofs.Common.{◌≡◌, ◌∙◌, ◌+◌, ◌∷◌, [], ℕ, List, map, take, get_or, arith, ap, sym}
+use Rattle.std.proofs.Common.{◌∙◌, ◌+◌, ℕ, List, map, take, get_or, arith, ap, sym}
 use Rattle.std.specs.List.{sum_by}
 use Rattle.rds_final.specs.Report.{Counts}
 use Rattle.rds_report.specs.declared.totals.Totals.{Totals}

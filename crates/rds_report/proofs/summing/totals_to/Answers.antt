@@ -1,5 +1,5 @@
 use Rattle.std.proofs.Common.{◌≡◌, ◌∙◌, List, ap, arith}
-use Rattle.rds_report.specs.declared.item.Item.{Item}
+use Rattle.rds_report.specs.Item.{Item}
 use Rattle.rds_final.specs.Report.{Group}
 use Rattle.rds_final.specs.Views.{host_views}
 use Rattle.rds_report.specs.Items.{items_to}
