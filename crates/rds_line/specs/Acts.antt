@@ -63,7 +63,7 @@ pub data Acts (a : Acted) : Acted → Type 0 where
   -- freed bytes were added to the freed words of their slots
   frees : {b : Acted} {words : MeterSeat} {bytes : List ℕ} → IsRelief bytes b.words words → Acts a b →
       Acts a (record b { words = words })
-  -- a port was looked up for a datagram that then found no memory, and waits on
+  -- a port was looked up, and no entry came of it, as where memory then runs out
   looks : {b : Acted} (port : ℕ) (found : Option ℕ) → Acts a b → Acts a (record b { ports = looked_up b.ports port found })
   -- the port of a datagram was looked up, and no socket holds it
   misses : {b : Acted} (stream : ℕ) (frame : Frame) → Acts a b →
