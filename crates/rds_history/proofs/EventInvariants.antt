@@ -25,11 +25,13 @@ use Rattle.rds_history.specs.Move.{move_up_to, move_and_tell, move}
 use Rattle.rds_history.specs.Drain.{HostPair, pairs, open_if_closed, round, rounds, drain}
 use Rattle.rds_history.specs.History.{after, history}
 pub use Rattle.rds_history.proofs.Holding.{Holds, holds_then, holds_if_room, holds_appends, holds_each, holds_again, holds_weaker}
-pub use Rattle.rds_history.proofs.KeptMoves.{IsQuiet, IsKept, IsKeptInFlight, in_flight_too, keeps_update_mark, keeps_turn, keeps_move_up_to, keeps_round}
+pub use Rattle.rds_history.proofs.KeptMoves.{IsQuiet, IsRouted, IsKept, IsKeptInFlight, in_flight_too, keeps_update_mark, keeps_turn, keeps_move_up_to, keeps_round}
 
 module _ (P : List Event → Type 0) (kept : IsKeptInFlight P) where
-  keeps_appends : (limit h k : ℕ) (e : Entry) (past : List Event) → IsQuiet e → P past → Holds P (appends limit h k e past)
-  keeps_appends limit h k e past quiet p = holds_appends P P limit h k e past p (λ before there. kept.appended h k e before quiet there)
+  keeps_appends : (limit h k : ℕ) (e : Entry) (past : List Event) → IsQuiet e → ((before : List Event) → IsRouted h e before) → P past →
+      Holds P (appends limit h k e past)
+  keeps_appends limit h k e past quiet routed p =
+      holds_appends P P limit h k e past p (λ before there. kept.appended h k e before quiet (routed before) there)
 
   -- a command that may be refused, that needs a socket, or a stream
   keeps_or_refuses : (why : Option (List ℕ)) (refusal : List ℕ → List ℕ) (act : List Event → Course) (past : List Event) → P past →
@@ -55,7 +57,7 @@ module _ (P : List Event → Type 0) (kept : IsKeptInFlight P) where
   keeps_bind : (h port sndbuf rcvbuf : ℕ) (past : List Event) → P past → Holds P (bind h port sndbuf rcvbuf past)
   keeps_bind h port sndbuf rcvbuf past p =
       keeps_or_refuses (bind_refusal h port past) (socket_refused_line (codes "bind") h port)
-      (λ (before : List Event). Ok (Bound h port (next_slot h before) sndbuf rcvbuf ∷ before)) past p (kept.bound h port (next_slot h past) sndbuf rcvbuf past p)
+      (λ (before : List Event). Ok (Bound h port (next_slot h before) sndbuf rcvbuf ∷ before)) past p (kept.bound h port (next_slot h past) sndbuf rcvbuf past refl p)
 
   keeps_send : (limit hosts h port k dport : ℕ) (payload : List ℕ) (past : List Event) → P past → Holds P (send limit hosts h port k dport payload past)
   keeps_send limit hosts h port k dport payload past p =
@@ -63,7 +65,7 @@ module _ (P : List Event → Type 0) (kept : IsKeptInFlight P) where
       (λ slot before. or_refuses (send_refusal hosts h slot k dport (length payload) before) (send_refused_line h port k dport)
       (appends limit h k (Accept slot port dport payload)) before) past p
       (λ slot. keeps_or_refuses (send_refusal hosts h slot k dport (length payload) past) (send_refused_line h port k dport)
-      (appends limit h k (Accept slot port dport payload)) past p (keeps_appends limit h k (Accept slot port dport payload) past (λ j. refl) p))
+      (appends limit h k (Accept slot port dport payload)) past p (keeps_appends limit h k (Accept slot port dport payload) past (λ j. refl) (λ before. tt) p))
 
   keeps_hand_out : (ds : List Datagram) (h port slot : ℕ) (past : List Event) → queue h slot past ≡ ds → P past → Holds P (hand_out ds h port slot past)
   keeps_hand_out [] h port slot past is p = kept.printed (recv_none_line h port) past p
@@ -79,7 +81,7 @@ module _ (P : List Event → Type 0) (kept : IsKeptInFlight P) where
       keeps_with_socket h port (socket_refused_line (codes "cancel") h port no_socket)
       (λ slot. or_refuses (cancel_refusal h k) (socket_refused_line (codes "cancel") h port) (appends limit h k (Cancel slot (Port dport)))) past p
       (λ slot. keeps_or_refuses (cancel_refusal h k) (socket_refused_line (codes "cancel") h port)
-      (appends limit h k (Cancel slot (Port dport))) past p (keeps_appends limit h k (Cancel slot (Port dport)) past (λ j. refl) p))
+      (appends limit h k (Cancel slot (Port dport))) past p (keeps_appends limit h k (Cancel slot (Port dport)) past (λ j. refl) (λ before. tt) p))
 
   keeps_unbind : (h port slot : ℕ) (past : List Event) → P past → P (unbind h port slot past)
   keeps_unbind h port slot past p = kept.closed h port slot (length (queue h slot past)) (unmark h port slot past) (go (is_marked h port past))
@@ -94,7 +96,7 @@ module _ (P : List Event → Type 0) (kept : IsKeptInFlight P) where
       (λ slot before. and_then (each (peers hosts h) (λ k. appends limit h k (Cancel slot All)) before) (λ later. Ok (unbind h port slot later))) past p
       (λ slot. holds_then P P (each (peers hosts h) (λ k. appends limit h k (Cancel slot All)) past) (λ (later : List Event). Ok (unbind h port slot later))
       (holds_each P (peers hosts h) (λ k. appends limit h k (Cancel slot All)) past p
-      (λ k before there. keeps_appends limit h k (Cancel slot All) before (λ j. refl) there))
+      (λ k before there. keeps_appends limit h k (Cancel slot All) before (λ j. refl) (λ now. tt) there))
       (λ later there. keeps_unbind h port slot later there))
 
   -- the commands on streams

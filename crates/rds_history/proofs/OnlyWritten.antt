@@ -101,12 +101,12 @@ only_moved h k count past within p a b stream is = go (cases_Bool (h == a && (k 
 pub only_written_is_kept : IsKeptInFlight MovesOnlyWritten
 only_written_is_kept = record {
   printed = λ line past p a b. p a b;
-  bound = λ h port slot sndbuf rcvbuf past p a b. p a b;
+  bound = λ h port slot sndbuf rcvbuf past next p a b. p a b;
   closed = λ h port slot unread past p a b. p a b;
   marked = λ h port set bytes most past p a b. p a b;
   moved = only_moved;
   received = λ h port slot d waiting past is p a b. p a b;
-  appended = λ h k e past quiet p. only_appended h k e past p;
+  appended = λ h k e past quiet routed p. only_appended h k e past p;
   opened = λ limit h k past p. holds_then MovesOnlyWritten MovesOnlyWritten (open_one limit h k past) (open_one limit k h)
       (holds_appends MovesOnlyWritten MovesOnlyWritten limit h k (Open (suc (newest_stream (journal h k past)))) past p
       (λ before q. only_appended h k (Open (suc (newest_stream (journal h k past)))) before q))
