@@ -16,6 +16,7 @@ mod PastCommands
 mod HandedOut
 mod SoundHistory
 mod OnlySent
+mod SlotOrder
 mod Again
 mod Moves
 mod OnlyWritten
