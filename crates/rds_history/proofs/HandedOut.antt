@@ -21,7 +21,7 @@ use Rattle.rds_history.specs.Sockets.{arrived_datagrams, delivery}
 use Rattle.rds_history.specs.Sound.{as_sent, is_of_ports, of_ports}
 
 -- hosts have different addresses
-address_apart : (h k : ℕ) → h ≢ k → (address_of h == address_of k) ≡ false
+pub address_apart : (h k : ℕ) → h ≢ k → (address_of h == address_of k) ≡ false
 address_apart h k apart = ne_eqb (address_of h) (address_of k) (λ same. apart (omega (arith, same)))
 
 -- a datagram that host h accepted, by its number in the journal

@@ -17,6 +17,7 @@ mod HandedOut
 mod SoundHistory
 mod OnlySent
 mod SlotOrder
+mod Reported
 mod Again
 mod Moves
 mod OnlyWritten

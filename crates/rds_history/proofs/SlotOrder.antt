@@ -1,5 +1,5 @@
 -- Sockets that hold a port one after another have rising slots, and so the numbers of a port pair rise from slot to slot.
-use Rattle.std.proofs.Common.{◌≡◌, ◌≢◌, ◌⊎◌, inl, inr, ℕ, zero, suc, ◌<◌, ◌≤◌, ◌==◌, ◌&&◌, Bool, true, false, cond, Option, Some, None, Ok, List, [], ◌∷◌, ◌++◌, refl, sym, ◌∙◌, ap, subst, arith, ⊎_elim}
+use Rattle.std.proofs.Common.{◌≡◌, ◌≢◌, ◌⊎◌, inl, inr, ℕ, zero, suc, ◌<◌, ◌≤◌, ◌==◌, ◌&&◌, Bool, true, false, cond, Option, Some, None, Ok, List, [], ◌∷◌, ◌++◌, refl, sym, ◌∙◌, ap, subst, arith, ⊎_elim, append_assoc}
 use Rattle.std.proofs.lemmas.Bool.{cases_eq, cond-true, cond-false, and_from, eq-eqb, ne_eqb, eqb-true}
 use Rattle.std.proofs.lemmas.Grind.{flat_map-append}
 use Rattle.std.proofs.lemmas.List.{append-nil}
@@ -22,13 +22,17 @@ use Rattle.rds_history.specs.Open.{open_one, shut_if_open}
 use Rattle.rds_history.specs.Sockets.{holder, next_slot}
 use Rattle.rds_history.proofs.EventInvariants.{Holds, holds_then, holds_appends, IsRouted, IsKeptInFlight, keeps_history_in_flight}
 
+-- one more slot
+pub slots_more : {X : Type 0} (at : ℕ → List X) (n : ℕ) → flat_map at (below (suc n)) ≡ flat_map at (below n) ++ at n
+slots_more at n = flat_map-append at (below n) (n ∷ []) ∙ ap (λ l. flat_map at (below n) ++ l) (append-nil (at n))
+
 -- lists that are the same at all slots below n
 same_below : (old new : ℕ → List ℕ) (n : ℕ) → ((slot : ℕ) → slot < n → new slot ≡ old slot) → flat_map new (below n) ≡ flat_map old (below n)
 same_below old new zero same = refl
 same_below old new (suc n) same =
-    flat_map-append new (below n) (n ∷ [])
-    ∙ (λ i. same_below old new n (λ slot low. same slot (omega arith)) i ++ (same n (omega arith) i ++ []))
-    ∙ sym (flat_map-append old (below n) (n ∷ []))
+    slots_more new n
+    ∙ (λ i. same_below old new n (λ slot low. same slot (omega arith)) i ++ same n (omega arith) i)
+    ∙ sym (slots_more old n)
 
 -- one more number at a slot above which there is none
 more_below : (old new : ℕ → List ℕ) (to x : ℕ) → new to ≡ old to ++ x ∷ [] → ((slot : ℕ) → to ≢ slot → new slot ≡ old slot) →
@@ -37,29 +41,22 @@ more_below old new to x more others none zero low = absurd (omega arith)
 more_below old new to x more others none (suc n) low =
     ⊎_elim last (λ apart. earlier apart (more_below old new to x more others none n (omega arith))) (cases_eq to n)
   where
-    assoc : (xs ys zs : List ℕ) → xs ++ (ys ++ zs) ≡ (xs ++ ys) ++ zs
-    assoc [] ys zs = refl
-    assoc (y ∷ xs) ys zs = ap (λ l. y ∷ l) (assoc xs ys zs)
-
     last : to ≡ n → flat_map new (below (suc n)) ≡ flat_map old (below (suc n)) ++ x ∷ []
     last is =
-        let here : new n ++ [] ≡ (old n ++ []) ++ x ∷ [] =
-        append-nil (new n) ∙ subst (λ i. new i ≡ old i ++ x ∷ []) is more ∙ ap (λ (l : List ℕ). l ++ x ∷ []) (sym (append-nil (old n))) in
-        flat_map-append new (below n) (n ∷ [])
-        ∙ (λ i. same_below old new n (λ slot less. others slot (λ same. omega arith)) i ++ here i)
-        ∙ assoc (flat_map old (below n)) (old n ++ []) (x ∷ [])
-        ∙ ap (λ (l : List ℕ). l ++ x ∷ []) (sym (flat_map-append old (below n) (n ∷ [])))
+        slots_more new n
+        ∙ (λ i. same_below old new n (λ slot less. others slot (λ same. omega arith)) i ++ subst (λ (slot : ℕ). new slot ≡ old slot ++ x ∷ []) is more i)
+        ∙ sym (append_assoc (flat_map old (below n)) (old n) (x ∷ []))
+        ∙ ap (λ (l : List ℕ). l ++ x ∷ []) (sym (slots_more old n))
 
     earlier : to ≢ n → flat_map new (below n) ≡ flat_map old (below n) ++ x ∷ [] → flat_map new (below (suc n)) ≡ flat_map old (below (suc n)) ++ x ∷ []
     earlier apart before =
         let empty : old n ≡ [] = none n (omega arith) in
-        let old_is : flat_map old (below (suc n)) ≡ flat_map old (below n) =
-        flat_map-append old (below n) (n ∷ []) ∙ ap (λ (l : List ℕ). flat_map old (below n) ++ (l ++ [])) empty ∙ append-nil (flat_map old (below n)) in
-        flat_map-append new (below n) (n ∷ [])
-        ∙ ap (λ (l : List ℕ). flat_map new (below n) ++ (l ++ [])) (others n apart ∙ empty)
+        slots_more new n
+        ∙ ap (λ (l : List ℕ). flat_map new (below n) ++ l) (others n apart ∙ empty)
         ∙ append-nil (flat_map new (below n))
         ∙ before
-        ∙ ap (λ (l : List ℕ). l ++ x ∷ []) (sym old_is)
+        ∙ ap (λ (l : List ℕ). l ++ x ∷ [])
+        (sym (slots_more old n ∙ ap (λ (l : List ℕ). flat_map old (below n) ++ l) empty ∙ append-nil (flat_map old (below n))))
 
 -- What is kept of a port pair, by the receiver's next slot, the slot that holds the port, the numbers delivered to each slot
 -- and those delivered in all.
@@ -78,8 +75,8 @@ module _ (next : ℕ) (held : Option ℕ) (at : ℕ → List ℕ) (all : List �
     newest = λ slot above holds higher.
         ⊎_elim (λ (same : slot ≡ next). old.unbound above (omega arith)) (λ (before : held ≡ Some slot). old.newest slot above before higher) (is slot holds);
     by_slot =
-        flat_map-append at (below next) (next ∷ [])
-        ∙ ap (λ (l : List ℕ). flat_map at (below next) ++ (l ++ [])) (old.unbound next (omega arith))
+        slots_more at next
+        ∙ ap (λ (l : List ℕ). flat_map at (below next) ++ l) (old.unbound next (omega arith))
         ∙ append-nil (flat_map at (below next)) ∙ old.by_slot;
   }
 

@@ -1,6 +1,7 @@
 -- After all commands of a script in range every two hosts stand to each other as they should.
-use Rattle.std.proofs.Common.{arith, ◌≡◌, ◌≢◌, ℕ, ◌≤◌, ◌^◌, Some, Ok, List, [], map, refl, ◌∙◌, ap, sym, ◌++◌, subst}
+use Rattle.std.proofs.Common.{arith, ◌≡◌, ◌≢◌, ℕ, ◌<◌, ◌≤◌, ◌^◌, Some, Ok, List, [], map, refl, ◌∙◌, ap, sym, ◌++◌, subst}
 use Rattle.std.specs.Prelude.{All}
+use Rattle.std.specs.List.Sorted.{IsStrictlyIncreasing}
 use Rattle.rds_model.specs.declared.entry.Entry.{Entry}
 use Rattle.rds_model.specs.declared.order.Datagram.{Datagram}
 use Rattle.rds_model.specs.Honest.{IsHonest}
@@ -13,7 +14,7 @@ use Rattle.rds_history.specs.History.{history}
 use Rattle.rds_history.specs.InOrder.{HandsOutInOrder}
 use Rattle.rds_history.specs.Journals.{journal}
 use Rattle.rds_history.specs.Sockets.{handed_out, queue}
-use Rattle.rds_history.specs.Sound.{IsSoundBetween, IsSoundPast, WasSentTo, of_ports}
+use Rattle.rds_history.specs.Sound.{IsHandedOut, IsReportedInOrder, IsSoundBetween, IsSoundPast, WasSentTo, of_ports}
 use Rattle.rds_history.proofs.EventInvariants.{Holds}
 use Rattle.rds_history.proofs.InOrder.{in_order_history}
 use Rattle.rds_history.proofs.JoinedReads.{HonestLaws}
@@ -21,6 +22,8 @@ use Rattle.rds_history.proofs.PastEnds.{Keeps}
 use Rattle.rds_history.proofs.PastCommands.{keeps_history}
 use Rattle.rds_history.proofs.HandedOut.{agrees_past}
 use Rattle.rds_history.proofs.OnlySent.{all_sent}
+use Rattle.rds_history.proofs.Reported.{reported_in_order}
+use Rattle.rds_history.proofs.SlotOrder.{InSlotOrder, slot_order_history}
 
 -- nothing has happened
 pub keeps_nothing : (hosts : ℕ) → Keeps hosts []
@@ -53,7 +56,13 @@ module _ (headline : Headline) (hosts : ℕ) (past : List Event) (keeps : Keeps 
       let joined = keeps.joined h k apart in
       headline (journal h k past) (journal k h past) joined.whole_here.legal joined.whole_there.legal (honest h k apart)
 
-module _ (headline : Headline) (hosts : ℕ) (past : List Event) (keeps : Keeps hosts past) (in_order : (k slot : ℕ) → HandsOutInOrder k slot past) where
+module _ (headline : Headline) (hosts : ℕ) (past : List Event) (keeps : Keeps hosts past) (in_order : (k slot : ℕ) → HandsOutInOrder k slot past) (slot_order : InSlotOrder past) where
+  -- what the sockets hand out
+  shown : (h k : ℕ) → h ≢ k → (sport dport slot : ℕ) → IsHandedOut h sport k dport slot past
+  shown h k apart sport dport slot =
+      ap (λ (ds : List Datagram). map (λ (d : Datagram). Some d) (of_ports h sport dport ds)) (in_order k slot)
+      ∙ agrees_past h sport k dport slot (journal h k past) past (once headline hosts past keeps h k apart sport dport).bytes
+
   sound_between : HonestLaws → (h k : ℕ) → h ≢ k → IsSoundBetween h k past
   sound_between laws h k apart = record {
     legal_here = (keeps.joined h k apart).whole_here;
@@ -64,11 +73,17 @@ module _ (headline : Headline) (hosts : ℕ) (past : List Event) (keeps : Keeps 
         (honest headline hosts past keeps h k apart)).1.0;
     reliable = λ sport dport. record {
       once = once headline hosts past keeps h k apart sport dport;
-      handed_out = λ slot.
-          ap (λ (ds : List Datagram). map (λ (d : Datagram). Some d) (of_ports h sport dport ds)) (in_order k slot)
-          ∙ agrees_past h sport k dport slot (journal h k past) past (once headline hosts past keeps h k apart sport dport).bytes;
+      handed_out = shown h k apart sport dport;
+      by_slot = (slot_order k h sport dport).by_slot;
     };
   }
+
+  -- what the report prints of a port pair
+  reported : (h k : ℕ) → k < hosts → h ≢ k → (sport dport : ℕ) → IsReportedInOrder hosts h sport k dport past
+  reported h k known apart sport dport =
+      reported_in_order hosts h sport k dport past known
+      (subst IsStrictlyIncreasing (sym (slot_order k h sport dport).by_slot) (once headline hosts past keeps h k apart sport dport).rise)
+      (shown h k apart sport dport)
 
   -- what a socket hands out, or will, was sent by another host
   handed_out_was_sent : (k slot : ℕ) → All (WasSentTo hosts k past) (handed_out k slot past ++ queue k slot past)
@@ -82,7 +97,9 @@ sound_history headline laws script limit past is small came =
     let keeps : Keeps script.hosts past =
     subst (Holds (Keeps script.hosts)) came (keeps_history script.hosts laws limit small script.commands.items [] is.each (keeps_nothing script.hosts)) in
     let in_order : (host slot : ℕ) → HandsOutInOrder host slot past = λ host slot. in_order_history limit script.hosts script.commands.items past host slot came in
+    let slot_order : InSlotOrder past = slot_order_history limit script.hosts script.commands.items past came in
     record {
-      between = λ h k known_h known_k apart. sound_between headline script.hosts past keeps in_order laws h k apart;
-      all_sent = handed_out_was_sent headline script.hosts past keeps in_order;
+      between = λ h k known_h known_k apart. sound_between headline script.hosts past keeps in_order slot_order laws h k apart;
+      all_sent = handed_out_was_sent headline script.hosts past keeps in_order slot_order;
+      reported = λ h k known_h known_k apart. reported headline script.hosts past keeps in_order slot_order h k known_k apart;
     }

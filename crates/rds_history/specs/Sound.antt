@@ -1,18 +1,24 @@
 -- What every script keeps between each two hosts: both journals follow the rules, each host gets a beginning of what the
 -- other wrote, datagrams come first in, first out and each once, and for each port pair a socket hands out what was sent to
--- it, in order and each once. Sources: rds(7) for reliable and in order; the words are this project's own.
+-- it, in order and each once, and so do all sockets that held the port, one after another. Sources: rds(7) for reliable and
+-- in order; the words are this project's own.
 use Rattle.std.specs.Prelude.{◌≡◌, ◌≢◌, ℕ, ◌<◌, ◌==◌, ◌&&◌, Bool, Option, Some, List, ◌++◌, filter, map, All}
 use Rattle.std.specs.Option.{option_map}
+use Rattle.std.specs.List.{flat_map}
+use Rattle.std.specs.List.Sorted.{IsStrictlyIncreasing}
 use Rattle.rds_model.specs.declared.order.Datagram.{Datagram}
 use Rattle.rds_model.specs.Past.{Accepted, datagram}
 use Rattle.rds_model.specs.Fifo.{IsFifo}
 use Rattle.rds_model.specs.Legal.{IsWhole}
 use Rattle.rds_model.specs.Honest.{IsHonest}
-use Rattle.rds_model.specs.Pairs.{IsDeliveredOnce, delivered_to}
+use Rattle.rds_model.specs.Pairs.{IsDeliveredOnce, delivered, delivered_to}
+use Rattle.rds_text.specs.Ports.{below}
 use Rattle.rds_final.specs.Hosts.{address_of}
+use Rattle.rds_final.specs.Report.{Group, received}
 use Rattle.rds_history.specs.Events.{Event}
 use Rattle.rds_history.specs.Journals.{journal}
-use Rattle.rds_history.specs.Sockets.{handed_out, queue}
+use Rattle.rds_history.specs.Sockets.{next_slot, handed_out, queue}
+use Rattle.rds_history.specs.History.{final_hosts}
 
 -- a datagram that host h accepted from one of its sockets, as a socket of another host is to receive it
 abbrev pub as_sent : (h : ℕ) → Accepted → Datagram
@@ -37,11 +43,18 @@ IsHandedOut h sport k dport slot past =
     map (λ (d : Datagram). Some d) (of_ports h sport dport (handed_out k slot past ++ queue k slot past))
     ≡ map (sent h k past) (delivered_to slot sport dport (journal k h past))
 
+-- the numbers delivered for the port pair, socket by socket of host k, by slot from 0 on
+abbrev pub delivered_by_slot : (h sport k dport : ℕ) → List Event → List ℕ
+delivered_by_slot h sport k dport past =
+    flat_map (λ slot. delivered_to slot sport dport (journal k h past)) (below (next_slot k past))
+
 -- The port pair is reliable: what was delivered was sent, in order and each once, and each sent datagram up to the last that
--- arrived is accounted for; and the sockets hand it out so.
+-- arrived is accounted for; the sockets hand it out so; and they get it one after another: what one socket of the port got
+-- comes before all that a socket of a higher slot got, as the numbers by slot are those in the order of delivery, which rise.
 pub record IsReliable (h sport k dport : ℕ) (past : List Event) : Type 0 where
   pub once : IsDeliveredOnce sport dport (journal h k past) (journal k h past)
   pub handed_out : (slot : ℕ) → IsHandedOut h sport k dport slot past
+  pub by_slot : delivered_by_slot h sport k dport past ≡ delivered sport dport (journal k h past)
 
 -- So it is from host h to host k, and over the whole connection datagrams come first in, first out, and each once.
 pub record IsSoundBetween (h k : ℕ) (past : List Event) : Type 0 where
@@ -55,7 +68,19 @@ pub record IsSoundBetween (h k : ℕ) (past : List Event) : Type 0 where
 abbrev pub WasSentTo : (hosts k : ℕ) → List Event → Datagram → Type 0
 WasSentTo hosts k past d = (h : ℕ) × (n : ℕ) × (h < hosts) × (h ≢ k) × (sent h k past n ≡ Some d)
 
--- So it is between each two hosts; and the sockets of a host hand out nothing but what another of these hosts sent to it.
+-- from port sport of host h to port dport of host k
+abbrev pub port_pair : (h sport k dport : ℕ) → Group
+port_pair h sport k dport = record { to = address_of k; dport = dport; from = address_of h; sport = sport }
+
+-- What the report says was received for the port pair, by all sockets of the port, is what h sent, under numbers that rise.
+pub record IsReportedInOrder (hosts h sport k dport : ℕ) (past : List Event) : Type 0 where
+  pub numbers : List ℕ
+  pub rise : IsStrictlyIncreasing numbers
+  pub sent : map (λ (d : Datagram). Some d) (received (final_hosts hosts past) (port_pair h sport k dport)) ≡ map (sent h k past) numbers
+
+-- So it is between each two hosts, and in the report; and the sockets of a host hand out nothing but what another of these
+-- hosts sent to it.
 pub record IsSoundPast (hosts : ℕ) (past : List Event) : Type 0 where
   pub between : (h k : ℕ) → h < hosts → k < hosts → h ≢ k → IsSoundBetween h k past
   pub all_sent : (k slot : ℕ) → All (WasSentTo hosts k past) (handed_out k slot past ++ queue k slot past)
+  pub reported : (h k : ℕ) → h < hosts → k < hosts → h ≢ k → (sport dport : ℕ) → IsReportedInOrder hosts h sport k dport past
