@@ -11,4 +11,5 @@ pub mod Led
 pub mod Cuts
 pub mod Counted
 pub mod Missing
+pub mod Summing
 pub mod Held

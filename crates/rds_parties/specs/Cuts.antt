@@ -1,9 +1,14 @@
 -- Private: it serves the contracts of the private functions that count the cuts of a script. Source: this project's own.
-use Rattle.std.specs.Prelude.{◌≤◌, ℕ, List, Option, Some, None}
+use Rattle.std.specs.Prelude.{◌≤◌, ℕ, Bool, true, false, List, Option, Some, None}
 use Rattle.rds_script.specs.declared.script.Command.{Command}
 use Rattle.rds_script.specs.declared.script.Command.TheVariants.{Cut}
 use Rattle.rds_script.specs.declared.script.Placed.{Placed}
 use Rattle.rds_parties.specs.Streams.{cuts_between}
+
+-- whether the command is a cut
+abbrev pub is_cut : Command → Bool
+is_cut (Cut host to) = true
+is_cut _ = false
 
 -- what is given here, where the command is a cut
 abbrev pub only_cut : Command → Placed → Option Placed

@@ -1,9 +1,9 @@
 //! How many streams are prepared for a run.
-ghost use Rattle.std.specs.Prelude.{◌≡◌, ◌≤◌, ◌*◌, ◌+◌, ℕ, IfOk, filter, filter_map, length};
+ghost use Rattle.std.specs.Prelude.{◌≡◌, ◌≤◌, ℕ, IfOk, filter, filter_map, length};
 ghost use Rattle.rds_script.specs.Grammar.{meaning};
 ghost use Rattle.rds_script.specs.Script.{IsScript};
-ghost use Rattle.rds_parties.specs.Cuts.{cut_of as cut_alone, AreFewCuts};
-ghost use Rattle.rds_parties.specs.Streams.{cuts_between as cuts_of, is_cut_between as is_cut_of, prepared_streams as streams_of, streams_below as streams_of_host, streams_between as streams_of_pair};
+ghost use Rattle.rds_parties.specs.Cuts.{AreFewCuts, cut_of as cut_alone, is_cut as is_any_cut};
+ghost use Rattle.rds_parties.specs.Streams.{cuts_between as cuts_of, is_cut_between as is_cut_of, prepared_streams as streams_of};
 
 use rds_script::{Command, Placed, Script};
 use rds_wire::Memory;
@@ -13,39 +13,32 @@ use std::alloc::{AllocError, Global};
 pub(crate) const MORE_STREAMS: u32 = 3;
 
 /// How many streams are prepared for a run of the script, between all its hosts together.
-#[tactic(auto, unfolding(crate::specs::Streams::prepared_streams))]
 pub fn prepared_streams(script: &Script) -> u64
     requires { IsScript script.now }
     ensures { result ≡ streams_of (meaning script.now) }
 {
-    let mut streams = 0u64;
+    let mut streams = count_cuts(script.commands.as_slice()) as u64;
     for host in 0..script.hosts {
-        streams += streams_below(script, host);
+        streams += u64::from(u32::from(host) * MORE_STREAMS);
     }
     streams
 }
 
-// How many between a host and all those below it.
-fn streams_below(script: &Script, host: u8) -> u64
-    requires script { IsScript script.now }
-    requires few { host ≤ 8 }
-    ensures count { result ≡ streams_of_host host script.now.commands.items }
-    ensures most { result ≤ host * 1027 }
+// How many of the commands are cuts.
+fn count_cuts(commands: &[Placed]) -> usize
+    ensures { result ≡ length (filter (λ placed. is_any_cut placed.command) commands.now) }
 {
-    let mut streams = 0u64;
-    for low in 0..host {
-        streams += u64::from(streams_between(script, low, host));
-    }
-    streams
+    commands
+        .iter()
+        .filter(|placed| is_cut(&placed.command))
+        .count()
 }
 
-// How many between two hosts.
-fn streams_between(script: &Script, low: u8, high: u8) -> u32
-    requires { IsScript script.now }
-    ensures count { result ≡ streams_of_pair low high script.now.commands.items }
-    ensures most { result ≤ 1027 }
+// Whether the command is a cut.
+fn is_cut(command: &Command) -> bool
+    ensures { result ≡ is_any_cut command.now }
 {
-    cuts_between(script.commands.as_slice(), low, high) + MORE_STREAMS
+    matches!(command, Command::Cut { .. })
 }
 
 /// The cuts among the commands of a script, so that no other command is looked at again for each two hosts.
