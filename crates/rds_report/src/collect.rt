@@ -18,10 +18,32 @@ pub fn items_to<'a>(alloc: Global, hosts: &'a [HostEnd], to: u32) -> Result<Vec<
     ensures { IfOk result (λ found. found.items ≡ items_of to (host_views hosts.now)) }
 {
     let mut items = Vec::new(alloc);
+    items.reserve(about(hosts, to))?;
     for host in hosts {
         add_host(alloc, &mut items, hosts, host, to)?;
     }
     Ok(items)
+}
+
+// About how many items there are of the pairs to the host at an address: what came to a socket there was accepted too.
+fn about(hosts: &[HostEnd], to: u32) -> usize {
+    for host in hosts {
+        if host.addr == to {
+            return came(&host.kept).saturating_mul(2);
+        }
+    }
+    0
+}
+
+// How many datagrams came to sockets.
+fn came(sockets: &[Kept]) -> usize {
+    let mut count = 0usize;
+    for kept in sockets {
+        count = count
+            .saturating_add(kept.got.len())
+            .saturating_add(kept.unread.len());
+    }
+    count
 }
 
 // The items of a host of the pairs to the host at an address.

@@ -21,6 +21,7 @@ pub fn print_groups(text: &mut String, items: &[Item<'_>]) -> Result<(), Memory>
     requires up { IsUp items.now }
     ensures { AreKnown items.now → OnOk result (string_bytes text.new ≡ string_bytes text.old ++ groups_text items.now) }
 {
+    text.reserve(room(items))?;
     let mut rest = items;
     while !rest.is_empty() {
         let group = rest[0].group();
@@ -30,6 +31,22 @@ pub fn print_groups(text: &mut String, items: &[Item<'_>]) -> Result<(), Memory>
         print_group(text, group, run)?;
     }
     Ok(())
+}
+
+// About how many bytes the lines of what was received take: the digits of each payload, and the word before them.
+fn room(items: &[Item<'_>]) -> usize {
+    let mut bytes = 0usize;
+    for item in items {
+        bytes = bytes.saturating_add(line_length(item));
+    }
+    bytes
+}
+
+fn line_length(item: &Item<'_>) -> usize {
+    match &item.what {
+        What::Received(payload) => " data=\n".len() + 2 * payload.len() as usize,
+        _ => 0,
+    }
 }
 
 // Prints the items of a group, unless none was accepted.
