@@ -1,11 +1,14 @@
 -- Pieces that are put together, one by one.
 use Rattle.std.proofs.Common.{◌≡◌, ℕ, ◌+◌, ◌≤◌, List, [], ◌∷◌, ◌++◌, length, arith, refl, sym, ap, subst, ◌∙◌, inl, inr}
-use Rattle.std.specs.Prelude.{◌⊎◌}
+use Rattle.std.specs.Prelude.{◌⊎◌, All}
 use Rattle.std.specs.List.{AllZip, concat}
 use Rattle.std.proofs.lemmas.List.{append_assoc, append-nil, length-append}
+use Rattle.rds_script.specs.declared.script.Placed.{Placed}
+use Rattle.rds_script.specs.Script.{IsCommand, payload_total, cut_total}
+use Rattle.rds_script.specs.Grammar.{Meaning, Spells}
 use Rattle.rds_pieces.specs.declared.part.Part.{Part}
 use Rattle.rds_pieces.specs.Pieces.{EndsLine, AreCut}
-use Rattle.rds_pieces.specs.Parts.{AreRead, IsHead, IsPart}
+use Rattle.rds_pieces.specs.Parts.{AreInLines, AreRead, IsAlike, IsHead, IsPart}
 
 -- some of the pieces are read, and these are left
 pub record Halfway (head : List ℕ) (pieces : List (List ℕ)) (whole : Part) (parts : List Part) : Type 0 where
@@ -17,15 +20,36 @@ pub record Halfway (head : List ℕ) (pieces : List (List ℕ)) (whole : Part) (
   pub read : IsPart head done whole
   pub each : AllZip (IsPart head) left parts
 
+-- the same was read of the same piece
+alike : (head piece : List ℕ) (one other : Part) → IsAlike one other → IsPart head piece one → IsPart head piece other
+alike head piece one other a p =
+    let hosts : one.script.hosts ≡ other.script.hosts = ap (λ (m : Meaning). m.hosts) (sym a.script) in
+    let commands : one.script.commands.items ≡ other.script.commands.items = ap (λ (m : Meaning). m.commands) (sym a.script) in
+    let each = subst (λ (cs : List Placed). All (λ (c : Placed). IsCommand one.script.hosts c.command) cs) commands p.known.each in
+    record {
+      spells = subst (Spells (head ++ piece)) (sym a.script) p.spells;
+      known = record {
+        hosts_low = subst (λ (n : ℕ). 2 ≤ n) hosts p.known.hosts_low;
+        hosts_high = subst (λ (n : ℕ). n ≤ 8) hosts p.known.hosts_high;
+        each = subst (λ (n : ℕ). All (λ (c : Placed). IsCommand n c.command) other.script.commands.items) hosts each;
+        total = subst (λ (cs : List Placed). payload_total cs ≤ 16777216) commands p.known.total;
+        cuts = subst (λ (cs : List Placed). cut_total cs ≤ 1024) commands p.known.cuts;
+      };
+      placed = subst AreInLines commands p.placed;
+      lines = a.lines ∙ p.lines;
+      bytes = a.bytes ∙ p.bytes ∙ ap payload_total commands;
+      cuts = a.cuts ∙ p.cuts ∙ ap cut_total commands;
+    }
+
 -- before the first
-pub half_none : (head : List ℕ) (count : ℕ) (pieces : List (List ℕ)) (first : Part) (parts : List Part) → AreRead head count pieces first parts → Halfway head pieces first parts
-half_none head count pieces first parts r = record {
+pub half_none : (head : List ℕ) (count : ℕ) (pieces : List (List ℕ)) (first whole : Part) (parts : List Part) → AreRead head count pieces first parts → IsAlike first whole → Halfway head pieces whole parts
+half_none head count pieces first whole parts r same = record {
   done = [];
   left = pieces;
   all = refl;
   cut = r.cut;
   ended = inr (subst EndsLine (sym (append-nil head)) r.is_head.ended);
-  read = r.alone;
+  read = alike head [] first whole same r.alone;
   each = r.each;
 }
 

@@ -30,6 +30,13 @@ pub record IsPart (head piece : List ℕ) (part : Part) : Type 0 where
   pub bytes : part.bytes ≡ payload_total part.script.commands.items
   pub cuts : part.cuts ≡ cut_total part.script.commands.items
 
+-- the same was read
+pub record IsAlike (one other : Part) : Type 0 where
+  pub script : meaning other.script ≡ meaning one.script
+  pub lines : other.lines ≡ one.lines
+  pub bytes : other.bytes ≡ one.bytes
+  pub cuts : other.cuts ≡ one.cuts
+
 -- a head of so many lines, which ends behind a LF and has one line with a command
 pub record IsHead (head : List ℕ) (count : ℕ) : Type 0 where
   pub ended : EndsLine head

@@ -5,7 +5,7 @@ ghost use Rattle.std.specs.List.{AllByRecursion, concat};
 ghost use Rattle.rds_script.specs.Script.{IsScript};
 ghost use Rattle.rds_script.specs.Grammar.{meaning, Spells};
 ghost use Rattle.rds_pieces.specs.Pieces.{EndsLine};
-ghost use Rattle.rds_pieces.specs.Parts.{AreInLines, AreRead, IsHead, IsPart, continued, lowered};
+ghost use Rattle.rds_pieces.specs.Parts.{AreInLines, AreRead, IsAlike, IsHead, IsPart, continued, lowered};
 
 use crate::part::Part;
 use rds_script::laws::one_script;
@@ -19,11 +19,45 @@ pub(crate) fn joined(first: Part, head_lines: u32, parts: Vec<Part>) -> Option<S
     ensures { IfSome result (λ script. (head : List ℕ) (pieces : List (List ℕ)) → AreRead head head_lines pieces first parts.items
         → Spells (head ++ concat pieces) (meaning script) × IsScript script) }
 {
-    let mut whole = first;
+    let mut whole = with_room(first, command_count(parts.as_slice()))?;
     for part in parts {
         whole = followed(whole, head_lines, part)?;
     }
     Some(whole.script)
+}
+
+/// How many commands all parts have together.
+fn command_count(parts: &[Part]) -> usize {
+    let mut count: usize = 0;
+    for part in parts {
+        count = count.saturating_add(part.script.commands.len());
+    }
+    count
+}
+
+/// The same part, with room for so many commands more.
+fn with_room(part: Part, count: usize) -> Option<Part>
+    ensures { IfSome result (IsAlike part) }
+{
+    let script = script_with_room(part.script, count)?;
+    Some(Part {
+        script,
+        lines: part.lines,
+        bytes: part.bytes,
+        cuts: part.cuts,
+    })
+}
+
+fn script_with_room(script: Script, count: usize) -> Option<Script>
+    ensures { IfSome result (λ s. meaning s ≡ meaning script) }
+{
+    let mut commands = script.commands;
+    commands.reserve(count).ok()?;
+    Some(Script {
+        hosts: script.hosts,
+        hosts_line: script.hosts_line,
+        commands,
+    })
 }
 
 /// What was read of two pieces, one behind the other, of a text whose head has so many lines; or none, where a limit is

@@ -72,7 +72,7 @@ fn limits_are_kept_by_all_pieces_together(rt: HostRuntime) -> Result<(), Fail> {
     let past = [(HEAD, 1), (sends, 3), (note, 2000), (sends, 3), (note, 2000), (sends, 3), (note, 1)];
     expect(&rt, rt.alloc(), &past, "4014 total")?;
     let cuts = [(HEAD, 1), ("cut A B\n", 500), (note, 4000), ("cut B C\n", 525)];
-    expect(&rt, rt.alloc(), &cuts, "5530 cuts")?;
+    expect(&rt, rt.alloc(), &cuts, "5030 cuts")?;
     expect(&rt, rt.alloc(), &[(HEAD, 1), ("#\n", 199_995)], "0 commands")?;
     expect(&rt, rt.alloc(), &[(HEAD, 1), ("#\n", 199_996)], "200001 lines")
 }

@@ -3,8 +3,19 @@ use Rattle.std.specs.List.{AllByRecursion, concat}
 use Rattle.std.specs.Vec.Iter.{into_iter_items}
 use Rattle.rds_pieces.specs.declared.part.Part.{Part}
 use Rattle.rds_pieces.specs.Parts.{AreInLines, AreRead, IsPart}
-use Rattle.rds_pieces.proofs.Halfway.{Halfway, half_more, half_all}
+use Rattle.rds_pieces.proofs.Halfway.{Halfway, half_none, half_more, half_all}
 use Rattle.rds_pieces.proofs.joining.joined.Goals as goal
+
+pub loop-part-init : goal.loop-part-init
+loop-part-init c =
+    let all = c.into_iter-part-iterator.ensures.into_iter_gives in
+    let left = into_iter_items c.into_iter-part-iterator.result in
+    record {
+      lines = subst (AllByRecursion (λ (p : Part). AreInLines p.script.commands.items)) (sym all.0) c.requires.lines;
+      long = all.1 ∙ c.args.parts.ok.0 ∙ ap length (sym all.0);
+      told = λ head pieces read.
+          subst (Halfway head pieces c.in_ok-whole.whole) (sym all.0) (half_none head c.args.head_lines pieces c.args.first c.in_ok-whole.whole c.args.parts.items read (c.in_ok-whole.ensures {u = tt}));
+    }
 
 pub loop-part-preserved : goal.loop-part-preserved
 loop-part-preserved c =
@@ -19,7 +30,7 @@ loop-part-preserved c =
       lines = lines.1;
       long = omega arith;
       told = λ head pieces read.
-          half_more head c.args.head_lines pieces c.args.first c.args.parts.items left at.whole c.in-Some.part c.in_ok-whole.whole read (c.in_ok-whole.ensures {u = tt}) (subst (Halfway head pieces at.whole) steps (at.invariant.told head pieces read));
+          half_more head c.args.head_lines pieces c.args.first c.args.parts.items left at.whole c.in-Some.part c.in_ok-whole-2.whole read (c.in_ok-whole-2.ensures {u = tt}) (subst (Halfway head pieces at.whole) steps (at.invariant.told head pieces read));
     }
 
 nothing_left : {X : Type 0} (l : List X) → length l ≡ 0 → l ≡ []
