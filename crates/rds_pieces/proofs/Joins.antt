@@ -1,5 +1,5 @@
 -- What two pieces spell, one behind the other, with the head in front of them.
-use Rattle.std.proofs.Common.{◌≡◌, ◌≢◌, ℕ, ◌+◌, ◌≤◌, List, [], ◌∷◌, ◌++◌, length, map, arith, refl, sym, ap, subst, ◌∙◌}
+use Rattle.std.proofs.Common.{◌≡◌, ℕ, ◌+◌, ◌≤◌, List, [], ◌∷◌, ◌++◌, length, map, arith, refl, sym, ap, subst, ◌∙◌}
 use Rattle.std.specs.Prelude.{All, sum_by}
 use Rattle.std.specs.List.{AllZip, AllPass}
 use Rattle.std.specs.Str.Lines.{lines as lines_of}
@@ -11,11 +11,11 @@ use Rattle.rds_script.specs.declared.script.Placed.{Placed}
 use Rattle.rds_script.specs.declared.script.Command.{Command}
 use Rattle.rds_script.specs.Text.{is_text}
 use Rattle.rds_script.specs.Line.{SpellsHosts}
-use Rattle.rds_script.specs.Script.{IsCommand, IsScript, payload_len, payload_total, cut_count, cut_total}
+use Rattle.rds_script.specs.Script.{IsCommand, payload_len, payload_total, cut_count, cut_total}
 use Rattle.rds_script.specs.Grammar.{Meaning, meaning, command_lines, SpellsPlaced, SpellsLines, Spells}
 use Rattle.rds_pieces.specs.declared.part.Part.{Part}
 use Rattle.rds_pieces.specs.Pieces.{EndsLine}
-use Rattle.rds_pieces.specs.Parts.{AreInLines, IsHead, IsPart, continued, lowered}
+use Rattle.rds_pieces.specs.Parts.{IsHead, IsPart, continued, lowered}
 use Rattle.rds_pieces.proofs.Lines.{lines-append}
 use Rattle.rds_pieces.proofs.Numbered.{Line, numbered, numbered-append, lower_all, spelled_in_lines}
 

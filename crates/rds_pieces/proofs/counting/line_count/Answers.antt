@@ -1,5 +1,4 @@
-use Rattle.std.proofs.Common.{◌≡◌, ◌∙◌, ◌+◌, ℕ, Some, sym, ap, arith}
-use Rattle.std.specs.List.{slice_get}
+use Rattle.std.proofs.Common.{◌∙◌, ◌+◌, ℕ, Some, sym, ap, arith}
 use Rattle.std.proofs.lemmas.Bool.{ne_eqb}
 use Rattle.rds_pieces.proofs.Lines.{count-last_end, count-last_other}
 use Rattle.rds_pieces.proofs.counting.line_count.Goals as goal

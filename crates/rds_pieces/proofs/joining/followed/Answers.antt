@@ -1,4 +1,4 @@
-use Rattle.std.proofs.Common.{◌≡◌, ◌≤◌, ◌+◌, arith, refl}
+use Rattle.std.proofs.Common.{arith, refl}
 use Rattle.rds_pieces.proofs.Joins.{joined_part}
 use Rattle.rds_pieces.proofs.joining.followed.Goals as goal
 

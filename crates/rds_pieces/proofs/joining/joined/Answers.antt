@@ -1,8 +1,8 @@
-use Rattle.std.proofs.Common.{◌≡◌, ◌++◌, ◌∷◌, [], ◌∙◌, ℕ, List, length, arith, refl, ap, sym, subst}
+use Rattle.std.proofs.Common.{◌≡◌, ◌∷◌, [], ◌∙◌, List, length, arith, refl, ap, sym, subst}
 use Rattle.std.specs.List.{AllByRecursion, concat}
 use Rattle.std.specs.Vec.Iter.{into_iter_items}
 use Rattle.rds_pieces.specs.declared.part.Part.{Part}
-use Rattle.rds_pieces.specs.Parts.{AreInLines, AreRead, IsPart}
+use Rattle.rds_pieces.specs.Parts.{AreInLines, IsPart}
 use Rattle.rds_pieces.proofs.Halfway.{Halfway, half_none, half_more, half_all}
 use Rattle.rds_pieces.proofs.joining.joined.Goals as goal
 

@@ -1,5 +1,4 @@
-use Rattle.std.proofs.Common.{◌≡◌, ◌≤◌, ◌<◌, length, map, arith, ap}
-use Rattle.rds_script.specs.declared.script.Placed.{Placed}
+use Rattle.std.proofs.Common.{◌≤◌, arith}
 use Rattle.rds_pieces.specs.Parts.{lowered}
 use Rattle.rds_pieces.proofs.Lowering.{mapped_more, left_more, still}
 use Rattle.rds_pieces.proofs.joining.lower.Goals as goal

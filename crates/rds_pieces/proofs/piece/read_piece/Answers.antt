@@ -1,7 +1,6 @@
-use Rattle.std.proofs.Common.{◌≡◌, ◌++◌, ◌∙◌, List, ℕ, sym, ap, subst}
+use Rattle.std.proofs.Common.{◌≡◌, ◌++◌, ◌∙◌, List, ℕ, ap, subst}
 use Rattle.rds_script.specs.Script.{payload_total, cut_total}
 use Rattle.rds_script.specs.Grammar.{meaning, Spells}
-use Rattle.rds_pieces.specs.Parts.{IsPart}
 use Rattle.rds_pieces.proofs.Numbered.{spelled_in_lines}
 use Rattle.rds_pieces.proofs.piece.read_piece.Goals as goal
 

@@ -1,4 +1,4 @@
-use Rattle.std.proofs.Common.{◌≡◌, ◌∙◌, List, Result, ap, subst, sym, IfOk, ℕ}
+use Rattle.std.proofs.Common.{◌≡◌, ◌∙◌, List, Result, ap, subst, IfOk, ℕ}
 use Rattle.std.specs.Borrow.{Bor}
 use Rattle.std.specs.List.{AllZip}
 use Rattle.rayon.proofs.ToStd.{slice-AllZip}

@@ -1,4 +1,4 @@
-use Rattle.std.proofs.Common.{◌≡◌, ◌∙◌, [], length, sym, ap}
+use Rattle.std.proofs.Common.{◌∙◌, [], sym}
 use Rattle.std.proofs.lemmas.Bool.{eqb-true}
 use Rattle.rds_pieces.specs.Parts.{IsPart}
 use Rattle.rds_pieces.proofs.Pieced.{some_ok, head_is}
