@@ -50,38 +50,119 @@ fn expect<R: Threads + Sync + Abort>(
 fn scripts_are_read(rt: HostRuntime) -> Result<(), Fail> {
     // A short script, one of five pieces whose last line lacks its end, and one that ends with a blank.
     expect(&rt, rt.alloc(), &[(HEAD, 1), (LINES, 3)], "15 commands")?;
-    expect(&rt, rt.alloc(), &[(HEAD, 1), (LINES, 4000), ("drain", 1)], "20001 commands")?;
-    expect(&rt, rt.alloc(), &[(HEAD, 1), (LINES, 3000), ("\r\n", 1), (" ", 1)], "15000 commands")
+    expect(
+        &rt,
+        rt.alloc(),
+        &[(HEAD, 1), (LINES, 4000), ("drain", 1)],
+        "20001 commands",
+    )?;
+    expect(
+        &rt,
+        rt.alloc(),
+        &[(HEAD, 1), (LINES, 3000), ("\r\n", 1), (" ", 1)],
+        "15000 commands",
+    )
 }
 
 #[test]
 fn lines_are_refused(rt: HostRuntime) -> Result<(), Fail> {
     // In the second piece, in the last one, in both, and in a second head.
-    expect(&rt, rt.alloc(), &[(HEAD, 1), (LINES, 1500), ("flush\n", 1), (LINES, 2500)], "9006 command")?;
-    expect(&rt, rt.alloc(), &[(HEAD, 1), (LINES, 4000), ("cut A D", 1)], "24006 host")?;
-    expect(&rt, rt.alloc(), &[(HEAD, 1), (LINES, 1500), ("drain 1\n", 1), (LINES, 2500), ("?", 1)], "9006 words")?;
-    expect(&rt, rt.alloc(), &[(HEAD, 1), (LINES, 4000), (HEAD, 1)], "24010 command")
+    expect(
+        &rt,
+        rt.alloc(),
+        &[(HEAD, 1), (LINES, 1500), ("flush\n", 1), (LINES, 2500)],
+        "9006 command",
+    )?;
+    expect(
+        &rt,
+        rt.alloc(),
+        &[(HEAD, 1), (LINES, 4000), ("cut A D", 1)],
+        "24006 host",
+    )?;
+    expect(
+        &rt,
+        rt.alloc(),
+        &[
+            (HEAD, 1),
+            (LINES, 1500),
+            ("drain 1\n", 1),
+            (LINES, 2500),
+            ("?", 1),
+        ],
+        "9006 words",
+    )?;
+    expect(
+        &rt,
+        rt.alloc(),
+        &[(HEAD, 1), (LINES, 4000), (HEAD, 1)],
+        "24010 command",
+    )
 }
 
 #[test]
 fn limits_are_kept_by_all_pieces_together(rt: HostRuntime) -> Result<(), Fail> {
     let sends = "send A 1 B 2 f:2097152\n";
     let note = "# one of many lines of notes that stand between the sends of this script\n";
-    let apart = [(HEAD, 1), (sends, 3), (note, 2000), (sends, 3), (note, 2000), (sends, 2), (note, 1)];
+    let apart = [
+        (HEAD, 1),
+        (sends, 3),
+        (note, 2000),
+        (sends, 3),
+        (note, 2000),
+        (sends, 2),
+        (note, 1),
+    ];
     expect(&rt, rt.alloc(), &apart, "8 commands")?;
-    let past = [(HEAD, 1), (sends, 3), (note, 2000), (sends, 3), (note, 2000), (sends, 3), (note, 1)];
+    let past = [
+        (HEAD, 1),
+        (sends, 3),
+        (note, 2000),
+        (sends, 3),
+        (note, 2000),
+        (sends, 3),
+        (note, 1),
+    ];
     expect(&rt, rt.alloc(), &past, "4014 total")?;
-    let cuts = [(HEAD, 1), ("cut A B\n", 500), (note, 4000), ("cut B C\n", 525)];
+    let cuts = [
+        (HEAD, 1),
+        ("cut A B\n", 500),
+        (note, 4000),
+        ("cut B C\n", 525),
+    ];
     expect(&rt, rt.alloc(), &cuts, "5030 cuts")?;
-    expect(&rt, rt.alloc(), &[(HEAD, 1), ("#\n", 199_995)], "0 commands")?;
-    expect(&rt, rt.alloc(), &[(HEAD, 1), ("#\n", 199_996)], "200001 lines")
+    expect(
+        &rt,
+        rt.alloc(),
+        &[(HEAD, 1), ("#\n", 199_995)],
+        "0 commands",
+    )?;
+    expect(
+        &rt,
+        rt.alloc(),
+        &[(HEAD, 1), ("#\n", 199_996)],
+        "200001 lines",
+    )
 }
 
 #[test]
 fn texts_without_a_usual_head(rt: HostRuntime) -> Result<(), Fail> {
     // No end of a line, no command, many notes before the first command, and a first command that is refused.
-    expect(&rt, rt.alloc(), &[("hosts 2 ", 1), ("          ", 30_000)], "0 commands")?;
+    expect(
+        &rt,
+        rt.alloc(),
+        &[("hosts 2 ", 1), ("          ", 30_000)],
+        "0 commands",
+    )?;
     expect(&rt, rt.alloc(), &[("# nothing\n", 30_000)], "0 empty")?;
-    expect(&rt, rt.alloc(), &[("# nothing\n", 20_000), ("hosts 2\n", 1), ("drain\n", 20_000)], "20000 commands")?;
+    expect(
+        &rt,
+        rt.alloc(),
+        &[
+            ("# nothing\n", 20_000),
+            ("hosts 2\n", 1),
+            ("drain\n", 20_000),
+        ],
+        "20000 commands",
+    )?;
     expect(&rt, rt.alloc(), &[("drain\n", 50_000)], "1 command")
 }
