@@ -3,13 +3,13 @@ use Rattle.std.proofs.Common.{◌≡◌, ◌≢◌, ℕ, zero, suc, ◌+◌, ◌
 use Rattle.std.proofs.Math.Seq.{take-append_seam}
 use Rattle.std.proofs.lemmas.Bool.{cases_eq, cond-true, cond-false, eq-eqb}
 use Rattle.std.proofs.lemmas.List.{append-nil, map-append, take-append-drop, take-map}
-use Rattle.std.proofs.lemmas.List.Elements.{All-nil, All-cons, All-head, All-tail, All-append, All-take, All-weaker, filter-append, filter_agree}
+use Rattle.std.proofs.lemmas.List.Elements.{All-nil, All-cons, All-head, All-tail, All-append, All-take, All-weaker, All-contains_itself, filter-append, filter_agree}
 use Rattle.std.proofs.lemmas.List.Folds.{flat_map-map}
 use Rattle.std.proofs.lemmas.List.Kept.{AllPairs-cons, AllPairs-from_increasing}
-use Rattle.std.specs.List.{All, AllPairs, filter, flat_map}
+use Rattle.std.specs.List.{All, AllPairs, Contains, filter, flat_map}
 use Rattle.std.specs.List.Sorted.{IsStrictlyIncreasing}
 use Rattle.rds_model.specs.declared.order.Datagram.{Datagram}
-use Rattle.rds_model.specs.Pairs.{delivered_to}
+use Rattle.rds_model.specs.Pairs.{delivered, delivered_to}
 use Rattle.rds_text.specs.Ports.{below}
 use Rattle.rds_final.specs.FinalState.{FinalSocket, FinalHost, sockets_of}
 use Rattle.rds_final.specs.Hosts.{address_of}
@@ -159,18 +159,22 @@ received_by_slot hosts h sport k dport past known =
     (λ d. and_regrouped (d.from == address_of h) (d.sport == sport) (d.dport == dport)) (flat_map (λ slot. handed_out k slot past) (below (next_slot k past)))
     ∙ filter_by_slot (is_of_ports h sport dport) (λ slot. handed_out k slot past) (next_slot k past)
 
-pub reported_in_order : (hosts h sport k dport : ℕ) (past : List Event) → k < hosts → IsStrictlyIncreasing (delivered_by_slot h sport k dport past) →
-    ((slot : ℕ) → IsHandedOut h sport k dport slot past) → IsReportedInOrder hosts h sport k dport past
-reported_in_order hosts h sport k dport past known rise each =
+pub reported_in_order : (hosts h sport k dport : ℕ) (past : List Event) → k < hosts → delivered_by_slot h sport k dport past ≡ delivered sport dport (journal k h past) →
+    IsStrictlyIncreasing (delivered sport dport (journal k h past)) → ((slot : ℕ) → IsHandedOut h sport k dport slot past) →
+    IsReportedInOrder hosts h sport k dport past
+reported_in_order hosts h sport k dport past known by_slot rise each =
     let shown : ℕ → List Datagram = λ slot. of_ports h sport dport (handed_out k slot past) in
     let all : ℕ → List ℕ = λ slot. delivered_to slot sport dport (journal k h past) in
     let count : ℕ → ℕ = λ slot. length (shown slot) in
     let numbers : List ℕ = flat_map (first all count) (below (next_slot k past)) in
-    let rises : Rises numbers = rises_first all count (next_slot k past) (rises_from (delivered_by_slot h sport k dport past) (AllPairs-from_increasing (delivered_by_slot h sport k dport past) rise)) in
+    let came : List ℕ = delivered sport dport (journal k h past) in
+    let rises : Rises numbers =
+    rises_first all count (next_slot k past) (subst Rises (sym by_slot) (rises_from came (AllPairs-from_increasing came rise))) in
     record {
       numbers = numbers;
       rise = λ place within. pairs_from numbers rises place (place + 1) 0 (omega arith) within;
-      sent =
+      came = all_first all count (Contains came) (next_slot k past) (subst (All (Contains came)) (sym by_slot) (All-contains_itself came));
+      printed =
           ap (map (λ (d : Datagram). Some d)) (received_by_slot hosts h sport k dport past known)
           ∙ shown_by_slot (sent h k past) shown (first all count)
           (λ slot. shown_first (sent h k past) (shown slot) (of_ports h sport dport (queue k slot past)) (all slot)

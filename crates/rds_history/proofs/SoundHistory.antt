@@ -1,7 +1,6 @@
 -- After all commands of a script in range every two hosts stand to each other as they should.
 use Rattle.std.proofs.Common.{arith, ◌≡◌, ◌≢◌, ℕ, ◌<◌, ◌≤◌, ◌^◌, Some, Ok, List, [], map, refl, ◌∙◌, ap, sym, ◌++◌, subst}
 use Rattle.std.specs.Prelude.{All}
-use Rattle.std.specs.List.Sorted.{IsStrictlyIncreasing}
 use Rattle.rds_model.specs.declared.entry.Entry.{Entry}
 use Rattle.rds_model.specs.declared.order.Datagram.{Datagram}
 use Rattle.rds_model.specs.Honest.{IsHonest}
@@ -81,9 +80,8 @@ module _ (headline : Headline) (hosts : ℕ) (past : List Event) (keeps : Keeps 
   -- what the report prints of a port pair
   reported : (h k : ℕ) → k < hosts → h ≢ k → (sport dport : ℕ) → IsReportedInOrder hosts h sport k dport past
   reported h k known apart sport dport =
-      reported_in_order hosts h sport k dport past known
-      (subst IsStrictlyIncreasing (sym (slot_order k h sport dport).by_slot) (once headline hosts past keeps h k apart sport dport).rise)
-      (shown h k apart sport dport)
+      reported_in_order hosts h sport k dport past known (slot_order k h sport dport).by_slot
+      (once headline hosts past keeps h k apart sport dport).rise (shown h k apart sport dport)
 
   -- what a socket hands out, or will, was sent by another host
   handed_out_was_sent : (k slot : ℕ) → All (WasSentTo hosts k past) (handed_out k slot past ++ queue k slot past)

@@ -2,7 +2,7 @@
 -- other wrote, datagrams come first in, first out and each once, and for each port pair a socket hands out what was sent to
 -- it, in order and each once, and so do all sockets that held the port, one after another. Sources: rds(7) for reliable and
 -- in order; the words are this project's own.
-use Rattle.std.specs.Prelude.{◌≡◌, ◌≢◌, ℕ, ◌<◌, ◌==◌, ◌&&◌, Bool, Option, Some, List, ◌++◌, filter, map, All}
+use Rattle.std.specs.Prelude.{◌≡◌, ◌≢◌, ℕ, ◌<◌, ◌==◌, ◌&&◌, Bool, Option, Some, List, ◌++◌, filter, map, All, Contains}
 use Rattle.std.specs.Option.{option_map}
 use Rattle.std.specs.List.{flat_map}
 use Rattle.std.specs.List.Sorted.{IsStrictlyIncreasing}
@@ -43,14 +43,14 @@ IsHandedOut h sport k dport slot past =
     map (λ (d : Datagram). Some d) (of_ports h sport dport (handed_out k slot past ++ queue k slot past))
     ≡ map (sent h k past) (delivered_to slot sport dport (journal k h past))
 
--- the numbers delivered for the port pair, socket by socket of host k, by slot from 0 on
+-- the numbers that were delivered for the port pair, socket by socket of host k, from slot 0 on
 abbrev pub delivered_by_slot : (h sport k dport : ℕ) → List Event → List ℕ
 delivered_by_slot h sport k dport past =
     flat_map (λ slot. delivered_to slot sport dport (journal k h past)) (below (next_slot k past))
 
 -- The port pair is reliable: what was delivered was sent, in order and each once, and each sent datagram up to the last that
--- arrived is accounted for; the sockets hand it out so; and they get it one after another: what one socket of the port got
--- comes before all that a socket of a higher slot got, as the numbers by slot are those in the order of delivery, which rise.
+-- arrived is accounted for; the sockets hand it out so; and of two sockets that held the port the one of the higher slot got
+-- the higher numbers, since read socket by socket the numbers stand in the order of delivery, in which they rise.
 pub record IsReliable (h sport k dport : ℕ) (past : List Event) : Type 0 where
   pub once : IsDeliveredOnce sport dport (journal h k past) (journal k h past)
   pub handed_out : (slot : ℕ) → IsHandedOut h sport k dport slot past
@@ -72,14 +72,16 @@ WasSentTo hosts k past d = (h : ℕ) × (n : ℕ) × (h < hosts) × (h ≢ k) ×
 abbrev pub port_pair : (h sport k dport : ℕ) → Group
 port_pair h sport k dport = record { to = address_of k; dport = dport; from = address_of h; sport = sport }
 
--- What the report says was received for the port pair, by all sockets of the port, is what h sent, under numbers that rise.
+-- What the report prints as received for the port pair, from all sockets that held the port, is what h sent under numbers
+-- that were delivered, and that rise.
 pub record IsReportedInOrder (hosts h sport k dport : ℕ) (past : List Event) : Type 0 where
   pub numbers : List ℕ
   pub rise : IsStrictlyIncreasing numbers
-  pub sent : map (λ (d : Datagram). Some d) (received (final_hosts hosts past) (port_pair h sport k dport)) ≡ map (sent h k past) numbers
+  pub came : All (Contains (delivered sport dport (journal k h past))) numbers
+  pub printed : map (λ (d : Datagram). Some d) (received (final_hosts hosts past) (port_pair h sport k dport)) ≡ map (sent h k past) numbers
 
--- So it is between each two hosts, and in the report; and the sockets of a host hand out nothing but what another of these
--- hosts sent to it.
+-- So it is between each two hosts, and what is printed of them; and the sockets of a host hand out nothing but what another
+-- of these hosts sent to it.
 pub record IsSoundPast (hosts : ℕ) (past : List Event) : Type 0 where
   pub between : (h k : ℕ) → h < hosts → k < hosts → h ≢ k → IsSoundBetween h k past
   pub all_sent : (k slot : ℕ) → All (WasSentTo hosts k past) (handed_out k slot past ++ queue k slot past)

@@ -14,9 +14,10 @@ use rds_model::laws::{drained_of_all, fifo_of_all, headline_of_all, no_bad_of_al
 /// journals follow the rules, and each host got a beginning of the bytes that the other wrote to each stream. Over the whole
 /// connection datagrams come first in, first out, and each once. For each port pair the datagrams delivered are accepted
 /// ones, in order and each once, and each accepted one up to the last that arrived is accounted for. The sockets hand out in
-/// this order, with their bytes, what was delivered to them, and nothing but what another host of the script sent. The limit
-/// on the entries of a journal only keeps the numbers of datagrams below 2^63, since a reader refuses others. The body cites
-/// three laws of journals.
+/// this order, with their bytes, what was delivered to them, and nothing but what another host of the script sent. Where a
+/// port was held by one socket after another, the later one got the higher numbers, and so the report prints what was
+/// received for a port pair in the order in which it was sent. The limit on the entries of a journal only keeps the numbers
+/// of datagrams below 2^63, since a reader refuses others. The body cites three laws of journals.
 pub fn sound()
     ensures { (script : Script) (limit : ℕ) (past : List Event) → IsScript script → limit ≤ 2 ^ 63 →
         history limit script.hosts script.commands.items [] ≡ Ok past → IsSoundPast script.hosts past }
