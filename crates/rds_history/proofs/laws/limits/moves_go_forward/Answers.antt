@@ -1,5 +1,4 @@
-use Rattle.std.proofs.Common.{None, subst}
-use Rattle.rds_history.specs.Move.{move_up_to}
+use Rattle.std.proofs.Common.{subst}
 use Rattle.rds_history.proofs.Holding.{Holds}
 use Rattle.rds_history.proofs.Moves.{IsCarried, carried}
 use Rattle.rds_history.proofs.laws.limits.moves_go_forward.Goals as goal
