@@ -1,5 +1,5 @@
 -- What was written where the sink failed.
-use Rattle.std.proofs.Common.{◌≡◌, ◌⊎◌, inl, inr, ℕ, Bool, true, List, String, sym, subst, ◌∙◌}
+use Rattle.std.proofs.Common.{◌≡◌, ◌⊎◌, inl, inr, ℕ, Bool, true, false, List, String, sym, subst, ◌∙◌}
 use Rattle.std.specs.Global.{Global}
 use Rattle.rds_link.specs.Streaming.{HasRisen, SinkGainedFront}
 use Rattle.rds_link.specs.declared.wire.WireCounts.{WireCounts}
@@ -47,23 +47,31 @@ counted_none form m may_fail never before after run_end.Memory text has counted 
 
 -- where the sink failed, it took a beginning of what the run has to write
 pub begun_of : (seen : WireSeen) (form : Form) (m : Meaning) (may_fail : Type 0) (sink : Written) → HasRisen sink.faults_before sink.faults_after →
-    HasBegun form seen.tells MAX_ENTRIES m.hosts m.commands (IsCountedEnd seen.tells may_fail 20000000 seen.before seen.after) sink.held_before sink.held_after →
+    HasBegun form seen.tells MAX_ENTRIES m.hosts m.commands (IsCountedEnd seen.tells may_fail 20000000 seen.before seen.after) seen.before.faults seen.after.faults
+    sink.held_before sink.held_after →
     (text : List ℕ) × IsRunText seen form m text × (HasRisen sink.faults_before sink.faults_after × SinkGainedFront sink.held_before sink.held_after text)
 begun_of seen form m may_fail sink risen begun =
-    (begun.1, (begun.0, begun.2, counted_so seen.tells may_fail seen.before seen.after begun.0 begun.3), (risen, begun.4))
+    (begun.1, (begun.0, begun.2, counted_so seen.tells may_fail seen.before seen.after begun.0 begun.3, λ untold. begun.4), (risen, begun.5))
 
 -- so it did in a run that ended so
 pub risen_of : (seen : WireSeen) (form : Form) (m : Meaning) (sink : SinkSeen) (s : Status) → s ≡ ended.WriteFault → IsEndOfScript seen form m sink s →
     HasRisen sink.faults_before sink.faults_after
 risen_of seen form m sink s is end = (subst (IsEndOfScript seen form m sink) is end).2.0
 
+-- ends that tell their bytes are none that don't
+told_apart : true ≡ false → ⊥
+told_apart same = absurd (cc)
+
 -- in memory, too
-pub begun_in_memory : (form : Form) (m : Meaning) (may_fail : Type 0) → (may_fail → ⊥) → (before after : WireCounts) (sink : SinkSeen) →
+pub begun_in_memory : (form : Form) (m : Meaning) (may_fail : Type 0) → (may_fail → ⊥) → (before after : WireCounts) (was now : ℕ) (sink : SinkSeen) →
     HasRisen sink.faults_before sink.faults_after →
-    HasBegun form true MAX_ENTRIES m.hosts m.commands (IsCountedEnd true may_fail 20000000 before after) sink.held_before sink.held_after →
+    HasBegun form true MAX_ENTRIES m.hosts m.commands (IsCountedEnd true may_fail 20000000 before after) was now sink.held_before sink.held_after →
     (text : List ℕ) × IsRunText memory_seen form m text × HasFailedIn sink text
-begun_in_memory form m may_fail never before after sink risen begun =
-    (begun.1, (begun.0, begun.2, counted_none form m may_fail never before after begun.0 begun.1 begun.2 begun.3), (risen, begun.4))
+begun_in_memory form m may_fail never before after was now sink risen begun = (
+  begun.1,
+  (begun.0, begun.2, counted_none form m may_fail never before after begun.0 begun.1 begun.2 begun.3, λ untold. absurd (told_apart untold)),
+  (risen, begun.5),
+)
 
 module _ (tcp : WireSeen) (words : List (String Global)) (source : SourceSeen) (sink : SinkSeen) where
   abbrev HasBegunRun : RunWire → Type 0

@@ -10,7 +10,7 @@ use Rattle.rds_final.specs.FinalState.{FinalHost}
 use Rattle.rds_parties.specs.Streams.{prepared_streams}
 use Rattle.rds_threads.specs.Causes.{AreLackingStream, AreUnacknowledged, IsFullJournal}
 use Rattle.rds_threads.specs.Counted.{AreEndsClosed, EndsOweNothing, IsCountedEnd}
-use Rattle.rds_threads.specs.Cuts.{AreCutsOfEnds}
+use Rattle.rds_threads.specs.Cuts.{AreCutsOfEnds, IsCutEnd}
 use Rattle.rds_threads.specs.Ends.{AreAcknowledged, AreDrainedHosts, AreEnds, HasToWrite, NonePending}
 use Rattle.rds_threads.specs.Texts.{fault_line, text_of, unfinished_line}
 use Rattle.rds_threads.specs.declared.form.Form.{Form}
@@ -61,8 +61,9 @@ pub record IsRan (seen : WireSeen) (form : Form) (s : Meaning) (held_before held
   pub cut : seen.tells ≡ false → AreCutsOfEnds s.commands seen.before.faults seen.after.faults ends
   pub written : SinkGained held_before held_after (text_of form ends)
 
--- A run of the script filled the journal of a host with a peer: both journals of the two are sound, neither opened more streams than were to
--- be prepared, and the sink took the line that says so.
+-- A run of the script filled the journal of a host with a peer: both journals of the two are sound, and neither opened more streams than were
+-- to be prepared. Where there are no other hosts, each pulled a map with a port only where it delivered more than a receive buffer holds. The
+-- sink took the line that says so.
 pub record HasFilled (tells : Bool) (s : Meaning) (held_before held_after : Option (List ℕ)) : Type 0 where
   pub host : ℕ
   pub peer : ℕ
@@ -99,10 +100,11 @@ pub record IsRunUnfinished (seen : WireSeen) (s : Meaning) (held_before held_aft
   pub written : SinkGained held_before held_after (unfinished_line count)
 
 -- What a run of the script has to write, in a text of this form: the text of an end that the run may come to, by what was counted of the
--- wire.
+-- wire. Where ends don't tell their bytes, what its hosts have then lost no cut of the commands.
 abbrev pub IsRunText : WireSeen → Form → Meaning → List ℕ → Type 0
 IsRunText seen form s text =
     (end : RunEnd) × HasToWrite form seen.tells MAX_ENTRIES s.hosts s.commands end text × IsCountedEnd seen.tells (Unit {0}) 20000000 seen.before seen.after end
+    × (seen.tells ≡ false → IsCutEnd s.commands seen.before.faults seen.after.faults end)
 
 -- more streams would be prepared for a run of the script over TCP than may be
 abbrev pub IsTooMany : RunWire → Meaning → Type 0

@@ -68,7 +68,7 @@ where
         (IsCountedEnd W.End.means.tells (W.may_fail wire.old) 20000000
         record { faults = W.faults wire.old; nothings = W.nothings wire.old; fulls = W.fulls wire.old }
         record { faults = W.faults wire.new; nothings = W.nothings wire.new; fulls = W.fulls wire.new })
-        (K.held sink.old) (K.held sink.new) }
+        (W.faults wire.old) (W.faults wire.new) (K.held sink.old) (K.held sink.new) }
 {
     match run(
         rt,

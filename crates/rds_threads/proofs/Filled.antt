@@ -30,17 +30,14 @@ total_sides slot [] = refl
 total_sides slot (line ∷ lines) = ap (λ (n : ℕ). put_bytes slot (line_past line) + n) (total_sides slot lines)
 
 module _ {E : Type 0} where
-  -- what the ends of slots have stored the slots had stored before they were told and ended
-  pub all_grounded : (places told : List Place) (closed : List (Holding ReaderView)) (lines : List (LineView E WriterView)) → PlacesHear places told → AreEndsOf told closed →
+  -- what the ends of slots have stored the slots had stored before they ended
+  pub ended_grounded : (places : List Place) (closed : List (Holding ReaderView)) (lines : List (LineView E WriterView)) → AreEndsOf places closed →
       AreMapsGrounded closed lines → AreMapsGrounded (holdings places) lines
-  all_grounded places told closed lines hear ends grounded some place line at port small pulled =
+  ended_grounded places closed lines ends grounded some place line at port small pulled =
       let count = length-map places holding_of in
-      let same = hear.count in
-      let also = ends.count in
-      let g = grounded (omega (arith, some, count, same, also)) place line at port small pulled in
-      let q = stood_at told closed g.owner g.held ends.count g.owned in
-      let p = stood_at places told g.owner q.0 hear.count q.1 in
-      let heard = hear.each g.owner p.0 q.0 p.1 q.1 in
+      let same = ends.count in
+      let g = grounded (omega (arith, some, count, same)) place line at port small pulled in
+      let p = stood_at places closed g.owner g.held ends.count g.owned in
       record {
         slot = g.slot;
         place = g.place;
@@ -51,9 +48,39 @@ module _ {E : Type 0} where
         owner = g.owner;
         held = holding_of p.0;
         owned = held_at places g.owner p.0 p.1;
-        stored = subst (λ (h : Holding ReaderView). HasStored g.slot g.limit h.words.seat.view) heard.1 ((ends.each g.owner q.0 g.held q.1 g.owned).stored g.slot g.limit g.stored);
+        stored = (ends.each g.owner p.0 g.held p.1 g.owned).stored g.slot g.limit g.stored;
         above = g.above;
       }
+
+  -- and before they were told
+  heard_grounded : (places told : List Place) (lines : List (LineView E WriterView)) → PlacesHear places told → AreMapsGrounded (holdings told) lines →
+      AreMapsGrounded (holdings places) lines
+  heard_grounded places told lines hear grounded some place line at port small pulled =
+      let one = length-map places holding_of in
+      let two = length-map told holding_of in
+      let same = hear.count in
+      let g = grounded (omega (arith, some, one, two, same)) place line at port small pulled in
+      let q = at_map holding_of told g.owner g.held g.owned in
+      let p = stood_at places told g.owner q.0 hear.count q.1 in
+      let heard = hear.each g.owner p.0 q.0 p.1 q.1 in
+      let stored = subst (λ (h : Holding ReaderView). HasStored g.slot g.limit h.words.seat.view) q.2 g.stored in
+      record {
+        slot = g.slot;
+        place = g.place;
+        line = g.line;
+        stands = g.stands;
+        delivered = g.delivered;
+        limit = g.limit;
+        owner = g.owner;
+        held = holding_of p.0;
+        owned = held_at places g.owner p.0 p.1;
+        stored = subst (λ (h : Holding ReaderView). HasStored g.slot g.limit h.words.seat.view) heard.1 stored;
+        above = g.above;
+      }
+
+  pub all_grounded : (places told : List Place) (closed : List (Holding ReaderView)) (lines : List (LineView E WriterView)) → PlacesHear places told → AreEndsOf told closed →
+      AreMapsGrounded closed lines → AreMapsGrounded (holdings places) lines
+  all_grounded places told closed lines hear ends grounded = heard_grounded places told lines hear (ended_grounded told closed lines ends grounded)
 
   pub all_filled : (hosts host : ℕ) (commands : List Placed) (places : List Place) (lines : List (LineView E WriterView)) →
       ((place : ℕ) (line : LineView E WriterView) → slice_get lines place ≡ Some line → (line.channel.conn.peer ≡ address_of (peer_at host place)) × (suc place < hosts)) →

@@ -1,5 +1,5 @@
 -- Two hosts that lack a stream, and the streams that journals opened.
-use Rattle.std.proofs.Common.{◌≡◌, ◌<◌, ◌≤◌, ◌+◌, ◌++◌, ◌-◌, ◌==◌, ◌&&◌, ◌||◌, ⊎_elim, inl, inr, ℕ, suc, Bool, true, false, List, drop, filter, length, take, refl, sym, ap, subst, ◌∙◌, arith}
+use Rattle.std.proofs.Common.{◌≡◌, ◌<◌, ◌≤◌, ◌+◌, ◌++◌, ◌-◌, ◌==◌, ◌&&◌, ◌||◌, ⊎_elim, inl, inr, ℕ, suc, Bool, true, false, List, Some, drop, filter, length, slice_get, take, refl, sym, ap, subst, ◌∙◌, arith}
 use Rattle.std.proofs.lemmas.Bool.{cases_lt}
 use Rattle.std.proofs.lemmas.List.{take-append-drop}
 use Rattle.std.proofs.lemmas.List.Elements.{All-same, All-take}
@@ -9,7 +9,9 @@ use Rattle.rds_model.specs.Honest.{Begins}
 use Rattle.rds_model.specs.Past.{newest_stream, open_stream}
 use Rattle.rds_model.specs.Sums.{opens}
 use Rattle.rds_line_streams.specs.Streams.{numbers}
+use Rattle.rds_fmap.specs.Readers.{WriterView}
 use Rattle.rds_line.specs.Line.{LineView, line_past}
+use Rattle.rds_callers.specs.Places.{CallerView}
 use Rattle.rds_script.specs.declared.script.Command.{Command}
 use Rattle.rds_script.specs.declared.script.Command.TheVariants.{Bind, BindAny, Send, Recv, Cancel, Close, Open, Move, Cut, Drain}
 use Rattle.rds_script.specs.declared.script.Placed.{Placed}
@@ -19,9 +21,12 @@ use Rattle.rds_rounds.specs.Causes.{HostsLackStream, LacksStream}
 use Rattle.rds_rounds.specs.Done.{AreDone}
 use Rattle.rds_rounds.specs.Grid.{AreRows, IsAt, peer_at}
 use Rattle.rds_rounds.specs.Sound.{AreSoundJournals}
-use Rattle.rds_threads.specs.Causes.{AreLackingStream, HasNoneLeft, IsOfCommands, OpenedAmong}
-use Rattle.rds_threads.specs.Taking.{HaveSameStreams, IsJournalOf, IsJournalOfLine}
+use Rattle.rds_threads.specs.Causes.{AreLackingStream, BeginsOrders, HasNoneLeft, IsFilledAlone, IsOfCommands, OpenedAmong}
+use Rattle.rds_threads.specs.Settled.{HaveDoneSpared}
+use Rattle.rds_threads.specs.Taking.{HaveSameStreams, HaveTied, IsGroundedAt, IsJournalOf, IsJournalOfLine}
+use Rattle.rds_threads.proofs.FilledAlone.{filled_alone}
 use Rattle.rds_threads.proofs.Rows.{host_within, peer_after, peer_before, place_within, stands}
+use Rattle.rds_threads.proofs.Taken.{of_commands_at}
 
 either_way : (a b : Bool) → (a || b) ≡ (b || a)
 either_way true true = refl
@@ -67,11 +72,12 @@ module _ {E M : Type 0} where
         (of_other.opened.1 ∙ ap (take of_other.opened.0) (same ∙ sym (ap opens of_own.is ∙ lacks.all)));
   }
 
-  pub lacking_of : (m : Means E) (limit hosts : ℕ) (rows : List (List (LineView E M))) → AreDone m limit hosts rows → HaveSameStreams rows → (low high : ℕ) →
+  lacking_of : (m : Means E) (limit hosts : ℕ) (rows : List (List (LineView E M))) → AreDone m limit hosts rows → HaveSameStreams rows → (low high : ℕ) →
       HostsLackStream low high rows → (commands : List Placed) (before after : ℕ) → HaveCounted commands before after rows → (own other : List Entry) →
       IsJournalOf rows low high own → IsJournalOf rows high low other → IsOfCommands hosts low high commands own →
-      IsOfCommands hosts high low commands other → AreLackingStream m.tells hosts commands low high (newest_stream own) own other
-  lacking_of m limit hosts rows done streams low high lack commands before after counted own other is_own is_other own_sent other_sent =
+      IsOfCommands hosts high low commands other → (hosts ≡ 2 → IsFilledAlone low high commands own) → (hosts ≡ 2 → IsFilledAlone high low commands other) →
+      AreLackingStream m.tells hosts commands low high (newest_stream own) own other
+  lacking_of m limit hosts rows done streams low high lack commands before after counted own other is_own is_other own_sent other_sent own_filled other_filled =
       let ordered = lack.ordered in
       let next = lack.next in
       let less : low < high = omega (arith, ordered, next) in
@@ -90,6 +96,8 @@ module _ {E M : Type 0} where
             (done.sound low lack.place lack.one lack.other ordered lack.one_at there).sound);
         own_sent = own_sent;
         other_sent = other_sent;
+        own_filled = own_filled;
+        other_filled = other_filled;
         own_opened = opened_among (streams_between low high commands) before after lack.one own both.0 of_own;
         other_opened = opened_among (streams_between low high commands) before after lack.other other both.1 of_other;
         lacks =
@@ -120,3 +128,21 @@ module _ {E M : Type 0} where
             subst (λ (p : ℕ). AreNumbersOf (streams_between host p commands) before after (numbers line.channel.streams.list)) (sym to)
             (counted host place line other.0 higher at other.1).0
       ]
+
+module _ {E : Type 0} (m : Means E) (limit hosts : ℕ) (callers : List CallerView) (rows : List (List (LineView E WriterView))) (done : AreDone m limit hosts rows)
+    (tied : HaveTied callers rows) (commands : List Placed) (did : HaveDoneSpared hosts commands callers rows) where
+  -- so it is of the two journals that were taken out of what all hosts have
+  pub lacking_in_run : (before after : ℕ) → HaveCounted commands before after rows → HaveSameStreams rows → (low high : ℕ) → HostsLackStream low high rows →
+      low < high → high < length rows → (own other : List Entry) → IsJournalOf rows low high own → IsJournalOf rows high low other →
+      ((caller : CallerView) → slice_get callers low ≡ Some caller → BeginsOrders low high caller.places own) →
+      ((caller : CallerView) → slice_get callers high ≡ Some caller → BeginsOrders high low caller.places other) →
+      IsGroundedAt callers rows low → IsGroundedAt callers rows high → AreLackingStream m.tells hosts commands low high (newest_stream own) own other
+  lacking_in_run before after counted streams low high lacks less known own other is is_other own_orders other_orders own_grounded other_grounded =
+      let count = done.shape.count in
+      let first : low < hosts = omega (arith, less, known, count) in
+      let second : high < hosts = omega (arith, known, count) in
+      lacking_of m limit hosts rows done streams low high lacks commands before after counted own other is is_other
+      (of_commands_at hosts commands callers rows did tied low high (omega (arith, less, known)) own own_orders)
+      (of_commands_at hosts commands callers rows did tied high low known other other_orders)
+      (filled_alone m limit hosts callers rows done tied commands did low high first second (λ same. omega (arith, same, less)) own is own_grounded)
+      (filled_alone m limit hosts callers rows done tied commands did high low second first (λ same. omega (arith, same, less)) other is_other other_grounded)

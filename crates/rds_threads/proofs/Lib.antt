@@ -9,6 +9,7 @@ pub mod Cutting
 pub mod CutsAsked
 pub mod Limits
 pub mod Filled
+pub mod FilledAlone
 pub mod Outcome
 pub mod Owning
 pub mod Sound

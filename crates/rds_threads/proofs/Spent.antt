@@ -1,9 +1,11 @@
 -- A run that ended since a journal is full.
-use Rattle.std.proofs.Common.{◌≡◌, ◌≢◌, ◌<◌, ℕ, suc, ◌+◌, ◌-◌, inl, inr, List, length, sym, ap, subst, ◌∙◌, arith}
+use Rattle.std.proofs.Common.{◌≡◌, ◌≢◌, ◌<◌, ℕ, suc, ◌+◌, ◌-◌, inl, inr, List, Some, length, slice_get, sym, ap, subst, ◌∙◌, arith}
 use Rattle.std.proofs.lemmas.Bool.{cases_lt}
 use Rattle.rds_link.specs.Ends.{Means}
 use Rattle.rds_model.specs.declared.entry.Entry.{Entry}
+use Rattle.rds_fmap.specs.Readers.{WriterView}
 use Rattle.rds_line.specs.Line.{IsFull, LineView, line_past}
+use Rattle.rds_callers.specs.Places.{CallerView}
 use Rattle.rds_script.specs.declared.script.Placed.{Placed}
 use Rattle.rds_rounds.specs.Connection.{IsFullHost}
 use Rattle.rds_rounds.specs.Done.{AreDone}
@@ -12,11 +14,14 @@ use Rattle.rds_rounds.specs.Sound.{AreSoundJournals}
 use Rattle.rds_line_streams.specs.Streams.{numbers}
 use Rattle.rds_parties.specs.Preparing.{HaveCounted}
 use Rattle.rds_parties.specs.Streams.{AreNumbersOf, streams_between}
-use Rattle.rds_threads.specs.Causes.{IsFullJournal, IsOfCommands}
-use Rattle.rds_threads.specs.Taking.{IsJournalOf}
+use Rattle.rds_threads.specs.Causes.{BeginsOrders, IsFilledAlone, IsFullJournal, IsOfCommands}
+use Rattle.rds_threads.specs.Settled.{HaveDoneSpared}
+use Rattle.rds_threads.specs.Taking.{HaveTied, IsGroundedAt, IsJournalOf}
+use Rattle.rds_threads.proofs.FilledAlone.{filled_alone}
 use Rattle.rds_threads.proofs.Hosts.{line_of, sound_of}
 use Rattle.rds_threads.proofs.Lacking.{counted_at, opened_among, streams_either_way}
 use Rattle.rds_threads.proofs.Rows.{host_within, peer_after, peer_apart, peer_before, peer_within, place_within, stands}
+use Rattle.rds_threads.proofs.Taken.{of_commands_at}
 
 full_of : {E M : Type 0} (limit entries : ℕ) (line : LineView E M) (past : List Entry) → past ≡ line_past line → line.channel.conn.log.limit ≡ limit →
     IsFull entries line → (length past ≡ entries) × (limit < entries + 2)
@@ -68,11 +73,11 @@ module _ {E M : Type 0} (m : Means E) (limit hosts : ℕ) (rows : List (List (Li
       ]
 
   -- the two journals of a host that is full and its peer
-  pub full_journal : (host peer entries : ℕ) → IsFullHost host peer entries rows → (own other : List Entry) → IsJournalOf rows host peer own →
+  full_journal : (host peer entries : ℕ) → IsFullHost host peer entries rows → (own other : List Entry) → IsJournalOf rows host peer own →
       IsJournalOf rows peer host other → (commands : List Placed) (before after : ℕ) → HaveCounted commands before after rows →
-      IsOfCommands hosts host peer commands own → IsOfCommands hosts peer host commands other →
-      IsFullJournal m.tells limit hosts commands host peer entries own other
-  full_journal host peer entries full own other is is_other commands before after counted own_sent other_sent =
+      IsOfCommands hosts host peer commands own → IsOfCommands hosts peer host commands other → (hosts ≡ 2 → IsFilledAlone host peer commands own) →
+      (hosts ≡ 2 → IsFilledAlone peer host commands other) → IsFullJournal m.tells limit hosts commands host peer entries own other
+  full_journal host peer entries full own other is is_other commands before after counted own_sent other_sent own_filled other_filled =
       let line = line_of m limit hosts rows done host full.place full.line full.at in
       let own_is = is full.place full.line full.to full.at in
       let f = full_of limit entries full.line own own_is.is line.limit_is full.full in
@@ -92,6 +97,8 @@ module _ {E M : Type 0} (m : Means E) (limit hosts : ℕ) (rows : List (List (Li
             (sound_of m limit hosts rows done host peer full.place back.0 full.line back.1 full.at back.3 full.to back.2));
         own_sent = own_sent;
         other_sent = other_sent;
+        own_filled = own_filled;
+        other_filled = other_filled;
         own_opened =
             opened_among (streams_between host peer commands) before after full.line own
             (subst (λ (p : ℕ). AreNumbersOf (streams_between host p commands) before after (numbers full.line.channel.streams.list)) full.to own_counted) own_is;
@@ -100,3 +107,22 @@ module _ {E M : Type 0} (m : Means E) (limit hosts : ℕ) (rows : List (List (Li
             (subst (λ (n : ℕ). AreNumbersOf n before after (numbers back.1.channel.streams.list))
             (ap (λ (p : ℕ). streams_between peer p commands) back.2 ∙ streams_either_way peer host commands) other_counted) other_is;
       }
+
+module _ {E : Type 0} (m : Means E) (limit hosts : ℕ) (callers : List CallerView) (rows : List (List (LineView E WriterView))) (done : AreDone m limit hosts rows)
+    (tied : HaveTied callers rows) (commands : List Placed) (did : HaveDoneSpared hosts commands callers rows) where
+  -- so it is of the two journals that were taken out of what all hosts have
+  pub full_in_run : (before after : ℕ) → HaveCounted commands before after rows → (host peer entries : ℕ) → IsFullHost host peer entries rows →
+      (own other : List Entry) → IsJournalOf rows host peer own → IsJournalOf rows peer host other →
+      ((caller : CallerView) → slice_get callers host ≡ Some caller → BeginsOrders host peer caller.places own) →
+      ((caller : CallerView) → slice_get callers peer ≡ Some caller → BeginsOrders peer host caller.places other) →
+      IsGroundedAt callers rows host → IsGroundedAt callers rows peer → IsFullJournal m.tells limit hosts commands host peer entries own other
+  full_in_run before after counted host peer entries full own other is is_other own_orders other_orders own_grounded other_grounded =
+      let two = full_two m limit hosts rows done host peer entries full in
+      let first = two.first in
+      let second = two.second in
+      let count = done.shape.count in
+      full_journal m limit hosts rows done host peer entries full own other is is_other commands before after counted
+      (of_commands_at hosts commands callers rows did tied host peer (omega (arith, first, count)) own own_orders)
+      (of_commands_at hosts commands callers rows did tied peer host (omega (arith, second, count)) other other_orders)
+      (filled_alone m limit hosts callers rows done tied commands did host peer first second two.apart own is own_grounded)
+      (filled_alone m limit hosts callers rows done tied commands did peer host second first (λ same. two.apart (sym same)) other is_other other_grounded)

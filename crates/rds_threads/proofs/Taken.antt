@@ -1,5 +1,5 @@
 -- Journals that were taken out of what hosts have, and what stands in them of the orders of slots.
-use Rattle.std.proofs.Common.{◌≡◌, ◌<◌, ◌+◌, ◌-◌, ℕ, List, Vec, [], ◌∷◌, Some, Ok, Err, Result, IfOk, get_or, length, map, option_map, set, slice_get, swap_remove, refl, sym, ap, subst, ◌∙◌, arith}
+use Rattle.std.proofs.Common.{◌≡◌, ◌<◌, ◌+◌, ◌-◌, ℕ, List, Vec, [], ◌∷◌, Some, Ok, Err, Result, IfOk, OnOk, get_or, length, map, option_map, set, slice_get, swap_remove, refl, sym, ap, subst, ◌∙◌, arith}
 use Rattle.std.specs.Global.{Global}
 use Rattle.std.specs.List.{sum_by}
 use Rattle.std.proofs.lemmas.List.{get_or-set_other, get_or-take, length-map, length-set, length-take-le}
@@ -123,6 +123,12 @@ pub second_of : {A : Type 0} (one other : Result A Memory) (result : Result (A �
     IfOk result (λ r. P r.1)
 second_of {A} one other (Ok r) P is holds = subst (λ (o : Result A Memory). IfOk o P) is holds
 second_of one other (Err e) P is holds = tt
+
+-- what holds where one is there holds where both are
+pub on_one : {A B : Type 0} (one : Result A Memory) (result : Result B Memory) (of : B → A) (P Q : Type 0) → IfOk result (λ r. one ≡ Ok (of r)) → OnOk one P →
+    (P → Q) → OnOk result Q
+on_one {A} one (Ok r) of P Q is holds go = go (subst (λ (o : Result A Memory). OnOk o P) is holds)
+on_one one (Err e) of P Q is holds go = tt
 
 module _ {E : Type 0} where
   -- the journal of a host that did its commands, and gave up the slots that no socket had, is of these commands

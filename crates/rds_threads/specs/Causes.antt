@@ -1,5 +1,5 @@
 -- Why a run ended otherwise than well. Source: this project's own.
-use Rattle.std.specs.Prelude.{◌≡◌, ◌≢◌, ◌⊎◌, ◌≤◌, ◌<◌, ◌+◌, ℕ, Bool, false, List, All, None, Some, length, slice_get, sum_by}
+use Rattle.std.specs.Prelude.{◌≡◌, ◌≢◌, ◌⊎◌, ◌≤◌, ◌<◌, ◌+◌, ℕ, Bool, false, List, [], ◌∷◌, All, None, Some, length, slice_get, sum_by}
 use Rattle.rds_fmap.specs.Readers.{ReaderView}
 use Rattle.rds_model.specs.declared.entry.Entry.{Entry}
 use Rattle.rds_model.specs.Alive.{alive_numbers}
@@ -7,15 +7,18 @@ use Rattle.rds_model.specs.Honest.{Begins}
 use Rattle.rds_model.specs.Past.{newest_stream, open_stream}
 use Rattle.rds_model.specs.Sums.{opens}
 use Rattle.rds_final.specs.FinalState.{FinalHost, FinalJournal}
+use Rattle.rds_final.specs.Hosts.{address_of}
 use Rattle.rds_script.specs.declared.script.Placed.{Placed}
 use Rattle.rds_parts.specs.Lanes.{IsLaneAt, Lane}
 use Rattle.rds_line.specs.Keeps.{uncut}
+use Rattle.rds_line.specs.Seats.{HasPulled}
 use Rattle.rds_gather.specs.Joined.{orders_of}
 use Rattle.rds_callers.specs.Places.{Place, holding_of}
 use Rattle.rds_rounds.specs.Grid.{peer_at}
 use Rattle.rds_rounds.specs.Sound.{AreSoundJournals}
 use Rattle.rds_parties.specs.Obeyed.{HasDone}
 use Rattle.rds_parties.specs.Streams.{streams_between}
+use Rattle.rds_threads.specs.Outcome.{IsFilled}
 
 -- each stream that the journal opened is among those that were to be prepared, of which there are so many
 abbrev pub OpenedAmong : (count : ℕ) → List Entry → Type 0
@@ -38,6 +41,11 @@ pub record IsOfCommands (hosts host peer : ℕ) (commands : List Placed) (past :
   pub done : HasDone hosts host commands last
   pub sent : BeginsOrders host peer last past
 
+-- In this journal of a host with a peer a map with a port was pulled only where the journal delivered more bytes to a slot, and a datagram at
+-- that port among them, than the receive buffer of one of the host's binds.
+abbrev pub IsFilledAlone : (host peer : ℕ) → List Placed → List Entry → Type 0
+IsFilledAlone host peer commands past = (port : ℕ) → port < 65536 → HasPulled port past → IsFilled host commands (record { peer = address_of peer; past = past } ∷ []) port
+
 -- The journal has no stream left: none is open in it, and it opened each that was prepared, so that the other journal of the connection
 -- opened a beginning of the same.
 pub record HasNoneLeft (own other : List Entry) : Type 0 where
@@ -45,7 +53,8 @@ pub record HasNoneLeft (own other : List Entry) : Type 0 where
   pub all : Begins (opens other) (opens own)
 
 -- Two hosts of so many, the lower one first, lack a stream. Their journals are sound and of the script's commands, neither opened a stream that
--- wasn't to be prepared for these, and one of them has none left. The lower host's journal opened this stream last, or none where it is 0.
+-- wasn't to be prepared for these, and one of them has none left. Where there are no other hosts, each pulled a map with a port only where it
+-- delivered more than a receive buffer holds. The lower host's journal opened this stream last, or none where it is 0.
 pub record AreLackingStream (tells : Bool) (hosts : ℕ) (commands : List Placed) (low high stream : ℕ) (own other : List Entry) : Type 0 where
   pub ordered : low < high
   pub known : high < hosts
@@ -54,6 +63,8 @@ pub record AreLackingStream (tells : Bool) (hosts : ℕ) (commands : List Placed
   pub other_opened : OpenedAmong (streams_between low high commands) other
   pub own_sent : IsOfCommands hosts low high commands own
   pub other_sent : IsOfCommands hosts high low commands other
+  pub own_filled : hosts ≡ 2 → IsFilledAlone low high commands own
+  pub other_filled : hosts ≡ 2 → IsFilledAlone high low commands other
   pub lacks : HasNoneLeft own other ⊎ HasNoneLeft other own
   pub newest : stream ≡ newest_stream own
 
@@ -75,6 +86,7 @@ pub record AreUnacknowledged (tells : Bool) (count : ℕ) (ends : List FinalHost
 
 -- The journal of a host with a peer, two of so many hosts, is full: it has so many entries, and two more would pass the limit. It and the
 -- one of the peer with the host are sound and of the script's commands, and neither opened more streams than were to be prepared for these.
+-- Where there are no other hosts, each pulled a map with a port only where it delivered more than a receive buffer holds.
 pub record IsFullJournal (tells : Bool) (limit hosts : ℕ) (commands : List Placed) (host peer entries : ℕ) (own other : List Entry) : Type 0 where
   pub host_known : host < hosts
   pub peer_known : peer < hosts
@@ -86,3 +98,5 @@ pub record IsFullJournal (tells : Bool) (limit hosts : ℕ) (commands : List Pla
   pub other_opened : OpenedAmong (streams_between host peer commands) other
   pub own_sent : IsOfCommands hosts host peer commands own
   pub other_sent : IsOfCommands hosts peer host commands other
+  pub own_filled : hosts ≡ 2 → IsFilledAlone host peer commands own
+  pub other_filled : hosts ≡ 2 → IsFilledAlone peer host commands other

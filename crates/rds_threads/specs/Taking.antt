@@ -6,7 +6,8 @@ use Rattle.rds_model.specs.Sums.{opens}
 use Rattle.rds_line_streams.specs.Streams.{numbers}
 use Rattle.rds_line.specs.Line.{LineView, line_past}
 use Rattle.rds_callers.specs.Places.{CallerView}
-use Rattle.rds_settling.specs.Tied.{AreTied}
+use Rattle.rds_gather.specs.Grounded.{AreMapsGrounded}
+use Rattle.rds_settling.specs.Tied.{AreTied, holdings}
 use Rattle.rds_rounds.specs.Grid.{IsAt, OfEachPair, peer_at}
 
 -- the slots of each host's caller and its lines are of one host, and have all putters of its queues
@@ -14,6 +15,11 @@ pub record HaveTied {E : Type 0} (callers : List CallerView) (rows : List (List 
   pub count : length callers ≡ length rows
   pub each : (host : ℕ) (caller : CallerView) (row : List (LineView E WriterView)) → slice_get callers host ≡ Some caller → slice_get rows host ≡ Some row →
       AreTied caller.places row
+
+-- the lines of a host pulled maps with a port only by what its slots have stored
+abbrev pub IsGroundedAt : {E : Type 0} → List CallerView → List (List (LineView E WriterView)) → (host : ℕ) → Type 0
+IsGroundedAt {E} callers rows host = (caller : CallerView) (row : List (LineView E WriterView)) → slice_get callers host ≡ Some caller →
+    slice_get rows host ≡ Some row → AreMapsGrounded (holdings caller.places) row
 
 module _ {E M : Type 0} where
   -- the journal of a line, which opened its streams in their order

@@ -64,12 +64,12 @@ pub(crate) fn end_run<K: Sink, W: Wire, R: Threads + Wait + Sync>(
     ensures cut { (limit hosts : ℕ) (commands : List Placed) (before : ℕ) → AreDone W.End.means limit hosts (rows_of lines.items) →
         HaveDoneSpared hosts commands callers.items (rows_of lines.items) → HaveCounted commands before (W.faults wire.old) (rows_of lines.items) →
         before < 2 ^ 64 → IfOk result (IsCutEnd commands before (W.faults wire.new)) }
-    ensures begun { (limit hosts : ℕ) (commands : List Placed) (before after : ℕ) → AreDone W.End.means limit hosts (rows_of lines.items) →
-        HaveDoneSpared hosts commands callers.items (rows_of lines.items) → HaveCounted commands before after (rows_of lines.items) →
-        IfOk result (BeginsAtFault form W.End.means.tells limit hosts commands
+    ensures begun { (limit hosts : ℕ) (commands : List Placed) (before : ℕ) → AreDone W.End.means limit hosts (rows_of lines.items) →
+        HaveDoneSpared hosts commands callers.items (rows_of lines.items) → HaveCounted commands before (W.faults wire.old) (rows_of lines.items) →
+        before < 2 ^ 64 → IfOk result (BeginsAtFault form W.End.means.tells limit hosts commands
         (IsCountedEnd W.End.means.tells (start.can_fail ≡ true) start.budget start.counts
         record { faults = W.faults wire.new; nothings = W.nothings wire.new; fulls = W.fulls wire.new })
-        (K.held sink.old) (K.held sink.new)) }
+        before (W.faults wire.new) (K.held sink.old) (K.held sink.new)) }
     ensures memory { OnErr result (K.held sink.new ≡ K.held sink.old) }
     ensures out { W.out wire.new ≡ W.out wire.old - ends_of_all (rows_of lines.items) }
 {

@@ -64,12 +64,12 @@ where
         record { faults = W.faults wire.old; nothings = W.nothings wire.old; fulls = W.fulls wire.old }
         record { faults = W.faults wire.new; nothings = W.nothings wire.new; fulls = W.fulls wire.new } result }
     ensures cut { IsCutEnd script.now.commands.items (W.faults wire.old) (W.faults wire.new) result }
-    // Where the sink failed, it took a beginning of what the run had to write at an end that the wire's counts tell of.
+    // Where the sink failed, it took a beginning of what the run had to write at an end that the wire's counts tell of, with no cut lost.
     ensures begun { BeginsAtFault form W.End.means.tells limit script.now.hosts script.now.commands.items
         (IsCountedEnd W.End.means.tells (W.may_fail wire.old) budget
         record { faults = W.faults wire.old; nothings = W.nothings wire.old; fulls = W.fulls wire.old }
         record { faults = W.faults wire.new; nothings = W.nothings wire.new; fulls = W.fulls wire.new })
-        (K.held sink.old) (K.held sink.new) result }
+        (W.faults wire.old) (W.faults wire.new) (K.held sink.old) (K.held sink.new) result }
     ensures given_back { result ≢ ended.Memory → W.out wire.new ≤ W.out wire.old }
 {
     match ended(rt, alloc, script, wire, gate, form, limit, budget, sink) {
@@ -105,7 +105,7 @@ where
         (IsCountedEnd W.End.means.tells (W.may_fail wire.old) budget
         record { faults = W.faults wire.old; nothings = W.nothings wire.old; fulls = W.fulls wire.old }
         record { faults = W.faults wire.new; nothings = W.nothings wire.new; fulls = W.fulls wire.new })
-        (K.held sink.old) (K.held sink.new)) }
+        (W.faults wire.old) (W.faults wire.new) (K.held sink.old) (K.held sink.new)) }
     ensures memory { OnErr result (K.held sink.new ≡ K.held sink.old) }
     ensures out { IfOk result (λ _. W.out wire.new ≤ W.out wire.old) }
 {
@@ -143,12 +143,12 @@ fn finish<K: Sink, W: Wire, R: Threads + Wait + Sync>(
     ensures cut { (limit hosts : ℕ) (commands : List Placed) → AreHosts W.End.means limit hosts (rows_of lines.items) →
         HaveDoneLed hosts commands callers.items (rows_of lines.items) → HaveCounted commands start.counts.faults (W.faults wire.old) (rows_of lines.items) →
         IfOk result (IsCutEnd commands start.counts.faults (W.faults wire.new)) }
-    ensures begun { (limit hosts : ℕ) (commands : List Placed) (before after : ℕ) → AreHosts W.End.means limit hosts (rows_of lines.items) →
-        HaveDoneLed hosts commands callers.items (rows_of lines.items) → HaveCounted commands before after (rows_of lines.items) →
+    ensures begun { (limit hosts : ℕ) (commands : List Placed) → AreHosts W.End.means limit hosts (rows_of lines.items) →
+        HaveDoneLed hosts commands callers.items (rows_of lines.items) → HaveCounted commands start.counts.faults (W.faults wire.old) (rows_of lines.items) →
         IfOk result (BeginsAtFault form W.End.means.tells limit hosts commands
         (IsCountedEnd W.End.means.tells (start.can_fail ≡ true) start.budget start.counts
         record { faults = W.faults wire.new; nothings = W.nothings wire.new; fulls = W.fulls wire.new })
-        (K.held sink.old) (K.held sink.new)) }
+        start.counts.faults (W.faults wire.new) (K.held sink.old) (K.held sink.new)) }
     ensures memory { OnErr result (K.held sink.new ≡ K.held sink.old) }
     ensures out { W.out wire.new ≡ W.out wire.old - ends_of_all (rows_of lines.items) }
 {

@@ -1,14 +1,15 @@
 //! The journals of two hosts' lines to each other, taken out of all that hosts have.
-ghost use Rattle.std.specs.Prelude.{◌≡◌, ◌≢◌, ◌<◌, ◌-◌, ℕ, IfOk, Ok, Some, length, slice_get};
+ghost use Rattle.std.specs.Prelude.{◌≡◌, ◌≢◌, ◌<◌, ◌-◌, ℕ, IfOk, Ok, OnOk, Some, length, slice_get};
 ghost use Rattle.rds_fmap.specs.Readers.{WriterView};
 ghost use Rattle.rds_line.specs.Line.{LineView};
 ghost use Rattle.rds_host.specs.Held.{ends_in, ends_of_all};
 ghost use Rattle.rds_callers.specs.Places.{CallerView};
+ghost use Rattle.rds_gather.specs.Grounded.{AreMapsGrounded};
 ghost use Rattle.rds_rounds.specs.Done.{AreDone};
 ghost use Rattle.rds_rounds.specs.Grid.{rows_of};
-ghost use Rattle.rds_settling.specs.Tied.{AreTied};
+ghost use Rattle.rds_settling.specs.Tied.{AreTied, holdings};
 ghost use Rattle.rds_threads.specs.Causes.{BeginsOrders, BeginsOrdersAt};
-ghost use Rattle.rds_threads.specs.Taking.{HaveTied, IsJournalOf, IsJournalOfLine};
+ghost use Rattle.rds_threads.specs.Taking.{HaveTied, IsGroundedAt, IsJournalOf, IsJournalOfLine};
 
 use crate::giving::{end_lines, end_row};
 use rds_callers::Caller;
@@ -38,6 +39,7 @@ fn end_host<W: Wire, R: Wait>(
     requires tied { AreTied caller.places lines.items }
     ensures journal { (line : LineView W.End WriterView) → slice_get lines.items place ≡ Some line → IfOk result (λ journal. IsJournalOfLine line journal.past) }
     ensures orders { IfOk result (λ journal. BeginsOrdersAt place caller.places journal.past) }
+    ensures grounded { OnOk result (AreMapsGrounded (holdings caller.places) lines.items) }
     ensures out { W.out wire.new ≡ W.out wire.old - ends_in lines.items }
 {
     let line = &lines[place];
@@ -83,6 +85,8 @@ fn low_and_high<W: Wire, R: Wait>(
         IfOk result (λ journals. BeginsOrders low high caller.places journals.0.past) }
     ensures high_orders { (caller : CallerView) → slice_get callers.items high ≡ Some caller →
         IfOk result (λ journals. BeginsOrders high low caller.places journals.1.past) }
+    ensures low_grounded { OnOk result (IsGroundedAt callers.items (rows_of lines.items) low) }
+    ensures high_grounded { OnOk result (IsGroundedAt callers.items (rows_of lines.items) high) }
     ensures out { W.out wire.new ≡ W.out wire.old - ends_of_all (rows_of lines.items) }
 {
     let one = usize::from(low);
@@ -119,6 +123,8 @@ pub(crate) fn journals<W: Wire, R: Wait>(
         IfOk result (λ journals. BeginsOrders host peer caller.places journals.0.past) }
     ensures other_orders { (caller : CallerView) → slice_get callers.items peer ≡ Some caller →
         IfOk result (λ journals. BeginsOrders peer host caller.places journals.1.past) }
+    ensures own_grounded { OnOk result (IsGroundedAt callers.items (rows_of lines.items) host) }
+    ensures other_grounded { OnOk result (IsGroundedAt callers.items (rows_of lines.items) peer) }
     ensures out { W.out wire.new ≡ W.out wire.old - ends_of_all (rows_of lines.items) }
 {
     if host < peer {

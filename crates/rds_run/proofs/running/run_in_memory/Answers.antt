@@ -16,6 +16,6 @@ returns g c =
     } in
     in_memory_of _ _ c.args.form (meaning c.args.script) sink c.run_script.result
     (λ fault. never_fails _ _ (search rules) (search rules) (c.run_script.ensures.may_fail fault))
-    (λ fault. begun_in_memory c.args.form (meaning c.args.script) _ (never_fails _ _ (search rules) (search rules)) _ _ sink
+    (λ fault. begun_in_memory c.args.form (meaning c.args.script) _ (never_fails _ _ (search rules) (search rules)) _ _ _ _ sink
     (risen_of _ c.args.form (meaning c.args.script) sink c.run_script.result fault c.run_script.ensures.ends) (c.run_script.ensures.begun fault))
     c.run_script.ensures.ends

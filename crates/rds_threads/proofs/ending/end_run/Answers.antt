@@ -12,13 +12,12 @@ use Rattle.rds_threads.specs.Texts.{fault_line, text_of, unfinished_line}
 use Rattle.rds_threads.specs.declared.form.RunEnd.TheVariants as ended
 use Rattle.rds_threads.proofs.Counted.{as_tested, counted_fault, counted_ok}
 use Rattle.rds_threads.proofs.CutsOfRun.{cut_ok}
-use Rattle.rds_threads.proofs.Lacking.{lacking_of}
+use Rattle.rds_threads.proofs.Lacking.{lacking_in_run}
 use Rattle.rds_threads.proofs.Rows.{rows_count}
-use Rattle.rds_threads.proofs.Spent.{full_journal, full_two}
+use Rattle.rds_threads.proofs.Spent.{full_in_run, full_two}
 use Rattle.rds_threads.proofs.Written.{end_written, on_ok}
 use Rattle.rds_text.specs.Lines.{spent_line}
 use Rattle.rds_threads.proofs.Begun.{begun_ok}
-use Rattle.rds_threads.proofs.Taken.{of_commands_at}
 use Rattle.rds_threads.proofs.ending.end_run.Goals as goal
 
 pub end_by_spent-requires-clause-host : goal.end_by_spent-requires-clause-host
@@ -44,16 +43,11 @@ returns-in_ok-own-in-Spent-clause-end g c = λ limit hosts commands before after
     let other = c.in_ok-own-in-Spent.other in
     let m = g.W.End.End.means in
     let rows = rows_of c.args.lines.items in
-    let two = full_two m limit hosts rows done host peer entries (c.requires.spent host peer entries c.in-Spent.is) in
-    let first = two.first in
-    let second = two.second in
-    let count = done.shape.count in
     let full =
-    full_journal m limit hosts rows done host peer entries (c.requires.spent host peer entries c.in-Spent.is) own.past other.past c.in_ok-own-in-Spent.ensures.own
-    c.in_ok-own-in-Spent.ensures.other commands before after counted
-    (of_commands_at hosts commands c.args.callers.items rows did c.requires.tied host peer (omega (arith, first, count)) own.past c.in_ok-own-in-Spent.ensures.own_orders)
-    (of_commands_at hosts commands c.args.callers.items rows did c.requires.tied peer host (omega (arith, second, count)) other.past
-    c.in_ok-own-in-Spent.ensures.other_orders) in
+    full_in_run m limit hosts c.args.callers.items rows done c.requires.tied commands did before after counted host peer entries
+    (c.requires.spent host peer entries c.in-Spent.is) own.past other.past c.in_ok-own-in-Spent.ensures.own c.in_ok-own-in-Spent.ensures.other
+    c.in_ok-own-in-Spent.ensures.own_orders c.in_ok-own-in-Spent.ensures.other_orders c.in_ok-own-in-Spent.ensures.own_grounded
+    c.in_ok-own-in-Spent.ensures.other_grounded in
     let sink : Written = record {
       held_before = g.K.Sink.held c.args.sink.now;
       held_after = g.K.Sink.held c.end_by_spent.new.sink;
@@ -109,15 +103,12 @@ returns-else-not-has_faulted-clause-end g c = λ limit hosts commands before aft
     let other = c.in_ok-one-in-Fault.other in
     let stream = newest_stream own.past in
     let found_hosts = c.requires.fault low high c.in-Fault.is in
-    let less = found_hosts.0 in
     let known : high < length (rows_of c.args.lines.items) = omega (arith, found_hosts.1, rows_count c.args.lines.items) in
     let lacking =
-    lacking_of g.W.End.End.means limit hosts (rows_of c.args.lines.items) done c.requires.streams low high (c.requires.lacks low high c.in-Fault.is) commands
-    before after counted own.past other.past c.in_ok-one-in-Fault.ensures.own c.in_ok-one-in-Fault.ensures.other
-    (of_commands_at hosts commands c.args.callers.items (rows_of c.args.lines.items) did c.requires.tied low high (omega (arith, less, known)) own.past
-    c.in_ok-one-in-Fault.ensures.own_orders)
-    (of_commands_at hosts commands c.args.callers.items (rows_of c.args.lines.items) did c.requires.tied high low known other.past
-    c.in_ok-one-in-Fault.ensures.other_orders) in
+    lacking_in_run g.W.End.End.means limit hosts c.args.callers.items (rows_of c.args.lines.items) done c.requires.tied commands did before after counted
+    c.requires.streams low high (c.requires.lacks low high c.in-Fault.is) found_hosts.0 known own.past other.past c.in_ok-one-in-Fault.ensures.own
+    c.in_ok-one-in-Fault.ensures.other c.in_ok-one-in-Fault.ensures.own_orders c.in_ok-one-in-Fault.ensures.other_orders
+    c.in_ok-one-in-Fault.ensures.own_grounded c.in_ok-one-in-Fault.ensures.other_grounded in
     let sink : Written = record {
       held_before = g.K.Sink.held c.args.sink.now;
       held_after = g.K.Sink.held c.end_by_fault.new.sink;
@@ -209,7 +200,7 @@ returns-else-not-has_waited-clause-counted g c =
     ) c.end_unfinished.ensures.end
 
 pub returns-in_ok-ends-in-Done-clause-begun : goal.returns-in_ok-ends-in-Done-clause-begun
-returns-in_ok-ends-in-Done-clause-begun g c = λ limit hosts commands before after done did counted.
+returns-in_ok-ends-in-Done-clause-begun g c = λ limit hosts commands before done did counted fits.
     let ends = c.in_ok-ends-in-Done.ends in
     let wire = c.host_ends.new.wire in
     let now : WireCounts = record { faults = g.W.Wire.faults wire; nothings = g.W.Wire.nothings wire; fulls = g.W.Wire.fulls wire } in
@@ -220,16 +211,16 @@ returns-in_ok-ends-in-Done-clause-begun g c = λ limit hosts commands before aft
       faults_before = g.K.Sink.faults c.args.sink.now;
       faults_after = g.K.Sink.faults c.end_by_report.new.sink;
     } in
-    begun_ok c.args.form g.W.End.End.means.tells limit hosts commands (start.can_fail ≡ true) start.budget start.counts now sink
+    begun_ok c.args.form g.W.End.End.means.tells limit hosts commands (start.can_fail ≡ true) start.budget start.counts now before now.faults sink
     (text_of c.args.form (host_views ends.items)) (ended.Ok ends) (
       c.in_ok-ends-in-Done.ensures.ends limit hosts commands done did,
       c.in_ok-ends-in-Done.ensures.acknowledged limit hosts commands done did (c.requires.acknowledged c.in-Done.is),
       λ tells. c.in_ok-ends-in-Done.ensures.settled limit hosts commands done did tells (c.requires.drained tells c.in-Done.is),
       refl,
-    ) tt c.end_by_report.result c.end_by_report.ensures.end
+    ) tt (c.in_ok-ends-in-Done.ensures.cut limit hosts commands before done did counted fits) c.end_by_report.result c.end_by_report.ensures.end
 
 pub returns-in_ok-own-in-Spent-clause-begun : goal.returns-in_ok-own-in-Spent-clause-begun
-returns-in_ok-own-in-Spent-clause-begun g c = λ limit hosts commands before after done did counted.
+returns-in_ok-own-in-Spent-clause-begun g c = λ limit hosts commands before done did counted fits.
     let host = c.in-Spent.host in
     let peer = c.in-Spent.peer in
     let entries = c.in-Spent.entries in
@@ -237,16 +228,11 @@ returns-in_ok-own-in-Spent-clause-begun g c = λ limit hosts commands before aft
     let other = c.in_ok-own-in-Spent.other in
     let m = g.W.End.End.means in
     let rows = rows_of c.args.lines.items in
-    let two = full_two m limit hosts rows done host peer entries (c.requires.spent host peer entries c.in-Spent.is) in
-    let first = two.first in
-    let second = two.second in
-    let count = done.shape.count in
     let full =
-    full_journal m limit hosts rows done host peer entries (c.requires.spent host peer entries c.in-Spent.is) own.past other.past c.in_ok-own-in-Spent.ensures.own
-    c.in_ok-own-in-Spent.ensures.other commands before after counted
-    (of_commands_at hosts commands c.args.callers.items rows did c.requires.tied host peer (omega (arith, first, count)) own.past c.in_ok-own-in-Spent.ensures.own_orders)
-    (of_commands_at hosts commands c.args.callers.items rows did c.requires.tied peer host (omega (arith, second, count)) other.past
-    c.in_ok-own-in-Spent.ensures.other_orders) in
+    full_in_run m limit hosts c.args.callers.items rows done c.requires.tied commands did before (g.W.Wire.faults c.args.wire.now) counted host peer entries
+    (c.requires.spent host peer entries c.in-Spent.is) own.past other.past c.in_ok-own-in-Spent.ensures.own c.in_ok-own-in-Spent.ensures.other
+    c.in_ok-own-in-Spent.ensures.own_orders c.in_ok-own-in-Spent.ensures.other_orders c.in_ok-own-in-Spent.ensures.own_grounded
+    c.in_ok-own-in-Spent.ensures.other_grounded in
     let wire = c.journals-in-Spent.new.wire in
     let now : WireCounts = record { faults = g.W.Wire.faults wire; nothings = g.W.Wire.nothings wire; fulls = g.W.Wire.fulls wire } in
     let start = c.args.start in
@@ -256,27 +242,24 @@ returns-in_ok-own-in-Spent-clause-begun g c = λ limit hosts commands before aft
       faults_before = g.K.Sink.faults c.args.sink.now;
       faults_after = g.K.Sink.faults c.end_by_spent.new.sink;
     } in
-    begun_ok c.args.form g.W.End.End.means.tells limit hosts commands (start.can_fail ≡ true) start.budget start.counts now sink
-    (spent_line host peer entries) (ended.Spent host peer entries own other) (full, refl) tt c.end_by_spent.result c.end_by_spent.ensures.end
+    begun_ok c.args.form g.W.End.End.means.tells limit hosts commands (start.can_fail ≡ true) start.budget start.counts now before now.faults sink
+    (spent_line host peer entries) (ended.Spent host peer entries own other) (full, refl) tt tt c.end_by_spent.result c.end_by_spent.ensures.end
 
 -- refused where the line of another cause is begun
 pub returns-else-not-has_faulted-clause-begun : goal.returns-else-not-has_faulted-clause-begun
-returns-else-not-has_faulted-clause-begun g c = λ limit hosts commands before after done did counted.
+returns-else-not-has_faulted-clause-begun g c = λ limit hosts commands before done did counted fits.
     let low = c.in-Fault.low in
     let high = c.in-Fault.high in
     let own = c.in_ok-one-in-Fault.one in
     let other = c.in_ok-one-in-Fault.other in
     let stream = newest_stream own.past in
     let found_hosts = c.requires.fault low high c.in-Fault.is in
-    let less = found_hosts.0 in
     let known : high < length (rows_of c.args.lines.items) = omega (arith, found_hosts.1, rows_count c.args.lines.items) in
     let lacking =
-    lacking_of g.W.End.End.means limit hosts (rows_of c.args.lines.items) done c.requires.streams low high (c.requires.lacks low high c.in-Fault.is) commands
-    before after counted own.past other.past c.in_ok-one-in-Fault.ensures.own c.in_ok-one-in-Fault.ensures.other
-    (of_commands_at hosts commands c.args.callers.items (rows_of c.args.lines.items) did c.requires.tied low high (omega (arith, less, known)) own.past
-    c.in_ok-one-in-Fault.ensures.own_orders)
-    (of_commands_at hosts commands c.args.callers.items (rows_of c.args.lines.items) did c.requires.tied high low known other.past
-    c.in_ok-one-in-Fault.ensures.other_orders) in
+    lacking_in_run g.W.End.End.means limit hosts c.args.callers.items (rows_of c.args.lines.items) done c.requires.tied commands did before (g.W.Wire.faults c.args.wire.now) counted
+    c.requires.streams low high (c.requires.lacks low high c.in-Fault.is) found_hosts.0 known own.past other.past c.in_ok-one-in-Fault.ensures.own
+    c.in_ok-one-in-Fault.ensures.other c.in_ok-one-in-Fault.ensures.own_orders c.in_ok-one-in-Fault.ensures.other_orders
+    c.in_ok-one-in-Fault.ensures.own_grounded c.in_ok-one-in-Fault.ensures.other_grounded in
     let wire = c.journals.new.wire in
     let now : WireCounts = record { faults = g.W.Wire.faults wire; nothings = g.W.Wire.nothings wire; fulls = g.W.Wire.fulls wire } in
     let start = c.args.start in
@@ -290,11 +273,11 @@ returns-else-not-has_faulted-clause-begun g c = λ limit hosts commands before a
       faults_before = g.K.Sink.faults c.args.sink.now;
       faults_after = g.K.Sink.faults c.end_by_fault.new.sink;
     } in
-    begun_ok c.args.form g.W.End.End.means.tells limit hosts commands (start.can_fail ≡ true) start.budget start.counts now sink
-    (fault_line low high stream) (ended.WireFault low high stream own other) (lacking, refl) found c.end_by_fault.result c.end_by_fault.ensures.end
+    begun_ok c.args.form g.W.End.End.means.tells limit hosts commands (start.can_fail ≡ true) start.budget start.counts now before now.faults sink
+    (fault_line low high stream) (ended.WireFault low high stream own other) (lacking, refl) found tt c.end_by_fault.result c.end_by_fault.ensures.end
 
 pub returns-else-not-has_waited-clause-begun : goal.returns-else-not-has_waited-clause-begun
-returns-else-not-has_waited-clause-begun g c = λ limit hosts commands before after done did counted.
+returns-else-not-has_waited-clause-begun g c = λ limit hosts commands before done did counted fits.
     let ends = c.in_ok-ends-in-Unfinished.ends in
     let count = c.in-Unfinished.count in
     let unwritten = c.in-Unfinished.unwritten in
@@ -314,7 +297,7 @@ returns-else-not-has_waited-clause-begun g c = λ limit hosts commands before af
       faults_before = g.K.Sink.faults c.args.sink.now;
       faults_after = g.K.Sink.faults c.end_unfinished.new.sink;
     } in
-    begun_ok c.args.form g.W.End.End.means.tells limit hosts commands (start.can_fail ≡ true) start.budget start.counts now sink
+    begun_ok c.args.form g.W.End.End.means.tells limit hosts commands (start.can_fail ≡ true) start.budget start.counts now before now.faults sink
     (unfinished_line count) (ended.Unfinished count ends) (c.in_ok-ends-in-Unfinished.ensures.ends limit hosts commands done did, unacked, refl) (
       as_tested (EndsOweNothing (host_views ends.items)) _ unwritten
           (λ off. c.in_ok-ends-in-Unfinished.ensures.owe
@@ -324,7 +307,7 @@ returns-else-not-has_waited-clause-begun g c = λ limit hosts commands before af
           (λ off. c.in_ok-ends-in-Unfinished.ensures.closed
           (c.requires.closed count unwritten (c.in-Unfinished.is ∙ ap (λ (o : Bool). rounds.Unfinished count unwritten o) off)))
           found.1,
-    ) c.end_unfinished.result c.end_unfinished.ensures.end
+    ) (c.in_ok-ends-in-Unfinished.ensures.cut limit hosts commands before done did counted fits) c.end_unfinished.result c.end_unfinished.ensures.end
 
 -- refused where a line's cuts are lost
 pub returns-in_ok-ends-in-Done-clause-cut : goal.returns-in_ok-ends-in-Done-clause-cut

@@ -45,20 +45,21 @@ returns-clause-begun g c =
     let led = rw c.in-Ok.is at c.play-callers.ensures.led in
     let commands = c.args.script.now.commands.items in
     let before = g.W.Wire.faults c.args.wire.now in
-    let after = g.W.Wire.faults c.prepare.new.wire in
+    let middle = g.W.Wire.faults c.prepare.new.wire in
     let wire = c.args.wire.now in
     let now = c.finish.new.wire in
     let start = c.of-start.result in
+    let same : start.counts.faults ≡ before = ap (λ (w : WireCounts). w.faults) c.of-start.ensures.counts in
     begun_of c.args.form g.W.End.End.means.tells c.args.limit hosts commands (g.W.Wire.may_fail wire) c.args.budget
     (record { faults = g.W.Wire.faults wire; nothings = g.W.Wire.nothings wire; fulls = g.W.Wire.fulls wire })
     (record { faults = g.W.Wire.faults now; nothings = g.W.Wire.nothings now; fulls = g.W.Wire.fulls now })
     (start.can_fail ≡ true) c.of-start.ensures.can_fail.0 start.budget start.counts c.of-start.ensures.budget c.of-start.ensures.counts
-    (g.K.Sink.held c.args.sink.now) (g.K.Sink.held c.finish.new.sink) c.finish.result (
-    c.finish.ensures.begun c.args.limit hosts commands before after
+    (g.W.Wire.faults now) (g.K.Sink.held c.args.sink.now) (g.K.Sink.held c.finish.new.sink) c.finish.result
+    (c.finish.ensures.begun c.args.limit hosts commands
     (c.play-callers.ensures.hosts c.args.limit hosts c.in_ok-callers.ensures.hosts)
     (all_done hosts commands _ _ _ c.in_ok-callers.ensures.new obeyed led)
-    (c.play-callers.ensures.counted commands before after (c.in_ok-callers.ensures.counted commands before after c.in_ok-streams.ensures.counted))
-    )
+    (subst (λ (n : ℕ). HaveCounted commands n middle (rows_of c.play-callers.result.1.items)) (sym same)
+    (c.play-callers.ensures.counted commands before middle (c.in_ok-callers.ensures.counted commands before middle c.in_ok-streams.ensures.counted))))
 
 pub returns-clause-out : goal.returns-clause-out
 returns-clause-out g c =

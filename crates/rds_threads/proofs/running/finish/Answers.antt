@@ -83,20 +83,24 @@ returns-clause-end g c = λ limit hosts commands before after are did counted.
     (c.counted_keeps.ensures.goes commands before after told (rows_of c.last_rounds-end.new.lines.items)
     (c.counted_keeps.ensures.same commands before after old told counted kept) c.last_rounds-end.ensures.rows)
 
+-- refused where a cut may be lost in what was begun
 pub returns-clause-begun : goal.returns-clause-begun
-returns-clause-begun g c = λ limit hosts commands before after are did counted.
+returns-clause-begun g c = λ limit hosts commands are did counted.
     let old = rows_of c.args.lines.items in
     let told = rows_of c.tell_all.new.lines.items in
     let callers = c.requires.parties.2.callers_count in
     let rows = c.requires.parties.2.rows_count in
     let same : length c.args.callers.items ≡ length old = omega (arith, callers, rows) in
     let kept = rows_same c.args.callers.items c.tell_all.new.callers.items old told same c.tell_all.ensures in
-    c.end_run.ensures.begun limit hosts commands before after
+    let before = c.args.start.counts.faults in
+    let middle = g.W.Wire.faults c.args.wire.now in
+    c.end_run.ensures.begun limit hosts commands before
     (c.last_rounds-end.ensures.done limit hosts (c.connected_keeps.ensures.same limit hosts old told are kept))
     (done_spared hosts commands c.args.callers.items c.tell_all.new.callers.items old told (rows_of c.last_rounds-end.new.lines.items) same c.tell_all.ensures
     c.last_rounds-end.ensures.rows did)
-    (c.counted_keeps.ensures.goes commands before after told (rows_of c.last_rounds-end.new.lines.items)
-    (c.counted_keeps.ensures.same commands before after old told counted kept) c.last_rounds-end.ensures.rows)
+    (c.counted_keeps.ensures.goes commands before middle told (rows_of c.last_rounds-end.new.lines.items)
+    (c.counted_keeps.ensures.same commands before middle old told counted kept) c.last_rounds-end.ensures.rows)
+    (search rules)
 
 -- refused where the lines of two hosts have other streams than were prepared for them
 pub end_run-requires-clause-streams : goal.end_run-requires-clause-streams

@@ -4,6 +4,7 @@ use Rattle.rds_fmap.specs.Readers.{WriterView}
 use Rattle.rds_model.specs.Sums.{opens}
 use Rattle.rds_line_streams.specs.Streams.{opened_numbers}
 use Rattle.rds_line.specs.Line.{LineView, line_past}
+use Rattle.rds_threads.proofs.Filled.{ended_grounded}
 use Rattle.rds_threads.proofs.Taken.{journal_is, orders_begin}
 use Rattle.rds_threads.proofs.taking.end_host.Goals as goal
 
@@ -35,3 +36,7 @@ returns-clause-orders g c =
     (λ line at.
     journal_is c.args.lines.items c.in_ok-end.end.journals.items c.args.place c.swap_remove-journal.result line c.in_ok-end.ensures.journals c.requires.place
     c.swap_remove-journal.ensures.value at) c.in-Ok.ensures.slots c.in_ok-end.ensures.joined
+
+-- refused where another host's slots are ended
+pub returns-clause-grounded : goal.returns-clause-grounded
+returns-clause-grounded g c = ended_grounded c.args.caller.places c.in-Ok.closed.items c.args.lines.items c.in-Ok.ensures.slots c.in_ok-end.ensures.grounded

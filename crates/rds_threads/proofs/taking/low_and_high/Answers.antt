@@ -3,11 +3,14 @@ use Rattle.rds_model.specs.Log.{Log}
 use Rattle.rds_rounds.specs.Grid.{rows_of}
 use Rattle.rds_callers.specs.Places.{CallerView}
 use Rattle.rds_host.specs.Held.{ends_of_all}
+use Rattle.rds_gather.specs.Grounded.{AreMapsGrounded}
+use Rattle.rds_settling.specs.Tied.{holdings}
 use Rattle.rds_threads.specs.Causes.{BeginsOrders}
-use Rattle.rds_threads.specs.Taking.{IsJournalOf}
+use Rattle.rds_threads.specs.Taking.{IsGroundedAt, IsJournalOf}
+use Rattle.rds_threads.proofs.FilledAlone.{grounded_at}
 use Rattle.rds_threads.proofs.At.{one_at}
 use Rattle.rds_threads.proofs.Rows.{peer_after, peer_before, read_at, row_at, row_length, rows_count}
-use Rattle.rds_threads.proofs.Taken.{first_of, journal_ok, length_fewer, orders_ok, read_fewer, row_out, second_of}
+use Rattle.rds_threads.proofs.Taken.{first_of, journal_ok, length_fewer, on_one, orders_ok, read_fewer, row_out, second_of}
 use Rattle.rds_threads.proofs.taking.low_and_high.Goals as goal
 
 pub swap_remove-caller-requires : goal.swap_remove-caller-requires
@@ -206,6 +209,52 @@ returns-clause-high_orders g c = λ caller stands.
     (subst (λ (who : CallerView). IfOk c.end_host-other.result (λ journal. BeginsOrders high low who.places journal.past)) same
     (orders_ok high low c.from-one.result c.swap_remove-caller.result.places c.end_host-other.result
     (peer_before high c.from-one.result (omega (arith, ordered, one)) ∙ omega (arith, one)) c.end_host-other.ensures.orders))
+
+-- refused where the slots of another host are ended
+pub returns-clause-low_grounded : goal.returns-clause-low_grounded
+returns-clause-low_grounded g c =
+    let lines = c.args.lines.items in
+    let rows = rows_of lines in
+    let callers = c.args.callers.items in
+    let low = c.args.low in
+    let one = c.from-one.ensures in
+    let two = c.from-two.ensures in
+    let known = c.requires.known in
+    let ordered = c.requires.ordered in
+    let count = c.requires.tied.count in
+    let all = rows_count lines in
+    let fewer = c.swap_remove-row.ensures.items in
+    let fewer_callers = c.swap_remove-caller.ensures.items in
+    let low_row = c.swap_remove-row-2.result in
+    let low_caller = c.swap_remove-caller-2.result in
+    let at_low = read_fewer lines c.from-two.result low c.from-one.result c.swap_remove-row.result low_row (omega (arith, one)) (omega (arith, ordered, two))
+    (omega (arith, two, known))
+    (c.swap_remove-row-2.ensures.value ∙ ap (λ l. get_or l c.from-one.result low_row) fewer) in
+    let at_low_caller = read_fewer callers c.from-two.result low c.from-one.result c.swap_remove-caller.result low_caller (omega (arith, one))
+    (omega (arith, ordered, two)) (omega (arith, two, known, count, all))
+    (c.swap_remove-caller-2.ensures.value ∙ ap (λ l. get_or l c.from-one.result low_caller) fewer_callers) in
+    on_one c.end_host-own.result c.both.result (λ (journals : Log × Log). journals.0) (AreMapsGrounded (holdings low_caller.places) low_row.items)
+    (IsGroundedAt callers rows low) c.both.ensures.own c.end_host-own.ensures.grounded
+    (grounded_at callers rows low low_caller low_row.items at_low_caller (row_at lines low low_row at_low))
+
+pub returns-clause-high_grounded : goal.returns-clause-high_grounded
+returns-clause-high_grounded g c =
+    let lines = c.args.lines.items in
+    let rows = rows_of lines in
+    let callers = c.args.callers.items in
+    let high = c.args.high in
+    let two = c.from-two.ensures in
+    let known = c.requires.known in
+    let count = c.requires.tied.count in
+    let all = rows_count lines in
+    let row = c.swap_remove-row.result in
+    let caller = c.swap_remove-caller.result in
+    let at = read_at lines c.from-two.result high row (omega (arith, two)) known c.swap_remove-row.ensures.value in
+    let at_caller = read_at callers c.from-two.result high caller (omega (arith, two)) (omega (arith, known, count, all))
+    c.swap_remove-caller.ensures.value in
+    on_one c.end_host-other.result c.both.result (λ (journals : Log × Log). journals.1) (AreMapsGrounded (holdings caller.places) row.items)
+    (IsGroundedAt callers rows high) c.both.ensures.other c.end_host-other.ensures.grounded
+    (grounded_at callers rows high caller row.items at_caller (row_at lines high row at))
 
 -- refused where a host's ends are kept
 pub returns-clause-out : goal.returns-clause-out
