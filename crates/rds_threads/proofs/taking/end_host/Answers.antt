@@ -37,6 +37,6 @@ returns-clause-orders g c =
     journal_is c.args.lines.items c.in_ok-end.end.journals.items c.args.place c.swap_remove-journal.result line c.in_ok-end.ensures.journals c.requires.place
     c.swap_remove-journal.ensures.value at) c.in-Ok.ensures.slots c.in_ok-end.ensures.joined
 
--- refused where another host's slots are ended
+-- refused where the seats of a slot are left out
 pub returns-clause-grounded : goal.returns-clause-grounded
 returns-clause-grounded g c = ended_grounded c.args.caller.places c.in-Ok.closed.items c.args.lines.items c.in-Ok.ensures.slots c.in_ok-end.ensures.grounded

@@ -210,7 +210,6 @@ returns-clause-high_orders g c = λ caller stands.
     (orders_ok high low c.from-one.result c.swap_remove-caller.result.places c.end_host-other.result
     (peer_before high c.from-one.result (omega (arith, ordered, one)) ∙ omega (arith, one)) c.end_host-other.ensures.orders))
 
--- refused where the slots of another host are ended
 pub returns-clause-low_grounded : goal.returns-clause-low_grounded
 returns-clause-low_grounded g c =
     let lines = c.args.lines.items in
