@@ -43,11 +43,22 @@ module _ (seen : WireSeen) (form : Form) (s : Meaning) (sink : Written) (result 
     IsCounted end = IsCountedEnd seen.tells may_fail 20000000 seen.before seen.after end
 
     pub lacking_of : (low high stream : ℕ) (own other : Log) → result ≡ ended.WireFault low high stream own other → IsEnd result → IsCounted result →
-        IsWireFault seen s sink.held_before sink.held_after
-    lacking_of low high stream own other is end counted =
+        IsCutEnd s.commands seen.before.faults seen.after.faults result → IsWireFault seen s sink.held_before sink.held_after
+    lacking_of low high stream own other is end counted cut =
         let ran = subst IsEnd is end in
         let why = subst IsCounted is counted in
-        record { low = low; high = high; stream = stream; own = own.past; other = other.past; lacking = ran.0; rose = why.1; thrice = why.2; written = ran.1 }
+        record {
+          low = low;
+          high = high;
+          stream = stream;
+          own = own.past;
+          other = other.past;
+          lacking = ran.0;
+          rose = why.1;
+          thrice = why.2;
+          short = subst (IsCutEnd s.commands seen.before.faults seen.after.faults) is cut;
+          written = ran.1;
+        }
 
     -- where hosts lack a stream the wire may fail
     pub may_of : (low high stream : ℕ) (own other : Log) → result ≡ ended.WireFault low high stream own other → IsCounted result → may_fail

@@ -7,10 +7,10 @@ use Rattle.rds_model.specs.declared.journal.TheConstants.{MAX_ENTRIES}
 use Rattle.rds_script.specs.Grammar.{Meaning}
 use Rattle.rds_text.specs.Lines.{spent_line}
 use Rattle.rds_final.specs.FinalState.{FinalHost}
-use Rattle.rds_parties.specs.Streams.{prepared_streams}
+use Rattle.rds_parties.specs.Streams.{prepared_streams, streams_between}
 use Rattle.rds_threads.specs.Causes.{AreLackingStream, AreUnacknowledged, IsFullJournal}
 use Rattle.rds_threads.specs.Counted.{AreEndsClosed, EndsOweNothing, IsCountedEnd}
-use Rattle.rds_threads.specs.Cuts.{AreCutsOfEnds, IsCutEnd}
+use Rattle.rds_threads.specs.Cuts.{AreCutsOfEnds, IsCutEnd, IsShortBy}
 use Rattle.rds_threads.specs.Ends.{AreAcknowledged, AreDrainedHosts, AreEnds, HasToWrite, NonePending}
 use Rattle.rds_threads.specs.Texts.{fault_line, text_of, unfinished_line}
 use Rattle.rds_threads.specs.declared.form.Form.{Form}
@@ -74,7 +74,8 @@ pub record HasFilled (tells : Bool) (s : Meaning) (held_before held_after : Opti
   pub written : SinkGained held_before held_after (spent_line host peer entries)
 
 -- Two hosts of the script, which have these journals of their connection, lack a stream, and the sink took the line that says so. The wire
--- counted a fault in the call, and at least three where its ends tell their bytes.
+-- counted a fault in the call, at least three where its ends tell their bytes, and at least as many as streams that were to be prepared weren't
+-- opened in the journal that has none left.
 pub record IsWireFault (seen : WireSeen) (s : Meaning) (held_before held_after : Option (List ℕ)) : Type 0 where
   pub low : ℕ
   pub high : ℕ
@@ -84,6 +85,8 @@ pub record IsWireFault (seen : WireSeen) (s : Meaning) (held_before held_after :
   pub lacking : AreLackingStream seen.tells s.hosts s.commands low high stream own other
   pub rose : HasRisen seen.before.faults seen.after.faults
   pub thrice : seen.tells ≡ true → HasRisenBy 3 seen.before.faults seen.after.faults
+  pub short : IsShortBy (streams_between low high s.commands) seen.before.faults seen.after.faults own other
+      ⊎ IsShortBy (streams_between low high s.commands) seen.before.faults seen.after.faults other own
   pub written : SinkGained held_before held_after (fault_line low high stream)
 
 -- The hosts did the script's commands, and what they have then is sound. So many datagrams aren't acknowledged, and the sink took the line

@@ -63,7 +63,7 @@ module _ {E M : Type 0} where
       (All-take (λ (n : ℕ). n ≤ count) is.opened.0 (numbers line.channel.streams.list) of.most)
 
   -- the journal of a line that lacks a stream has none left
-  none_left : (line back : LineView E M) (own other : List Entry) → LacksStream line → IsJournalOfLine line own → IsJournalOfLine back other →
+  pub none_left : (line back : LineView E M) (own other : List Entry) → LacksStream line → IsJournalOfLine line own → IsJournalOfLine back other →
       numbers back.channel.streams.list ≡ numbers line.channel.streams.list → HasNoneLeft own other
   none_left line back own other lacks of_own of_other same = record {
     closed = ap open_stream of_own.is ∙ lacks.closed;

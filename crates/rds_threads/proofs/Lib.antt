@@ -27,6 +27,7 @@ pub mod Counted
 pub mod Begun
 pub mod SameStreams
 pub mod Lacking
+pub mod Short
 pub mod Taken
 pub mod Held
 pub mod Fronts

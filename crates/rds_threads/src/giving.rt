@@ -13,7 +13,8 @@ use std::sync::Wait;
 
 /// Gives every end of the lines of all hosts back to the wire.
 pub(crate) fn end_lines<W: Wire, R: Wait>(rt: &R, wire: &mut W, lines: Lines<W::End>)
-    ensures { W.out wire.new ≡ W.out wire.old - ends_of_all (rows_of lines.items) }
+    ensures out { W.out wire.new ≡ W.out wire.old - ends_of_all (rows_of lines.items) }
+    ensures risen { StaysRisen (W.faults wire.old) (W.faults wire.new) }
 {
     for row in lines {
         end_row(rt, wire, row);

@@ -5,6 +5,7 @@ ghost use Rattle.rds_line.specs.Line.{LineView};
 ghost use Rattle.rds_host.specs.Held.{ends_in, ends_of_all};
 ghost use Rattle.rds_callers.specs.Places.{CallerView};
 ghost use Rattle.rds_gather.specs.Grounded.{AreMapsGrounded};
+ghost use Rattle.rds_gather.specs.Risen.{StaysRisen};
 ghost use Rattle.rds_rounds.specs.Done.{AreDone};
 ghost use Rattle.rds_rounds.specs.Grid.{rows_of};
 ghost use Rattle.rds_settling.specs.Tied.{AreTied, holdings};
@@ -40,6 +41,7 @@ fn end_host<W: Wire, R: Wait>(
     ensures journal { (line : LineView W.End WriterView) → slice_get lines.items place ≡ Some line → IfOk result (λ journal. IsJournalOfLine line journal.past) }
     ensures orders { IfOk result (λ journal. BeginsOrdersAt place caller.places journal.past) }
     ensures grounded { OnOk result (AreMapsGrounded (holdings caller.places) lines.items) }
+    ensures risen { StaysRisen (W.faults wire.old) (W.faults wire.new) }
     ensures out { W.out wire.new ≡ W.out wire.old - ends_in lines.items }
 {
     let line = &lines[place];
@@ -87,6 +89,7 @@ fn low_and_high<W: Wire, R: Wait>(
         IfOk result (λ journals. BeginsOrders high low caller.places journals.1.past) }
     ensures low_grounded { OnOk result (IsGroundedAt callers.items (rows_of lines.items) low) }
     ensures high_grounded { OnOk result (IsGroundedAt callers.items (rows_of lines.items) high) }
+    ensures risen { StaysRisen (W.faults wire.old) (W.faults wire.new) }
     ensures out { W.out wire.new ≡ W.out wire.old - ends_of_all (rows_of lines.items) }
 {
     let one = usize::from(low);
@@ -125,6 +128,7 @@ pub(crate) fn journals<W: Wire, R: Wait>(
         IfOk result (λ journals. BeginsOrders peer host caller.places journals.1.past) }
     ensures own_grounded { OnOk result (IsGroundedAt callers.items (rows_of lines.items) host) }
     ensures other_grounded { OnOk result (IsGroundedAt callers.items (rows_of lines.items) peer) }
+    ensures risen { StaysRisen (W.faults wire.old) (W.faults wire.new) }
     ensures out { W.out wire.new ≡ W.out wire.old - ends_of_all (rows_of lines.items) }
 {
     if host < peer {

@@ -36,7 +36,7 @@ returns-in-WireFault-clause-ends g c =
       before = record { faults = g.W.Wire.faults c.args.wire.now; nothings = g.W.Wire.nothings c.args.wire.now; fulls = g.W.Wire.fulls c.args.wire.now };
       after = record { faults = g.W.Wire.faults c.run.new.wire; nothings = g.W.Wire.nothings c.run.new.wire; fulls = g.W.Wire.fulls c.run.new.wire };
     } in
-    lacking_of seen c.args.form (meaning c.args.script) sink c.run.result _ _ _ _ _ _ c.in-WireFault.is c.run.ensures.end c.run.ensures.counted
+    lacking_of seen c.args.form (meaning c.args.script) sink c.run.result _ _ _ _ _ _ c.in-WireFault.is c.run.ensures.end c.run.ensures.counted c.run.ensures.cut
 
 pub returns-in-WireFault-clause-may_fail : goal.returns-in-WireFault-clause-may_fail
 returns-in-WireFault-clause-may_fail g c = λ same.

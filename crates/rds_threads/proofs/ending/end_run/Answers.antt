@@ -1,4 +1,4 @@
-use Rattle.std.proofs.Common.{Bool, ap, arith, length, refl, rules, subst, sym, true, ◌<◌, ◌∙◌, ◌≡◌}
+use Rattle.std.proofs.Common.{Bool, ap, arith, length, refl, rules, subst, sym, true, ◌<◌, ◌^◌, ◌∙◌, ◌≡◌}
 use Rattle.rds_link.specs.Streaming.{HasRisen, HasRisenBy}
 use Rattle.rds_link.specs.declared.wire.WireCounts.{WireCounts}
 use Rattle.rds_model.specs.Past.{newest_stream}
@@ -14,6 +14,7 @@ use Rattle.rds_threads.proofs.Counted.{as_tested, counted_fault, counted_ok}
 use Rattle.rds_threads.proofs.CutsOfRun.{cut_ok}
 use Rattle.rds_threads.proofs.Lacking.{lacking_in_run}
 use Rattle.rds_threads.proofs.Rows.{rows_count}
+use Rattle.rds_threads.proofs.Short.{short_of}
 use Rattle.rds_threads.proofs.Spent.{full_in_run, full_two}
 use Rattle.rds_threads.proofs.Written.{end_written, on_ok}
 use Rattle.rds_text.specs.Lines.{spent_line}
@@ -273,8 +274,14 @@ returns-else-not-has_faulted-clause-begun g c = λ limit hosts commands before d
       faults_before = g.K.Sink.faults c.args.sink.now;
       faults_after = g.K.Sink.faults c.end_by_fault.new.sink;
     } in
+    let fits_now : c.counts-in-Fault.result.faults < 2 ^ 64 = search rules in
+    let short =
+    short_of (rows_of c.args.lines.items) c.requires.streams low high (c.requires.lacks low high c.in-Fault.is) commands before
+    (g.W.Wire.faults c.args.wire.now) (g.W.Wire.faults c.journals.new.wire) counted
+    (subst (λ (w : WireCounts). w.faults < 2 ^ 64) c.counts-in-Fault.ensures fits_now) c.journals.ensures.risen own.past other.past
+    c.in_ok-one-in-Fault.ensures.own c.in_ok-one-in-Fault.ensures.other in
     begun_ok c.args.form g.W.End.End.means.tells limit hosts commands (start.can_fail ≡ true) start.budget start.counts now before now.faults sink
-    (fault_line low high stream) (ended.WireFault low high stream own other) (lacking, refl) found tt c.end_by_fault.result c.end_by_fault.ensures.end
+    (fault_line low high stream) (ended.WireFault low high stream own other) (lacking, refl) found short c.end_by_fault.result c.end_by_fault.ensures.end
 
 pub returns-else-not-has_waited-clause-begun : goal.returns-else-not-has_waited-clause-begun
 returns-else-not-has_waited-clause-begun g c = λ limit hosts commands before done did counted fits.
@@ -349,7 +356,13 @@ returns-else-not-has_faulted-clause-cut g c = λ limit hosts commands before don
       faults_before = g.K.Sink.faults c.args.sink.now;
       faults_after = g.K.Sink.faults c.end_by_fault.new.sink;
     } in
-    cut_ok commands before _ sink (fault_line low high stream) (ended.WireFault low high stream own other) c.end_by_fault.result tt c.end_by_fault.ensures.end
+    let fits_now : c.counts-in-Fault.result.faults < 2 ^ 64 = search rules in
+    let short =
+    short_of (rows_of c.args.lines.items) c.requires.streams low high (c.requires.lacks low high c.in-Fault.is) commands before
+    (g.W.Wire.faults c.args.wire.now) (g.W.Wire.faults c.journals.new.wire) counted
+    (subst (λ (w : WireCounts). w.faults < 2 ^ 64) c.counts-in-Fault.ensures fits_now) c.journals.ensures.risen own.past other.past
+    c.in_ok-one-in-Fault.ensures.own c.in_ok-one-in-Fault.ensures.other in
+    cut_ok commands before _ sink (fault_line low high stream) (ended.WireFault low high stream own other) c.end_by_fault.result short c.end_by_fault.ensures.end
 
 pub returns-in_ok-own-in-Spent-clause-cut : goal.returns-in_ok-own-in-Spent-clause-cut
 returns-in_ok-own-in-Spent-clause-cut g c = λ limit hosts commands before done did counted fits.

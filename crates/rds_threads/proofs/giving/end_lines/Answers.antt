@@ -5,5 +5,7 @@ use Rattle.rds_threads.proofs.giving.end_lines.Goals as goal
 pub loop-row-preserved : goal.loop-row-preserved
 loop-row-preserved g c =
     let more = rows_more c.loop-row.yielded c.in-Some.row in
-    let past = c.loop-row.invariant in
-    omega (arith, more, past, c.end_row.ensures.out)
+    let past = c.loop-row.invariant.0 in (
+      omega (arith, more, past, c.end_row.ensures.out),
+      λ before fits risen. c.end_row.ensures.risen before fits (c.loop-row.invariant.1 before fits risen),
+    )

@@ -272,4 +272,8 @@ returns-clause-out g c =
     let second = row_out c.swap_remove-row.new.self.items c.from-one.result low c.swap_remove-row-2.result (omega (arith, one))
     (omega (arith, short, ordered, known)) c.swap_remove-row-2.ensures.value in
     let rest = ap (λ l. ends_of_all (rows_of l)) c.swap_remove-row-2.ensures.items in
-    omega (arith, first, mid, second, rest, c.end_host-other.ensures.out, c.end_host-own.ensures.out, c.end_lines.ensures)
+    omega (arith, first, mid, second, rest, c.end_host-other.ensures.out, c.end_host-own.ensures.out, c.end_lines.ensures.out)
+
+pub returns-clause-risen : goal.returns-clause-risen
+returns-clause-risen g c = λ before fits risen.
+    c.end_lines.ensures.risen before fits (c.end_host-own.ensures.risen before fits (c.end_host-other.ensures.risen before fits risen))
