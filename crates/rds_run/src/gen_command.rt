@@ -29,14 +29,7 @@ pub fn gen_text<K: Sink, G: Gate + Sync, R: Threads + Wait + Net + Sync>(
         result }
 {
     match generate(alloc, sends, seed) {
-        Ok(script) => run_in_memory(
-            rt,
-            alloc,
-            script,
-            Form::Summary { seed, sends },
-            sink,
-            gate,
-        ),
+        Ok(script) => run_in_memory(rt, alloc, script, Form::Summary { seed, sends }, sink, gate),
         Err(Memory) => Status::Memory,
     }
 }
