@@ -1,3 +1,6 @@
+ghost use Rattle.std.specs.Prelude.{◌≤◌, length};
+ghost use Rattle.rds_wire.specs.declared.kind.TheConstants.{MAX_LENGTH};
+
 use crate::end::BenchEnd;
 use crate::failure::Failure;
 use rds_msgs::Steps;
@@ -5,14 +8,13 @@ use rds_wire::Payloads;
 use std::alloc::Global;
 use std::sync::ledger::Ledger;
 
-/// How many bytes a datagram has.
-const LENGTH: usize = 60;
-
-/// The two ends of a connection.
+/// The two ends of a connection, and the bytes of each datagram.
 pub struct BenchPair {
     payloads: Payloads,
+    bytes: Vec<u8>,
     near: BenchEnd,
     far: BenchEnd,
+    ghost short: { length bytes.items ≤ MAX_LENGTH },
 }
 
 // By hand, so that one call drops it wherever it is let go, and no function that owns one drops each field.
@@ -20,6 +22,7 @@ impl Drop for BenchPair {
     fn drop(self) {
         let Self {
             payloads: _payloads,
+            bytes: _bytes,
             near: _near,
             far: _far,
         } = self;
@@ -27,12 +30,17 @@ impl Drop for BenchPair {
 }
 
 impl BenchPair {
-    /// Two hosts, with no stream.
-    pub fn new(alloc: Global) -> Result<BenchPair, Failure> {
+    /// Two hosts, with no stream, whose datagrams have so many bytes, at most 1,048,576.
+    pub fn new(alloc: Global, length: usize) -> Result<BenchPair, Failure> {
+        let Ok(mut bytes) = vec![in alloc; 7u8; length] else {
+            return Err(Failure::Memory);
+        };
+        bytes.truncate(1_048_576);
         let near = BenchEnd::new(alloc, 1, 2)?;
         let far = BenchEnd::new(alloc, 2, 1)?;
         Ok(BenchPair {
             payloads: Payloads::new(alloc),
+            bytes,
             near,
             far,
         })
@@ -70,7 +78,7 @@ impl BenchPair {
 
     fn send_batch<L: Ledger>(&mut self, count: u64, steps: &mut Steps<L>) -> Result<(), Failure> {
         for _ in 0..count {
-            let payload = self.payloads.copy_of(&[7; LENGTH])?;
+            let payload = self.payloads.copy_of(&self.bytes)?;
             self.near.send(payload, steps)?;
         }
         self.settle(steps)

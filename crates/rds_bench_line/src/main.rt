@@ -6,6 +6,7 @@ mod hosts;
 mod moving;
 
 use hosts::Sender;
+use moving::BATCH;
 use std::alloc::{AllocError, Global};
 use std::env;
 use std::io::Print;
@@ -31,7 +32,7 @@ fn main(rt: HostRuntime) -> anyhow::Result<()> {
 
 // How many of a few came.
 fn show<R: Print + Threads + Wait + Net + Sync>(rt: &R, alloc: Global) -> anyhow::Result<()> {
-    let one = one(rt, alloc, FEW, 60).ok_or(AllocError)?;
+    let one = one(rt, alloc, FEW / BATCH, BATCH, 60).ok_or(AllocError)?;
     let two = two(rt, alloc, FEW, 60).ok_or(AllocError)?;
     println!(rt; "{one} came by one thread, {two} by two")?;
     Ok(())
@@ -43,11 +44,8 @@ fn measure<R: Print + Threads + Wait + Net + Sync + Clock + CpuClock>(
     count: u32,
 ) -> anyhow::Result<()> {
     for length in LENGTHS {
-        let start = rt.thread_cpu_time()?;
-        let came = one(rt, alloc, count, length).ok_or(AllocError)?;
-        let spent = rt.thread_cpu_time()?.saturating_sub(start);
-        let each = spent.as_nanos() / u128::from(came.max(1));
-        println!(rt; "{came} of {length} bytes by one thread: {each} ns of processor time each")?;
+        measure_one(rt, alloc, count / BATCH, BATCH, length)?;
+        measure_one(rt, alloc, count, 1, length)?;
         let start = Instant::now(rt)?;
         let came = two(rt, alloc, count, length).ok_or(AllocError)?;
         let each = start.elapsed(rt)?.as_nanos() / u128::from(came.max(1));
@@ -56,11 +54,35 @@ fn measure<R: Print + Threads + Wait + Net + Sync + Clock + CpuClock>(
     Ok(())
 }
 
+// What one thread takes for so many batches.
+fn measure_one<R: Print + Threads + Wait + Net + CpuClock>(
+    rt: &R,
+    alloc: Global,
+    batches: u32,
+    batch: u32,
+    length: usize,
+) -> anyhow::Result<()> {
+    let start = rt.thread_cpu_time()?;
+    let came = one(rt, alloc, batches, batch, length).ok_or(AllocError)?;
+    let spent = rt.thread_cpu_time()?.saturating_sub(start);
+    let each = spent.as_nanos() / u128::from(came.max(1));
+    println!(rt;
+        "{came} of {length} bytes by one thread, in batches of {batch}: {each} ns of processor time each"
+    )?;
+    Ok(())
+}
+
 // How many came that one thread moved.
-fn one<R: Threads + Wait + Net>(rt: &R, alloc: Global, count: u32, length: usize) -> Option<u32> {
+fn one<R: Threads + Wait + Net>(
+    rt: &R,
+    alloc: Global,
+    batches: u32,
+    batch: u32,
+    length: usize,
+) -> Option<u32> {
     let mut both = hosts::two(rt, alloc)?;
     let mut sender = Sender::new(alloc, length)?;
-    moving::by_one(rt, &mut both, &mut sender, count)
+    moving::by_one(rt, &mut both, &mut sender, batches, batch)
 }
 
 // How many came that two threads moved.

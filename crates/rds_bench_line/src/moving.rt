@@ -7,21 +7,27 @@ use std::sync::Wait;
 use std::thread;
 use std::thread::Threads;
 
-/// How many datagrams are sent before the lines turn.
-const BATCH: u32 = 64;
+/// How many datagrams of a batch are sent before the lines turn.
+pub const BATCH: u32 = 64;
 
-/// Sends so many datagrams, in batches, each of which is moved before the next, and answers how many came.
-pub fn by_one<R: Wait>(rt: &R, both: &mut Both, sender: &mut Sender, count: u32) -> Option<u32> {
+/// Sends so many batches of datagrams, each of which is moved before the next, and answers how many came.
+pub fn by_one<R: Wait>(
+    rt: &R,
+    both: &mut Both,
+    sender: &mut Sender,
+    batches: u32,
+    batch: u32,
+) -> Option<u32> {
     let mut came = 0u32;
-    for _ in 0..count / BATCH {
-        batch(rt, both, sender)?;
+    for _ in 0..batches {
+        send_batch(rt, both, sender, batch)?;
         came = came.wrapping_add(settle(rt, both));
     }
     Some(came)
 }
 
-fn batch<R: Wait>(rt: &R, both: &mut Both, sender: &mut Sender) -> Option<()> {
-    for _ in 0..BATCH {
+fn send_batch<R: Wait>(rt: &R, both: &mut Both, sender: &mut Sender, batch: u32) -> Option<()> {
+    for _ in 0..batch {
         if !sender.send(rt, &mut both.0) {
             return None;
         }
@@ -29,18 +35,28 @@ fn batch<R: Wait>(rt: &R, both: &mut Both, sender: &mut Sender) -> Option<()> {
     Some(())
 }
 
-// Both lines turn until neither has anything to do. Answers how many datagrams came.
+// One line and then the other turns as long as it moves anything, until neither does. Answers how many datagrams came.
 fn settle<R: Wait>(rt: &R, both: &mut Both) -> u32 {
     let mut came = 0u32;
     for _ in 0..u32::MAX {
-        let first = both.0.turn(rt);
-        let second = both.1.turn(rt);
+        let first = turn_on(rt, &mut both.0);
+        let second = turn_on(rt, &mut both.1);
         came = came.wrapping_add(take_all(rt, &mut both.1));
-        if first == Turn::Idle && second == Turn::Idle {
+        if !first && !second {
             break;
         }
     }
     came
+}
+
+// Turns a line as long as it moves anything, and answers whether it did.
+fn turn_on<R: Wait>(rt: &R, host: &mut LineHost<MemEnd>) -> bool {
+    for turn in 0..u32::MAX {
+        if host.turn(rt) != Turn::Moved {
+            return turn > 0;
+        }
+    }
+    true
 }
 
 // Takes all datagrams that came, and answers how many.
