@@ -15,3 +15,4 @@ pub mod Totalled
 pub mod Parted
 pub mod Parting
 pub mod Added
+pub mod Printing

@@ -5,3 +5,4 @@ pub mod Summary
 pub mod ItemTotals
 pub mod Item
 pub mod Held
+pub mod Texts

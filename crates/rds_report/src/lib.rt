@@ -14,6 +14,7 @@ mod reporting;
 mod sent;
 mod summing;
 mod taken;
+mod texts;
 mod totals;
 
 pub use reporting::{report, report_parts};

@@ -33,8 +33,8 @@ pub fn print_groups(text: &mut String, items: &[Item<'_>]) -> Result<(), Memory>
     Ok(())
 }
 
-// About how many bytes the lines of what was received take: the digits of each payload, and the word before them.
-fn room(items: &[Item<'_>]) -> usize {
+/// About how many bytes the lines of what was received take: the digits of each payload, and the word before them.
+pub fn room(items: &[Item<'_>]) -> usize {
     let mut bytes = 0usize;
     for item in items {
         bytes = bytes.saturating_add(line_length(item));
@@ -58,9 +58,17 @@ fn print_group(text: &mut String, group: Group, items: &[Item<'_>]) -> Result<()
     if counts.accepted == 0 {
         return Ok(());
     }
-    print_pair(text, group)?;
-    print_counts(text, counts)?;
+    print_head(text, group, counts)?;
     print_received(text, items)
+}
+
+/// Prints the pair of a group, and the counts of its items.
+pub fn print_head(text: &mut String, group: Group, counts: Counts) -> Result<(), Memory>
+    ensures { IsAddress group.from → IsAddress group.to →
+        OnOk result (string_bytes text.new ≡ string_bytes text.old ++ (pair_text (seen group) ++ counts_line (seen_counts counts))) }
+{
+    print_pair(text, group)?;
+    print_counts(text, counts)
 }
 
 fn print_pair(text: &mut String, group: Group) -> Result<(), Memory>
@@ -75,8 +83,8 @@ fn print_pair(text: &mut String, group: Group) -> Result<(), Memory>
     Ok(())
 }
 
-// A line for each item that was received.
-fn print_received(text: &mut String, items: &[Item<'_>]) -> Result<(), Memory>
+/// Prints a line for each item that was received.
+pub fn print_received(text: &mut String, items: &[Item<'_>]) -> Result<(), Memory>
     ensures { OnOk result (string_bytes text.new ≡ string_bytes text.old ++ flat_map (λ (i : Piece). data_lines i.what) items.now) }
 {
     for item in items {

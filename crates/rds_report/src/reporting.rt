@@ -3,10 +3,13 @@ ghost use Rattle.std.specs.List.{flat_map};
 ghost use Rattle.rds_final.specs.Hosts.{address_of};
 ghost use Rattle.rds_final.specs.Views.{AreFinalHosts, host_views};
 ghost use Rattle.rds_text.specs.Lines.{end_line};
-ghost use Rattle.rds_report.specs.ItemReport.{part};
-ghost use Rattle.rds_final.specs.Report.{report as text_of};
+ghost use Rattle.rds_report.specs.Items.{items_to};
+ghost use Rattle.rds_report.specs.ItemReport.{IsUp, of_pair, part};
+ghost use Rattle.rds_final.specs.Report.{Group as Pair, report as text_of};
 
 use crate::grouping::sort;
+use crate::item::Item;
+use crate::texts::Texts;
 use crate::{collect, print};
 use rayon::prelude::*;
 use rds_final::{HostEnd, address};
@@ -31,8 +34,8 @@ pub fn report(alloc: Global, text: &mut String, hosts: &[HostEnd]) -> Result<(),
     Ok(())
 }
 
-/// The same report, in texts that are to be written one behind another: one for each of the `MAX_HOSTS` hosts, each made by a thread
-/// of its own, and the last line.
+/// The same report, in texts that are to be written one behind another. What went to each of the `MAX_HOSTS` hosts is printed by a
+/// thread of its own, and the lines of a port pair with many datagrams by several. The last text is the last line.
 pub fn report_parts<R: Threads + Sync>(
     rt: &R,
     alloc: Global,
@@ -41,27 +44,47 @@ pub fn report_parts<R: Threads + Sync>(
     ensures { AreFinalHosts (host_views hosts.now) →
         IfOk result (λ texts. flat_map string_bytes texts.items ≡ text_of (host_views hosts.now)) }
 {
-    let parts: Result<Vec<String>, Memory> = (0..MAX_HOSTS)
+    let parts: Result<Vec<Vec<String>>, Memory> = (0..MAX_HOSTS)
         .into_par_iter()
         .with_min_len(1)
         .map(
-            |host: u8| -> Result<String, Memory>
-                ensures { AreFinalHosts (host_views hosts.entry.now) → IfOk result (λ text. string_bytes text ≡ part (host_views hosts.entry.now) (address_of host)) }
-            { part_text(alloc, hosts, host) },
+            |host: u8| -> Result<Vec<String>, Memory>
+                ensures { AreFinalHosts (host_views hosts.entry.now) →
+                    IfOk result (λ texts. flat_map string_bytes texts.items ≡ part (host_views hosts.entry.now) (address_of host)) }
+            { part_texts(rt, alloc, hosts, host) },
         )
         .collect(rt, alloc)?;
-    let mut parts = parts?;
-    parts.push(format!(in alloc; "end ok\n")?)?;
-    Ok(parts)
+    let parts = parts?;
+    let mut texts = joined(alloc, parts)?;
+    texts.push(format!(in alloc; "end ok\n")?)?;
+    Ok(texts)
 }
 
-// The part of the report on what went to a host, counted from 0.
-fn part_text(alloc: Global, hosts: &[HostEnd], host: u8) -> Result<String, Memory>
-    ensures { AreFinalHosts (host_views hosts.now) → IfOk result (λ text. string_bytes text ≡ part (host_views hosts.now) (address_of host)) }
+// The part of the report on what went to a host, counted from 0, in texts one behind another.
+fn part_texts<R: Threads + Sync>(
+    rt: &R,
+    alloc: Global,
+    hosts: &[HostEnd],
+    host: u8,
+) -> Result<Vec<String>, Memory>
+    ensures { AreFinalHosts (host_views hosts.now) →
+        IfOk result (λ texts. flat_map string_bytes texts.items ≡ part (host_views hosts.now) (address_of host)) }
 {
-    let mut text = String::new(alloc);
-    add_part(alloc, &mut text, hosts, address(host))?;
-    Ok(text)
+    let items = sorted_items(alloc, hosts, address(host))?;
+    let mut texts = Texts::new(alloc);
+    texts.print_groups(rt, alloc, &items)?;
+    texts.into_vec()
+}
+
+// The texts of all parts.
+fn joined(alloc: Global, parts: Vec<Vec<String>>) -> Result<Vec<String>, Memory>
+    ensures { IfOk result (λ all. flat_map string_bytes all.items ≡ flat_map (λ texts. flat_map string_bytes texts.items) parts.items) }
+{
+    let mut all = Vec::new(alloc);
+    for mut texts in parts {
+        all.append(&mut texts)?;
+    }
+    Ok(all)
 }
 
 // The part of the report on what went to the host at an address.
@@ -69,7 +92,16 @@ fn add_part(alloc: Global, text: &mut String, hosts: &[HostEnd], to: u32) -> Res
     ensures { AreFinalHosts (host_views hosts.now) →
         OnOk result (string_bytes text.new ≡ string_bytes text.old ++ part (host_views hosts.now) to) }
 {
+    let items = sorted_items(alloc, hosts, to)?;
+    print::print_groups(text, &items)
+}
+
+// The items of the port pairs to the host at an address, in the order of their groups.
+fn sorted_items<'a>(alloc: Global, hosts: &'a [HostEnd], to: u32) -> Result<Vec<Item<'a>>, Memory>
+    ensures up { IfOk result (λ items. IsUp items.items) }
+    ensures stable { IfOk result (λ items. (g : Pair) → of_pair g items.items ≡ of_pair g (items_to to (host_views hosts.now))) }
+{
     let mut items = collect::items_to(alloc, hosts, to)?;
     sort(&mut items)?;
-    print::print_groups(text, &items)
+    Ok(items)
 }

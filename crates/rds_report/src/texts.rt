@@ -1,0 +1,149 @@
+ghost use Rattle.std.specs.Prelude.{◌≡◌, ◌++◌, ◌==◌, [], false, IfOk, OnOk, string_bytes};
+ghost use Rattle.std.specs.List.{flat_map};
+ghost use Rattle.rds_final.specs.Hosts.{IsAddress};
+ghost use Rattle.rds_report.specs.Item.{Item as Piece};
+ghost use Rattle.rds_report.specs.Items.{seen};
+ghost use Rattle.rds_report.specs.ItemReport.{AreKnown, IsUp, groups_text, lines_of, data_lines, count_of, is_accepted};
+ghost use Rattle.rds_report.specs.Texts.{text_bytes};
+
+use crate::counts::Counts;
+use crate::grouping::run_length;
+use crate::item::{Group, Item};
+use crate::print::{print_head, print_received, room};
+use rayon::prelude::*;
+use rds_wire::Memory;
+use std::alloc::Global;
+use std::mem;
+use std::thread::Threads;
+
+/// So many items of a group are printed by several threads.
+const MANY: usize = 8192;
+
+/// So many of them, one behind another, are printed to one text.
+const CHUNK: usize = 4096;
+
+/// Texts that are to be written one behind another: those that are done, and the one that grows.
+#[derive(Drop)]
+pub struct Texts {
+    done: Vec<String>,
+    last: String,
+}
+
+impl Texts {
+    /// One text, with nothing in it.
+    pub fn new(alloc: Global) -> Texts
+        ensures { text_bytes result ≡ [] }
+    {
+        Texts {
+            done: Vec::new(alloc),
+            last: String::new(alloc),
+        }
+    }
+
+    /// All texts, in order.
+    pub fn into_vec(self) -> Result<Vec<String>, Memory>
+        ensures { IfOk result (λ texts. flat_map string_bytes texts.items ≡ text_bytes self) }
+    {
+        let mut texts = self.done;
+        texts.push(self.last)?;
+        Ok(texts)
+    }
+
+    /// Prints the groups of items, which stand in the order of their groups.
+    pub fn print_groups<R: Threads + Sync>(
+        &mut self,
+        rt: &R,
+        alloc: Global,
+        items: &[Item<'_>],
+    ) -> Result<(), Memory>
+        requires up { IsUp items.now }
+        ensures { AreKnown items.now → OnOk result (text_bytes self.new ≡ text_bytes self.old ++ groups_text items.now) }
+    {
+        let mut rest = items;
+        while !rest.is_empty() {
+            let group = rest[0].group();
+            let length = run_length(rest, group);
+            let run = &rest[..length];
+            rest = &rest[length..];
+            self.print_group(rt, alloc, group, run)?;
+        }
+        Ok(())
+    }
+
+    // Prints the items of a group, unless none was accepted.
+    fn print_group<R: Threads + Sync>(
+        &mut self,
+        rt: &R,
+        alloc: Global,
+        group: Group,
+        items: &[Item<'_>],
+    ) -> Result<(), Memory>
+        ensures { ((count_of is_accepted items.now == 0) ≡ false → IsAddress group.to × IsAddress group.from) →
+            OnOk result (text_bytes self.new ≡ text_bytes self.old ++ lines_of (seen group) items.now) }
+    {
+        let counts = Counts::of(items);
+        if counts.accepted == 0 {
+            return Ok(());
+        }
+        print_head(&mut self.last, group, counts)?;
+        self.print_lines(rt, alloc, items)
+    }
+
+    // A line for each item that was received. Few are printed to the text that grows.
+    fn print_lines<R: Threads + Sync>(
+        &mut self,
+        rt: &R,
+        alloc: Global,
+        items: &[Item<'_>],
+    ) -> Result<(), Memory>
+        ensures { OnOk result (text_bytes self.new ≡ text_bytes self.old ++ flat_map (λ (i : Piece). data_lines i.what) items.now) }
+    {
+        if items.len() < MANY {
+            self.last.reserve(room(items))?;
+            return print_received(&mut self.last, items);
+        }
+        let lines = received_texts(rt, alloc, items)?;
+        self.append(alloc, lines)
+    }
+
+    // Puts texts behind these, and begins a new one.
+    fn append(&mut self, alloc: Global, texts: Vec<String>) -> Result<(), Memory>
+        ensures { OnOk result (text_bytes self.new ≡ text_bytes self.old ++ flat_map string_bytes texts.items) }
+    {
+        let mut texts = texts;
+        let last = mem::replace(&mut self.last, String::new(alloc));
+        self.done.push(last)?;
+        self.done.append(&mut texts)?;
+        Ok(())
+    }
+}
+
+// A line for each item that was received, in texts that threads make.
+fn received_texts<R: Threads + Sync>(
+    rt: &R,
+    alloc: Global,
+    items: &[Item<'_>],
+) -> Result<Vec<String>, Memory>
+    ensures { IfOk result (λ texts. flat_map string_bytes texts.items ≡ flat_map (λ (i : Piece). data_lines i.what) items.now) }
+{
+    let texts: Result<Vec<String>, Memory> = items
+        .par_chunks(CHUNK)
+        .with_min_len(1)
+        .map(
+            |chunk: &[Item<'_>]| -> Result<String, Memory>
+                ensures { IfOk result (λ text. string_bytes text ≡ flat_map (λ (i : Piece). data_lines i.what) chunk.now) }
+            { received_text(alloc, chunk) },
+        )
+        .collect(rt, alloc)?;
+    texts
+}
+
+// A line for each item that was received.
+fn received_text(alloc: Global, items: &[Item<'_>]) -> Result<String, Memory>
+    ensures { IfOk result (λ text. string_bytes text ≡ flat_map (λ (i : Piece). data_lines i.what) items.now) }
+{
+    let mut text = String::new(alloc);
+    text.reserve(room(items))?;
+    print_received(&mut text, items)?;
+    Ok(text)
+}
