@@ -4,6 +4,7 @@ use rds_report::*;
 use rds_wire::{Frame, Header, Payload};
 use std::alloc::Global;
 use std::test::Fail;
+use std::thread::Threads;
 
 fn header(sequence: u64, ack: u64, len: u32, ports: (u16, u16), flags: u8) -> Header {
     Header {
@@ -185,15 +186,85 @@ end ok
     Ok(())
 }
 
+// Makes the report in one text and in several, which it puts one behind another, and answers how many those are.
+fn report_twice(
+    rt: &(impl Threads + Sync + AllocGlobal),
+    hosts: &[HostEnd],
+    text: &mut String,
+    joined: &mut String,
+) -> Result<usize, Fail> {
+    report(rt.alloc(), text, hosts)?;
+    let parts = report_parts(rt, rt.alloc(), hosts)?;
+    for part in &parts {
+        joined.push_str(part.as_str())?;
+    }
+    Ok(parts.len())
+}
+
 #[test]
 fn the_parts_of_a_report(rt: HostRuntime) -> Result<(), Fail> {
     let mut text = String::new(rt.alloc());
     let mut joined = String::new(rt.alloc());
     let hosts = vec![in rt.alloc(); sender(rt.alloc())?, receiver(rt.alloc())?]?;
-    report(rt.alloc(), &mut text, &hosts)?;
-    for part in report_parts(&rt, rt.alloc(), &hosts)? {
-        joined.push_str(part.as_str())?;
-    }
+    let count = report_twice(&rt, &hosts, &mut text, &mut joined)?;
     assert_eq!(rt; joined.as_str(), text.as_str());
+    assert_eq!(rt; count, 9);
+    Ok(())
+}
+
+// So many datagrams of one port pair are printed to more than two texts.
+const MANY: u32 = 10_000;
+
+// A host that sent many datagrams to port 4001.
+fn busy_sender(alloc: Global) -> Result<HostEnd, Fail> {
+    let mut journal = Journal::new(alloc, MANY)?;
+    for _ in 0..MANY {
+        accept(&mut journal, alloc, 4001)?;
+    }
+    Ok(HostEnd {
+        addr: address(0),
+        journals: vec![in alloc; (address(1), journal)]?,
+        kept: Vec::new(alloc),
+    })
+}
+
+// Datagrams of which no two are alike.
+fn add_numbered(to: &mut Vec<Datagram>, alloc: Global) -> Result<(), Fail> {
+    for n in 0..MANY {
+        to.push(Datagram {
+            from: address(0),
+            sport: 4000,
+            dport: 4001,
+            payload: Payload::copy_of(alloc, &n.to_be_bytes())?,
+        })?;
+    }
+    Ok(())
+}
+
+// The host that received them.
+fn busy_receiver(alloc: Global) -> Result<HostEnd, Fail> {
+    let mut got = Vec::new(alloc);
+    add_numbered(&mut got, alloc)?;
+    let kept = Kept {
+        slot: 0,
+        port: 4001,
+        got,
+        unread: Vec::new(alloc),
+    };
+    Ok(HostEnd {
+        addr: address(1),
+        journals: Vec::new(alloc),
+        kept: vec![in alloc; kept]?,
+    })
+}
+
+#[test]
+fn the_parts_of_a_long_report(rt: HostRuntime) -> Result<(), Fail> {
+    let mut text = String::new(rt.alloc());
+    let mut joined = String::new(rt.alloc());
+    let hosts = vec![in rt.alloc(); busy_sender(rt.alloc())?, busy_receiver(rt.alloc())?]?;
+    let count = report_twice(&rt, &hosts, &mut text, &mut joined)?;
+    assert_eq!(rt; joined.as_str(), text.as_str());
+    assert!(rt; count > 11);
     Ok(())
 }
