@@ -16,3 +16,4 @@ pub mod Parted
 pub mod Parting
 pub mod Added
 pub mod Printing
+pub mod Listed

@@ -18,18 +18,33 @@ pub fn items_to<'a>(alloc: Global, hosts: &'a [HostEnd], to: u32) -> Result<Vec<
     ensures { IfOk result (λ found. found.items ≡ items_of to (host_views hosts.now)) }
 {
     let mut items = Vec::new(alloc);
-    items.reserve(about(hosts, to))?;
+    items.reserve(about(hosts, to).saturating_mul(2))?;
     for host in hosts {
         add_host(alloc, &mut items, hosts, host, to)?;
     }
     Ok(items)
 }
 
-// About how many items there are of the pairs to the host at an address: what came to a socket there was accepted too.
+/// The items of a host of the pairs to the host at an address.
+pub fn items_of_host<'a>(
+    alloc: Global,
+    hosts: &[HostEnd],
+    host: &'a HostEnd,
+    to: u32,
+) -> Result<Vec<Item<'a>>, Memory>
+    ensures { IfOk result (λ found. found.items ≡ filter (is_to to) (host_items (host_views hosts.now) (host_view host.now))) }
+{
+    let mut items = Vec::new(alloc);
+    items.reserve(about(hosts, to))?;
+    add_host(alloc, &mut items, hosts, host, to)?;
+    Ok(items)
+}
+
+// About how many items the host at an address has of the pairs to it, and the senders too: what came to a socket was accepted.
 fn about(hosts: &[HostEnd], to: u32) -> usize {
     for host in hosts {
         if host.addr == to {
-            return came(&host.kept).saturating_mul(2);
+            return came(&host.kept);
         }
     }
     0

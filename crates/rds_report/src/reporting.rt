@@ -3,14 +3,13 @@ ghost use Rattle.std.specs.List.{flat_map};
 ghost use Rattle.rds_final.specs.Hosts.{address_of};
 ghost use Rattle.rds_final.specs.Views.{AreFinalHosts, host_views};
 ghost use Rattle.rds_text.specs.Lines.{end_line};
-ghost use Rattle.rds_report.specs.Items.{items_to};
-ghost use Rattle.rds_report.specs.ItemReport.{IsUp, of_pair, part};
-ghost use Rattle.rds_final.specs.Report.{Group as Pair, report as text_of};
+ghost use Rattle.rds_report.specs.ItemReport.{part};
+ghost use Rattle.rds_final.specs.Report.{report as text_of};
 
 use crate::grouping::sort;
-use crate::item::Item;
+use crate::lists::joined;
 use crate::texts::Texts;
-use crate::{collect, print};
+use crate::{collect, gathering, print};
 use rayon::prelude::*;
 use rds_final::{HostEnd, address};
 use rds_text::MAX_HOSTS;
@@ -70,21 +69,11 @@ fn part_texts<R: Threads + Sync>(
     ensures { AreFinalHosts (host_views hosts.now) →
         IfOk result (λ texts. flat_map string_bytes texts.items ≡ part (host_views hosts.now) (address_of host)) }
 {
-    let items = sorted_items(alloc, hosts, address(host))?;
+    let mut items = gathering::items_to(rt, alloc, hosts, address(host))?;
+    sort(&mut items)?;
     let mut texts = Texts::new(alloc);
     texts.print_groups(rt, alloc, &items)?;
     texts.into_vec()
-}
-
-// The texts of all parts.
-fn joined(alloc: Global, parts: Vec<Vec<String>>) -> Result<Vec<String>, Memory>
-    ensures { IfOk result (λ all. flat_map string_bytes all.items ≡ flat_map (λ texts. flat_map string_bytes texts.items) parts.items) }
-{
-    let mut all = Vec::new(alloc);
-    for mut texts in parts {
-        all.append(&mut texts)?;
-    }
-    Ok(all)
 }
 
 // The part of the report on what went to the host at an address.
@@ -92,16 +81,7 @@ fn add_part(alloc: Global, text: &mut String, hosts: &[HostEnd], to: u32) -> Res
     ensures { AreFinalHosts (host_views hosts.now) →
         OnOk result (string_bytes text.new ≡ string_bytes text.old ++ part (host_views hosts.now) to) }
 {
-    let items = sorted_items(alloc, hosts, to)?;
-    print::print_groups(text, &items)
-}
-
-// The items of the port pairs to the host at an address, in the order of their groups.
-fn sorted_items<'a>(alloc: Global, hosts: &'a [HostEnd], to: u32) -> Result<Vec<Item<'a>>, Memory>
-    ensures up { IfOk result (λ items. IsUp items.items) }
-    ensures stable { IfOk result (λ items. (g : Pair) → of_pair g items.items ≡ of_pair g (items_to to (host_views hosts.now))) }
-{
     let mut items = collect::items_to(alloc, hosts, to)?;
     sort(&mut items)?;
-    Ok(items)
+    print::print_groups(text, &items)
 }

@@ -1,12 +1,11 @@
-use Rattle.std.proofs.Common.{◌≡◌, ◌<◌, ◌∙◌, ℕ, List, Result, IfOk, String, Global, map, max, ap, arith, string_bytes}
+use Rattle.std.proofs.Common.{◌≡◌, ◌<◌, ◌∙◌, ℕ, List, map, max, ap, arith}
 use Rattle.std.specs.Borrow.{Bor}
 use Rattle.std.specs.List.{AllZip, flat_map}
 use Rattle.rayon.specs.Lists.{chunks_of}
 use Rattle.rayon.proofs.ToStd.{chunks_of-concat}
-use Rattle.rds_wire.specs.declared.memory.Memory.{Memory}
 use Rattle.rds_report.specs.Item.{Item}
 use Rattle.rds_report.specs.declared.texts.TheConstants.{CHUNK}
-use Rattle.rds_report.proofs.Printing.{received_lines, chunk_texts}
+use Rattle.rds_report.proofs.Printing.{Prints, chunk_texts}
 use Rattle.rds_report.proofs.texts.received_texts.Goals as goal
 
 pub returns : goal.returns
@@ -22,5 +21,5 @@ returns g c =
     let cut : map (λ (chunk : Bor (List Item)). chunk.now) chunks ≡ chunks_of CHUNK items =
     given.1.1 ∙ ap (λ (n : ℕ). chunks_of (max n 1) c.map.result.base.base.slice.now) size ∙ ap (chunks_of CHUNK) slice in
     let some : 0 < CHUNK = omega arith in
-    let zip : AllZip (λ (chunk : Bor (List Item)) (text : Result (String Global) Memory). IfOk text (λ text. string_bytes text ≡ received_lines chunk.now)) chunks made = given.1.2 in
+    let zip : AllZip Prints chunks made = given.1.2 in
     chunk_texts chunks made c.in_ok-texts.texts items zip given.2 (ap (flat_map (λ (l : List Item). l)) cut ∙ chunks_of-concat CHUNK items some)

@@ -24,5 +24,6 @@ returns g c =
     let counts = same_counts n.accepted n.received n.unread n.dropped n.port0 n.cancelled in
     λ known. on_ok_weaker c.print_lines.result
     (head_then_lines pair items k (done ++ last) headed (text_bytes c.print_lines.new.self) some counts
-    (ap (λ (t : List ℕ). done ++ t) (c.in_ok-print_head.ensures (known some).1 (known some).0) ∙ sym (append_assoc done last (pair_text pair ++ counts_line k))))
+    (ap (λ (t : List ℕ). done ++ t) (c.in_ok-print_head.ensures (known some).1 (known some).0)
+    ∙ sym (append_assoc done last (pair_text pair ++ counts_line k))))
     c.print_lines.ensures
