@@ -5,7 +5,7 @@
 mod hosts;
 mod moving;
 
-use hosts::Sender;
+use hosts::{Both, Sender};
 use moving::BATCH;
 use std::alloc::{AllocError, Global};
 use std::env;
@@ -32,8 +32,8 @@ fn main(rt: HostRuntime) -> anyhow::Result<()> {
 
 // How many of a few came.
 fn show<R: Print + Threads + Wait + Net + Sync>(rt: &R, alloc: Global) -> anyhow::Result<()> {
-    let one = one(rt, alloc, FEW / BATCH, BATCH, 60).ok_or(AllocError)?;
-    let two = two(rt, alloc, FEW, 60).ok_or(AllocError)?;
+    let (_, one) = one(rt, alloc, FEW / BATCH, BATCH, 60).ok_or(AllocError)?;
+    let (_, two) = two(rt, alloc, FEW, 60).ok_or(AllocError)?;
     println!(rt; "{one} came by one thread, {two} by two")?;
     Ok(())
 }
@@ -46,15 +46,12 @@ fn measure<R: Print + Threads + Wait + Net + Sync + Clock + CpuClock>(
     for length in LENGTHS {
         measure_one(rt, alloc, count / BATCH, BATCH, length)?;
         measure_one(rt, alloc, count, 1, length)?;
-        let start = Instant::now(rt)?;
-        let came = two(rt, alloc, count, length).ok_or(AllocError)?;
-        let each = start.elapsed(rt)?.as_nanos() / u128::from(came.max(1));
-        println!(rt; "{came} of {length} bytes by two threads: {each} ns each")?;
+        measure_two(rt, alloc, count, length)?;
     }
     Ok(())
 }
 
-// What one thread takes for so many batches.
+// What one thread takes for so many batches. The hosts are kept until that is measured.
 fn measure_one<R: Print + Threads + Wait + Net + CpuClock>(
     rt: &R,
     alloc: Global,
@@ -63,7 +60,7 @@ fn measure_one<R: Print + Threads + Wait + Net + CpuClock>(
     length: usize,
 ) -> anyhow::Result<()> {
     let start = rt.thread_cpu_time()?;
-    let came = one(rt, alloc, batches, batch, length).ok_or(AllocError)?;
+    let (_both, came) = one(rt, alloc, batches, batch, length).ok_or(AllocError)?;
     let spent = rt.thread_cpu_time()?.saturating_sub(start);
     let each = spent.as_nanos() / u128::from(came.max(1));
     println!(rt;
@@ -72,27 +69,42 @@ fn measure_one<R: Print + Threads + Wait + Net + CpuClock>(
     Ok(())
 }
 
-// How many came that one thread moved.
+// How long two threads take for so many. The hosts are kept until that is measured.
+fn measure_two<R: Print + Threads + Wait + Net + Sync + Clock>(
+    rt: &R,
+    alloc: Global,
+    count: u32,
+    length: usize,
+) -> anyhow::Result<()> {
+    let start = Instant::now(rt)?;
+    let (_both, came) = two(rt, alloc, count, length).ok_or(AllocError)?;
+    let each = start.elapsed(rt)?.as_nanos() / u128::from(came.max(1));
+    println!(rt; "{came} of {length} bytes by two threads: {each} ns each")?;
+    Ok(())
+}
+
+// The hosts after one thread moved so many batches, and how many datagrams came.
 fn one<R: Threads + Wait + Net>(
     rt: &R,
     alloc: Global,
     batches: u32,
     batch: u32,
     length: usize,
-) -> Option<u32> {
+) -> Option<(Both, u32)> {
     let mut both = hosts::two(rt, alloc)?;
     let mut sender = Sender::new(alloc, length)?;
-    moving::by_one(rt, &mut both, &mut sender, batches, batch)
+    let came = moving::by_one(rt, &mut both, &mut sender, batches, batch)?;
+    Some((both, came))
 }
 
-// How many came that two threads moved.
+// The hosts after two threads moved so many datagrams, and how many came.
 fn two<R: Threads + Wait + Net + Sync>(
     rt: &R,
     alloc: Global,
     count: u32,
     length: usize,
-) -> Option<u32> {
+) -> Option<(Both, u32)> {
     let both = hosts::two(rt, alloc)?;
     let sender = Sender::new(alloc, length)?;
-    moving::by_two(rt, both, sender, count)
+    Some(moving::by_two(rt, both, sender, count))
 }

@@ -69,24 +69,29 @@ fn take_all<R: Wait>(rt: &R, host: &mut LineHost<MemEnd>) -> u32 {
     u32::MAX
 }
 
-/// Sends so many datagrams by one thread, while another takes them, and answers how many came.
+/// Sends so many datagrams by one thread, while another takes them, and answers the hosts and how many came.
 pub fn by_two<R: Threads + Wait + Sync>(
     rt: &R,
     both: Both,
     sender: Sender,
     count: u32,
-) -> Option<u32> {
+) -> (Both, u32) {
     let (first, second) = both;
-    let (_, came) = thread::join(
+    let (first, (second, came)) = thread::join(
         rt,
         move || sends(rt, first, sender, count),
         move || takes(rt, second, count),
     );
-    Some(came)
+    ((first, second), came)
 }
 
 // Sends so many datagrams, and turns the line until all are acknowledged.
-fn sends<R: Wait>(rt: &R, mut host: LineHost<MemEnd>, mut sender: Sender, count: u32) -> bool {
+fn sends<R: Wait>(
+    rt: &R,
+    mut host: LineHost<MemEnd>,
+    mut sender: Sender,
+    count: u32,
+) -> LineHost<MemEnd> {
     for _ in 0..count / BATCH {
         for _ in 0..BATCH {
             sender.send(rt, &mut host);
@@ -95,15 +100,15 @@ fn sends<R: Wait>(rt: &R, mut host: LineHost<MemEnd>, mut sender: Sender, count:
     }
     for _ in 0..u32::MAX {
         if host.unacked() == 0 {
-            return true;
+            break;
         }
         host.turn(rt);
     }
-    false
+    host
 }
 
 // Turns the line until so many datagrams came, and all is acknowledged.
-fn takes<R: Wait>(rt: &R, mut host: LineHost<MemEnd>, count: u32) -> u32 {
+fn takes<R: Wait>(rt: &R, mut host: LineHost<MemEnd>, count: u32) -> (LineHost<MemEnd>, u32) {
     let mut came = 0u32;
     for _ in 0..u32::MAX {
         let turn = host.turn(rt);
@@ -112,5 +117,5 @@ fn takes<R: Wait>(rt: &R, mut host: LineHost<MemEnd>, count: u32) -> u32 {
             break;
         }
     }
-    came
+    (host, came)
 }
