@@ -1,23 +1,32 @@
 -- What is left of the hosts of a run, one after the other.
-use Rattle.std.proofs.Common.{◌≡◌, ◌<◌, ◌+◌, ℕ, zero, suc, List, [], ◌∷◌, ◌++◌, Some, inl, inr, get_or, length, map, slice_get, Result, Ok, Err, IfOk, OnOk, refl, sym, ap, subst, ◌∙◌, arith}
+use Rattle.std.proofs.Common.{◌≡◌, ◌<◌, ◌+◌, ℕ, zero, suc, List, [], ◌∷◌, ◌++◌, Some, inl, inr, get_or, length, map, slice_get, Result, Ok, Err, IfOk, OnOk, Vec, refl, sym, ap, subst, ◌∙◌, arith}
+use Rattle.std.specs.Global.{Global}
 use Rattle.std.specs.List.{zip}
 use Rattle.std.specs.Result.{result_and}
 use Rattle.std.proofs.lemmas.Bool.{cases_lt}
 use Rattle.std.proofs.lemmas.List.{length_push}
 use Rattle.std.proofs.lemmas.Option.{same_Some, slice_get_within}
 use Rattle.rds_wire.specs.declared.memory.Memory.{Memory}
-use Rattle.rds_fmap.specs.Readers.{WriterView}
+use Rattle.rds_fmap.specs.Readers.{ReaderView, WriterView}
 use Rattle.rds_line.specs.Line.{LineView}
 use Rattle.rds_gather.specs.Sides.{line_side}
 use Rattle.rds_final.specs.Hosts.{address_of}
-use Rattle.rds_final.specs.Views.{host_view, side_view, socket_view}
+use Rattle.rds_final.specs.Views.{side_view, socket_view}
 use Rattle.rds_final.specs.declared.final_state.HostEnd.{HostEnd}
+use Rattle.rds_final.specs.declared.final_state.Kept.{Kept}
 use Rattle.rds_callers.specs.Places.{CallerView, Place}
+use Rattle.rds_gather.specs.Cuts.{AreCutsOfSlots}
 use Rattle.rds_gather.specs.Grounded.{AreMapsGrounded}
-use Rattle.rds_settling.specs.Tied.{holdings}
-use Rattle.rds_threads.specs.Reliable.{HasReceived}
-use Rattle.rds_threads.specs.Settled.{AreAllCut, AreAllSent, AreKeptOf, AreLeftOf, HaveAllFound, HaveAllGone, HaveAllLooked, IsLeftOf}
+use Rattle.rds_gather.specs.Joined.{AreJoined, AreLooksOfJournals}
+use Rattle.rds_gather.specs.Owned.{AreFound, AreOwned}
+use Rattle.rds_socket.specs.Holding.{Holding}
+use Rattle.rds_settling.specs.Tied.{AreSlotsTold}
+use Rattle.rds_threads.specs.Settled.{AreKeptOf, AreLeftOf, HasEnded, HasHeard, HasSettled, HaveAllGone, IsLeftOf}
 use Rattle.rds_threads.proofs.At.{one_at}
+use Rattle.rds_threads.proofs.Filled.{all_grounded}
+use Rattle.rds_threads.proofs.Outcome.{all_cut, all_looked, all_sent, kept_of}
+use Rattle.rds_threads.proofs.Owning.{found_sockets, went_to_sockets}
+use Rattle.rds_threads.proofs.Receiving.{received_of}
 
 module _ {E : Type 0} where
   -- what is left of so many hosts
@@ -31,15 +40,28 @@ module _ {E : Type 0} where
       AreLeftBelow count callers rows ends → AreLeftOf callers rows ends
   all_left count callers rows ends is all = record { count = all.number ∙ is; each = all.each }
 
-  -- what is known of a host that was ended
-  pub left_of : (host : ℕ) (places : List Place) (lines : List (LineView E WriterView)) (result : Result HostEnd Memory) →
-      IfOk result (λ end. end.addr ≡ address_of host) → IfOk result (λ end. map side_view end.journals.items ≡ map line_side lines) →
-      IfOk result (λ end. HasReceived (host_view end)) → OnOk result (AreAllSent places lines) → OnOk result (HaveAllLooked places lines) →
-      OnOk result (AreAllCut places lines) → OnOk result (AreMapsGrounded (holdings places) lines) → IfOk result (λ end. HaveAllGone lines (map socket_view end.kept.items)) → OnOk result (HaveAllFound places lines) →
-      IfOk result (λ end. AreKeptOf places end.kept.items) → IfOk result (IsLeftOf host places lines)
-  left_of host places lines (Ok end) addr journals received sent looked cut grounded gone found kept =
-      record { addr = addr; journals = journals; received = received; sent = sent; looked = looked; cut = cut; grounded = grounded; gone = gone; found = found; kept = kept }
-  left_of host places lines (Err e) addr journals received sent looked cut grounded gone found kept = tt
+  -- what is left of a host whose slots were told and then ended, by what was joined of their ends and its lines
+  pub gathered : (host addr : ℕ) (places told : List Place) (left : Vec Kept Global × Vec (Holding ReaderView) Global) (lines : List (LineView E WriterView))
+      (result : Result HostEnd Memory) → addr ≡ address_of host → HasSettled places lines → HasHeard places told lines → HasEnded told left →
+      AreSlotsTold left.1.items lines → IfOk result (λ end. end.addr ≡ addr) → IfOk result (λ end. map side_view end.journals.items ≡ map line_side lines) →
+      IfOk result (λ end. end.kept ≡ left.0) → OnOk result (AreJoined left.1.items lines) → OnOk result (AreLooksOfJournals left.1.items lines) →
+      OnOk result (AreOwned left.1.items lines) → OnOk result (AreFound left.1.items lines) → OnOk result (AreMapsGrounded left.1.items lines) →
+      OnOk result (AreCutsOfSlots left.1.items lines) → IfOk result (IsLeftOf host places lines)
+  gathered host addr places told left lines (Ok end) at settled heard ended boxes is sides same joined looks owned found grounded cut =
+      let closed = left.1.items in record {
+        addr = is ∙ at;
+        journals = sides;
+        received = received_of told closed lines joined settled.some boxes end left.0 sides same ended.kept.each;
+        sent = all_sent places told closed lines heard.hear ended.slots joined settled.told settled.quiet;
+        looked = all_looked places told closed lines heard.hear ended.slots looks;
+        cut = all_cut places told closed lines heard.hear ended.slots cut settled.told settled.quiet;
+        grounded = all_grounded places told closed lines heard.hear ended.slots grounded;
+        gone = subst (λ (v : Vec Kept Global). HaveAllGone lines (map socket_view v.items)) (sym same)
+            (went_to_sockets told closed lines left.0.items heard.tied.passes.places ended.slots.count owned ended.ports ended.kept.names);
+        found = found_sockets places told closed lines heard.hear ended.slots ended.ports found;
+        kept = subst (λ (v : Vec Kept Global). AreKeptOf places v.items) (sym same) (kept_of places told closed left.0.items heard.hear ended.kept);
+      }
+  gathered host addr places told left lines (Err e) at settled heard ended boxes is sides same joined looks owned found grounded cut = tt
 
   -- and of one more
   pub one_left : (count : ℕ) (callers : List CallerView) (rows : List (List (LineView E WriterView))) (ends more : List HostEnd) (caller : CallerView)

@@ -1,6 +1,5 @@
 -- What a host that has ended did of a script's commands.
-use Rattle.std.proofs.Common.{◌≡◌, ◌⊎◌, ◌<◌, ◌≤◌, ℕ, suc, inl, inr, ⊎_elim, arith, List, [], ◌∷◌, None, Some, Option, length, map, option_map, slice_get, Result, Ok, Err, IfOk, OnOk, Vec, refl, sym, ap, subst, ◌∙◌}
-use Rattle.std.specs.Global.{Global}
+use Rattle.std.proofs.Common.{◌≡◌, ◌⊎◌, ◌<◌, ◌≤◌, ℕ, suc, inl, inr, ⊎_elim, arith, List, [], ◌∷◌, None, Some, Option, length, map, option_map, slice_get, refl, sym, ap, subst, ◌∙◌}
 use Rattle.std.proofs.lemmas.List.{length-map}
 use Rattle.std.proofs.lemmas.List.Elements.{All-map, All-weaker}
 use Rattle.std.proofs.lemmas.Option.{slice_get-map, slice_get_within}
@@ -8,9 +7,7 @@ use Rattle.rds_fmap.specs.Readers.{ReaderView, WriterView}
 use Rattle.rds_parts.specs.Lanes.{IsLaneAt, Lane}
 use Rattle.rds_final.specs.FinalState.{FinalJournal, FinalSocket}
 use Rattle.rds_final.specs.Views.{socket_view}
-use Rattle.rds_final.specs.declared.final_state.HostEnd.{HostEnd}
 use Rattle.rds_final.specs.declared.final_state.Kept.{Kept}
-use Rattle.rds_wire.specs.declared.memory.Memory.{Memory}
 use Rattle.rds_script.specs.declared.script.Placed.{Placed}
 use Rattle.rds_socket.specs.Holding.{Holding}
 use Rattle.rds_bindtab.specs.Seats.{PortSeat, telling_of}
@@ -230,12 +227,3 @@ module _ {E : Type 0} where
       back k is =
           let was = at_map spared did.last k.slot is.0 (subst (λ (l : List Place). slice_get l k.slot ≡ Some is.0) did.left is.1) in
           (was.0, was.1, hands_spared was.0 (socket_view k) (subst (λ (x : Place). HandedOutAt x (socket_view k)) was.2 is.2))
-
--- what follows of a host end that was made
-pub on_ok : (r : Result HostEnd Memory) (J K : Type 0) → OnOk r J → (J → K) → OnOk r K
-on_ok (Ok end) J K j f = f j
-on_ok (Err e) J K j f = tt
-
-pub on_kept : (r : Result HostEnd Memory) (kept : Vec Kept Global) (P : List Kept → Type 0) → P kept.items → IfOk r (λ end. end.kept ≡ kept) → IfOk r (λ end. P end.kept.items)
-on_kept (Ok end) kept P known is = subst (λ (v : Vec Kept Global). P v.items) (sym is) known
-on_kept (Err e) kept P known is = tt

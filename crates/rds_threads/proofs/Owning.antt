@@ -1,14 +1,11 @@
 -- What was delivered to a slot went to a socket that had its port.
-use Rattle.std.proofs.Common.{◌≡◌, ℕ, zero, suc, List, [], ◌∷◌, Option, Some, None, length, map, option_map, slice_get, Result, Ok, Err, IfOk, OnOk, Vec, refl, sym, ap, subst, ◌∙◌}
-use Rattle.std.specs.Global.{Global}
+use Rattle.std.proofs.Common.{◌≡◌, ℕ, zero, suc, List, [], ◌∷◌, Option, Some, None, length, map, option_map, slice_get, refl, sym, ap, subst, ◌∙◌}
 use Rattle.std.proofs.lemmas.Option.{same_Some, slice_get-map}
 use Rattle.std.specs.Prelude.{unwrap_or}
 use Rattle.rds_bindtab.specs.Seats.{PortSeat, telling_of}
 use Rattle.rds_fmap.specs.Readers.{ReaderView, WriterView}
 use Rattle.rds_final.specs.Views.{socket_view}
-use Rattle.rds_final.specs.declared.final_state.HostEnd.{HostEnd}
 use Rattle.rds_final.specs.declared.final_state.Kept.{Kept}
-use Rattle.rds_wire.specs.declared.memory.Memory.{Memory}
 use Rattle.rds_socket.specs.Holding.{Holding}
 use Rattle.rds_line.specs.Line.{LineView}
 use Rattle.rds_line.specs.Seats.{WasAlwaysTold}
@@ -74,9 +71,3 @@ module _ {E : Type 0} where
       let same : h.0.ports ≡ o.own.ports = (ends.each slot q.0 h.0 q.1 h.1).ports ∙ ap (λ (x : Holding ReaderView). x.ports) heard.1 in
       found place slot line h.0 at_line h.1 (subst (λ (s : PortSeat). WasAlwaysTold (telling_of s.view) line.ports.view) (sym same) always) stream f missed
       (to ∙ sym (ap (λ (p : Option ℕ). unwrap_or p 0) holds))
-
--- what is known of a host end by what was kept and by what was joined
-pub on_kept_joined : (r : Result HostEnd Memory) (kept : Vec Kept Global) (J : Type 0) (P : List Kept → Type 0) → OnOk r J → (J → P kept.items) →
-    IfOk r (λ end. end.kept ≡ kept) → IfOk r (λ end. P end.kept.items)
-on_kept_joined (Ok end) kept J P j f is = subst (λ (v : Vec Kept Global). P v.items) (sym is) (f j)
-on_kept_joined (Err e) kept J P j f is = tt

@@ -1,9 +1,8 @@
 -- What the sockets of a host handed out is what its journals delivered, and what another host sent.
-use Rattle.std.proofs.Common.{◌≡◌, ℕ, suc, ◌≤◌, ◌==◌, ◌&&◌, Bool, true, false, cond, Some, List, [], ◌∷◌, All, length, map, option_map, slice_get, Result, Ok, Err, IfOk, OnOk, Vec, refl, sym, ap, subst, ◌∙◌}
+use Rattle.std.proofs.Common.{◌≡◌, ℕ, suc, ◌≤◌, ◌==◌, ◌&&◌, Bool, true, false, cond, Some, List, [], ◌∷◌, All, length, map, option_map, slice_get, Vec, refl, sym, ap, subst, ◌∙◌}
 use Rattle.std.specs.Global.{Global}
 use Rattle.std.proofs.lemmas.List.Elements.{All-nil, All-cons, All-map, All-weaker}
 use Rattle.std.proofs.lemmas.Option.{slice_get-map}
-use Rattle.rds_wire.specs.declared.memory.Memory.{Memory}
 use Rattle.rds_model.specs.declared.entry.Entry.{Entry}
 use Rattle.rds_model.specs.declared.order.Datagram.{Datagram}
 use Rattle.rds_model.specs.Deliveries.{delivered_datagrams}
@@ -110,9 +109,3 @@ reliable_of h place sender host side at peer received accepted once = record {
     delivered s all =
         subst (λ (addr : ℕ). from_host addr (all_handed s) ≡ delivered_datagrams addr s.slot side.past) peer
         (all_at (HandsOutDelivered s) host.sides place side all at)
-
--- what follows of a host end that was gathered
-pub on_gathered : (r : Result HostEnd Memory) (P Q R : HostEnd → Type 0) (J : Type 0) → IfOk r P → IfOk r Q → OnOk r J → ((end : HostEnd) → P end → Q end → J → R end) →
-    IfOk r R
-on_gathered (Ok end) P Q R J p q j f = f end p q j
-on_gathered (Err e) P Q R J p q j f = tt

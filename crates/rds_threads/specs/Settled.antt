@@ -1,9 +1,11 @@
 -- Private: it serves the contracts of the private functions that end a host of a run. Source: this project's own.
-use Rattle.std.specs.Prelude.{◌≡◌, ℕ, ◌<◌, ◌≤◌, All, List, [], Some, length, map, slice_get}
+use Rattle.std.specs.Prelude.{◌≡◌, ℕ, ◌<◌, ◌≤◌, All, IfOk, List, [], Result, Some, Vec, length, map, slice_get}
+use Rattle.std.specs.Global.{Global}
 use Rattle.rds_bindtab.specs.Seats.{telling_of}
 use Rattle.rds_fmap.specs.Readers.{ReaderView, WriterView}
 use Rattle.rds_model.specs.declared.order.Datagram.{Datagram}
-use Rattle.rds_socket.specs.Holding.{Open}
+use Rattle.rds_wire.specs.declared.memory.Memory.{Memory}
+use Rattle.rds_socket.specs.Holding.{Holding, Open}
 use Rattle.rds_parts.specs.Lanes.{IsLaneAt, Lane}
 use Rattle.rds_final.specs.FinalState.{FinalSocket}
 use Rattle.rds_final.specs.Hosts.{address_of}
@@ -20,7 +22,7 @@ use Rattle.rds_gather.specs.Joined.{orders_of}
 use Rattle.rds_gather.specs.Shown.{HasLookedAt}
 use Rattle.rds_model.specs.Sums.{maps}
 use Rattle.rds_gather.specs.Sides.{line_side}
-use Rattle.rds_callers.specs.Ends.{kept_name, used_name}
+use Rattle.rds_callers.specs.Ends.{AreEndsOf, AreLeft, HaveTheirPorts, kept_name, used_name}
 use Rattle.rds_callers.specs.Places.{Bound, CallerView, IsUsed, Place, holding_of, somes, spared}
 use Rattle.rds_script.specs.declared.script.Placed.{Placed}
 use Rattle.rds_parties.specs.Obeyed.{HasDone}
@@ -28,7 +30,7 @@ use Rattle.rds_parties.specs.Parties.{HasLed}
 use Rattle.rds_threads.specs.Outcome.{HandedOutAt, IsAlwaysFound}
 use Rattle.rds_threads.specs.Reliable.{AllWentToSockets, HasReceived}
 use Rattle.rds_rounds.specs.Quiet.{AreQuiet}
-use Rattle.rds_settling.specs.Tied.{AreLinesTold, AreTied, LinesHear, holdings}
+use Rattle.rds_settling.specs.Tied.{AreLinesTold, AreSlotsTold, AreTied, LinesHear, PlacesHear, holdings}
 
 -- The orders that stand in the journals of lines are, for each slot, exactly those that its socket has put. Where there are slots none is of
 -- another one.
@@ -109,6 +111,31 @@ pub record AreToldBelow {E : Type 0} (count : ℕ) (old new : List CallerView) (
   pub told : (host : ℕ) (caller later : CallerView) (row heard : List (LineView E WriterView)) → host < count → slice_get old host ≡ Some caller →
       slice_get new host ≡ Some later → slice_get rows host ≡ Some row → slice_get after host ≡ Some heard → IsToldOf caller.places later.places row heard
   pub others : (host : ℕ) → count ≤ host → (slice_get new host ≡ slice_get old host) × (slice_get after host ≡ slice_get rows host)
+
+-- A caller's slots were told of all datagrams that the lines of its host have put into their mailboxes. They belong together still.
+pub record HasHeard {E : Type 0} (old new : List Place) (lines : List (LineView E WriterView)) : Type 0 where
+  pub hear : PlacesHear old new
+  pub told : AreSlotsTold (holdings new) lines
+  pub tied : AreTied new lines
+
+-- the slots of the hosts before this one were told so, and nothing changed of the others
+pub record HaveHeardBelow {E : Type 0} (count : ℕ) (old new : List CallerView) (rows : List (List (LineView E WriterView))) : Type 0 where
+  pub caller_count : length new ≡ length old
+  pub heard : (host : ℕ) (caller later : CallerView) (row : List (LineView E WriterView)) → host < count → slice_get old host ≡ Some caller →
+      slice_get new host ≡ Some later → slice_get rows host ≡ Some row → HasHeard caller.places later.places row
+  pub others : (host : ℕ) → count ≤ host → slice_get new host ≡ slice_get old host
+
+-- what is left of the slots of a caller: what each socket has, and the end of every slot, which has its socket's port
+pub record HasEnded (places : List Place) (left : Vec Kept Global × Vec (Holding ReaderView) Global) : Type 0 where
+  pub slots : AreEndsOf places left.1.items
+  pub kept : AreLeft places left.1.items left.0.items
+  pub ports : HaveTheirPorts places left.1.items
+
+-- so it is of each caller that had memory for it
+pub record HaveEnded (callers : List CallerView) (left : List (Result (Vec Kept Global × Vec (Holding ReaderView) Global) Memory)) : Type 0 where
+  pub count : length left ≡ length callers
+  pub each : (host : ℕ) (caller : CallerView) (one : Result (Vec Kept Global × Vec (Holding ReaderView) Global) Memory) → slice_get callers host ≡ Some caller →
+      slice_get left host ≡ Some one → IfOk one (HasEnded caller.places)
 
 -- each host of a run that has ended has settled
 pub record HaveSettled {E : Type 0} (callers : List CallerView) (rows : List (List (LineView E WriterView))) : Type 0 where
