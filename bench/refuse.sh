@@ -1,23 +1,37 @@
 #!/bin/sh
-# A whole exchange of two lines, once for each allocation that it makes, which is refused. Each run has to write its one line, or to end
-# with status 6 where it had no memory to begin with.
+# Refuses each allocation in turn. A whole exchange of two lines has to write its one line, or to end with status 6 where it had no memory
+# to begin with. The program `rds` has to write its whole text, or nothing, with status 6: it plays one example, and runs another.
 set -eu
-cd "$(dirname "$0")/../crates/rds_exchange"
-[ -x out/rds_exchange ] || rt run >/dev/null
+cd "$(dirname "$0")/.."
+EXCHANGE=crates/rds_exchange/out/rds_exchange
+PROGRAM=${RDS:-crates/rds/out/rds}
+[ -x "$EXCHANGE" ] || (cd crates/rds_exchange && rt run >/dev/null)
+[ -x "$PROGRAM" ] || (cd crates/rds && rt run -- play < ../../examples/hello.rds > /dev/null)
 room=$(mktemp -d)
 trap 'rm -rf "$room"' EXIT
-cc -O2 -shared -fPIC -o "$room/refuse.so" ../../bench/peers/refuse.c -ldl
-REFUSE_COUNT="$room/count" LD_PRELOAD="$room/refuse.so" out/rds_exchange >"$room/line"
-diff stdout "$room/line"
-count=$(cat "$room/count")
-whole=0 none=0
-for at in $(seq 1 "$count"); do
-    status=0
-    REFUSE=$at LD_PRELOAD="$room/refuse.so" out/rds_exchange >"$room/line" || status=$?
-    case $status in
-    0) diff stdout "$room/line" && whole=$((whole + 1)) ;;
-    6) none=$((none + 1)) ;;
-    *) echo "allocation $at: status $status" && exit 1 ;;
-    esac
-done
-echo "$count allocations refused in turn: $whole exchanges were whole, $none had no memory to begin with"
+cc -O2 -shared -fPIC -o "$room/refuse.so" bench/peers/refuse.c -ldl
+
+# The arguments are a file for standard input, and a program with its words.
+refuse_each() {
+    input=$1
+    shift
+    REFUSE_COUNT="$room/count" LD_PRELOAD="$room/refuse.so" "$@" <"$input" >"$room/text"
+    count=$(od -An -tu8 "$room/count" | tr -d ' ')
+    whole=0 none=0
+    for at in $(seq 1 "$count"); do
+        status=0
+        REFUSE=$at LD_PRELOAD="$room/refuse.so" "$@" <"$input" >"$room/line" || status=$?
+        case $status in
+        0) cmp "$room/text" "$room/line" || exit 1 ;;
+        6) [ ! -s "$room/line" ] || exit 1 ;;
+        *) echo "$*: allocation $at: status $status" && exit 1 ;;
+        esac
+        if [ "$status" = 0 ]; then whole=$((whole + 1)); else none=$((none + 1)); fi
+    done
+    shift
+    echo "$count allocations refused in turn${1+ ($*)}: $whole texts were whole, $none runs had no memory"
+}
+
+refuse_each /dev/null "$EXCHANGE"
+refuse_each examples/retransmission.rds "$PROGRAM" play
+refuse_each examples/three_hosts.rds "$PROGRAM" run

@@ -1,22 +1,35 @@
-/* Loaded before a program (LD_PRELOAD), refuses the allocation whose number, from 1, stands in REFUSE, once. At the end it writes to
- * the file named in REFUSE_COUNT how many allocations there were. It is no part of the gate. */
+/* Loaded before a program (LD_PRELOAD), refuses the allocation whose number, from 1, stands in REFUSE, once. The file named in
+ * REFUSE_COUNT has how many allocations there were so far, as a number of 8 bytes, so that it holds however the program ends. It is no
+ * part of the gate. */
 #define _GNU_SOURCE
 #include <dlfcn.h>
+#include <fcntl.h>
 #include <stdatomic.h>
-#include <stdio.h>
 #include <stdlib.h>
+#include <sys/mman.h>
+#include <unistd.h>
 
-static atomic_ulong made;
+static atomic_ulong own;
+static atomic_ulong *made = &own;
+static unsigned long which;
+
+/* The first allocation is made before there are threads. */
+static void begin(void) {
+    const char *word = getenv("REFUSE"), *name = getenv("REFUSE_COUNT");
+    which = word ? strtoul(word, NULL, 10) : 0;
+    int file = name ? open(name, O_RDWR | O_CREAT | O_TRUNC, 0600) : -1;
+    if (file < 0 || ftruncate(file, sizeof own) != 0) return;
+    void *at = mmap(NULL, sizeof own, PROT_READ | PROT_WRITE, MAP_SHARED, file, 0);
+    if (at != MAP_FAILED) made = at;
+}
 
 static int is_refused(void) {
-    static unsigned long which;
-    static int is_read;
-    if (!is_read) {
-        const char *word = getenv("REFUSE");
-        which = word ? strtoul(word, NULL, 10) : 0;
-        is_read = 1;
+    static int is_begun;
+    if (!is_begun) {
+        is_begun = 1;
+        begin();
     }
-    return atomic_fetch_add(&made, 1) + 1 == which;
+    return atomic_fetch_add(made, 1) + 1 == which;
 }
 
 #define REAL(name) \
@@ -41,12 +54,4 @@ void *aligned_alloc(size_t align, size_t size) {
 int posix_memalign(void **out, size_t align, size_t size) {
     REAL(posix_memalign)
     return is_refused() ? 12 : real(out, align, size);
-}
-
-__attribute__((destructor)) static void tell(void) {
-    const char *name = getenv("REFUSE_COUNT");
-    FILE *file = name ? fopen(name, "w") : NULL;
-    if (!file) return;
-    fprintf(file, "%lu\n", atomic_load(&made));
-    fclose(file);
 }
