@@ -1,5 +1,5 @@
 //! An end of a stream whose bytes stay in memory.
-ghost use Rattle.std.specs.Prelude.{◌≡◌, ◌↔◌, false, IsTrue, IsFalse};
+ghost use Rattle.std.specs.Prelude.{◌≡◌, ◌↔◌, false, IsSome, IsTrue, IsFalse, Some};
 ghost use Rattle.rds_link.specs.Failing.{next_call, NextFails};
 ghost use Rattle.rds_link.specs.Standing.{standing as standing_of, IsOver, GoesOn, Failed};
 
@@ -12,15 +12,17 @@ use std::thread;
 /// How many bytes are taken at once out of a ring that is let go.
 const PIECE: usize = 4_096;
 
-/// An end of a stream in memory.
+/// An end of a stream in memory. The ring that it reads from is taken out for each read, so that the loop which copies bytes keeps the
+/// ring's address at hand, and copies many at once.
 #[derive(Drop)]
 pub struct MemEnd {
     pub(crate) out: Producer<u8>,
-    pub(crate) inp: Consumer<u8>,
+    pub(crate) inp: Option<Consumer<u8>>,
     pub(crate) standing: Standing,
     pub(crate) calls: Calls,
     pub(crate) nothings: u64,
     pub(crate) fulls: u64,
+    ghost there: { IsSome inp },
 }
 
 impl MemEnd {
@@ -30,11 +32,15 @@ impl MemEnd {
         standing: Standing,
         fail: Vec<u32>,
     ) -> MemEnd
-        ensures { result ≡ record { out = out; inp = inp; standing = standing; calls = record { fail = fail.items; made = 0 }; nothings = 0; fulls = 0 } }
+        ensures out { result.out ≡ out }
+        ensures inp { result.inp ≡ Some inp }
+        ensures standing { result.standing ≡ standing }
+        ensures calls { result.calls ≡ record { fail = fail.items; made = 0 } }
+        ensures counts { (result.nothings ≡ 0) × (result.fulls ≡ 0) }
     {
         MemEnd {
             out,
-            inp,
+            inp: Some(inp),
             standing,
             calls: Calls::new(fail),
             nothings: 0,
@@ -69,7 +75,11 @@ impl End for MemEnd {
         if self.is_over() {
             return Got::Over;
         }
-        let count = self.inp.pop_partial_slice(buf);
+        let Some(mut ring) = self.inp.take() else {
+            unreachable!()
+        };
+        let count = ring.pop_partial_slice(buf);
+        self.inp = Some(ring);
         if count == 0 {
             self.nothings = self.nothings.saturating_add(1);
             return Got::Nothing;
@@ -95,7 +105,9 @@ impl End for MemEnd {
 
     fn finish<R: Wait>(mut self, _rt: &R) {
         self.standing.shut();
-        empty(&mut self.inp);
+        if let Some(ring) = &mut self.inp {
+            empty(ring);
+        }
     }
 
     fn rest<R: Wait>(&self, _rt: &R) {

@@ -158,8 +158,14 @@ impl Wire for MemWire {
 
     fn meet(a: &mut MemEnd, b: &mut MemEnd) {
         Standing::meet(&mut a.standing, &mut b.standing);
-        a.inp.slots_beside(&mut b.out);
-        b.inp.slots_beside(&mut a.out);
+        let Some(ring) = &mut a.inp else {
+            unreachable!()
+        };
+        ring.slots_beside(&mut b.out);
+        let Some(ring) = &mut b.inp else {
+            unreachable!()
+        };
+        ring.slots_beside(&mut a.out);
     }
 
     fn give_back<R: Wait>(&mut self, rt: &R, end: MemEnd) {
