@@ -12,6 +12,10 @@ use crate::table::{BindTable, DRAW_WORD};
 impl BindTable {
     /// Draws a number by one fetch and add. It is the seat's slot if the table has it. A seat that counts for all, as the
     /// first one does until it splits off a seat that may draw, draws 0, 1, 2 and so on.
+    ///
+    /// # Errors
+    ///
+    /// `NoSlot` where the number that was drawn names no slot of the table.
     pub fn draw(&self, seat: &mut BindSeat) -> Result<u16, NoSlot>
         requires table { seat.old.table ≡ self.now }
         requires slot { seat.old.view.slot ≡ None }
@@ -35,7 +39,11 @@ impl BindTable {
     }
 
     /// Claims a port for the seat's slot by one compare and exchange, which finds a free port's word to be 0.
-    /// It never answers `NoneFree`.
+    ///
+    /// # Errors
+    ///
+    /// `Reserved` for ports 0 and 1, and `InUse` where the port's word was found to be another number than 0, with that
+    /// number. It never answers `NoneFree`.
     pub fn claim(&self, seat: &mut BindSeat, port: u16) -> Result<(), BindError>
         requires table { seat.old.table ≡ self.now }
         requires slot { IsSome seat.old.view.slot }

@@ -37,6 +37,10 @@ impl BindTable {
     ghost use Rattle.rds_model.specs.declared.entry.TheConstants.{MAX_SLOTS};
 
     /// A table with 1 to 1,024 slots, and its first seat. All words are 0.
+    ///
+    /// # Errors
+    ///
+    /// Where there is no memory for its words.
     pub fn new(alloc: Global, slots: u16) -> Result<(BindTable, BindSeat), Memory>
         requires { (1 ≤ slots) × (slots ≤ MAX_SLOTS) }
         ensures slots { IfOk result (λ r. r.0.slots ≡ slots) }

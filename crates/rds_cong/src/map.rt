@@ -34,6 +34,10 @@ impl Model for PortMap {
 
 impl PortMap {
     /// A map without ports.
+    ///
+    /// # Errors
+    ///
+    /// Where there is no memory for its words.
     pub fn new(alloc: Global) -> Result<PortMap, Memory>
         ensures empty { IfOk result (λ m. m ≡ no_ports) }
         ensures ports { IfOk result (λ m. (q : ℕ) → has_port m q ≡ false) }

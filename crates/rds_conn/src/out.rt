@@ -25,6 +25,10 @@ impl Model for Out {
 
 impl Out {
     /// No bytes.
+    ///
+    /// # Errors
+    ///
+    /// Where there is no memory for it.
     pub fn new(alloc: Global) -> Result<Out, Memory>
         ensures { IfOk result (λ out. out ≡ []) }
     {

@@ -10,6 +10,10 @@ use std::alloc::Global;
 
 /// The frames of a whole list of bytes, read off one after another as the definition says: what `frames_of` gives,
 /// with no state between pieces.
+///
+/// # Errors
+///
+/// `Malformed` at the first header that is malformed, and `Memory` where there is none. It never answers `Closed`.
 pub fn frames_in(alloc: Global, bytes: &[u8], highest: u64) -> Result<Vec<Frame>, FrameError>
     // And what is left then begins with no malformed header.
     ensures split { IfOk result (λ frames. (rest : List ℕ) × Splits bytes.now frames.items rest × IsClear highest rest) }

@@ -39,7 +39,11 @@ impl Model for Splitter {
 }
 
 impl Splitter {
-    /// A splitter that has taken no byte. It takes no memory yet.
+    /// A splitter that has taken no byte.
+    ///
+    /// # Errors
+    ///
+    /// It never fails, since it takes no memory yet.
     pub fn new(alloc: Global) -> Result<Splitter, Memory>
         ensures ok { IsOk result }
         ensures fresh { IfOk result (λ s. s ≡ nothing_held) }

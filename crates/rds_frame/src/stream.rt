@@ -10,6 +10,10 @@ use rds_wire::Frame;
 use std::alloc::Global;
 
 /// The frames of a stream that comes in these pieces, where the reader has pulled no number above `highest`.
+///
+/// # Errors
+///
+/// `Malformed` at the first header that is malformed, and `Memory` where there is none. It never answers `Closed`.
 pub fn frames_of(alloc: Global, pieces: &[Vec<u8>], highest: u64) -> Result<Vec<Frame>, FrameError>
     // Up to less than a whole frame, which begins with no malformed header, the stream is these frames.
     ensures split { IfOk result (λ frames. (rest : List ℕ) ×

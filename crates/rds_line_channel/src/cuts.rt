@@ -36,6 +36,10 @@ impl Cuts {
     }
 
     /// Makes room for one more.
+    ///
+    /// # Errors
+    ///
+    /// Where there is no memory for it.
     pub fn reserve(&mut self) -> Result<(), Memory>
         ensures ok { OnOk result (self.new ≡ record self.old { has_room = true }) }
         ensures err { OnErr result (self.new ≡ self.old) }

@@ -35,6 +35,10 @@ impl Model for Piece {
 
 impl Piece {
     /// No bytes.
+    ///
+    /// # Errors
+    ///
+    /// Where there is no memory for its bytes.
     pub fn new(alloc: Global) -> Result<Piece, Memory>
         ensures { IfOk result (λ p. p ≡ []) }
     {

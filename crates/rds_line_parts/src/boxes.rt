@@ -48,7 +48,11 @@ impl Boxes {
         self.boxes.len()
     }
 
-    /// Puts a datagram into the mailbox of a slot. Where memory runs out nothing was put, and the datagram is given up.
+    /// Puts a datagram into the mailbox of a slot.
+    ///
+    /// # Errors
+    ///
+    /// Where there is no memory for its place. Nothing was put, and the datagram is given up.
     pub fn put<W: Wait>(&mut self, rt: &W, slot: u16, datagram: Datagram) -> Result<(), Memory>
         requires { slot < length self.old }
         ensures put { OnOk result (IsPutInto slot datagram self.old self.new) }

@@ -29,6 +29,10 @@ impl Model for OwnMap {
 
 impl OwnMap {
     /// A map that was never read. It has no ports.
+    ///
+    /// # Errors
+    ///
+    /// Where there is no memory for the map.
     pub fn new(alloc: Global) -> Result<OwnMap, Memory>
         ensures { IfOk result (λ o. o ≡ record { map = no_ports; change = None }) }
     {

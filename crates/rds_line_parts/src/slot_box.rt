@@ -46,7 +46,11 @@ impl SlotBox {
         (mail, pass)
     }
 
-    /// Puts a datagram. Where memory runs out nothing was put, and the datagram is given up.
+    /// Puts a datagram.
+    ///
+    /// # Errors
+    ///
+    /// Where there is no memory for its place. Nothing was put, and the datagram is given up.
     pub fn put<W: Wait>(&mut self, rt: &W, datagram: Datagram) -> Result<(), Memory>
         ensures put { OnOk result (self.new ≡ after_put self.old datagram) }
         ensures same { OnErr result (self.new ≡ self.old) }

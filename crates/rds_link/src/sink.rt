@@ -23,7 +23,11 @@ pub trait Sink {
         ensures counts { faults self.old ≤ faults self.new };
 }
 
-/// Writes all the bytes. After a fault a beginning of them is written.
+/// Writes all the bytes.
+///
+/// # Errors
+///
+/// `Failed` at the first fault of the sink. A beginning of the bytes is written.
 pub fn write_all<K: Sink>(sink: &mut K, bytes: &[u8]) -> Result<(), Failed>
     ensures ok { OnOk result (SinkGained (K.held sink.old) (K.held sink.new) bytes.now) }
     ensures front { SinkGainedFront (K.held sink.old) (K.held sink.new) bytes.now }

@@ -45,6 +45,10 @@ impl Standing {
     }
 
     /// How the two ends of a new stream stand.
+    ///
+    /// # Errors
+    ///
+    /// Where there is no memory for the word that both share.
     pub fn pair(alloc: Global) -> Result<(Standing, Standing), Memory>
         ensures pair { IfOk result (λ r. AreTwoEnds r.0 r.1) }
         ensures fresh { IfOk result (λ r. (r.0.stand ≡ fresh_stand) × (r.1.stand ≡ fresh_stand)) }

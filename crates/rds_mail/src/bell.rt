@@ -31,8 +31,11 @@ impl Bell {
         }
     }
 
-    /// Leaves the task's waker in the bell's slot, where another task's waker that stood there wakes it. `Memory` only where
-    /// no waker could be made, and then the slot is empty.
+    /// Leaves the task's waker in the bell's slot, where another task's waker that stood there wakes it.
+    ///
+    /// # Errors
+    ///
+    /// Where no waker could be made. The slot is then empty.
     pub fn register<R: Wait>(&self, rt: &R, cx: &mut Context<'_>) -> Result<(), Memory>
         ensures armed { OnOk result (IsArmed cx.new) }
         ensures heard { OnOk result (Hears cx.new self.now) }

@@ -32,6 +32,10 @@ impl<T: Drop> Model for Mail<T> {
 
 impl<T: Drop> Mail<T> {
     /// An empty mailbox, its first putter and its getter.
+    ///
+    /// # Errors
+    ///
+    /// Where there is no memory for it.
     pub fn new(alloc: Global) -> Result<(Mail<T>, PutPass<T>, GetPass<T>), Memory>
         ensures put { IfOk result (λ r. r.1 ≡ first_putter r.0.line) }
         ensures get { IfOk result (λ r. r.2 ≡ first_getter r.0.line) }
@@ -56,7 +60,11 @@ impl<T: Drop> Mail<T> {
         PutPass { pass: new }
     }
 
-    /// Puts an item behind all others. It is handed back where memory runs out, and then nothing was put.
+    /// Puts an item behind all others.
+    ///
+    /// # Errors
+    ///
+    /// The item is handed back where there is no memory for its place. Nothing was put.
     pub fn put<R: Wait>(&self, rt: &R, pass: &mut PutPass<T>, item: T) -> Result<(), (T, Memory)>
         requires { pass.old.mail ≡ self.now.line }
         ensures put { OnOk result (pass.new ≡ after_put pass.old item) }

@@ -35,6 +35,10 @@ impl Meter {
     ghost use Rattle.rds_model.specs.declared.entry.TheConstants.{MAX_SLOTS};
 
     /// A meter for 1 to 1,024 slots, and its first seat. All words are 0.
+    ///
+    /// # Errors
+    ///
+    /// Where there is no memory for its words.
     pub fn new(alloc: Global, slots: u16) -> Result<(Meter, MeterSeat), Memory>
         requires { (1 ≤ slots) × (slots ≤ MAX_SLOTS) }
         ensures slots { IfOk result (λ r. r.0.slots ≡ slots) }

@@ -47,6 +47,10 @@ impl Model for Journal {
 
 impl Journal {
     /// A journal without entries, which may have at most `limit`.
+    ///
+    /// # Errors
+    ///
+    /// Where there is no memory for it.
     pub fn new(alloc: Global, limit: u32) -> Result<Journal, Memory>
         requires least { MIN_ENTRIES ≤ limit }
         requires most { limit ≤ MAX_ENTRIES }

@@ -37,6 +37,10 @@ impl Model for Store {
 
 impl Store {
     /// A store without messages, for sockets with slots below `slots`.
+    ///
+    /// # Errors
+    ///
+    /// Where there is no memory for its tables.
     pub fn new(alloc: Global, slots: u16) -> Result<Store, Memory>
         ensures empty { IfOk result (λ s. s ≡ record { messages = []; mark = 0; spare = 0; slots = slots }) }
     {
@@ -49,6 +53,10 @@ impl Store {
     }
 
     /// Makes room for `n` more messages.
+    ///
+    /// # Errors
+    ///
+    /// Where there is no memory for them. The store is as before.
     pub fn reserve(&mut self, n: u32) -> Result<(), Memory>
         ensures ok { OnOk result (self.new ≡ record self.old { spare = max self.old.spare n }) }
         ensures err { OnErr result (self.new ≡ self.old) }
@@ -168,8 +176,11 @@ impl Store {
         withdrawn.bytes
     }
 
-    /// Replaces `out` by the numbers of the messages that such a cancellation would take, ascending. On an error `out`
-    /// is as before.
+    /// Replaces `out` by the numbers of the messages that such a cancellation would take, ascending.
+    ///
+    /// # Errors
+    ///
+    /// Where there is no memory for them. `out` is as before.
     pub fn covered(&self, slot: u16, target: &Target, out: &mut Vec<u64>) -> Result<(), Memory>
         ensures ok { OnOk result (out.new.items ≡ message_numbers (covered_messages slot target.now self.now.messages)) }
         ensures err { OnErr result (out.new.items ≡ out.old.items) }

@@ -32,6 +32,10 @@ pub(crate) struct Half {
 
 impl Half {
     /// The end of the host `me` to `peer`, of which nothing has happened.
+    ///
+    /// # Errors
+    ///
+    /// Where there is no memory for its tables.
     pub fn new(alloc: Global, me: u32, peer: u32, slots: u16, limit: u32) -> Result<Half, Memory>
         requires slots { slots ≤ MAX_SLOTS }
         requires least { MIN_ENTRIES ≤ limit }
@@ -45,6 +49,11 @@ impl Half {
     }
 
     /// Makes the connection ready for its next entries.
+    ///
+    /// # Errors
+    ///
+    /// `Spent` exactly where the journal has no room for two more entries, and `Memory` where there is none. The end is
+    /// as before.
     pub fn ready(&mut self) -> Result<(), PairError>
         ensures ready { OnOk result (IsReady self.new.conn) }
         ensures room { OnOk result (HasRoomForTwo (side_of self.old)) }
@@ -80,6 +89,11 @@ impl Half {
     }
 
     /// Gives an order to the connection, if it takes such.
+    ///
+    /// # Errors
+    ///
+    /// `Spent` only where the journal has no room for two more entries, and `Memory` where there is none. The end is as
+    /// before.
     pub fn order<L: Ledger>(
         &mut self,
         order: &Order,
@@ -102,6 +116,11 @@ impl Half {
     }
 
     /// Pulls the frame that is owed to the open stream.
+    ///
+    /// # Errors
+    ///
+    /// `Spent` only where the journal has no room for two more entries, and `Memory` where there is none. The end is as
+    /// before.
     pub fn pull(&mut self, map: &PortMap) -> Result<(), PairError>
         ensures ok { OnOk result (side_of self.new ≡ pulled map.now (side_of self.old)) }
         ensures err { OnErr result (side_of self.new ≡ side_of self.old) }
@@ -118,6 +137,11 @@ impl Half {
     }
 
     /// Passes the frame that waits, if one does.
+    ///
+    /// # Errors
+    ///
+    /// `Spent` only where the journal has no room for two more entries, and `Memory` where there is none. The end is as
+    /// before.
     pub fn pass<L: Ledger>(
         &mut self,
         slot: Option<u16>,

@@ -54,6 +54,10 @@ impl ConnPair {
 
     /// Two ends of a connection between two hosts, given by their IPv4 addresses, of which nothing has happened. The slots
     /// of sockets are below `slots`, and each journal may have `limit` entries.
+    ///
+    /// # Errors
+    ///
+    /// Where there is no memory for its tables.
     pub fn new(
         alloc: Global,
         first: u32,
@@ -74,6 +78,11 @@ impl ConnPair {
     }
 
     /// A socket of an end gives an order, which the end takes if it is allowed.
+    ///
+    /// # Errors
+    ///
+    /// `Spent` only where the journal of the end has no room for two more entries, and `Memory` where there is none.
+    /// The pair is as before.
     pub fn order<L: Ledger>(
         &mut self,
         end: PairEnd,
@@ -91,6 +100,11 @@ impl ConnPair {
     }
 
     /// Opens the next stream at both ends, if none is open at either.
+    ///
+    /// # Errors
+    ///
+    /// `Spent` only where a journal has no room for two more entries, and `Memory` where there is none. The pair is as
+    /// before.
     pub fn open(&mut self) -> Result<(), PairError>
         ensures ok { OnOk result (self.new ≡ opened_at_both self.old) }
         ensures err { OnErr result (self.new ≡ self.old) }
@@ -110,6 +124,11 @@ impl ConnPair {
     }
 
     /// Shuts one end. What is in flight to it is lost; the other end goes on.
+    ///
+    /// # Errors
+    ///
+    /// `Spent` only where the journal of the end has no room for two more entries, and `Memory` where there is none.
+    /// The pair is as before.
     pub fn shut(&mut self, end: PairEnd) -> Result<(), PairError>
         ensures ok { OnOk result (self.new ≡ shut_at end self.old) }
         ensures err { OnErr result (self.new ≡ self.old) }
@@ -122,6 +141,11 @@ impl ConnPair {
     }
 
     /// Shuts both ends. What is in flight is lost.
+    ///
+    /// # Errors
+    ///
+    /// `Spent` only where a journal has no room for two more entries, and `Memory` where there is none. The pair is as
+    /// before.
     pub fn cut(&mut self) -> Result<(), PairError>
         ensures ok { OnOk result (self.new ≡ cut_pair self.old) }
         ensures err { OnErr result (self.new ≡ self.old) }
@@ -137,6 +161,11 @@ impl ConnPair {
     }
 
     /// An end pulls the frame that it owes, where its host's own congestion map is `map`.
+    ///
+    /// # Errors
+    ///
+    /// `Spent` only where the journal of the end has no room for two more entries, and `Memory` where there is none.
+    /// The pair is as before.
     pub fn pull(&mut self, end: PairEnd, map: &PortMap) -> Result<(), PairError>
         ensures ok { OnOk result (self.new ≡ with_end end (pulled map.now) self.old) }
         ensures err { OnErr result (self.new ≡ self.old) }
@@ -149,6 +178,11 @@ impl ConnPair {
     }
 
     /// Gives bytes that are in flight to an end to it, at most `bytes`. Answers how many. No header is ever refused.
+    ///
+    /// # Errors
+    ///
+    /// `Spent` only where the journal of the end has no room for two more entries, and `Memory` where there is none.
+    /// The pair is as before.
     pub fn move_bytes(&mut self, to: PairEnd, bytes: usize) -> Result<usize, PairError>
         ensures ok { IfOk result (λ used. MovesTo to bytes used self.old self.new) }
         ensures err { OnErr result (self.new ≡ self.old) }
@@ -162,6 +196,11 @@ impl ConnPair {
 
     /// An end passes the frame that waits, if one does: a datagram goes to the socket of `slot`, or no socket holds its
     /// port.
+    ///
+    /// # Errors
+    ///
+    /// `Spent` only where the journal of the end has no room for two more entries, and `Memory` where there is none.
+    /// The pair is as before.
     pub fn pass<L: Ledger>(
         &mut self,
         end: PairEnd,

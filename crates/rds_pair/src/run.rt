@@ -11,7 +11,11 @@ impl ConnPair {
     ghost use Rattle.rds_pair.specs.Sides.{HasFull};
     ghost use Rattle.rds_pair.specs.Playing.{Does, DoesAll, Stops};
 
-    /// Does the steps, one after another, whatever they are. After an error the steps before it were done.
+    /// Does the steps, one after another, whatever they are.
+    ///
+    /// # Errors
+    ///
+    /// What the first step that couldn't be done answers. The steps before it were done, and no other.
     pub fn run<L: Ledger>(
         &mut self,
         steps: &[PairStep],
@@ -49,6 +53,11 @@ impl ConnPair {
     }
 
     /// Does one step.
+    ///
+    /// # Errors
+    ///
+    /// `Spent` only where a journal has no room for two more entries, and `Memory` where there is none. The pair is as
+    /// before.
     pub fn step<L: Ledger>(
         &mut self,
         step: &PairStep,

@@ -93,7 +93,11 @@ impl<R: MapReader> Routes<R> {
         Ok(self.look(place, port))
     }
 
-    /// Puts an order on the queue of the peer at this place. It is handed back where memory runs out, and then nothing was put.
+    /// Puts an order on the queue of the peer at this place.
+    ///
+    /// # Errors
+    ///
+    /// The order is handed back where there is no memory for its place. Nothing was put.
     pub fn put<W: Wait>(&mut self, rt: &W, place: usize, item: Asked) -> Result<(), Asked>
         requires { place < length self.old }
         ensures put { OnOk result (IsPutAt place item self.old self.new) }
@@ -127,8 +131,11 @@ impl<R: MapReader> Routes<R> {
         Ok(())
     }
 
-    /// Tells the peers from a place on, one after another, that the socket of the slot closes. Where memory runs out it answers the
-    /// place of the first that wasn't told.
+    /// Tells the peers from a place on, one after another, that the socket of the slot closes.
+    ///
+    /// # Errors
+    ///
+    /// The place of the first that wasn't told, since memory ran out.
     pub fn tell<W: Wait>(&mut self, rt: &W, from: usize, slot: u16) -> Result<(), usize>
         requires from { from ≤ length self.old }
         requires slot { slot < MAX_SLOTS }

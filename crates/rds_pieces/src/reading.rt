@@ -21,6 +21,10 @@ use std::thread::Threads;
 
 /// The script that the text spells, or the first line at which it is refused and why, as `rds_script::read` gives it. A
 /// long text is cut into pieces at ends of lines, and each is read by a thread of its own.
+///
+/// # Errors
+///
+/// `BadLine` with that line and cause, where the text spells no script, and `Memory` where there is none.
 pub fn read_by_threads<R: Threads + Sync>(
     rt: &R,
     alloc: Global,

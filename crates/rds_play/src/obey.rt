@@ -11,6 +11,10 @@ use rds_world::{Stop, World};
 use std::sync::ledger::Ledger;
 
 /// Does one command.
+///
+/// # Errors
+///
+/// As the world's own call for the command: what stops the run.
 pub fn obey<L: Ledger>(
     world: &mut World,
     command: &Command,

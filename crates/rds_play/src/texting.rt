@@ -20,6 +20,10 @@ use std::marker::Brand;
 use std::sync::ledger::{Blank, Ledger};
 
 /// The transcript and the report of a script.
+///
+/// # Errors
+///
+/// What stops the run: a full journal, or want of memory.
 pub fn text_of(alloc: Global, script: &Script, limit: u32) -> Result<String, Stop>
     requires script { IsScript script.now }
     requires least { MIN_ENTRIES ≤ limit }

@@ -19,8 +19,11 @@ use std::thread::Threads;
 
 /// The report over what the hosts have in the end: a group for each port pair with an accepted datagram, in ascending
 /// order of receiving host, receiving port, sending host and sending port, and `end ok`. It is exact where each address is
-/// that of one of the `MAX_HOSTS` hosts, and no host and no peer of a host stands twice. It fails only where memory runs
-/// out, and the text then has a beginning of the report.
+/// that of one of the `MAX_HOSTS` hosts, and no host and no peer of a host stands twice.
+///
+/// # Errors
+///
+/// Where there is no memory. The text then has a beginning of the report.
 pub fn report(alloc: Global, text: &mut String, hosts: &[HostEnd]) -> Result<(), Memory>
     ensures exact { AreFinalHosts (host_views hosts.now) →
         OnOk result (string_bytes text.new ≡ string_bytes text.old ++ text_of (host_views hosts.now)) }
@@ -35,6 +38,10 @@ pub fn report(alloc: Global, text: &mut String, hosts: &[HostEnd]) -> Result<(),
 
 /// The same report, in texts that are to be written one behind another. What went to each of the `MAX_HOSTS` hosts is printed by a
 /// thread of its own, and the lines of a port pair with many datagrams by several. The last text is the last line.
+///
+/// # Errors
+///
+/// Where there is no memory.
 pub fn report_parts<R: Threads + Sync>(
     rt: &R,
     alloc: Global,

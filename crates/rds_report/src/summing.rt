@@ -21,7 +21,11 @@ use std::thread::Threads;
 /// The summary over what the hosts have in the end, of the script that is generated for so many sends and this seed: one
 /// text line with the sums over all port pairs with an accepted datagram, and `end ok`. A thread sums up what went to one of
 /// the `MAX_HOSTS` hosts. It is exact where each address is that of one of them, and no host and no peer of a host stands
-/// twice. It fails only where memory runs out, and the text then has a beginning of the summary.
+/// twice.
+///
+/// # Errors
+///
+/// Where there is no memory. The text then has a beginning of the summary.
 pub fn summary<R: Threads + Sync>(
     rt: &R,
     alloc: Global,

@@ -16,6 +16,10 @@ use std::alloc::Global;
 /// The script that the text spells, or the first line at which it is refused and why.
 ///
 /// It takes time linear in the text, copies the bytes of a payload once, and keeps nothing of the text.
+///
+/// # Errors
+///
+/// `BadLine` with that line and cause, where the text spells no script, and `Memory` where there is none.
 pub fn read(alloc: Global, text: &[u8]) -> Result<Script, ScriptError>
     // What is read is spelled by the text.
     ensures found { IfOk result (λ s. Spells text.now (meaning s)) }

@@ -79,6 +79,10 @@ impl<R: MapReader> Closed<R> {
     }
 
     /// Asks the line to the peer to cut its stream.
+    ///
+    /// # Errors
+    ///
+    /// `NoRoute` where the peer isn't in the host's list, and `Memory` where there is none. Nothing was put.
     pub fn cut<W: Wait>(&mut self, rt: &W, peer: u32) -> Result<(), CancelError>
         ensures put { OnOk result (IsPutTo peer order.Cut self.old.routes self.new.routes) }
         ensures refused { IfErr result (AskRefused peer self.old.routes) }

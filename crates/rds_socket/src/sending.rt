@@ -15,9 +15,12 @@ use rds_wire::{MAX_LENGTH, Payload};
 use std::sync::Wait;
 
 impl<R: MapReader> Socket<R> {
-    /// Puts a datagram on the order queue of the connection with the peer. It doesn't wait: where the datagram is too long, or no
-    /// connection leads to the peer, or the port is congested, or the send buffer is too full, or memory runs out, it is refused
-    /// for the first of these reasons, and the payload is handed back.
+    /// Puts a datagram on the order queue of the connection with the peer. It doesn't wait.
+    ///
+    /// # Errors
+    ///
+    /// The payload is handed back with the first of these reasons that holds: the datagram is too long, no connection
+    /// leads to the peer, the port is congested, the send buffer is too full, memory runs out.
     pub fn send<W: Wait>(
         &mut self,
         rt: &W,

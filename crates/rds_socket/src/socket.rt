@@ -92,6 +92,10 @@ impl<R: MapReader> Socket<R> {
     }
 
     /// Takes back what it has sent to a port of the peer and the peer hasn't acknowledged. What was on its way may still arrive.
+    ///
+    /// # Errors
+    ///
+    /// `NoRoute` where the peer isn't in the host's list, and `Memory` where there is none. Nothing was put.
     pub fn cancel<W: Wait>(&mut self, rt: &W, peer: u32, dport: u16) -> Result<(), CancelError>
         requires { self.old.told ≡ None }
         ensures put { OnOk result (IsPutTo peer (order.Cancel self.old.own.words.slot dport) self.old.own.routes self.new.own.routes) }
@@ -106,6 +110,10 @@ impl<R: MapReader> Socket<R> {
     }
 
     /// Asks the line to the peer to cut its stream.
+    ///
+    /// # Errors
+    ///
+    /// `NoRoute` where the peer isn't in the host's list, and `Memory` where there is none. Nothing was put.
     pub fn cut<W: Wait>(&mut self, rt: &W, peer: u32) -> Result<(), CancelError>
         ensures put { OnOk result (IsPutTo peer order.Cut self.old.own.routes self.new.own.routes) }
         ensures refused { IfErr result (AskRefused peer self.old.own.routes) }
@@ -126,6 +134,10 @@ impl<R: MapReader> Socket<R> {
     }
 
     /// What one look finds of a port of the peer.
+    ///
+    /// # Errors
+    ///
+    /// `NoRoute` where the peer isn't in the host's list.
     pub fn congested(&mut self, peer: u32, port: u16) -> Result<Seen, NoRoute>
         ensures look { IfOk result (λ seen. IsLookTo R.is_look peer port seen self.old.own.routes self.new.own.routes) }
         ensures none { IfErr result (λ e. (e.peer ≡ peer) × NoneTo self.old.own.routes peer) }
@@ -136,9 +148,12 @@ impl<R: MapReader> Socket<R> {
         self.routes.look_up(peer, port)
     }
 
-    /// Tells each peer in turn to give up what the socket has sent and isn't acknowledged, and then releases the port. After
-    /// `Memory` the socket is closing: it holds its port and still receives, and a further `close` goes on with the first peer that
-    /// wasn't told.
+    /// Tells each peer in turn to give up what the socket has sent and isn't acknowledged, and then releases the port.
+    ///
+    /// # Errors
+    ///
+    /// The socket and `Memory`, where there is none. It is closing: it holds its port and still receives, and a further
+    /// `close` goes on with the first peer that wasn't told.
     pub fn close<W: Wait>(self, rt: &W) -> Result<Closed<R>, (Socket<R>, Memory)>
         ensures closed { IfOk result (IsClosed self) }
         ensures stay { IfOk result (λ closed. RoutesStay R.pair R.has_seen self.own.routes closed.routes) }

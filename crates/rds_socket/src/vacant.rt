@@ -101,7 +101,11 @@ impl<R: MapReader> Vacant<R> {
     }
 
     /// Binds a port, with a send buffer of 1 to 16,777,216 bytes and a receive buffer of 2 to 16,777,216. The slot's receive limit
-    /// is set first, and stays set where the port is refused: ports 0 and 1 are reserved, and another may be in use.
+    /// is set first, and stays set where the port is refused.
+    ///
+    /// # Errors
+    ///
+    /// The slot and `Reserved` for ports 0 and 1, or `InUse` where another socket holds the port.
     pub fn bind(
         self,
         port: u16,
@@ -144,6 +148,10 @@ impl<R: MapReader> Vacant<R> {
     }
 
     /// Binds the first port from `start` upward that is free, where port 2 follows port 65,535.
+    ///
+    /// # Errors
+    ///
+    /// The slot and `NoneFree`, where each port was found in use.
     pub fn bind_any(
         self,
         start: u16,
@@ -212,6 +220,10 @@ impl<R: MapReader> Vacant<R> {
     }
 
     /// Asks the line to the peer to cut its stream.
+    ///
+    /// # Errors
+    ///
+    /// `NoRoute` where the peer isn't in the host's list, and `Memory` where there is none. Nothing was put.
     pub fn cut<W: Wait>(&mut self, rt: &W, peer: u32) -> Result<(), CancelError>
         ensures put { OnOk result (IsPutTo peer order.Cut self.old.routes self.new.routes) }
         ensures refused { IfErr result (AskRefused peer self.old.routes) }

@@ -22,6 +22,10 @@ impl fmt::Display for MarkWord {
 }
 
 /// The line of a bind that succeeded.
+///
+/// # Errors
+///
+/// Where there is no memory for the line.
 pub fn bind_line(text: &mut String, host: u8, port: u16, slot: u16) -> Result<(), Memory>
     requires { host < 26 }
     ensures { OnOk result (string_bytes text.new ≡ string_bytes text.old ++ line_of_bind host port slot) }
@@ -32,6 +36,10 @@ pub fn bind_line(text: &mut String, host: u8, port: u16, slot: u16) -> Result<()
 }
 
 /// The line of a receive that handed a datagram out: from port `sport` of host `from`.
+///
+/// # Errors
+///
+/// Where there is no memory for the line.
 pub fn recv_line(
     text: &mut String,
     host: u8,
@@ -52,6 +60,10 @@ pub fn recv_line(
 }
 
 /// The line of a receive that found nothing.
+///
+/// # Errors
+///
+/// Where there is no memory for the line.
 pub fn recv_none_line(text: &mut String, host: u8, port: u16) -> Result<(), Memory>
     requires { host < 26 }
     ensures { OnOk result (string_bytes text.new ≡ string_bytes text.old ++ line_of_recv_none host port) }
@@ -62,6 +74,10 @@ pub fn recv_none_line(text: &mut String, host: u8, port: u16) -> Result<(), Memo
 }
 
 /// The line that ends a drain.
+///
+/// # Errors
+///
+/// Where there is no memory for the line.
 pub fn drained_line(text: &mut String) -> Result<(), Memory>
     ensures { OnOk result (string_bytes text.new ≡ string_bytes text.old ++ line_of_drained) }
 {
@@ -70,6 +86,10 @@ pub fn drained_line(text: &mut String) -> Result<(), Memory>
 }
 
 /// The line of a journal that has no room: it has so many entries.
+///
+/// # Errors
+///
+/// Where there is no memory for the line.
 pub fn spent_line(text: &mut String, host: u8, peer: u8, entries: u32) -> Result<(), Memory>
     requires host { host < 26 }
     requires peer { peer < 26 }
@@ -82,6 +102,10 @@ pub fn spent_line(text: &mut String, host: u8, peer: u8, entries: u32) -> Result
 }
 
 /// The line of a port's congestion bit that changed: `queued` bytes wait at its socket, whose receive buffer has `limit`.
+///
+/// # Errors
+///
+/// Where there is no memory for the line.
 pub fn mark_line(
     text: &mut String,
     host: u8,
@@ -103,6 +127,10 @@ pub fn mark_line(
 }
 
 /// The line of a socket that was closed, with the number of datagrams that it left unread.
+///
+/// # Errors
+///
+/// Where there is no memory for the line.
 pub fn close_line(
     text: &mut String,
     host: u8,
@@ -119,6 +147,10 @@ pub fn close_line(
 }
 
 /// The line of bytes that were moved.
+///
+/// # Errors
+///
+/// Where there is no memory for the line.
 pub fn move_line(text: &mut String, host: u8, peer: u8, moved: u64) -> Result<(), Memory>
     requires host { host < 26 }
     requires peer { peer < 26 }
@@ -131,6 +163,10 @@ pub fn move_line(text: &mut String, host: u8, peer: u8, moved: u64) -> Result<()
 }
 
 /// The line of a stream that is cut: so many bytes were in flight to the peer, and back.
+///
+/// # Errors
+///
+/// Where there is no memory for the line.
 pub fn cut_line(
     text: &mut String,
     host: u8,

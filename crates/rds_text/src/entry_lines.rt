@@ -19,6 +19,10 @@ fn journal_name(h: u8, k: u8) -> JournalName
 }
 
 /// The line of an `Accept`, which is number `n` of the journal that host `h` keeps of its connection with `k`.
+///
+/// # Errors
+///
+/// Where there is no memory for the line.
 pub fn accept_line(
     text: &mut String,
     h: u8,
@@ -45,6 +49,10 @@ pub fn accept_line(
 
 /// The line of a `Cancel`, with the numbers that were alive and are covered by it: those that were pulled before, and
 /// the others.
+///
+/// # Errors
+///
+/// Where there is no memory for the line.
 pub fn cancel_line(
     text: &mut String,
     h: u8,
@@ -70,6 +78,10 @@ pub fn cancel_line(
 }
 
 /// The line of an `Open`.
+///
+/// # Errors
+///
+/// Where there is no memory for the line.
 pub fn open_line(text: &mut String, h: u8, k: u8, stream: u32) -> Result<(), Memory>
     requires h { h < 26 }
     requires k { k < 26 }
@@ -81,6 +93,10 @@ pub fn open_line(text: &mut String, h: u8, k: u8, stream: u32) -> Result<(), Mem
 }
 
 /// The line of a `Pull`.
+///
+/// # Errors
+///
+/// Where there is no memory for the line.
 pub fn pull_line(text: &mut String, h: u8, k: u8, stream: u32, frame: &Frame) -> Result<(), Memory>
     requires h { h < 26 }
     requires k { k < 26 }
@@ -93,6 +109,10 @@ pub fn pull_line(text: &mut String, h: u8, k: u8, stream: u32, frame: &Frame) ->
 }
 
 /// The line of a `Read`.
+///
+/// # Errors
+///
+/// Where there is no memory for the line.
 pub fn read_line(
     text: &mut String,
     h: u8,
@@ -113,6 +133,10 @@ pub fn read_line(
 }
 
 /// The line of a `Shut`.
+///
+/// # Errors
+///
+/// Where there is no memory for the line.
 pub fn shut_line(text: &mut String, h: u8, k: u8, stream: u32) -> Result<(), Memory>
     requires h { h < 26 }
     requires k { k < 26 }

@@ -50,6 +50,10 @@ impl fmt::Display for Refusal {
 }
 
 /// The line of a send that is refused.
+///
+/// # Errors
+///
+/// Where there is no memory for the line.
 pub fn send_refused_line(
     text: &mut String,
     host: u8,
@@ -69,6 +73,10 @@ pub fn send_refused_line(
 }
 
 /// The line of a command on a socket that is refused: `verb` is the command's word.
+///
+/// # Errors
+///
+/// Where there is no memory for the line.
 pub fn socket_refused_line(
     text: &mut String,
     verb: &str,
@@ -85,6 +93,10 @@ pub fn socket_refused_line(
 }
 
 /// The line of a command on a pair of hosts that is refused: `verb` is the command's word.
+///
+/// # Errors
+///
+/// Where there is no memory for the line.
 pub fn pair_refused_line(
     text: &mut String,
     verb: &str,

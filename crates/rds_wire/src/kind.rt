@@ -55,6 +55,10 @@ pub fn kind_of(h: &Header) -> Kind
 
 /// The kind of a header, or the first thing that is wrong with it, where `highest` is the highest number that
 /// the reader has ever pulled, or 0.
+///
+/// # Errors
+///
+/// The first thing that is wrong with it, in the order of `Malformed`.
 #[tactic(auto, unfolding(crate::specs::Kinds::cause))]
 pub fn check(h: &Header, highest: u64) -> Result<Kind, Malformed>
     ensures { result ≡ checked h.now highest }

@@ -23,6 +23,10 @@ impl Model for Payload {
 
 impl Payload {
     /// A payload with a copy of these bytes, at most 2,097,152 of them.
+    ///
+    /// # Errors
+    ///
+    /// Where there is no memory for the copy.
     pub fn copy_of(alloc: Global, b: &[u8]) -> Result<Payload, Memory>
         requires { length b.now ≤ 2097152 }
         ensures { IfOk result (λ p. p ≡ b.now) }
@@ -31,7 +35,11 @@ impl Payload {
         Ok(Payload { bytes })
     }
 
-    /// A payload of these bytes, at most 2,097,152 of them, without a copy. The bytes come back where memory is short.
+    /// A payload of these bytes, at most 2,097,152 of them, without a copy.
+    ///
+    /// # Errors
+    ///
+    /// The bytes come back where there is no memory for the count of their owners.
     pub fn from_vec(bytes: Vec<u8>) -> Result<Payload, Vec<u8>>
         requires { length bytes.items ≤ 2097152 }
         ensures ok { IfOk result (λ p. p ≡ bytes.items) }
@@ -53,6 +61,10 @@ impl Payload {
     }
 
     /// Another owner of the same bytes. Nothing is copied.
+    ///
+    /// # Errors
+    ///
+    /// Where there is no memory for the count of the owners.
     pub fn share(&self) -> Result<Payload, Memory>
         ensures { IfOk result (λ p. p ≡ self.now) }
     {

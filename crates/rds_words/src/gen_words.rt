@@ -12,6 +12,10 @@ const MOST_SENDS: u64 = 100_000;
 
 /// The number of sends and the seed, if the words are those of `gen`: its name, and after it these two numbers and nothing else. A
 /// request for help is refused.
+///
+/// # Errors
+///
+/// Where there is no memory to read the words.
 pub fn gen_numbers(alloc: Global, words: &[String]) -> Result<Option<(u32, u64)>, Memory>
     ensures { IfOk result (IsFound (AreGen words.now)) }
 {

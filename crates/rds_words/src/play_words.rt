@@ -8,6 +8,10 @@ use std::alloc::Global;
 
 /// Whether the words are those of `play`: its name, and after it nothing but what `clap` lets stand after a command
 /// without arguments. A request for help is refused.
+///
+/// # Errors
+///
+/// Where there is no memory to read the words.
 pub fn is_play(alloc: Global, words: &[String]) -> Result<bool, Memory>
     ensures { IfOk result (λ plays. IsTrue plays ↔ ArePlay words.now) }
 {

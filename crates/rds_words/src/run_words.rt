@@ -9,6 +9,10 @@ use std::alloc::Global;
 
 /// The wire that a run is to go over, if the words are those of `run`: its name, and after it nothing but the option `--wire` with
 /// the value `memory` or `tcp`, or not even that, which means `memory`. A request for help is refused.
+///
+/// # Errors
+///
+/// Where there is no memory to read the words.
 pub fn run_wire(alloc: Global, words: &[String]) -> Result<Option<RunWire>, Memory>
     ensures { IfOk result (IsWireFound (AreRun words.now)) }
 {

@@ -16,6 +16,10 @@ use rds_text::{Refusal, bind_line, socket_refused_line};
 
 impl World {
     /// Binds a socket of a host to a port.
+    ///
+    /// # Errors
+    ///
+    /// What stops the run: `Memory` where there is none, and `Spent` where a journal that it adds to is full.
     pub fn bind(&mut self, host: u8, port: u16, sndbuf: u32, rcvbuf: u32) -> Result<(), Stop>
         requires host { host < self.old.count }
         requires roomy { 2 ≤ rcvbuf }
@@ -46,6 +50,10 @@ impl World {
     }
 
     /// Binds a socket of a host to the first free port from `start` upward, and round the top to 2.
+    ///
+    /// # Errors
+    ///
+    /// What stops the run: `Memory` where there is none, and `Spent` where a journal that it adds to is full.
     pub fn bind_any(&mut self, host: u8, start: u16, sndbuf: u32, rcvbuf: u32) -> Result<(), Stop>
         requires host { host < self.old.count }
         requires roomy { 2 ≤ rcvbuf }

@@ -78,6 +78,10 @@ fn cancellation(slot: u16, target: Target) -> Order
 
 impl World {
     /// Takes back what the socket at a port of a host has sent to a port of a peer.
+    ///
+    /// # Errors
+    ///
+    /// What stops the run: `Memory` where there is none, and `Spent` where a journal that it adds to is full.
     pub fn cancel<L: Ledger>(
         &mut self,
         host: u8,

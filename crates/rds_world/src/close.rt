@@ -20,6 +20,10 @@ use std::sync::ledger::Ledger;
 
 impl World {
     /// Closes the socket at a port of a host: what it sent is taken back, and the port is free again.
+    ///
+    /// # Errors
+    ///
+    /// What stops the run: `Memory` where there is none, and `Spent` where a journal that it adds to is full.
     pub fn close<L: Ledger>(
         &mut self,
         host: u8,

@@ -15,6 +15,10 @@ use std::sync::ledger::Ledger;
 
 impl World {
     /// Opens all pairs, and moves bytes both ways between all until none is left to move.
+    ///
+    /// # Errors
+    ///
+    /// What stops the run: `Memory` where there is none, and `Spent` where a journal that it adds to is full.
     pub fn drain<L: Ledger>(&mut self, steps: &mut Steps<L>) -> Result<(), Stop>
         ensures count { self.new.count ≡ self.old.count }
         ensures course { (limit hosts : ℕ) (past : List Event) → Tells limit hosts past (state self.old) →

@@ -40,6 +40,10 @@ fn left_of(most: Option<u64>, moved: u64) -> Option<u64>
 
 impl World {
     /// Moves at most `bytes` bytes from a host to a peer, and prints how many went.
+    ///
+    /// # Errors
+    ///
+    /// What stops the run: `Memory` where there is none, and `Spent` where a journal that it adds to is full.
     pub fn move_bytes<L: Ledger>(
         &mut self,
         host: u8,

@@ -33,6 +33,10 @@ pub(crate) fn or_memory<T: Drop>(tried: Result<T, PairError>) -> Result<T, Stop>
 
 impl World {
     /// Opens a stream between two hosts.
+    ///
+    /// # Errors
+    ///
+    /// What stops the run: `Memory` where there is none, and `Spent` where a journal that it adds to is full.
     pub fn open(&mut self, host: u8, peer: u8) -> Result<(), Stop>
         requires host { host < self.old.count }
         requires peer { peer < self.old.count }
@@ -78,6 +82,10 @@ impl World {
     }
 
     /// Cuts the stream between two hosts: what is in flight is lost.
+    ///
+    /// # Errors
+    ///
+    /// What stops the run: `Memory` where there is none, and `Spent` where a journal that it adds to is full.
     pub fn cut(&mut self, host: u8, peer: u8) -> Result<(), Stop>
         requires host { host < self.old.count }
         requires peer { peer < self.old.count }

@@ -14,6 +14,10 @@ use rds_text::{Refusal, recv_none_line};
 
 impl World {
     /// Receives the datagram that has waited longest at the socket at a port of a host.
+    ///
+    /// # Errors
+    ///
+    /// What stops the run: `Memory` where there is none, and `Spent` where a journal that it adds to is full.
     pub fn recv(&mut self, host: u8, port: u16) -> Result<(), Stop>
         requires host { host < self.old.count }
         ensures count { self.new.count ≡ self.old.count }

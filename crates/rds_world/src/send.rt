@@ -69,6 +69,10 @@ fn send_order(slot: u16, sport: u16, dport: u16, payload: &Payload) -> Result<Or
 
 impl World {
     /// Sends a datagram from the socket at a port of a host to a port of a peer.
+    ///
+    /// # Errors
+    ///
+    /// What stops the run: `Memory` where there is none, and `Spent` where a journal that it adds to is full.
     pub fn send<L: Ledger>(
         &mut self,
         host: u8,
