@@ -3,16 +3,18 @@
 ghost use Rattle.std.specs.Prelude.{◌≡◌, ◌%◌, IfOk};
 ghost use Rattle.rds_script.specs.Reading.{counting};
 
+use crate::route::HOSTS;
 use rds_wire::{Memory, Payload, Payloads};
 use std::alloc::Global;
+use std::array;
 
 /// The lengths of the payloads go from 0 to one less, and then begin again.
 const LENGTHS: u8 = 64;
 
-/// The room that all payloads share, and the longest of them.
+/// A room for the payloads of each host, and the longest of them. No two hosts share a block of memory, as in a script that is read.
 #[derive(Drop)]
 pub(crate) struct Filling {
-    room: Payloads,
+    rooms: [Payloads; HOSTS as usize],
     longest: Vec<u8>,
     ghost counts: { longest.items ≡ counting 63 },
 }
@@ -20,17 +22,17 @@ pub(crate) struct Filling {
 impl Filling {
     pub(crate) fn new(alloc: Global) -> Result<Filling, Memory> {
         Ok(Filling {
-            room: Payloads::new(alloc),
+            rooms: array::from_fn(|_: usize| Payloads::new(alloc)),
             longest: longest(alloc)?,
         })
     }
 
-    /// The payload of the send of this number: bytes that count up from 0.
-    pub(crate) fn payload(&mut self, i: u32) -> Result<Payload, Memory>
+    /// The payload of the send of this number, which the host makes: bytes that count up from 0.
+    pub(crate) fn payload(&mut self, host: u8, i: u32) -> Result<Payload, Memory>
         ensures { IfOk result (λ p. p ≡ counting (i % 64)) }
     {
         let len = (i % u32::from(LENGTHS)) as usize;
-        self.room.copy_of(&self.longest[..len])
+        self.rooms[usize::from(host % HOSTS)].copy_of(&self.longest[..len])
     }
 }
 

@@ -34,12 +34,13 @@ impl Model for Listing {
 }
 
 impl Listing {
-    pub(crate) fn new(alloc: Global) -> Listing
-        ensures { result ≡ [] }
+    /// No command yet, and room for so many.
+    pub(crate) fn with_room(alloc: Global, commands: usize) -> Result<Listing, Memory>
+        ensures { IfOk result (λ listing. listing ≡ []) }
     {
-        Listing {
-            placed: Vec::new(alloc),
-        }
+        Ok(Listing {
+            placed: Vec::with_capacity(alloc, commands)?,
+        })
     }
 
     /// Adds a command on the next line.

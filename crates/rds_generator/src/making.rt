@@ -28,7 +28,7 @@ const CUT_EVERY: u32 = 500;
 /// to sockets of other hosts as the seed's draws say, and after each 500th send cuts the stream between its two hosts.
 /// Commands have the lines that they would have in a text, where `hosts 8` is line 1.
 ///
-/// It takes time linear in the sends. The payloads share their memory, and count up from 0 with 0 to 63 bytes.
+/// It takes time linear in the sends. The payloads of a host share their memory, and count up from 0 with 0 to 63 bytes.
 ///
 /// # Errors
 ///
@@ -40,7 +40,7 @@ pub fn generate(alloc: Global, sends: u32, seed: u64) -> Result<Script, Memory>
     // Each host, port, buffer and payload is in range.
     ensures known { IfOk result IsScript }
 {
-    let mut listing = Listing::new(alloc);
+    let mut listing = Listing::with_room(alloc, command_count(sends))?;
     add_binds(&mut listing)?;
     add_turns(&mut listing, alloc, sends, seed)?;
     Ok(Script {
@@ -48,6 +48,12 @@ pub fn generate(alloc: Global, sends: u32, seed: u64) -> Result<Script, Memory>
         hosts_line: HOSTS_LINE,
         commands: listing.into_placed(),
     })
+}
+
+/// How many commands the script of so many sends has.
+fn command_count(sends: u32) -> usize {
+    let binds = usize::from(HOSTS) * usize::from(SOCKETS);
+    binds + sends as usize + (sends / CUT_EVERY) as usize
 }
 
 /// Adds the binds of all hosts.
@@ -109,7 +115,7 @@ fn add_turn(
         to,
         dport,
     } = Route::next(draws);
-    let payload = filling.payload(i)?;
+    let payload = filling.payload(host, i)?;
     listing.add(Command::Send {
         host,
         port,

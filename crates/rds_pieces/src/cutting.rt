@@ -6,8 +6,9 @@ ghost use Rattle.rds_pieces.specs.Pieces.{EndsLine, AreCut, contents};
 
 use std::alloc::{AllocError, Global};
 
-/// About how many bytes a piece has.
-pub(crate) const PIECE: usize = 131_072;
+/// About how many bytes a piece has: few enough that the C library takes the memory for its copy out of a heap, and doesn't ask the
+/// kernel for it by itself.
+pub(crate) const PIECE: usize = 65_536;
 
 /// The beginning of a text up to the end of its first line with a command, and the rest.
 pub(crate) fn head_and_rest(text: &[u8]) -> Option<(&[u8], &[u8])>

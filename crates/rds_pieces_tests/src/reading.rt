@@ -48,7 +48,7 @@ fn expect<R: Threads + Sync + Abort>(
 
 #[test]
 fn scripts_are_read(rt: HostRuntime) -> Result<(), Fail> {
-    // A short script, one of five pieces whose last line lacks its end, and one that ends with a blank.
+    // A short script, one of ten pieces whose last line lacks its end, and one that ends with a blank.
     expect(&rt, rt.alloc(), &[(HEAD, 1), (LINES, 3)], "15 commands")?;
     expect(
         &rt,
@@ -66,7 +66,7 @@ fn scripts_are_read(rt: HostRuntime) -> Result<(), Fail> {
 
 #[test]
 fn lines_are_refused(rt: HostRuntime) -> Result<(), Fail> {
-    // In the second piece, in the last one, in both, and in a second head.
+    // In the fourth piece, in the last one, in both, and in a second head.
     expect(
         &rt,
         rt.alloc(),

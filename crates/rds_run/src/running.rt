@@ -17,7 +17,6 @@ use rds_threads::{Form, RunEnd, run};
 use std::alloc::Global;
 use std::net::Net;
 use std::sync::Wait;
-use std::thread;
 use std::thread::Threads;
 
 /// How many quiet rounds a run waits for acknowledgements at most, over streams that don't tell their bytes.
@@ -93,13 +92,11 @@ where
     }
 }
 
-// Lets go of the script beside what the hosts of a run have, that of each host in a thread of its own.
+// Lets go of what the hosts of a run have, that of each host in a thread of its own. The script has shares of the same blocks of
+// memory, and threads that count the owners of one block beside one another wait for each other. So it goes afterwards.
 fn let_go<R: Threads + Sync>(rt: &R, ends: Vec<HostEnd>, script: Script) {
-    thread::join(rt, move || drop(script), move || let_hosts_go(rt, ends));
-}
-
-fn let_hosts_go<R: Threads + Sync>(rt: &R, ends: Vec<HostEnd>) {
     ends.into_par_iter()
         .with_min_len(1)
         .for_each(rt, |end: HostEnd| drop(end));
+    drop(script);
 }

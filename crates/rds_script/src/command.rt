@@ -9,8 +9,8 @@ ghost use Rattle.rds_script.specs.declared.name.Name.TheVariants as names;
 use crate::fault::Fault;
 use crate::line::has_words;
 use crate::name::Name;
-use crate::payload::{Room, payload_at};
 use crate::place::{end_at, host_at, number_at, peer_at, port_at};
+use crate::rooms::Rooms;
 use crate::{Cause, Command};
 
 /// The most bytes that a socket's buffer may have.
@@ -19,7 +19,7 @@ const MAX_BUFFER: u32 = 16_777_216;
 /// The command of this name, from the other words of its line. Only where they give none are they counted, since a wrong
 /// number of words comes before what is wrong with one of them.
 pub(crate) fn command_of(
-    room: &mut Room,
+    rooms: &mut Rooms,
     hosts: u8,
     name: Name,
     rest: &[u8],
@@ -28,17 +28,17 @@ pub(crate) fn command_of(
     ensures { GivesOrMemory (λ c. c) result
         (exact name (words rest.now) (command_at hosts name (words rest.now))) }
 {
-    let command = command_at(room, hosts, name, rest);
+    let command = command_at(rooms, hosts, name, rest);
     if command.is_err() && !has_words(rest, name.places()) {
         return Err(Fault::Refused(Cause::Words));
     }
     command
 }
 
-/// The command of this name, from the other words of its line. A payload gets its bytes from the room that all payloads of
-/// the script share.
+/// The command of this name, from the other words of its line. A payload gets its bytes from the room of the
+/// host that sends it.
 #[tactic(auto, unfolding(crate::specs::Reading::command_at))]
-fn command_at(room: &mut Room, hosts: u8, name: Name, rest: &[u8]) -> Result<Command, Fault>
+fn command_at(rooms: &mut Rooms, hosts: u8, name: Name, rest: &[u8]) -> Result<Command, Fault>
     requires { is_hosts name ≡ false }
     ensures { GivesOrMemory (λ c. c) result (command_at hosts name (words rest.now)) }
 {
@@ -62,7 +62,7 @@ fn command_at(room: &mut Room, hosts: u8, name: Name, rest: &[u8]) -> Result<Com
                 rcvbuf,
             })
         }
-        Name::Send => send(room, hosts, rest),
+        Name::Send => send(rooms, hosts, rest),
         Name::Recv => {
             let (host, port) = socket(hosts, rest)?;
             Ok(Command::Recv { host, port })
@@ -161,14 +161,14 @@ fn pair_and_bytes(hosts: u8, rest: &[u8]) -> Result<(u8, u8, u32), Cause>
 
 /// A host and a port, another host and port, and a payload.
 #[tactic(auto, unfolding(crate::specs::Reading::command_at))]
-fn send(room: &mut Room, hosts: u8, rest: &[u8]) -> Result<Command, Fault>
+fn send(rooms: &mut Rooms, hosts: u8, rest: &[u8]) -> Result<Command, Fault>
     ensures { GivesOrMemory (λ c. c) result (command_at hosts names.Send (words rest.now)) }
 {
     let (host, rest) = host_at(hosts, rest)?;
     let (port, rest) = port_at(rest)?;
     let (to, rest) = host_at(hosts, rest)?;
     let (dport, rest) = port_at(rest)?;
-    let (payload, rest) = payload_at(room, rest)?;
+    let (payload, rest) = rooms.payload_at(host, rest)?;
     end_at(rest)?;
     Ok(Command::Send {
         host,

@@ -5,10 +5,11 @@ use crate::command::command_of;
 use crate::fault::Fault;
 use crate::line::{first_word, has_words, is_named, is_text_line};
 use crate::name::Name;
-use crate::payload::Room;
 use crate::place::number_at;
+use crate::rooms::Rooms;
 use crate::script::{MAX_CUTS, MAX_TOTAL};
 use crate::{Cause, Command, Placed, Script};
+use rds_wire::Memory;
 use std::alloc::Global;
 
 /// The script of the lines that were read so far; it has 0 hosts before its first command.
@@ -16,7 +17,7 @@ use std::alloc::Global;
 pub(crate) struct Draft {
     pub(crate) script: Script,
     /// What the payloads are made from.
-    room: Room,
+    rooms: Rooms,
     /// The payload bytes of all sends.
     total: u32,
     /// How many cuts there are.
@@ -28,26 +29,27 @@ pub(crate) struct Draft {
 }
 
 impl Draft {
-    ghost use Rattle.std.specs.Prelude.{◌≡◌};
+    ghost use Rattle.std.specs.Prelude.{◌≡◌, IfOk};
     ghost use Rattle.rds_script.specs.Text.{words};
     ghost use Rattle.rds_script.specs.Grammar.{meaning, nothing};
     ghost use Rattle.rds_script.specs.Reading as reading;
     ghost use Rattle.rds_script.specs.Reading.{Becomes};
     ghost use Rattle.rds_script.specs.declared.name.Name.TheVariants as names;
 
-    pub(crate) fn new(alloc: Global) -> Draft
-        ensures { meaning result.script ≡ nothing }
+    /// Nothing yet, with room for so many commands.
+    pub(crate) fn with_room(alloc: Global, commands: usize) -> Result<Draft, Memory>
+        ensures { IfOk result (λ draft. meaning draft.script ≡ nothing) }
     {
-        Draft {
+        Ok(Draft {
             script: Script {
                 hosts: 0,
                 hosts_line: 0,
-                commands: Vec::new(alloc),
+                commands: Vec::with_capacity(alloc, commands)?,
             },
-            room: Room::new(alloc),
+            rooms: Rooms::new(alloc),
             total: 0,
             cuts: 0,
-        }
+        })
     }
 
     /// Reads the next line, which has this number. After a fault the draft is of no use.
@@ -81,7 +83,7 @@ impl Draft {
         if name.is_hosts() {
             return self.read_hosts(number, rest);
         }
-        let command = command_of(&mut self.room, self.script.hosts, name, rest)?;
+        let command = command_of(&mut self.rooms, self.script.hosts, name, rest)?;
         self.add(number, command)
     }
 

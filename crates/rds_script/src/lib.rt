@@ -11,6 +11,7 @@ mod name;
 mod payload;
 mod place;
 mod reading;
+mod rooms;
 mod script;
 
 pub use cause::{Cause, ScriptError};

@@ -54,7 +54,9 @@ fn read_text(alloc: Global, text: &[u8]) -> Result<Script, ScriptError>
 fn read_lines(alloc: Global, text: &[u8]) -> Result<Script, ScriptError>
     ensures { Reads meaning result (lines_at nothing 0 (lines text.now)) }
 {
-    let mut draft = Draft::new(alloc);
+    let Ok(mut draft) = Draft::with_room(alloc, line_count(text)) else {
+        return Err(ScriptError::Memory);
+    };
     let mut rest = text;
     let mut number = 0;
     while !rest.is_empty() {
@@ -69,6 +71,12 @@ fn read_lines(alloc: Global, text: &[u8]) -> Result<Script, ScriptError>
         rest = after;
     }
     Ok(draft.script)
+}
+
+/// How many lines of a text end, but no more than a text may have: so many commands are made room for.
+fn line_count(text: &[u8]) -> usize {
+    let ends = text.iter().filter(|byte| **byte == b'\n').count();
+    ends.min(MAX_LINES as usize)
 }
 
 fn refused(line: u32, cause: Cause) -> ScriptError

@@ -20,7 +20,7 @@ returns-in-Err c =
 pub loop-rest-preserved : goal.loop-rest-preserved
 loop-rest-preserved c =
     let s = meaning c.loop-rest.draft.script in
-    let e = goes_on s (meaning c.read_line.new.self.script) c.loop-rest.number c.first_line.result.0.now _ c.if-number-eq-MAX_LINES.false (c.in_default.ensures {u = tt}) in
+    let e = goes_on s (meaning c.read_line.new.self.script) c.loop-rest.number c.first_line.result.0.now _ c.if-number-eq-MAX_LINES.false (c.in_default-read_line.ensures {u = tt}) in
     (sym e ∙ sym (ap (lines_at s c.loop-rest.number) c.first_line.ensures.lines) ∙ c.loop-rest.invariant.0, omega arith)
 
 pub returns : goal.returns
