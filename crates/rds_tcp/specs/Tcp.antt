@@ -1,9 +1,16 @@
 -- What contracts see of an end of a stream over TCP, and of what opens such streams. This project's own.
-use Rattle.std.specs.Prelude.{◌≡◌, ℕ, [], false}
+use Rattle.std.specs.Prelude.{◌≡◌, ℕ, List, [], None, Some, false}
 use Rattle.rtrb.specs.Ring.{sent, received, known_items, known_free}
 use Rattle.rds_link.specs.Ends.{Means}
 use Rattle.rds_link.specs.Standing.{AreTwoEnds}
 use Rattle.rds_tcp.specs.declared.end.TcpEnd.{TcpEnd}
+
+-- what was taken out of the ring of an end, and what is known to wait there
+abbrev pub taken : TcpEnd → List ℕ
+taken e = elim e.inp [ None ↦ [] | Some ring ↦ received ring ]
+
+abbrev pub waiting : TcpEnd → List ℕ
+waiting e = elim e.inp [ None ↦ [] | Some ring ↦ known_items ring ]
 
 -- It tells nothing of content, since no clause knows what a network does. What it sent and got is what it put into its one ring
 -- and took from the other.
@@ -11,8 +18,8 @@ abbrev pub tcp_means : Means TcpEnd
 tcp_means = record {
   tells = false;
   sent = λ e. sent e.out;
-  got = λ e. received e.inp;
-  known = λ e. known_items e.inp;
+  got = taken;
+  known = waiting;
   room = λ e. known_free e.out;
   calls = λ e. 0;
   fail = λ e. [];
@@ -24,7 +31,7 @@ tcp_means = record {
 
 -- the end has put nothing into its one ring, and taken nothing from the other
 abbrev pub HasMovedNothing : TcpEnd → Type 0
-HasMovedNothing e = (sent e.out ≡ []) × (received e.inp ≡ [])
+HasMovedNothing e = (sent e.out ≡ []) × (taken e ≡ [])
 
 -- the three counts of a wire, and how many of its ends are out
 pub record Counts : Type 0 where

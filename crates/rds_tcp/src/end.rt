@@ -1,12 +1,11 @@
 //! An end of a stream over TCP.
-ghost use Rattle.std.specs.Prelude.{◌≡◌, ◌≢◌, ◌++◌, ◌≤◌, ◌<◌, ℕ, length, take, drop, false};
-ghost use Rattle.rtrb.specs.Ring.{sent, received};
+ghost use Rattle.std.specs.Prelude.{◌≡◌, ◌≢◌, ◌++◌, ◌≤◌, ◌<◌, ℕ, IsSome, Some, length, take, drop, false};
+ghost use Rattle.rtrb.specs.Ring.{sent};
 ghost use Rattle.rds_link.specs.Answers.{bytes_got, bytes_put};
 ghost use Rattle.rds_link.specs.declared.end.Got.TheVariants as got;
 ghost use Rattle.rds_link.specs.declared.end.Put.TheVariants as put;
 ghost use Rattle.rds_link.specs.Ends.{Remains, SendsNothing, GetsNothing, RisesBy};
 ghost use Rattle.rds_link.specs.Standing.{standing as standing_of, Failed, IsOver, GoesOn};
-ghost use Rattle.rds_tcp.specs.Tcp.{tcp_means};
 
 use crate::pipe::Pipe;
 use crate::rings::Near;
@@ -15,25 +14,33 @@ use rtrb::{Consumer, Producer};
 use std::sync::Wait;
 
 /// An end of a stream over TCP. Two threads move its bytes between the TCP stream and its two rings; they end once it has shut, or is
-/// dropped.
+/// dropped. The ring that it reads from is taken out for each read, so that the loop which copies bytes keeps the ring's address at
+/// hand, and copies many at once.
 #[derive(Drop)]
 pub struct TcpEnd {
     pub(crate) out: Producer<u8>,
-    pub(crate) inp: Consumer<u8>,
+    pub(crate) inp: Option<Consumer<u8>>,
     pub(crate) standing: Standing,
     pub(crate) pipe: Pipe,
     pub(crate) nothings: u64,
     pub(crate) fulls: u64,
+    ghost there: { IsSome inp },
 }
 
 impl TcpEnd {
+    ghost use Rattle.rds_tcp.specs.Tcp.{taken};
+
     pub(crate) fn new(pipe: Pipe, near: Near, standing: Standing) -> TcpEnd
-        ensures { result ≡ record { out = near.out; inp = near.inp; standing = standing; pipe = pipe; nothings = 0; fulls = 0 } }
+        ensures out { result.out ≡ near.out }
+        ensures inp { result.inp ≡ Some near.inp }
+        ensures standing { result.standing ≡ standing }
+        ensures pipe { result.pipe ≡ pipe }
+        ensures counts { (result.nothings ≡ 0) × (result.fulls ≡ 0) }
     {
         let Near { out, inp } = near;
         TcpEnd {
             out,
-            inp,
+            inp: Some(inp),
             standing,
             pipe,
             nothings: 0,
@@ -43,12 +50,16 @@ impl TcpEnd {
 
     // Takes bytes that came from the ring, and tells the reader that there is room.
     fn pull(&mut self, buf: &mut [u8]) -> usize
-        ensures same { self.new ≡ record self.old { inp = self.new.inp } }
+        ensures same { self.new ≡ record self.old { inp = self.new.inp; there = self.new.there } }
         ensures count { result ≤ length buf.old }
-        ensures got { received self.new.inp ≡ received self.old.inp ++ take result buf.new }
+        ensures got { taken self.new ≡ taken self.old ++ take result buf.new }
         ensures rest { drop result buf.new ≡ drop result buf.old }
     {
-        let count = self.inp.pop_partial_slice(buf);
+        let Some(mut ring) = self.inp.take() else {
+            unreachable!()
+        };
+        let count = ring.pop_partial_slice(buf);
+        self.inp = Some(ring);
         if count > 0 {
             self.pipe.ring_reader();
         }

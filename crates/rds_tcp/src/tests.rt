@@ -33,7 +33,10 @@ fn waiting<R: Threads + Wait + Net>(rt: &R, wire: &mut TcpWire, bytes: &[u8]) ->
         }
         b.rest(rt);
     }
-    Some(b.inp.slots())
+    let Some(ring) = &mut b.inp else {
+        return None;
+    };
+    Some(ring.slots())
 }
 
 #[test]
