@@ -1,12 +1,12 @@
 -- Which port a slot has claimed, through the calls on it.
-use Rattle.std.proofs.Common.{◌≡◌, ℕ, List, Option, Some, sym, ap, subst, ⊎_elim, ◌∙◌}
+use Rattle.std.proofs.Common.{◌≡◌, ◌≤◌, ◌+◌, ◌-◌, ◌%◌, arith, length, ℕ, List, Option, Some, sym, ap, subst, ⊎_elim, ◌∙◌}
 use Rattle.std.proofs.lemmas.List.Elements.{Contains-push_cases}
 use Rattle.std.proofs.lemmas.Option.{same_Some}
 use Rattle.rds_bindtab.specs.declared.view.View.{View}
 use Rattle.rds_bindtab.specs.declared.view.Step.TheVariants.{Claimed, Released}
 use Rattle.rds_bindtab.specs.Seats.{PortSeat, after_release, port_of}
 use Rattle.rds_fmap.specs.Readers.{ReaderView}
-use Rattle.rds_parts.specs.Ports.{HasClaimedOnly}
+use Rattle.rds_parts.specs.Ports.{HasClaimedOnly, SearchFits}
 use Rattle.rds_socket.specs.Holding.{Holding, Open}
 use Rattle.rds_socket.specs.Calls.{IsClosed}
 use Rattle.rds_model.specs.declared.order.Datagram.{Datagram}
@@ -45,3 +45,9 @@ open_with o got h claimed holds = record { claimed = claimed; holds = λ port is
 -- a slot shows one place
 pub port_shown : (x : State) (q : Place) (h : Holding ReaderView) → shown x ≡ Some q → HasItsPort q h → (p : Place) → shown x ≡ Some p → HasItsPort p h
 port_shown x q h shows has p at = subst (λ (r : Place). HasItsPort r h) (same_Some q p (sym shows ∙ at)) has
+
+-- a search finds no reserved port
+pub search_low : (old : PortSeat) (p port : ℕ) (new : PortSeat) → SearchFits old p (Some port) new → 2 ≤ port
+search_low old p port new fits =
+    let at : port ≡ 2 + (p - 2 + length fits.0) % 65534 = fits.3 in
+    omega arith

@@ -33,29 +33,26 @@ module _ (r : Result (Unit {0}) Memory) (old away : List State) (slot : ℕ) (so
 
   module _ (port : ℕ) (Rel : Open ReaderView → List Datagram → Place → Type 0) (t : Tenant) (was : slice_get old slot ≡ Some (state.Bound t)) (held : t.socket.port ≡ port) where
     -- the socket of the port is another now
-    pub tenant_back : (u : Tenant) → u.socket.port ≡ t.socket.port → PlaceKeeps t.socket.own u.socket.own → OnOk r (Rel t.socket t.got.items (Bound u.socket u.got.items))
-        → ComesTo (AtPort port Rel) old (set away slot (state.Bound u)) r
-    tenant_back u same keeps rel =
-        let new = set away slot (state.Bound u) in
-        let put = tenant_put old new slot t u sound was same keeps (back_in (state.Bound u)) in
+    pub tenant_back : (u : Tenant) (new : List State) → new ≡ set away slot (state.Bound u) → u.socket.port ≡ t.socket.port → PlaceKeeps t.socket.own u.socket.own → OnOk r (Rel t.socket t.got.items (Bound u.socket u.got.items))
+        → ComesTo (AtPort port Rel) old new r
+    tenant_back u new made same keeps rel =
+        let put = tenant_put old new slot t u sound was same keeps (made ∙ back_in (state.Bound u)) in
         record { sound = put.changed.sound; keeps = put.keeps; done = at_port r port Rel old new (shown_all old) slot t (Bound u.socket u.got.items) refl put held rel }
 
     -- it has ended
-    pub former_back : (f : FormerTenant) → PlaceKeeps t.socket.own f.closed → OnOk r (Rel t.socket t.got.items (Ended f.port f.closed f.got.items))
-        → ComesTo (AtPort port Rel) old (set away slot (state.Ended f)) r
-    former_back f keeps rel =
-        let new = set away slot (state.Ended f) in
-        let put = former_put old new slot t f sound was keeps (back_in (state.Ended f)) in
+    pub former_back : (f : FormerTenant) (new : List State) → new ≡ set away slot (state.Ended f) → PlaceKeeps t.socket.own f.closed → OnOk r (Rel t.socket t.got.items (Ended f.port f.closed f.got.items))
+        → ComesTo (AtPort port Rel) old new r
+    former_back f new made keeps rel =
+        let put = former_put old new slot t f sound was keeps (made ∙ back_in (state.Ended f)) in
         record { sound = put.changed.sound; keeps = put.keeps; done = at_port r port Rel old new (shown_all old) slot t (Ended f.port f.closed f.got.items) refl put held rel }
 
   -- the next slot was to be bound to a free port
-  pub next_back : (port : ℕ) (Fits : Holding ReaderView → Open ReaderView → Type 0) (h : Holding ReaderView) (y : State) → slice_get old slot ≡ Some (state.Vacant h) → IsNext (shown_all old) slot h
+  pub next_back : (port : ℕ) (Fits : Holding ReaderView → Open ReaderView → Type 0) (h : Holding ReaderView) (y : State) (new : List State) → new ≡ set away slot y → slice_get old slot ≡ Some (state.Vacant h) → IsNext (shown_all old) slot h
       → IsFree (shown_all old) port → OnOk r ((o : Open ReaderView) × Fits h o × (o.port ≡ port) × (shown y ≡ Some (Bound o []))) → OnErr r ((p : Place) × (shown y ≡ Some p) × IsUnbound p)
-      → ((p : Place) → shown y ≡ Some p → PlaceKeeps h (holding_of p) × HasKept p) → ComesTo (BindsNext Fits) old (set away slot y) r
-  next_back port Fits h y was next free bound failed keeps =
-      let new = set away slot y in
+      → ((p : Place) → shown y ≡ Some p → PlaceKeeps h (holding_of p) × HasKept p) → ComesTo (BindsNext Fits) old new r
+  next_back port Fits h y new made was next free bound failed keeps =
       let out = bind_outcome r y port (λ (o : Open ReaderView). Fits h o × (o.port ≡ port)) (λ o f. f.1) (on_ok_weaker r (λ b. (b.0, (b.1, b.2), b.3)) bound) failed in
-      let put = next_put old new slot h y out.0 sound was next out.1 (keeps out.0 out.1) (λ o got e. subst (λ (q : ℕ). IsFree (shown_all old) q) (sym (out.2 o got e)) free) (back_in y) in
+      let put = next_put old new slot h y out.0 sound was next out.1 (keeps out.0 out.1) (λ o got e. subst (λ (q : ℕ). IsFree (shown_all old) q) (sym (out.2 o got e)) free) (made ∙ back_in y) in
       record {
         sound = put.changed.sound;
         keeps = put.keeps;
@@ -63,17 +60,17 @@ module _ (r : Result (Unit {0}) Memory) (old away : List State) (slot : ℕ) (so
       }
 
 -- a cut was asked for by the last slot
-pub last_cut : (r : Result (Unit {0}) Memory) (peer : ℕ) (old : List State) (last : ℕ) (x y : State) → AreSlots old → slice_get old last ≡ Some x → last + 1 ≡ length old → OnErr r (y ≡ x)
+pub last_cut : (r : Result (Unit {0}) Memory) (peer : ℕ) (old : List State) (last : ℕ) (x y : State) (new : List State) → new ≡ set (set old last state.Away) last y → AreSlots old → slice_get old last ≡ Some x → last + 1 ≡ length old → OnErr r (y ≡ x)
     → OnOk r ((p : Place) → shown x ≡ Some p → (q : Place) × Cuts peer p q × (shown y ≡ Some q))
-    → ((p q : Place) → shown x ≡ Some p → shown y ≡ Some q → PlaceKeeps (holding_of p) (holding_of q)) → ComesTo (CutsByLast peer) old (set old last y) r
-last_cut r peer old last x y sound at count same done keeps =
+    → ((p q : Place) → shown x ≡ Some p → shown y ≡ Some q → PlaceKeeps (holding_of p) (holding_of q)) → ComesTo (CutsByLast peer) old new r
+last_cut r peer old last x y new made sound at count same done keeps =
     let p = here_seen old sound.whole last x at in
     let out = cut_outcome r peer x y p.0 p.1 same done in
-    let put = cut_put old (set old last y) last x y p.0 out.0 sound at p.1 out.1 out.2 keeps refl in
+    let put = cut_put old new last x y p.0 out.0 sound at p.1 out.1 out.2 keeps (made ∙ set_twice old last state.Away y) in
     record {
       sound = put.changed.sound;
       keeps = put.keeps;
-      done = cuts_by_last r peer old (set old last y) (shown_all old) last p.0 (with_holding p.0 out.0) refl put (let n = count_seen old sound.whole in omega arith) out.3;
+      done = cuts_by_last r peer old new (shown_all old) last p.0 (with_holding p.0 out.0) refl put (let n = count_seen old sound.whole in omega arith) out.3;
     }
 
 -- the same, as a caller shows its slots

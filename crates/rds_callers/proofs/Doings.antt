@@ -1,5 +1,5 @@
 -- What the calls on one slot do to all of them.
-use Rattle.std.proofs.Common.{◌≡◌, ℕ, ◌<◌, ◌+◌, ◌≤◌, Bool, true, false, not, List, [], ◌∷◌, ◌++◌, length, set, get_or, Result, Ok, Err, Option, Some, None, IfSome, IfNone, slice_get, OnOk, OnErr, inl, inr, refl, sym, ap, subst, ◌∙◌, ⊎_elim, arith}
+use Rattle.std.proofs.Common.{◌≡◌, ℕ, ◌<◌, ◌+◌, ◌≤◌, Bool, true, false, not, List, [], ◌∷◌, ◌++◌, length, set, Result, Ok, Err, Option, Some, None, IfSome, IfNone, slice_get, OnOk, OnErr, inl, inr, refl, sym, ap, subst, ◌∙◌, ⊎_elim, arith}
 use Rattle.std.proofs.lemmas.Bool.{cases_lt, eq-eqb}
 use Rattle.std.proofs.Common.{eqb-true}
 use Rattle.std.proofs.lemmas.Option.{same_Some, slice_get_within}
@@ -12,7 +12,6 @@ use Rattle.rds_mail.specs.Passes.{Putter, after_note}
 use Rattle.rds_mail.specs.Numbers.{bare_items}
 use Rattle.rds_fmap.specs.Readers.{ReaderView}
 use Rattle.rds_socket.specs.Calls.{with_own, with_inbox, IsReceived}
-use Rattle.rds_parts.specs.PlaceLaws.{stands}
 use Rattle.rds_socket.specs.Holding.{Holding, Open}
 use Rattle.rds_callers.specs.Places.{Place, Vacant, Bound, Ended, Spare, ArePlaces, HasKept, IsUsed, IsUnbound, IsVacantPlace, PlaceKeeps, holding_of, with_holding, told_by}
 use Rattle.rds_callers.specs.Tenants.{Asks, Cuts, ReceivesNext}
@@ -250,21 +249,27 @@ at_port (Ok r) port Rel old new places slot t q view put port_is rel =
     subst (λ (l : List Place). AtPort port Rel l (shown_all new)) view (inl (slot, t.socket, t.got.items, put.changed.was, port_is, (q, rel, put.changed.is)))
 at_port (Err r) port Rel old new places slot t q view put port_is rel = tt
 
--- the place that contracts see at a slot, which is read by an index
-pub standing : (states : List State) (places : List Place) (slot place : ℕ) (x : State) (p : Place) → NoneAway states → shown_all states ≡ places → place ≡ slot → x ≡ get_or states place x
-    → slice_get places slot ≡ Some p → (slice_get states place ≡ Some x) × (shown x ≡ Some p)
-standing states places slot place x p whole view same read at =
+-- the state that was taken from a slot shows the place that contracts see there
+pub showing : (states : List State) (places : List Place) (slot place : ℕ) (x : State) (p : Place) → NoneAway states → shown_all states ≡ places → place ≡ slot → slice_get states place ≡ Some x
+    → slice_get places slot ≡ Some p → shown x ≡ Some p
+showing states places slot place x p whole view same here at =
+    let f = find_seen states whole slot p (ap (λ l. slice_get l slot) view ∙ at) in
+    ap shown (same_Some x f.0 (sym here ∙ (ap (λ i. slice_get states i) same ∙ f.1))) ∙ f.2
+
+-- a slot of which contracts see a place is there
+pub place_within : (states : List State) (places : List Place) (slot place : ℕ) (p : Place) → NoneAway states → shown_all states ≡ places → place ≡ slot → slice_get places slot ≡ Some p
+    → place < length states
+place_within states places slot place p whole view same at =
     let f = find_seen states whole slot p (ap (λ l. slice_get l slot) view ∙ at) in
     let small = slice_get_within states slot f.0 f.1 in
-    let here = stands states place x (omega arith) read in
-    (here, ap shown (same_Some x f.0 (sym here ∙ (ap (λ i. slice_get states i) same ∙ f.1))) ∙ f.2)
+    omega arith
 
 -- a slot was told of what a putter had put
-pub heard : (states : List State) (places : List Place) (slot place : ℕ) (x y : State) (p : Place) (note : Putter Datagram) → AreSlots states → shown_all states ≡ places → place ≡ slot
-    → x ≡ get_or states place x → slice_get places slot ≡ Some p → (shown x ≡ Some p → shown y ≡ Some (told_by p note))
-    → AreSlots (set states place y) × (shown_all (set states place y) ≡ set places slot (told_by p note))
-heard states places slot place x y p note sound view same read at told =
-    let stood = standing states places slot place x p sound.whole view same read at in
+pub heard : (states new : List State) (places : List Place) (slot place : ℕ) (x y : State) (p : Place) (note : Putter Datagram) → AreSlots states → shown_all states ≡ places → place ≡ slot
+    → slice_get states place ≡ Some x → new ≡ set states place y → slice_get places slot ≡ Some p → (shown x ≡ Some p → shown y ≡ Some (told_by p note))
+    → AreSlots new × (shown_all new ≡ set places slot (told_by p note))
+heard states new places slot place x y p note sound view same here made at told =
+    let shows = showing states places slot place x p sound.whole view same here at in
     let h = with_inbox (holding_of p) (record (holding_of p).inbox { get = after_note (holding_of p).inbox.get note }) in
-    let c = alike_change states (set states place y) place x y p h sound stood.0 stood.1 (told stood.1) refl refl refl in
+    let c = alike_change states new place x y p h sound here shows (told shows) refl refl made in
     (c.sound, c.is ∙ λ i. set (view i) (same i) (told_by p note))

@@ -4,6 +4,7 @@ pub mod Claiming
 pub mod Putting
 pub mod Seen
 pub mod Searches
+pub mod Marks
 pub mod Doings
 pub mod Sparing
 pub mod Leaving

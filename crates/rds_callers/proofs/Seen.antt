@@ -6,6 +6,7 @@ use Rattle.std.specs.Option.{option_map}
 use Rattle.rds_callers.specs.Places.{Place, ArePlaces, PlaceKeeps, PlacesKeep, holding_of, somes}
 use Rattle.rds_callers.specs.States.{shown, shown_all, NoneAway, AreSlots}
 use Rattle.rds_callers.specs.declared.state.State.{State}
+use Rattle.rds_callers.specs.declared.state.State.TheVariants as state
 use Rattle.rds_callers.proofs.Putting.{MayStand, put_places, put_keeps}
 
 pub somes_some : {A : Type 0} (l : List A) → somes (map Some l) ≡ l
@@ -16,6 +17,19 @@ pub set_twice : {A : Type 0} (l : List A) (i : ℕ) (x y : A) → set (set l i x
 set_twice [] i x y = refl
 set_twice (z ∷ l) zero x y = refl
 set_twice (z ∷ l) (suc i) x y = ap (λ r. z ∷ r) (set_twice l i x y)
+
+pub set_back : {A : Type 0} (l : List A) (i : ℕ) (x y : A) → slice_get l i ≡ Some x → set (set l i y) i x ≡ l
+set_back [] i x y e = refl
+set_back (z ∷ l) zero x y e = ap (λ a. a ∷ l) (sym (same_Some z x e))
+set_back (z ∷ l) (suc i) x y e = ap (λ r. z ∷ r) (set_back l i x y e)
+
+-- what was taken out of a slot came back as another
+pub put_over : (old away new : List State) (slot : ℕ) (y : State) → away ≡ set old slot state.Away → new ≡ set away slot y → new ≡ set old slot y
+put_over old away new slot y took put = put ∙ (ap (λ (l : List State). set l slot y) took ∙ set_twice old slot state.Away y)
+
+-- it came back as it was
+pub put_same : (old away new : List State) (slot : ℕ) (x y : State) → slice_get old slot ≡ Some x → away ≡ set old slot state.Away → new ≡ set away slot y → y ≡ x → new ≡ old
+put_same old away new slot x y was took put same = put ∙ ((λ i. set (took i) slot (same i)) ∙ set_back old slot x state.Away was)
 
 -- what is there of an option whose values are wrapped
 unwrapped : {A : Type 0} (g : Option A) (o : Option A) → option_map Some g ≡ Some o → g ≡ o

@@ -38,9 +38,21 @@ holds_port port (state.Ended f) = false
 holds_port port (state.Spare s) = false
 holds_port port state.Away = false
 
+-- the port of a slot's socket, and 0 where none is bound
+abbrev pub port_mark : State → ℕ
+port_mark (state.Vacant h) = 0
+port_mark (state.Bound t) = t.socket.port
+port_mark (state.Ended f) = 0
+port_mark (state.Spare s) = 0
+port_mark state.Away = 0
+
+-- whether it is the port
+abbrev pub is_port : ℕ → ℕ → Bool
+is_port port held = held == port
+
 -- none of them is one of these
-abbrev pub AreNot : (State → Bool) → List State → Type 0
-AreNot is states = (slot : ℕ) (x : State) → slice_get states slot ≡ Some x → is x ≡ false
+abbrev pub AreNot : {A : Type 0} → (A → Bool) → List A → Type 0
+AreNot {A} is list = (place : ℕ) (x : A) → slice_get list place ≡ Some x → is x ≡ false
 
 abbrev pub vacant_states : List (Holding ReaderView) → List State
 vacant_states vacants = map state.Vacant vacants

@@ -11,6 +11,7 @@ ghost use Rattle.rds_callers.specs.States.{AreSlots, ComesTo, shown, shown_all};
 use crate::caller::Caller;
 use crate::finding::{find_bound, lift_vacant};
 use crate::former::FormerTenant;
+use crate::slots::Slots;
 use crate::state::State;
 use crate::tenant::Tenant;
 use rds_fmap::Reader;
@@ -36,7 +37,7 @@ impl Caller {
         if port < 2 || !self.is_free(port) {
             return Ok(());
         }
-        bind_next(&mut self.states, alloc, port, sndbuf, rcvbuf)
+        bind_next(&mut self.slots, alloc, port, sndbuf, rcvbuf)
     }
 
     // Binds the next slot to the first free port from this one on. It is refused where all slots are bound.
@@ -56,7 +57,7 @@ impl Caller {
         let Some(port) = self.first_free(start) else {
             return Err(Memory);
         };
-        bind_any_next(&mut self.states, alloc, start, port, sndbuf, rcvbuf)
+        bind_any_next(&mut self.slots, alloc, start, port, sndbuf, rcvbuf)
     }
 
     // Whether no socket holds the port.
@@ -64,7 +65,7 @@ impl Caller {
         ensures free { result ≡ true → IsFree self.now.places port }
         ensures held { result ≡ false → IsHeld self.now.places port }
     {
-        find_bound(&self.states, port).is_none()
+        find_bound(&self.slots, port).is_none()
     }
 
     // The first port from `start` upward, and round the top to 2, that no socket holds.
@@ -84,7 +85,7 @@ impl Caller {
 
 // Binds the next slot to the port, if a slot is left.
 fn bind_next(
-    states: &mut Vec<State>,
+    slots: &mut Slots,
     alloc: Global,
     port: u16,
     sndbuf: u32,
@@ -92,22 +93,22 @@ fn bind_next(
 ) -> Result<(), Memory>
     requires sndbuf { (1 ≤ sndbuf) × (sndbuf ≤ 16777216) }
     requires rcvbuf { (2 ≤ rcvbuf) × (rcvbuf ≤ 16777216) }
-    requires slots { AreSlots states.old.items }
+    requires slots { AreSlots slots.old.states.items }
     requires low { 2 ≤ port }
-    requires free { IsFree (shown_all states.old.items) port }
-    ensures { ComesTo (Binds port sndbuf rcvbuf) states.old.items states.new.items result }
+    requires free { IsFree (shown_all slots.old.states.items) port }
+    ensures { ComesTo (Binds port sndbuf rcvbuf) slots.old.states.items slots.new.states.items result }
 {
-    let Some((slot, vacant)) = lift_vacant(states) else {
+    let Some((slot, vacant)) = lift_vacant(slots) else {
         return Ok(());
     };
     let (state, bound) = bind_vacant(alloc, vacant, port, sndbuf, rcvbuf);
-    states[slot] = state;
+    slots.replace(slot, state);
     bound
 }
 
 // Binds the next slot to the port, which is the first free one from `start` on, if a slot is left.
 fn bind_any_next(
-    states: &mut Vec<State>,
+    slots: &mut Slots,
     alloc: Global,
     start: u16,
     port: u16,
@@ -116,15 +117,15 @@ fn bind_any_next(
 ) -> Result<(), Memory>
     requires sndbuf { (1 ≤ sndbuf) × (sndbuf ≤ 16777216) }
     requires rcvbuf { (2 ≤ rcvbuf) × (rcvbuf ≤ 16777216) }
-    requires slots { AreSlots states.old.items }
-    requires first { IsFirstFree (shown_all states.old.items) start port }
-    ensures { ComesTo (BindsFirstFree start sndbuf rcvbuf) states.old.items states.new.items result }
+    requires slots { AreSlots slots.old.states.items }
+    requires first { IsFirstFree (shown_all slots.old.states.items) start port }
+    ensures { ComesTo (BindsFirstFree start sndbuf rcvbuf) slots.old.states.items slots.new.states.items result }
 {
-    let Some((slot, vacant)) = lift_vacant(states) else {
+    let Some((slot, vacant)) = lift_vacant(slots) else {
         return Ok(());
     };
     let (state, bound) = bind_any_vacant(alloc, vacant, start, port, sndbuf, rcvbuf);
-    states[slot] = state;
+    slots.replace(slot, state);
     bound
 }
 

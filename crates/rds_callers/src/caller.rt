@@ -1,12 +1,13 @@
 //! The caller of a host.
-ghost use Rattle.std.specs.Prelude.{◌≡◌, ◌≤◌, [], ℕ, Some, IfOk, OnOk, length, slice_get};
+ghost use Rattle.std.specs.Prelude.{◌≡◌, [], ℕ, Some, IfOk, OnOk, length, slice_get};
 ghost use Rattle.rds_fmap.specs.Readers.{ReaderView};
 ghost use Rattle.rds_script.specs.Script.{IsCommand};
 ghost use Rattle.rds_socket.specs.Holding.{Holding};
 ghost use Rattle.rds_callers.specs.Doing.{IsDone};
 ghost use Rattle.rds_callers.specs.Places.{ArePlaces, PlacesKeep, vacant_places};
-ghost use Rattle.rds_callers.specs.States.{AreSlots, shown_all, vacant_states};
+ghost use Rattle.rds_callers.specs.States.{AreSlots, shown_all};
 
+use crate::slots::Slots;
 use crate::state::State;
 use rds_final::address;
 use rds_fmap::Reader;
@@ -20,7 +21,7 @@ use std::sync::Wait;
 /// The caller of a host. Contracts see the host's number and what became of each of its slots, in order.
 pub struct Caller {
     pub(crate) host: u8,
-    pub(crate) states: Vec<State>,
+    pub(crate) slots: Slots,
 }
 
 // By hand, so that one call drops it wherever it is let go, and no function that owns one drops each field.
@@ -28,7 +29,7 @@ impl Drop for Caller {
     fn drop(self) {
         let Self {
             host: _,
-            states: _states,
+            slots: _slots,
         } = self;
     }
 }
@@ -41,9 +42,9 @@ impl Model for Caller {
 
     ghost use Rattle.rds_callers.specs.States.{shown_all, AreSlots};
 
-    ghost view = { λ c. record { host = c.host; places = shown_all c.states.items } };
+    ghost view = { λ c. record { host = c.host; places = shown_all c.slots.states.items } };
 
-    ghost invariant = { λ c. AreSlots c.states.items };
+    ghost invariant = { λ c. AreSlots c.slots.states.items };
 }
 
 impl Caller {
@@ -58,8 +59,8 @@ impl Caller {
         ensures host { IfOk result (λ caller. caller.host ≡ host) }
         ensures places { IfOk result (λ caller. caller.places ≡ vacant_places vacants.items) }
     {
-        let states = vacant_states(alloc, vacants)?;
-        Ok(Caller { host, states })
+        let slots = Slots::new(alloc, vacants)?;
+        Ok(Caller { host, slots })
     }
 
     // What became of each slot.
@@ -67,8 +68,8 @@ impl Caller {
         ensures sound { AreSlots result.items }
         ensures places { shown_all result.items ≡ self.places }
     {
-        let Caller { host: _, states } = self;
-        states
+        let Caller { host: _, slots } = self;
+        slots.into_states()
     }
 
     /// How many slots there are.
@@ -76,7 +77,7 @@ impl Caller {
         ensures count { result ≡ length self.now.places }
         ensures places { ArePlaces self.now.places }
     {
-        self.states.len() as u16
+        self.slots.len() as u16
     }
 
     /// Does a command of the host. One that is refused does nothing, and neither do those that speak of streams, but a cut.
@@ -123,19 +124,4 @@ impl Caller {
             Command::Open { .. } | Command::Move { .. } | Command::Drain => Ok(()),
         }
     }
-}
-
-// The slots, none of which is bound.
-fn vacant_states(alloc: Global, vacants: Vec<Vacant<Reader>>) -> Result<Vec<State>, Memory>
-    ensures states { IfOk result (λ states. states.items ≡ vacant_states vacants.items) }
-    ensures count { IfOk result (λ states. length states.items ≤ 65535) }
-{
-    if vacants.len() > usize::from(u16::MAX) {
-        return Err(Memory);
-    }
-    let mut states = Vec::with_capacity(alloc, vacants.len())?;
-    for vacant in vacants {
-        states.push(State::Vacant(vacant))?;
-    }
-    Ok(states)
 }

@@ -7,6 +7,7 @@ ghost use Rattle.rds_callers.specs.States.{AreSlots, ComesTo};
 
 use crate::caller::Caller;
 use crate::finding::lift_bound;
+use crate::slots::Slots;
 use crate::state::State;
 use rds_wire::{Memory, Payload};
 use std::sync::Wait;
@@ -26,7 +27,7 @@ impl Caller {
         ensures done { OnOk result (AtPort port (SendsFrom peer dport payload.now) self.old.places self.new.places) }
     {
         let payload = payload.share()?;
-        send_from(&mut self.states, rt, port, peer, dport, payload)
+        send_from(&mut self.slots, rt, port, peer, dport, payload)
     }
 
     // Receives at the socket of a port, if there is one.
@@ -35,7 +36,7 @@ impl Caller {
         ensures keeps { PlacesKeep self.old.places self.new.places }
         ensures done { OnOk result (AtPort port ReceivesNext self.old.places self.new.places) }
     {
-        receive_at(&mut self.states, rt, port)
+        receive_at(&mut self.slots, rt, port)
     }
 
     // Takes back what the socket of a port has sent to a port of the peer, if there is one.
@@ -50,7 +51,7 @@ impl Caller {
         ensures keeps { PlacesKeep self.old.places self.new.places }
         ensures done { OnOk result (AtPort port (Cancels peer dport) self.old.places self.new.places) }
     {
-        cancel_of(&mut self.states, rt, port, peer, dport)
+        cancel_of(&mut self.slots, rt, port, peer, dport)
     }
 
     // Closes the socket of a port, if there is one.
@@ -59,7 +60,7 @@ impl Caller {
         ensures keeps { PlacesKeep self.old.places self.new.places }
         ensures done { OnOk result (AtPort port Closes self.old.places self.new.places) }
     {
-        close_at(&mut self.states, rt, port)
+        close_at(&mut self.slots, rt, port)
     }
 
     // Asks for a cut of the stream to the peer, by the last slot.
@@ -68,83 +69,86 @@ impl Caller {
         ensures keeps { PlacesKeep self.old.places self.new.places }
         ensures done { OnOk result (CutsByLast peer self.old.places self.new.places) }
     {
-        cut_by_last(&mut self.states, rt, peer)
+        cut_by_last(&mut self.slots, rt, peer)
     }
 }
 
 // Sends from the socket of a port, if there is one.
 fn send_from<R: Wait>(
-    states: &mut Vec<State>,
+    slots: &mut Slots,
     rt: &R,
     port: u16,
     peer: u32,
     dport: u16,
     payload: Payload,
 ) -> Result<(), Memory>
-    requires { AreSlots states.old.items }
-    ensures { ComesTo (AtPort port (SendsFrom peer dport payload)) states.old.items states.new.items result }
+    requires { AreSlots slots.old.states.items }
+    ensures { ComesTo (AtPort port (SendsFrom peer dport payload)) slots.old.states.items slots.new.states.items result }
 {
-    let Some((slot, mut tenant)) = lift_bound(states, port) else {
+    let Some((slot, mut tenant)) = lift_bound(slots, port) else {
         return Ok(());
     };
     let sent = tenant.send(rt, peer, dport, payload);
-    states[slot] = State::Bound(tenant);
+    slots.replace(slot, State::Bound(tenant));
     sent
 }
 
 // Receives at the socket of a port, if there is one.
-fn receive_at<R: Wait>(states: &mut Vec<State>, rt: &R, port: u16) -> Result<(), Memory>
-    requires { AreSlots states.old.items }
-    ensures { ComesTo (AtPort port ReceivesNext) states.old.items states.new.items result }
+fn receive_at<R: Wait>(slots: &mut Slots, rt: &R, port: u16) -> Result<(), Memory>
+    requires { AreSlots slots.old.states.items }
+    ensures { ComesTo (AtPort port ReceivesNext) slots.old.states.items slots.new.states.items result }
 {
-    let Some((slot, mut tenant)) = lift_bound(states, port) else {
+    let Some((slot, mut tenant)) = lift_bound(slots, port) else {
         return Ok(());
     };
     let received = tenant.receive_next(rt);
-    states[slot] = State::Bound(tenant);
+    slots.replace(slot, State::Bound(tenant));
     received
 }
 
 // Takes back what the socket of a port has sent to a port of the peer, if there is one.
 fn cancel_of<R: Wait>(
-    states: &mut Vec<State>,
+    slots: &mut Slots,
     rt: &R,
     port: u16,
     peer: u32,
     dport: u16,
 ) -> Result<(), Memory>
-    requires { AreSlots states.old.items }
-    ensures { ComesTo (AtPort port (Cancels peer dport)) states.old.items states.new.items result }
+    requires { AreSlots slots.old.states.items }
+    ensures { ComesTo (AtPort port (Cancels peer dport)) slots.old.states.items slots.new.states.items result }
 {
-    let Some((slot, mut tenant)) = lift_bound(states, port) else {
+    let Some((slot, mut tenant)) = lift_bound(slots, port) else {
         return Ok(());
     };
     let cancelled = tenant.cancel(rt, peer, dport);
-    states[slot] = State::Bound(tenant);
+    slots.replace(slot, State::Bound(tenant));
     cancelled
 }
 
 // Closes the socket of a port, if there is one.
-fn close_at<R: Wait>(states: &mut Vec<State>, rt: &R, port: u16) -> Result<(), Memory>
-    requires { AreSlots states.old.items }
-    ensures { ComesTo (AtPort port Closes) states.old.items states.new.items result }
+fn close_at<R: Wait>(slots: &mut Slots, rt: &R, port: u16) -> Result<(), Memory>
+    requires { AreSlots slots.old.states.items }
+    ensures { ComesTo (AtPort port Closes) slots.old.states.items slots.new.states.items result }
 {
-    let Some((slot, tenant)) = lift_bound(states, port) else {
+    let Some((slot, tenant)) = lift_bound(slots, port) else {
         return Ok(());
     };
     let (former, closed) = tenant.close(rt);
-    states[slot] = State::Ended(former);
+    slots.replace(slot, State::Ended(former));
     closed
 }
 
 // Asks for a cut of the stream to the peer, by the last slot.
-fn cut_by_last<R: Wait>(states: &mut Vec<State>, rt: &R, peer: u32) -> Result<(), Memory>
-    requires { AreSlots states.old.items }
-    ensures { ComesTo (CutsByLast peer) states.old.items states.new.items result }
+fn cut_by_last<R: Wait>(slots: &mut Slots, rt: &R, peer: u32) -> Result<(), Memory>
+    requires { AreSlots slots.old.states.items }
+    ensures { ComesTo (CutsByLast peer) slots.old.states.items slots.new.states.items result }
 {
-    if states.is_empty() {
+    if slots.len() == 0 {
         return Ok(());
     }
-    let last = states.len() - 1;
-    states[last].cut(rt, peer)
+    let last = slots.len() - 1;
+    let mut state = slots.replace(last, State::Away);
+    let asked = state.cut(rt, peer);
+    slots.replace(last, state);
+    asked
 }

@@ -9,6 +9,7 @@ mod ending;
 mod finding;
 mod former;
 mod settling;
+mod slots;
 mod spare;
 mod state;
 mod tenant;

@@ -7,11 +7,11 @@ ghost use Rattle.rds_callers.specs.Places.{Place, IsUsed, holding_of, told_by, b
 ghost use Rattle.rds_callers.specs.States.{shown};
 
 use crate::caller::Caller;
+use crate::slots::Slots;
 use crate::state::State;
 use rds_bindtab::BindNote;
 use rds_mail::{Asked, Note};
 use rds_model::Datagram;
-use std::mem;
 
 impl Caller {
     /// Gives up each slot that no socket had.
@@ -19,7 +19,7 @@ impl Caller {
         ensures host { self.new.host ≡ self.old.host }
         ensures places { self.new.places ≡ map spared self.old.places }
     {
-        leave_all(&mut self.states);
+        leave_all(&mut self.slots);
     }
 
     /// A note of what a slot that isn't vacant has put on the order queue of a route, counted from 0.
@@ -28,7 +28,11 @@ impl Caller {
         ensures same { self.new ≡ self.old }
         ensures note { (p : Place) → slice_get self.old.places slot ≡ Some p → (lane : Lane ReaderView) × IsLaneAt (holding_of p).routes place lane × (result ≡ lane.pass) }
     {
-        self.states[usize::from(slot)].order_note(place)
+        let slot = usize::from(slot);
+        let mut state = self.slots.replace(slot, State::Away);
+        let note = state.order_note(place);
+        self.slots.replace(slot, state);
+        note
     }
 
     /// The mailbox of a slot that isn't vacant is told of what one of its putters had put.
@@ -37,7 +41,10 @@ impl Caller {
         ensures host { self.new.host ≡ self.old.host }
         ensures told { (p : Place) → slice_get self.old.places slot ≡ Some p → self.new.places ≡ slice_set self.old.places slot (told_by p note) }
     {
-        self.states[usize::from(slot)].hear(note);
+        let slot = usize::from(slot);
+        let mut state = self.slots.replace(slot, State::Away);
+        state.hear(note);
+        self.slots.replace(slot, state);
     }
 
     /// A note of the port that a slot's socket holds, if one is bound.
@@ -46,16 +53,20 @@ impl Caller {
         ensures same { self.new ≡ self.old }
         ensures note { (p : Place) → slice_get self.old.places slot ≡ Some p → result ≡ bind_note p }
     {
-        self.states[usize::from(slot)].port_note()
+        let slot = usize::from(slot);
+        let mut state = self.slots.replace(slot, State::Away);
+        let note = state.port_note();
+        self.slots.replace(slot, state);
+        note
     }
 }
 
 // Gives up each slot that no socket had.
-fn leave_all(states: &mut Vec<State>)
-    ensures { map shown states.new.items ≡ map (option_map spared) (map shown states.old.items) }
+fn leave_all(slots: &mut Slots)
+    ensures { map shown slots.new.states.items ≡ map (option_map spared) (map shown slots.old.states.items) }
 {
-    for slot in 0..states.len() {
-        let state = mem::replace(&mut states[slot], State::Away);
-        states[slot] = state.spared();
+    for slot in 0..slots.len() {
+        let state = slots.replace(slot, State::Away);
+        slots.replace(slot, state.spared());
     }
 }

@@ -7,7 +7,7 @@ ghost use Rattle.rds_fmap.specs.Readers.{ReaderView};
 ghost use Rattle.rds_callers.specs.Places.{Place, PlaceKeeps, holding_of, told_by, bind_note, spared, IsUsed};
 ghost use Rattle.rds_callers.specs.Tenants.{Cuts};
 ghost use Rattle.rds_callers.specs.Ends.{HasItsPort, HasLeft, IsEndOf};
-ghost use Rattle.rds_callers.specs.States.{shown, is_vacant, holds_port};
+ghost use Rattle.rds_callers.specs.States.{shown, is_vacant, port_mark};
 
 use crate::former::FormerTenant;
 use crate::spare::SpareSlot;
@@ -45,13 +45,13 @@ impl State {
         matches!(self, State::Vacant(_))
     }
 
-    /// Whether a socket holds the port.
-    pub(crate) fn holds(&self, port: u16) -> bool
-        ensures { result ≡ holds_port port self.now }
+    /// The port of its socket, and 0 where none is bound.
+    pub(crate) fn port(&self) -> u16
+        ensures { result ≡ port_mark self.now }
     {
         match self {
-            State::Bound(tenant) => tenant.port() == port,
-            _ => false,
+            State::Bound(tenant) => tenant.port(),
+            _ => 0,
         }
     }
 

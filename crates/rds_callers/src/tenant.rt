@@ -1,5 +1,5 @@
 //! Sockets and what they handed out.
-ghost use Rattle.std.specs.Prelude.{◌≡◌, None, IsOk, OnOk};
+ghost use Rattle.std.specs.Prelude.{◌≡◌, ◌≤◌, None, IsOk, OnOk};
 ghost use Rattle.rds_mail.specs.Numbers.{bare_items};
 ghost use Rattle.rds_callers.specs.Tenants.{IsAllowed};
 
@@ -19,6 +19,7 @@ pub(crate) struct Tenant {
     pub(crate) socket: Socket<Reader>,
     pub(crate) got: Vec<Datagram>,
     ghost sends: { socket.told ≡ None },
+    ghost low: { 2 ≤ socket.port },
     ghost kept: { got.items ≡ bare_items socket.own.inbox.get.got },
 }
 
@@ -50,6 +51,7 @@ impl Tenant {
     /// A socket that handed out nothing.
     pub(crate) fn new(alloc: Global, socket: Socket<Reader>) -> Tenant
         requires told { socket.told ≡ None }
+        requires low { 2 ≤ socket.port }
         requires got { socket.own.inbox.get.got ≡ [] }
         ensures socket { result.socket ≡ socket }
         ensures got { result.got.items ≡ [] }

@@ -44,6 +44,17 @@ at_snoc [] x (suc i) y at = absurd (cc)
 at_snoc (z ∷ xs) x zero y at = inl at
 at_snoc (z ∷ xs) x (suc i) y at = ⊎_elim (λ stood. inl stood) (λ new. inr (ap suc new.0, new.1)) (at_snoc xs x i y at)
 
+-- what stood in a list stands there still once one more is at its end
+pub at_push : {A : Type 0} (xs : List A) (x : A) (i : ℕ) (y : A) → slice_get xs i ≡ Some y → slice_get (xs ++ x ∷ []) i ≡ Some y
+at_push [] x i y at = absurd (cc)
+at_push (z ∷ xs) x zero y at = at
+at_push (z ∷ xs) x (suc i) y at = at_push xs x i y at
+
+-- and there that one stands
+pub at_end : {A : Type 0} (xs : List A) (x : A) → slice_get (xs ++ x ∷ []) (length xs) ≡ Some x
+at_end [] x = refl
+at_end (z ∷ xs) x = at_end xs x
+
 -- what stands at a place of a list of which one was set is what was set, or stood there before
 pub at_set_any : {A : Type 0} (xs : List A) (k : ℕ) (x : A) (i : ℕ) (y : A) → slice_get (set xs k x) i ≡ Some y →
     ((i ≡ k) × (y ≡ x)) ⊎ ((i ≢ k) × (slice_get xs i ≡ Some y))

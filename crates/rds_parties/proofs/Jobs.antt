@@ -1,5 +1,6 @@
 -- What the callers of all hosts do beside each other, and their lines.
-use Rattle.std.proofs.Common.{◌≡◌, ℕ, List, Some, length, map, slice_get, Result, Ok, IfOk, sym, ap, subst, ◌∙◌, arith}
+use Rattle.std.proofs.Common.{◌≡◌, ◌⊎◌, ⊎_elim, ℕ, ◌+◌, List, [], ◌∷◌, ◌++◌, Some, length, map, slice_get, Result, Ok, IfOk, sym, ap, subst, ◌∙◌, arith}
+use Rattle.std.proofs.lemmas.List.{length_push}
 use Rattle.std.proofs.lemmas.Option.{same_Some, slice_get_within}
 use Rattle.rds_wire.specs.declared.memory.Memory.{Memory}
 use Rattle.rds_fmap.specs.Readers.{WriterView}
@@ -9,7 +10,24 @@ use Rattle.rds_rounds.specs.Grid.{EachRow}
 use Rattle.rds_settling.specs.Tied.{AreTied}
 use Rattle.rds_parties.specs.Leading.{AreJobs, CallersKeep}
 use Rattle.rds_parties.specs.Parties.{AreParties}
-use Rattle.rds_parties.proofs.At.{length_map, map_at, some_at, stood_at}
+use Rattle.rds_parties.proofs.At.{at_end, at_push, at_snoc, length_map, map_at, some_at, stood_at}
+
+-- one more caller got the number of its host
+pub jobs_more : (callers : List CallerView) (jobs : List (ℕ × CallerView)) (host : ℕ) (caller : CallerView) → host ≡ length callers → AreJobs callers jobs →
+    AreJobs (callers ++ caller ∷ []) (jobs ++ (host, caller) ∷ [])
+jobs_more callers jobs host caller number are = record {
+  count = length_push jobs (host, caller) ∙ ap (λ n. n + 1) are.count ∙ sym (length_push callers caller);
+  each = λ place job at. ⊎_elim
+      (λ (stood : slice_get jobs place ≡ Some job).
+      let was = are.each place job stood in
+      (was.0, at_push callers caller place job.1 was.1))
+      (λ (new : (place ≡ length jobs) × (job ≡ (host, caller))).
+      let here : place ≡ length callers = new.0 ∙ are.count in (
+        ap (λ (j : ℕ × CallerView). j.0) new.1 ∙ number ∙ sym here,
+        ap (λ i. slice_get (callers ++ caller ∷ []) i) here ∙ at_end callers caller ∙ ap (λ (j : ℕ × CallerView). Some j.1) (sym new.1),
+      ))
+      (at_snoc jobs (host, caller) place job at);
+}
 
 module _ (Does : ℕ → CallerView → CallerView → Type 0) (callers after : List CallerView) (jobs : List (ℕ × CallerView)) (done : List (Result CallerView Memory))
     (are : AreJobs callers jobs) (size : length done ≡ length jobs) (all : map Ok after ≡ done)

@@ -1,4 +1,6 @@
-use Rattle.std.proofs.Common.{rules, refl}
+use Rattle.std.proofs.Common.{ℕ, ◌≤◌, sym, ap, subst, rules, refl}
+use Rattle.rds_fmap.specs.Readers.{ReaderView}
+use Rattle.rds_socket.specs.Holding.{Open}
 use Rattle.rds_callers.specs.Places.{Vacant}
 use Rattle.rds_callers.proofs.binding.bind_vacant.Goals as goal
 
@@ -10,3 +12,6 @@ bind-requires-clause-rcvbuf c = search rules
 
 pub returns-in-Ok-clause-bound : goal.returns-in-Ok-clause-bound
 returns-in-Ok-clause-bound c = search rules
+
+pub new-requires-clause-low : goal.new-requires-clause-low
+new-requires-clause-low c = subst (λ (port : ℕ). 2 ≤ port) (sym (ap (λ (o : Open ReaderView). o.port) c.in-Ok.ensures.1)) c.in-Ok.ensures.0

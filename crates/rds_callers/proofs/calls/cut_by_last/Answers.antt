@@ -1,15 +1,14 @@
-use Rattle.std.proofs.Common.{◌-◌, sym, ◌∙◌, arith}
-use Rattle.std.proofs.lemmas.Bool.{eqb-false}
-use Rattle.rds_parts.specs.PlaceLaws.{stands}
+use Rattle.std.proofs.Common.{set, ap, ◌∙◌, ◌-◌, arith}
 use Rattle.rds_callers.proofs.Coming.{last_cut}
 use Rattle.rds_callers.proofs.calls.cut_by_last.Goals as goal
 
 pub returns : goal.returns
 returns g c =
-    let items = c.args.states.now.items in
+    let items = c.args.slots.now.states.items in
     let last = c.len-last.result - 1 in
-    let some = eqb-false c.args.states.now.len 0 (sym c.is_empty.ensures ∙ c.if-is_empty.false) in
+    let some = c.if-len-eq0.false in
+    let count = c.len.ensures in
     let size = c.len-last.ensures in
-    let all = c.args.states.now.ok.0 in
-    last_cut c.cut.result c.args.peer items last c.index_mut.result.now c.cut.new.self c.requires (stands items last c.index_mut.result.now (omega arith) c.index_mut.ensures.value) (omega arith)
-    c.cut.ensures.same c.cut.ensures.done c.cut.ensures.keeps
+    let all = c.args.slots.now.states.ok.0 in
+    last_cut c.cut-asked.result c.args.peer items last c.replace-state.result c.cut-asked.new.self c.replace.new.self.states.items (c.replace.ensures.states ∙ ap (λ l. set l last c.cut-asked.new.self) c.replace-state.ensures.states)
+    c.requires c.replace-state.ensures.was (omega arith) c.cut-asked.ensures.same c.cut-asked.ensures.done c.cut-asked.ensures.keeps

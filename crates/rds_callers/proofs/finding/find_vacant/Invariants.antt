@@ -4,4 +4,4 @@ use Rattle.rds_callers.proofs.Searches.{NoneBelow}
 use Rattle.rds_callers.proofs.finding.find_vacant.Given as goal
 
 abbrev pub invariant-loop-slot : goal.invariant-loop-slot
-invariant-loop-slot l = NoneBelow is_vacant l.fn.states.items l.slot × (l.slot-end ≡ vec_len l.fn.states)
+invariant-loop-slot l = NoneBelow is_vacant l.fn.slots.states.items l.slot × (l.slot-end ≡ vec_len l.fn.slots.states)

@@ -6,4 +6,4 @@ use Rattle.rds_callers.proofs.Sparing.{part}
 use Rattle.rds_callers.proofs.settling.leave_all.Given as goal
 
 abbrev pub invariant-loop-slot : goal.invariant-loop-slot
-invariant-loop-slot l = (map shown l.states.items ≡ part (option_map spared) l.slot (map shown l.fn.states.items)) × (l.slot-end ≡ vec_len l.states) × (vec_len l.states ≡ vec_len l.fn.states)
+invariant-loop-slot l = (map shown l.slots.states.items ≡ part (option_map spared) l.slot (map shown l.fn.slots.states.items)) × (l.slot-end ≡ vec_len l.slots.states) × (vec_len l.slots.states ≡ vec_len l.fn.slots.states)

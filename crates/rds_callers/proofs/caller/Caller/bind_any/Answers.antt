@@ -7,9 +7,9 @@ pub bind_any_next-requires-clause-first : goal.bind_any_next-requires-clause-fir
 bind_any_next-requires-clause-first c = subst (λ l. IsFirstFree l c.args.start c.in-Some.port) (sym (ap (λ v. v.places) c.self.view_is)) c.in-Some.ensures
 
 pub returns-clause-keeps : goal.returns-clause-keeps
-returns-clause-keeps c = keeps_shown (BindsFirstFree c.args.start c.args.sndbuf c.args.rcvbuf) c.self.inside.states.items c.bind_any_next.new.states.items c.args.self.now.places c.bind_any_next.result
+returns-clause-keeps c = keeps_shown (BindsFirstFree c.args.start c.args.sndbuf c.args.rcvbuf) c.self.inside.slots.states.items c.bind_any_next.new.slots.states.items c.args.self.now.places c.bind_any_next.result
     (ap (λ v. v.places) c.self.view_is) c.bind_any_next.ensures
 
 pub returns-clause-done : goal.returns-clause-done
-returns-clause-done c = done_shown (BindsFirstFree c.args.start c.args.sndbuf c.args.rcvbuf) c.self.inside.states.items c.bind_any_next.new.states.items c.args.self.now.places c.bind_any_next.result
+returns-clause-done c = done_shown (BindsFirstFree c.args.start c.args.sndbuf c.args.rcvbuf) c.self.inside.slots.states.items c.bind_any_next.new.slots.states.items c.args.self.now.places c.bind_any_next.result
     (ap (λ v. v.places) c.self.view_is) c.bind_any_next.ensures

@@ -4,7 +4,7 @@ use Rattle.rds_callers.proofs.Coming.{done_shown, keeps_shown}
 use Rattle.rds_callers.proofs.caller.Caller.cut.Goals as goal
 
 pub returns-clause-keeps : goal.returns-clause-keeps
-returns-clause-keeps g c = keeps_shown (CutsByLast c.args.peer) c.self.inside.states.items c.cut_by_last.new.states.items c.args.self.now.places c.cut_by_last.result (ap (λ v. v.places) c.self.view_is) c.cut_by_last.ensures
+returns-clause-keeps g c = keeps_shown (CutsByLast c.args.peer) c.self.inside.slots.states.items c.cut_by_last.new.slots.states.items c.args.self.now.places c.cut_by_last.result (ap (λ v. v.places) c.self.view_is) c.cut_by_last.ensures
 
 pub returns-clause-done : goal.returns-clause-done
-returns-clause-done g c = done_shown (CutsByLast c.args.peer) c.self.inside.states.items c.cut_by_last.new.states.items c.args.self.now.places c.cut_by_last.result (ap (λ v. v.places) c.self.view_is) c.cut_by_last.ensures
+returns-clause-done g c = done_shown (CutsByLast c.args.peer) c.self.inside.slots.states.items c.cut_by_last.new.slots.states.items c.args.self.now.places c.cut_by_last.result (ap (λ v. v.places) c.self.view_is) c.cut_by_last.ensures

@@ -1,4 +1,4 @@
-use Rattle.std.proofs.Common.{[], ◌∷◌, ◌++◌, ap, ◌∙◌}
+use Rattle.std.proofs.Common.{ℕ, ◌≤◌, [], ◌∷◌, ◌++◌, sym, ap, subst, ◌∙◌}
 use Rattle.rds_callers.proofs.Keeping.{kept_more}
 use Rattle.rds_callers.specs.StoringLaws.{stores_received}
 use Rattle.rds_callers.proofs.tenant.Tenant.receive.Goals as goal
@@ -10,6 +10,7 @@ invariant_of-self-2 g c =
     let got = c.in-Some.ensures.received in
     record {
       sends = c.recv.ensures.stays.told ∙ old.sends;
+      low = subst (λ (port : ℕ). 2 ≤ port) (sym c.recv.ensures.stays.port) old.low;
       kept = kept_more old.got.items c.push_reserved.new.self.items old.socket.own.inbox.get c.recv.new.self.own.inbox.get got.0 item old.kept
           (c.push_reserved.ensures.items ∙ ap (λ l. l ++ item ∷ []) c.reserve.ensures.items) (ap (λ o. o.own.inbox.get) got.3);
     }
