@@ -4,7 +4,6 @@ ghost use Rattle.rds_script.specs.Text.{words};
 ghost use Rattle.rds_script.specs.Line.{the_bytes};
 ghost use Rattle.rds_script.specs.Reading as reading;
 ghost use Rattle.rds_script.specs.Reading.{GivesOrMemory};
-ghost use Rattle.std.specs.Option.{ok_or};
 
 use crate::fault::Fault;
 use crate::payload::{Room, payload_at};
