@@ -14,6 +14,7 @@ use Rattle.rds_parts.specs.Lanes.{IsLaneAt, Lane}
 use Rattle.rds_socket.specs.Holding.{Holding}
 use Rattle.rds_line_streams.specs.Streams.{newest_place, numbers}
 use Rattle.rds_line_channel.specs.Carried.{IsCarriedBy, cuts_of_streams, shuts}
+use Rattle.rds_line_channel.specs.CutLaws.{shut_for_each}
 use Rattle.rds_line.specs.Keeps.{KeepsLine, cuts_among}
 use Rattle.rds_line.specs.Line.{LineView, line_past}
 use Rattle.rds_host.specs.Passes.{AreAllPasses, putter_number}
@@ -149,7 +150,7 @@ module _ {E M : Type 0} where
         sym carried.current ∙ cond-false streams.is_open (slice_get (numbers streams.list) (newest_place streams)) None late.0,
       ))
       (λ (same : cuts_of_streams line.channel.cuts.numbers ≡ length line.channel.cuts.numbers).
-      let shut = carried.shut in
+      let shut = shut_for_each carried in
       let cuts = keeps.cuts in
       inl (omega (arith, same, shut, cuts)))
       (late_or_none line.channel.cuts.numbers)

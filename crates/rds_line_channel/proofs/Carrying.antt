@@ -1,5 +1,5 @@
 -- How the tie of a journal to the streams that carry it goes on, step by step.
-use Rattle.std.proofs.Common.{◌≡◌, ◌≢◌, inl, inr, ℕ, ◌<◌, ◌≤◌, if◌then◌else◌, Bool, true, false, is_some, IsSome, Option, Some, None, List, [], ◌++◌, get_or, take, slice_get, refl, sym, ap, subst, ◌∙◌, arith}
+use Rattle.std.proofs.Common.{◌≡◌, ◌≢◌, inl, inr, ℕ, ◌<◌, if◌then◌else◌, Bool, true, false, is_some, IsSome, Option, Some, None, List, [], ◌++◌, get_or, take, slice_get, refl, sym, ap, subst, ◌∙◌, arith}
 use Rattle.std.proofs.lemmas.Bool.{cond-true, cond-false}
 use Rattle.std.proofs.lemmas.List.{length-map}
 use Rattle.std.proofs.lemmas.Option.{same_Some, slice_get-get_or}
@@ -12,14 +12,14 @@ use Rattle.rds_line_streams.specs.Streams.{StreamsView, AreKept, IsEndedAt, newe
 use Rattle.rds_line_streams.specs.Changes.{ChangesAt}
 use Rattle.rds_line_streams.specs.ChangeLaws.{changed_here, changed_beside, changed_numbers, changed_length}
 use Rattle.rds_line_streams.specs.NumberLaws.{number_there, later_number}
-use Rattle.rds_line_channel.specs.Carried.{HasCause, IsCarriedBy, IsOn, cuts_of_streams, shuts}
+use Rattle.rds_line_channel.specs.Carried.{AreSomeOf, HasCause, IsCarriedBy, IsOn, cut_streams, shut_streams}
 
 -- A journal went on by entries that open no stream and end none. The bytes that arrived and weren't read, and those that are to
 -- be written, changed with what was read and written of the open stream.
 pub record JournalGoesOn (past next : List Entry) (arrived arrived_next out out_next : List ℕ) : Type 0 where
   pub stream : open_stream next ≡ open_stream past
   pub opened : opens next ≡ opens past
-  pub shut : shuts next ≡ shuts past
+  pub shut : shut_streams next ≡ shut_streams past
   pub refused : (n : ℕ) → refused_bytes n next ≡ refused_bytes n past
   pub written_beside : (n : ℕ) → open_stream past ≢ Some n → written_bytes n next ≡ written_bytes n past
   pub read_beside : (n : ℕ) → open_stream past ≢ Some n → read_bytes n next ≡ read_bytes n past
@@ -92,7 +92,7 @@ module _ {E : Type 0} (m : Means E) (s : StreamsView E) where
     };
     idle = λ off. goes.idle (sym was.current ∙ number_off s off) (was.idle off);
     causes = λ place ended. record { at = λ stream stands. caused stream ((was.causes place ended).at stream stands) };
-    shut = subst (λ n. cuts_of_streams cuts ≤ n) (sym goes.shut) was.shut;
+    cut = subst (λ (shut : List ℕ). AreSomeOf (cut_streams cuts) shut) (sym goes.shut) was.cut;
     late = was.late;
   }
     where
@@ -132,6 +132,6 @@ module _ {E : Type 0} (m : Means E) (s : StreamsView E) where
         causes = λ place ended. record {
           at = λ stream stands. (was.causes place ended).at stream (ended_stood on change place ended stream stands);
         };
-        shut = was.shut;
+        cut = was.cut;
         late = λ cut. ((was.late cut).0, (was.late cut).1 ∙ sym (changed_length change));
       })

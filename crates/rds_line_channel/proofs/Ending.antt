@@ -1,5 +1,5 @@
 -- The open stream ends: it is shut, or a header that came on it was refused.
-use Rattle.std.proofs.Common.{◌≡◌, ◌≢◌, ◌⊎◌, inl, inr, ℕ, zero, suc, if◌then◌else◌, ◌<◌, ◌≤◌, true, false, Some, None, slice_get, List, [], ◌∷◌, ◌++◌, take, drop, length, append_assoc, ◌==◌, refl, sym, ap, subst, ◌∙◌, arith}
+use Rattle.std.proofs.Common.{◌≡◌, ◌≢◌, ◌⊎◌, inl, inr, ℕ, suc, if◌then◌else◌, ◌<◌, ◌≤◌, true, false, Some, None, slice_get, List, [], ◌∷◌, ◌++◌, take, drop, length, append_assoc, ◌==◌, refl, sym, ap, subst, ◌∙◌, arith}
 use Rattle.std.specs.List.{Contains}
 use Rattle.std.proofs.lemmas.Bool.{cond-true, cond-false, eq-eqb, ne_eqb}
 use Rattle.std.proofs.lemmas.List.{take-append-drop}
@@ -24,7 +24,8 @@ use Rattle.rds_line_streams.specs.Changes.{IsShutDown}
 use Rattle.rds_line_streams.specs.NumberLaws.{later_number, number_there}
 use Rattle.rds_line_streams.specs.Streams.{StreamsView, AreKept, AreNumbered, EndAt, HasSaidOver, newest_place, numbers}
 use Rattle.rds_line_channel.specs.Changes.{EndsStream}
-use Rattle.rds_line_channel.specs.Carried.{IsOff, HasCause, IsCarriedBy, cuts_of_streams, shuts}
+use Rattle.rds_line_channel.specs.Carried.{AreSomeOf, IsOff, HasCause, IsCarriedBy, cut_streams, shut_streams}
+use Rattle.rds_line_channel.proofs.Noting.{late_more, shut_beside, shut_too}
 
 -- what becomes of a journal and of the cuts where the open stream ends, which has this number and of which these bytes arrived
 pub record Ends (past past_now : List Entry) (arrived cuts cuts_now : List ℕ) (number : ℕ) : Type 0 where
@@ -35,7 +36,7 @@ pub record Ends (past past_now : List Entry) (arrived cuts cuts_now : List ℕ) 
   pub read_beside : (n : ℕ) → n ≢ number → read_bytes n past_now ≡ read_bytes n past
   pub refused_beside : (n : ℕ) → n ≢ number → refused_bytes n past_now ≡ refused_bytes n past
   pub more : (n : ℕ) → Contains cuts n → Contains cuts_now n
-  pub shut : cuts_of_streams cuts ≤ shuts past → cuts_of_streams cuts_now ≤ shuts past_now
+  pub cut : AreSomeOf (cut_streams cuts) (shut_streams past) → AreSomeOf (cut_streams cuts_now) (shut_streams past_now)
   pub late : Contains cuts_now 0 → Contains cuts 0
 
 -- a stream has a number above 0
@@ -47,23 +48,12 @@ number_some list numbered place stream stands =
     let pair = AllPairs-from_increasing (0 ∷ numbers list) numbered 0 (suc place) 0 (omega arith) (omega arith) in
     subst (λ n. 0 < n) (get_or_from_slice_get (numbers list) place stream.0 0 there) pair
 
--- one more cut shuts at most one stream, and one that found none open shuts none
-one_cut_more : (cuts : List ℕ) (number : ℕ) → cuts_of_streams (cuts ++ number ∷ []) ≤ suc (cuts_of_streams cuts)
-one_cut_more [] zero = omega arith
-one_cut_more [] (suc number) = omega arith
-one_cut_more (zero ∷ cuts) number = one_cut_more cuts number
-one_cut_more (suc n ∷ cuts) number = let rest = one_cut_more cuts number in omega arith
-
-late_cut_more : (cuts : List ℕ) → cuts_of_streams (cuts ++ 0 ∷ []) ≡ cuts_of_streams cuts
-late_cut_more [] = refl
-late_cut_more (zero ∷ cuts) = late_cut_more cuts
-late_cut_more (suc n ∷ cuts) = ap suc (late_cut_more cuts)
-
 -- the stream is shut
 shut_ends : (number : ℕ) (past : List Entry) (arrived cuts cuts_now : List ℕ) →
-    ((n : ℕ) → Contains cuts n → Contains cuts_now n) → cuts_of_streams cuts_now ≤ suc (cuts_of_streams cuts) →
+    ((n : ℕ) → Contains cuts n → Contains cuts_now n) →
+    (AreSomeOf (cut_streams cuts) (shut_streams past) → AreSomeOf (cut_streams cuts_now) (shut_streams past ++ number ∷ [])) →
     (Contains cuts_now 0 → Contains cuts 0) → Ends past (Shut number ∷ past) arrived cuts cuts_now number
-shut_ends number past arrived cuts cuts_now more count late = record {
+shut_ends number past arrived cuts cuts_now more cut late = record {
   none = refl;
   opened = refl;
   written = λ n. refl;
@@ -71,7 +61,7 @@ shut_ends number past arrived cuts cuts_now more count late = record {
   read_beside = λ n _. refl;
   refused_beside = λ n _. refl;
   more = more;
-  shut = λ few. omega (arith, few, count);
+  cut = cut;
   late = late;
 }
 
@@ -88,7 +78,7 @@ refused_ends number header fault past taken piece cuts used legal on bytes = rec
   refused_beside = λ n apart.
       cond-false (number == n) (header_bytes header) (refused_bytes n past) (ne_eqb number n (λ same. apart (sym same)));
   more = λ n cut. cut;
-  shut = λ few. few;
+  cut = λ were. were;
   late = λ zero. zero;
 }
   where
@@ -188,7 +178,7 @@ module _ {E : Type 0} (m : Means E) where
         causes = λ place is. record {
           at = λ stream stands. caused_now cause place stream is.0 (changed_cases ends.change place stream stands);
         };
-        shut = gone.shut carried.shut;
+        cut = gone.cut carried.cut;
         late = λ zero. (refl, (carried.late (gone.late zero)).1 ∙ sym (changed_length ends.change));
       }
 
@@ -203,7 +193,7 @@ module _ {E : Type 0} (m : Means E) where
     carried_over over =
         let shut = ends.change in
         let said = over.at (shut.number, shut.end_before) shut.stood in
-        carried_by_now (Shut shut.number ∷ past) cuts (shut_ends shut.number past arrived cuts cuts (λ n cut. cut) (omega arith) (λ zero. zero))
+        carried_by_now (Shut shut.number ∷ past) cuts (shut_ends shut.number past arrived cuts cuts (λ n cut. cut) (shut_beside shut.number) (λ zero. zero))
         (inr (inl (said_over shut.end_before shut.end_after shut.way said)))
 
     -- a cut shut it
@@ -212,7 +202,7 @@ module _ {E : Type 0} (m : Means E) where
         let number = ends.change.number in
         carried_by_now (Shut number ∷ past) (cuts ++ number ∷ [])
         (shut_ends number past arrived cuts (cuts ++ number ∷ []) (λ n cut. Contains-append_left cuts (number ∷ []) n cut)
-        (one_cut_more cuts number) (λ zero. earlier (Contains-push_cases cuts number 0 zero)))
+        (shut_too cuts number ended_some) (λ zero. earlier (Contains-push_cases cuts number 0 zero)))
         (inl (Contains-push cuts number))
       where
         earlier : Contains cuts 0 ⊎ (ends.change.number ≡ 0) → Contains cuts 0
@@ -240,7 +230,7 @@ module _ {E : Type 0} (m : Means E) where
     off = carried.off;
     idle = carried.idle;
     causes = λ place is. record { at = λ stream stands. more stream.0 stream.1 ((carried.causes place is).at stream stands) };
-    shut = subst (λ n. n ≤ shuts past) (sym (late_cut_more cuts)) carried.shut;
+    cut = subst (λ (noted : List ℕ). AreSomeOf noted (shut_streams past)) (sym (late_more cuts)) carried.cut;
     late = λ zero. (off, last);
   }
     where

@@ -3,6 +3,7 @@ mod Going
 mod OpenEnd
 mod Restated
 mod Starting
+mod Noting
 mod Ending
 mod Moving
 mod Honesty

@@ -53,6 +53,6 @@ module _ {E : Type 0} (m : Means E) where
       off = λ tells place is. still_at s.list new same each still_off place (carried.off tells place is);
       idle = carried.idle;
       causes = λ place is. still_at s.list new same each still_caused place (carried.causes place is);
-      shut = carried.shut;
+      cut = carried.cut;
       late = λ zero. ((carried.late zero).0, (carried.late zero).1 ∙ sym (same_length new s.list same));
     }

@@ -1,4 +1,4 @@
--- The next stream is opened.
+-- A channel begins, and the next stream is opened.
 use Rattle.std.proofs.Common.{◌≡◌, ℕ, ◌+◌, ◌-◌, ◌<◌, All, true, false, Some, slice_get, List, [], ◌∷◌, ◌++◌, refl, sym, ap, subst, ◌∙◌, arith}
 use Rattle.std.proofs.lemmas.List.{length-map}
 use Rattle.std.proofs.lemmas.List.Elements.{All-contains, Contains-push}
@@ -12,7 +12,21 @@ use Rattle.rds_model.specs.StreamLaws.{none_read, none_written}
 use Rattle.rds_model.specs.Sums.{opens}
 use Rattle.rds_line_streams.specs.NumberLaws.{number_there, opened_more}
 use Rattle.rds_line_streams.specs.Streams.{StreamsView, AreKept, IsEndedAt, numbers, opened_numbers}
-use Rattle.rds_line_channel.specs.Carried.{IsOn, IsOff, IsCarriedBy}
+use Rattle.rds_line_channel.specs.Carried.{IsOn, IsOff, IsCarriedBy, nothing}
+
+-- before the first stream nothing was opened, noted or moved
+pub carried_first : {E : Type 0} (m : Means E) (list : List (ℕ × E)) →
+    IsCarriedBy m [] [] [] (record { list = list; opened = 0; is_open = false }) []
+carried_first m list = record {
+  current = refl;
+  opened = refl;
+  on = λ tells on. absurd (cc);
+  off = λ tells place is. absurd (let below = is.0 in omega arith);
+  idle = λ off. (refl, refl);
+  causes = λ place is. absurd (let below = is.0 in omega arith);
+  cut = nothing;
+  late = λ zero. absurd (let below = zero.1 in omega arith);
+}
 
 above_newest : (past : List Entry) (number : ℕ) → 0 < number → All (λ earlier. earlier < number) (opens past) →
     newest_stream past < number
@@ -67,7 +81,7 @@ module _ {E : Type 0} (m : Means E) (past : List Entry) (arrived out : List ℕ)
         };
         idle = λ on. absurd (cc);
         causes = λ place is. carried.causes place (ended_before place is);
-        shut = carried.shut;
+        cut = carried.cut;
         late = λ zero.
             let left = slice_get_within (numbers s.list) s.opened number next in
             let none = (carried.late zero).1 in

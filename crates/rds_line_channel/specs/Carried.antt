@@ -1,5 +1,5 @@
 -- How the streams of a line stand to its journal. Source: this project's own.
-use Rattle.std.specs.Prelude.{◌≡◌, ◌≢◌, ◌⊎◌, ◌≤◌, ℕ, zero, suc, true, false, Some, List, [], ◌∷◌, ◌++◌, length, slice_get, Contains}
+use Rattle.std.specs.Prelude.{◌≡◌, ◌≢◌, ◌⊎◌, ℕ, zero, suc, true, false, Some, List, [], ◌∷◌, ◌++◌, length, slice_get, Contains}
 use Rattle.rds_link.specs.Ends.{Means}
 use Rattle.rds_model.specs.declared.entry.Entry.{Entry}
 use Rattle.rds_model.specs.declared.entry.Entry.TheVariants.{Shut}
@@ -9,17 +9,35 @@ use Rattle.rds_model.specs.Streams.{read_bytes, refused_bytes, written_bytes}
 use Rattle.rds_model.specs.Sums.{opens}
 use Rattle.rds_line_streams.specs.Streams.{StreamsView, HasSaidOver, IsEndedAt, newest_place, open_number, opened_numbers}
 
+-- the numbers of the streams that were shut, in the order in which they were
+abbrev pub shut_streams : List Entry → List ℕ
+shut_streams [] = []
+shut_streams (Shut stream ∷ past) = shut_streams past ++ stream ∷ []
+shut_streams (_ ∷ past) = shut_streams past
+
 -- how many streams were shut
 abbrev pub shuts : List Entry → ℕ
-shuts [] = 0
-shuts (Shut stream ∷ past) = suc (shuts past)
-shuts (_ ∷ past) = shuts past
+shuts past = length (shut_streams past)
 
--- how many of the cuts found a stream open: those that are noted with its number, and not with 0
+-- the numbers of the streams that cuts found open: what the cuts are noted with, where that isn't 0
+abbrev pub cut_streams : List ℕ → List ℕ
+cut_streams [] = []
+cut_streams (zero ∷ cuts) = cut_streams cuts
+cut_streams (suc number ∷ cuts) = suc number ∷ cut_streams cuts
+
+-- how many of the cuts found a stream open
 abbrev pub cuts_of_streams : List ℕ → ℕ
-cuts_of_streams [] = 0
-cuts_of_streams (zero ∷ cuts) = cuts_of_streams cuts
-cuts_of_streams (suc number ∷ cuts) = suc (cuts_of_streams cuts)
+cuts_of_streams cuts = length (cut_streams cuts)
+
+-- The numbers of the first list are some of those of the second, in the same order: the second has each of them at a place of its
+-- own, and others may stand before, between and behind.
+pub data AreSomeOf : List ℕ → List ℕ → Type 0 where
+  -- both are empty
+  nothing : AreSomeOf [] []
+  -- this one also
+  also : {some all : List ℕ} (number : ℕ) → AreSomeOf some all → AreSomeOf (number ∷ some) (number ∷ all)
+  -- this one not
+  without : {some all : List ℕ} (number : ℕ) → AreSomeOf some all → AreSomeOf some (number ∷ all)
 
 module _ {E : Type 0} where
   -- this holds of the number and the end of the stream at this place
@@ -52,7 +70,7 @@ module _ {E : Type 0} where
       pub off : m.tells ≡ true → (place : ℕ) → IsEndedAt s place → StreamAt IsOff place s.list
       pub idle : s.is_open ≡ false → (arrived ≡ []) × (out ≡ [])
       pub causes : (place : ℕ) → IsEndedAt s place → StreamAt (HasCause cuts) place s.list
-      -- for each cut that found a stream open one was shut
-      pub shut : cuts_of_streams cuts ≤ shuts past
+      -- each cut that found a stream open shut that one: the journal has an entry of its own for each, in the same order
+      pub cut : AreSomeOf (cut_streams cuts) (shut_streams past)
       -- after a cut that found no stream open none is open, and no further one is left
       pub late : Contains cuts 0 → (s.is_open ≡ false) × (s.opened ≡ length s.list)
