@@ -119,12 +119,12 @@ impl End for TcpEnd {
         if came > 0 {
             return Got::Bytes(came);
         }
-        if is_broken {
-            self.fail();
-            return Got::Over;
+        if !is_broken {
+            self.nothings = self.nothings.saturating_add(1);
+            return Got::Nothing;
         }
-        self.nothings = self.nothings.saturating_add(1);
-        Got::Nothing
+        self.fail();
+        Got::Over
     }
 
     fn write(&mut self, piece: &[u8]) -> Put
@@ -147,13 +147,13 @@ impl End for TcpEnd {
         if taken > 0 {
             return Put::Took(taken);
         }
-        if is_broken {
-            self.fail();
-            return Put::Over;
+        if !is_broken {
+            self.pipe.note_full();
+            self.fulls = self.fulls.saturating_add(1);
+            return Put::Full;
         }
-        self.pipe.note_full();
-        self.fulls = self.fulls.saturating_add(1);
-        Put::Full
+        self.fail();
+        Put::Over
     }
 
     fn shut(&mut self) {
