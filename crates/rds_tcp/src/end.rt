@@ -13,9 +13,9 @@ use rds_link::{End, Got, Put, Standing};
 use rtrb::{Consumer, Producer};
 use std::sync::Wait;
 
-/// An end of a stream over TCP. Two threads move its bytes between the TCP stream and its two rings; they end once it has shut, or is
-/// dropped. The ring that it reads from is taken out for each read, so that the loop which copies bytes keeps the ring's address at
-/// hand, and copies many at once.
+/// An end of a stream over TCP. Two threads move its bytes between the TCP stream and its two rings; they end at the latest once it has
+/// shut, or is dropped. The ring that it reads from is taken out for each read, so that the loop which copies bytes keeps the ring's
+/// address at hand, and copies many at once.
 #[derive(Drop)]
 pub struct TcpEnd {
     pub(crate) out: Producer<u8>,

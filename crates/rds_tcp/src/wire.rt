@@ -87,7 +87,7 @@ impl TcpWire {
         self.fulls
     }
 
-    /// Returns once all threads have ended, those of an end after it was given back, has shut or was dropped.
+    /// Returns once all threads have ended. Those of an end do once it was given back, has shut or was dropped.
     pub fn finish<R: Threads>(self, rt: &R) {
         let TcpWire {
             alloc: _,
