@@ -19,7 +19,11 @@ fn main(rt: HostRuntime) -> ExitCode {
     let mut source = StdSource::new(rt.reader());
     let mut sink = StdSink::new(io::writer(&rt));
     let alloc = rt.alloc();
-    let mut wire = TcpWire::new(&rt, alloc);
+    let mut wire = if may_name_tcp(&words) {
+        TcpWire::new(&rt, alloc)
+    } else {
+        TcpWire::idle(alloc)
+    };
     let status = rds_main(
         &rt,
         alloc,
@@ -31,6 +35,11 @@ fn main(rt: HostRuntime) -> ExitCode {
     );
     wire.finish(&rt);
     ExitCode::from(status)
+}
+
+// Whether the words may name the wire over TCP: its name is a word of its own, or stands behind `--wire=`.
+fn may_name_tcp(words: &[String]) -> bool {
+    words.iter().any(|word| word.as_str().ends_with("tcp"))
 }
 
 // The words behind the program's name, or none where one of them isn't UTF-8: no command has none. It fails where memory runs out.

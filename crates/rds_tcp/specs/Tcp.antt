@@ -1,7 +1,8 @@
 -- What contracts see of an end of a stream over TCP, and of what opens such streams. This project's own.
-use Rattle.std.specs.Prelude.{◌≡◌, ℕ, List, [], None, Some, false}
+use Rattle.std.specs.Prelude.{◌≡◌, ℕ, List, [], Option, None, Some, false}
 use Rattle.rtrb.specs.Ring.{sent, received, known_items, known_free}
 use Rattle.rds_link.specs.Ends.{Means}
+use Rattle.rds_link.specs.declared.wire.WireError.{WireError}
 use Rattle.rds_link.specs.Standing.{AreTwoEnds}
 use Rattle.rds_tcp.specs.declared.end.TcpEnd.{TcpEnd}
 
@@ -33,9 +34,14 @@ tcp_means = record {
 abbrev pub HasMovedNothing : TcpEnd → Type 0
 HasMovedNothing e = (sent e.out ≡ []) × (taken e ≡ [])
 
--- the three counts of a wire, and how many of its ends are out
-pub record Counts : Type 0 where
+-- a wire: why its thread wasn't started, where it wasn't, its three counts, and how many of its ends are out
+pub record WireView : Type 0 where
+  pub refused : Option WireError
   pub faults : ℕ
   pub nothings : ℕ
   pub fulls : ℕ
   pub out : ℕ
+
+-- a wire that has opened no stream
+abbrev pub new_wire : Option WireError → WireView
+new_wire refused = record { refused = refused; faults = 0; nothings = 0; fulls = 0; out = 0 }

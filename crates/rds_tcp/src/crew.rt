@@ -1,5 +1,8 @@
 //! The thread that starts the threads of all ends of a wire and joins them. The handle of a thread can't move, and an end does; so
 //! no end holds those of its own threads.
+ghost use Rattle.std.specs.Prelude.{◌≡◌, ◌↔◌};
+ghost use Rattle.std.specs.IoError.{error_kind};
+
 use crate::dialing::dial;
 use crate::pipe::Pipe;
 use crate::pumps::{read_on, write_on};
@@ -7,10 +10,11 @@ use crate::rings::Far;
 use crossbeam_channel::{Receiver, SendError, Sender, bounded};
 use rds_link::WireError;
 use std::alloc::Global;
+use std::io::ErrorKind;
 use std::net::{Net, TcpListener, TcpStream};
 use std::sync::Wait;
-use std::thread;
 use std::thread::{JoinHandle, Threads};
+use std::{io, thread};
 
 /// What the threads of the two ends of a stream are to hold.
 type Job = (Far, Far);
@@ -25,15 +29,23 @@ pub(crate) struct Crew {
 }
 
 impl Crew {
-    /// None where its thread is refused.
+    /// Starts its thread.
+    ///
+    /// # Errors
+    ///
+    /// Where there is no memory for the channels to it, or the thread is refused, which is a fault.
     pub(crate) fn new<
         R: Threads + Wait + Net<Listener = TcpListener, Stream = TcpStream> + Copy + Send + 'static,
-    >(rt: &R, alloc: Global) -> Option<Crew> {
-        let (jobs, orders) = bounded(alloc, 1).ok()?;
-        let (replies, answers) = bounded(alloc, 1).ok()?;
+    >(rt: &R, alloc: Global) -> Result<Crew, WireError> {
+        let (Ok((jobs, orders)), Ok((replies, answers))) = (bounded(alloc, 1), bounded(alloc, 1))
+        else {
+            return Err(WireError::Memory);
+        };
         let own = *rt;
-        let thread = thread::spawn(rt, move || work(own, alloc, orders, replies)).ok()?;
-        Some(Crew {
+        let Ok(thread) = thread::spawn(rt, move || work(own, alloc, orders, replies)) else {
+            return Err(WireError::Fault);
+        };
+        Ok(Crew {
             jobs,
             answers,
             thread,
@@ -83,13 +95,25 @@ fn work<
 fn open<
     R: Threads + Wait + Net<Listener = TcpListener, Stream = TcpStream> + Copy + Send + 'static,
 >(rt: R, alloc: Global, handles: &mut Vec<JoinHandle<()>>, job: Job) -> Answer {
-    let Ok((low, high)) = dial(&rt) else {
-        return Err(WireError::Fault);
+    let (low, high) = match dial(&rt) {
+        Ok(streams) => streams,
+        Err(error) => return Err(cause_of(&error)),
     };
     let (low_far, high_far) = job;
     let low = attended(rt, alloc, handles, low, low_far)?;
     let high = attended(rt, alloc, handles, high, high_far)?;
     Ok((low, high))
+}
+
+// Want of memory counts as no fault of the wire.
+fn cause_of(error: &io::Error) -> WireError
+    ensures { result ≡ WireError.Memory ↔ error_kind error.now ≡ ErrorKind.OutOfMemory }
+{
+    if error.kind() == ErrorKind::OutOfMemory {
+        WireError::Memory
+    } else {
+        WireError::Fault
+    }
 }
 
 // Starts both threads of an end. Where the second is refused the first ends, since the pipe is dropped.
@@ -112,6 +136,7 @@ fn attended<R: Threads + Wait + Copy + Send + 'static>(
     Ok(pipe)
 }
 
+// A thread that is refused is a fault, since the refusal doesn't tell its cause.
 fn start<R: Threads, F: FnOnce() + Send + Drop + 'static>(
     rt: &R,
     handles: &mut Vec<JoinHandle<()>>,

@@ -13,9 +13,9 @@ use rds_link::{End, Got, Put, Standing};
 use rtrb::{Consumer, Producer};
 use std::sync::Wait;
 
-/// An end of a stream over TCP. Two threads move its bytes between the TCP stream and its two rings; they end once it has shut, or is
-/// dropped. The ring that it reads from is taken out for each read, so that the loop which copies bytes keeps the ring's address at
-/// hand, and copies many at once.
+/// An end of a stream over TCP. Two threads move its bytes between the TCP stream and its two rings; they end at the latest once it has
+/// shut, or is dropped. The ring that it reads from is taken out for each read, so that the loop which copies bytes keeps the ring's
+/// address at hand, and copies many at once.
 #[derive(Drop)]
 pub struct TcpEnd {
     pub(crate) out: Producer<u8>,
@@ -119,12 +119,12 @@ impl End for TcpEnd {
         if came > 0 {
             return Got::Bytes(came);
         }
-        if is_broken {
-            self.fail();
-            return Got::Over;
+        if !is_broken {
+            self.nothings = self.nothings.saturating_add(1);
+            return Got::Nothing;
         }
-        self.nothings = self.nothings.saturating_add(1);
-        Got::Nothing
+        self.fail();
+        Got::Over
     }
 
     fn write(&mut self, piece: &[u8]) -> Put
@@ -147,13 +147,13 @@ impl End for TcpEnd {
         if taken > 0 {
             return Put::Took(taken);
         }
-        if is_broken {
-            self.fail();
-            return Put::Over;
+        if !is_broken {
+            self.pipe.note_full();
+            self.fulls = self.fulls.saturating_add(1);
+            return Put::Full;
         }
-        self.pipe.note_full();
-        self.fulls = self.fulls.saturating_add(1);
-        Put::Full
+        self.fail();
+        Put::Over
     }
 
     fn shut(&mut self) {

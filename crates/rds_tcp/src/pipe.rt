@@ -174,8 +174,8 @@ impl Pipe {
         self.shared.line.park_timeout(rt, Duration::from_millis(1));
     }
 
-    /// Ends the TCP stream and both threads, which only an end does that has shut: so a peer whose stream ends finds the
-    /// shut and counts no fault.
+    /// Ends the TCP stream and both threads. An end calls it only once it has shut, so that a peer whose TCP stream ends finds the
+    /// shut and counts no fault. Where an end is dropped without a shut, its peer counts one.
     pub(crate) fn stop(&self, standing: &Standing)
         requires shut { standing.now.stand.is_shut ≡ true }
     {

@@ -1,5 +1,5 @@
 //! What the two threads of an end do.
-ghost use Rattle.std.specs.Prelude.{◌≡◌, ◌++◌, IsTrue};
+ghost use Rattle.std.specs.Prelude.{◌≡◌, ◌≤◌, ◌++◌, length, IfSome, IsTrue};
 ghost use Rattle.rtrb.specs.Ring.{sent};
 ghost use Rattle.std.specs.Io.KnownBytes.{Appends};
 
@@ -19,18 +19,26 @@ const PATIENCE: u32 = 20;
 pub(crate) fn read_on<R: Wait>(rt: &R, shared: &Shared, mut ring: Producer<u8>) {
     let mut piece = [0u8; PIECE];
     for _ in rt.forever() {
-        match shared.read(&mut piece) {
-            Ok(count) if count > 0 => {
-                if !put_all(rt, shared, &mut ring, &piece[..count]) {
-                    break;
-                }
-            }
-            Err(error) if error.kind() == io::ErrorKind::Interrupted => {}
-            _ => break,
+        let Some(count) = next_piece(shared, &mut piece) else {
+            break;
+        };
+        if !put_all(rt, shared, &mut ring, &piece[..count]) {
+            break;
         }
     }
     shared.note_broken();
     shared.note_end(&shared.reader);
+}
+
+// How many bytes came, none where a signal came first. Nothing where the TCP stream has ended or failed.
+fn next_piece(shared: &Shared, piece: &mut [u8]) -> Option<usize>
+    ensures { IfSome result (λ count. count ≤ length piece.new) }
+{
+    match shared.read(piece) {
+        Ok(count) if count > 0 => Some(count),
+        Err(error) if error.kind() == io::ErrorKind::Interrupted => Some(0),
+        _ => None,
+    }
 }
 
 // Puts the whole piece into the ring, and sleeps where there is no room. Whether it did: it doesn't where the end stops.
@@ -90,14 +98,21 @@ fn write_all<R: Wait, W: Write>(rt: &R, shared: &Shared, writer: &mut W, piece: 
         match writer.write(rest) {
             Ok(count) if count > 0 => rest = &rest[count..],
             Err(error) if may_go_on(&error) && patience > 0 => {
-                if shared.is_closing() {
-                    patience -= 1;
-                }
+                patience = patience_after(shared, patience);
             }
             _ => return false,
         }
     }
     unreachable!()
+}
+
+// What is left of the patience after a write that moved nothing: only a closing end loses some.
+fn patience_after(shared: &Shared, patience: u32) -> u32 {
+    if shared.is_closing() {
+        patience.saturating_sub(1)
+    } else {
+        patience
+    }
 }
 
 // The write waited too long, or a signal came.

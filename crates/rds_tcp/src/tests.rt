@@ -49,10 +49,19 @@ fn what_waits_goes_out_before_an_end_is_finished(rt: HostRuntime) -> Result<(), 
 
 #[test]
 fn openings_without_a_thread_are_faults(rt: HostRuntime) -> Result<(), Fail> {
-    let mut wire = TcpWire::refused(rt.alloc());
+    let mut wire = TcpWire::idle(rt.alloc());
     assert!(rt; matches!(wire.open(&rt, 1, 2, 1), Err(WireError::Fault)));
     assert!(rt; matches!(wire.open(&rt, 1, 2, 2), Err(WireError::Fault)));
     assert_eq!(rt; wire.faults(), 2);
+    wire.finish(&rt);
+    Ok(())
+}
+
+#[test]
+fn openings_without_memory_for_the_crew_are_no_faults(rt: HostRuntime) -> Result<(), Fail> {
+    let mut wire = TcpWire::of(rt.alloc(), Err(WireError::Memory));
+    assert!(rt; matches!(wire.open(&rt, 1, 2, 1), Err(WireError::Memory)));
+    assert_eq!(rt; wire.faults(), 0);
     wire.finish(&rt);
     Ok(())
 }

@@ -1,7 +1,9 @@
 //! What opens streams over TCP.
-ghost use Rattle.std.specs.Prelude.{◌≡◌, IfOk};
-ghost use Rattle.rds_link.specs.Ends.{IsFresh};
-ghost use Rattle.rds_tcp.specs.Tcp.{tcp_means, HasMovedNothing};
+ghost use Rattle.std.specs.Prelude.{◌≡◌, ◌≤◌, ◌+◌, IfOk, IfSome, IsErrOf, OnErr, Some, Err};
+ghost use Rattle.std.specs.Result.{result_err};
+ghost use Rattle.rds_link.specs.Ends.{IsFresh, RisesBy};
+ghost use Rattle.rds_link.specs.Streaming.{HasRisen};
+ghost use Rattle.rds_tcp.specs.Tcp.{tcp_means, new_wire, HasMovedNothing};
 
 use crate::crew::Crew;
 use crate::end::TcpEnd;
@@ -17,7 +19,7 @@ use std::thread::Threads;
 /// A wire whose streams go over TCP from this machine to itself. It can't be let go but by `finish`, which joins its threads.
 pub struct TcpWire {
     alloc: Global,
-    crew: Option<Crew>,
+    crew: Result<Crew, WireError>,
     faults: u64,
     nothings: u64,
     fulls: u64,
@@ -25,36 +27,38 @@ pub struct TcpWire {
 }
 
 impl Model for TcpWire {
-    ghost use Rattle.rds_tcp.specs.Tcp.{Counts};
+    ghost use Rattle.std.specs.Result.{result_err};
+    ghost use Rattle.rds_tcp.specs.Tcp.{WireView};
 
-    ghost Value = { Counts };
+    ghost Value = { WireView };
 
-    ghost view = { λ w. record { faults = w.faults; nothings = w.nothings; fulls = w.fulls; out = w.out } };
+    ghost view = { λ w. record { refused = result_err w.crew; faults = w.faults; nothings = w.nothings; fulls = w.fulls; out = w.out } };
 }
 
 impl TcpWire {
-    /// Starts the thread that opens streams. Where that is refused, each opening is a fault.
+    /// Starts the thread that opens streams. Where that is refused, each opening is, for the same cause: want of memory, or a fault.
     pub fn new<
         R: Threads + Wait + Net<Listener = TcpListener, Stream = TcpStream> + Copy + Send + 'static,
     >(rt: &R, alloc: Global) -> TcpWire
-        ensures { result ≡ record { faults = 0; nothings = 0; fulls = 0; out = 0 } }
+        ensures { result ≡ new_wire result.refused }
+    {
+        TcpWire::of(alloc, Crew::new(rt, alloc))
+    }
+
+    /// A wire that starts no thread, for where no stream is to be opened: each opening is a fault.
+    pub fn idle(alloc: Global) -> TcpWire
+        ensures { result ≡ new_wire (Some WireError.Fault) }
+    {
+        TcpWire::of(alloc, Err(WireError::Fault))
+    }
+
+    // A wire with this crew, or with this cause why it has none.
+    pub(crate) fn of(alloc: Global, crew: Result<Crew, WireError>) -> TcpWire
+        ensures { result ≡ new_wire (result_err crew) }
     {
         TcpWire {
             alloc,
-            crew: Crew::new(rt, alloc),
-            faults: 0,
-            nothings: 0,
-            fulls: 0,
-            out: 0,
-        }
-    }
-
-    // A wire whose thread was refused.
-    #[cfg(test)]
-    pub(crate) fn refused(alloc: Global) -> TcpWire {
-        TcpWire {
-            alloc,
-            crew: None,
+            crew,
             faults: 0,
             nothings: 0,
             fulls: 0,
@@ -83,7 +87,7 @@ impl TcpWire {
         self.fulls
     }
 
-    /// Returns once all threads have ended, those of an end after it was given back, has shut or was dropped.
+    /// Returns once all threads have ended. Those of an end do once it was given back, has shut or was dropped.
     pub fn finish<R: Threads>(self, rt: &R) {
         let TcpWire {
             alloc: _,
@@ -93,18 +97,20 @@ impl TcpWire {
             fulls: _,
             out: _,
         } = self;
-        if let Some(crew) = crew {
+        if let Ok(crew) = crew {
             crew.finish(rt);
         }
     }
 
     fn pair<R: Wait>(&self, rt: &R) -> Result<(TcpEnd, TcpEnd), WireError>
+        ensures refused { IfSome self.now.refused (λ cause. result ≡ Err cause) }
         ensures fresh { IfOk result (λ ends. IsFresh tcp_means ends.0 × IsFresh tcp_means ends.1) }
         ensures pair { IfOk result (λ ends. tcp_means.meets ends.0 ends.1) }
         ensures empty { IfOk result (λ ends. HasMovedNothing ends.0 × HasMovedNothing ends.1) }
     {
-        let Some(crew) = &self.crew else {
-            return Err(WireError::Fault);
+        let crew = match &self.crew {
+            Ok(crew) => crew,
+            Err(cause) => return Err(*cause),
         };
         let Ok((low, high)) = Standing::pair(self.alloc) else {
             return Err(WireError::Memory);
@@ -157,7 +163,22 @@ impl Wire for TcpWire {
         _low: u32,
         _high: u32,
         _stream: u32,
-    ) -> Result<(TcpEnd, TcpEnd), WireError> {
+    ) -> Result<(TcpEnd, TcpEnd), WireError>
+        ensures fresh { IfOk result (λ ends. IsFresh tcp_means ends.0 × IsFresh tcp_means ends.1) }
+        ensures pair { IfOk result (λ ends. tcp_means.meets ends.0 ends.1) }
+        ensures refused { IfSome self.old.refused (λ cause. result ≡ Err cause) }
+        ensures kept { self.new.refused ≡ self.old.refused }
+        ensures fault { IsErrOf result WireError.Fault → HasRisen self.old.faults self.new.faults }
+        ensures once { IsErrOf result WireError.Fault → RisesBy 1 self.old.faults self.new.faults }
+        ensures short { IsErrOf result WireError.Memory → self.new.faults ≡ self.old.faults }
+        ensures quiet { IfOk result (λ _. self.new.faults ≡ self.old.faults) }
+        ensures faults { self.old.faults ≤ self.new.faults }
+        ensures nothings { self.new.nothings ≡ self.old.nothings }
+        ensures fulls { self.new.fulls ≡ self.old.fulls }
+        ensures out { IfOk result (λ _. self.new.out ≤ self.old.out + 2) }
+        ensures opened { IfOk result (λ _. RisesBy 2 self.old.out self.new.out) }
+        ensures none { OnErr result (self.new.out ≡ self.old.out) }
+    {
         match self.pair(rt) {
             Ok(ends) => {
                 self.out = self.out.saturating_add(2);
