@@ -1,6 +1,7 @@
-//! Two lines that are driven by a seed: datagrams both ways, turns, receipts and a cut, in any order, over ends of which some
-//! calls fail.
-use rds_line_pair::{Both, NEW, Way, hosts, send_next, settle, take_next};
+//! Two lines that are driven by a seed: datagrams both ways, turns, receipts, cancellations and a cut, in any order, over ends of which
+//! some calls fail.
+use rds_line_hosts::PORT;
+use rds_line_pair::{Both, NEW, Seed, Way, hosts, send_next, settle, take_next};
 use rds_link::End;
 use rds_model::Order;
 use std::alloc::Global;
@@ -9,22 +10,8 @@ use std::sync::Wait;
 use std::test::*;
 use std::thread::Threads;
 
-// A sequence of numbers that a seed gives: a linear congruence modulo 2^32, of which the upper bits are used.
-#[derive(Clone, Copy)]
-struct Seed {
-    state: u32,
-}
-
-impl Seed {
-    // The next number, below 65,536.
-    fn next(&mut self) -> u32 {
-        self.state = self
-            .state
-            .wrapping_mul(1_664_525)
-            .wrapping_add(1_013_904_223);
-        self.state >> 16
-    }
-}
+// How many steps a seed draws.
+const STEPS: u32 = 120;
 
 // One step of those that the seed draws from.
 fn step<E: End>(
@@ -50,14 +37,50 @@ fn step<E: End>(
     }
 }
 
-// So many steps that the seed draws, in the middle of them a cut by one of the hosts.
-fn drive<E: End>(rt: &impl Wait, alloc: Global, both: &mut Both<E>, seed: &mut Seed) -> [Way; 2] {
-    let mut ways = [NEW; 2];
-    for at in 0..120 {
-        if at == 60 {
-            both.1.ask(rt, Order::Cut);
+// One of the hosts, which is drawn, cuts the stream.
+fn cut<E: End>(rt: &impl Wait, both: &mut Both<E>, drawn: u32) {
+    if drawn % 2 == 0 {
+        both.0.ask(rt, Order::Cut);
+    } else {
+        both.1.ask(rt, Order::Cut);
+    }
+}
+
+// One of the hosts takes back what it sent, where that is drawn.
+fn cancel<E: End>(rt: &impl Wait, both: &mut Both<E>, drawn: u32) {
+    let order = Order::Cancel {
+        slot: 0,
+        dport: PORT,
+    };
+    match drawn % 32 {
+        0 => {
+            both.0.ask(rt, order);
         }
-        let drawn = seed.next();
+        1 => {
+            both.1.ask(rt, order);
+        }
+        _ => {}
+    }
+}
+
+// So many steps that the seed draws, and before one of them a cut, with cancellations between them or without.
+fn drive<E: End>(
+    rt: &impl Wait,
+    alloc: Global,
+    both: &mut Both<E>,
+    seed: &mut Seed,
+    cancels: bool,
+) -> [Way; 2] {
+    let mut ways = [NEW; 2];
+    let cut_at = seed.draw() % STEPS;
+    for at in 0..STEPS {
+        if at == cut_at {
+            cut(rt, both, seed.draw());
+        }
+        if cancels {
+            cancel(rt, both, seed.draw());
+        }
+        let drawn = seed.draw();
         step(rt, alloc, both, &mut ways, drawn);
     }
     ways
@@ -69,50 +92,63 @@ fn run<R: Threads + Wait + Net>(
     alloc: Global,
     fail: Vec<u32>,
     seed: u32,
+    cancels: bool,
 ) -> Option<[Way; 2]> {
     let mut both = hosts(rt, alloc, fail)?;
-    let mut ways = drive(rt, alloc, &mut both, &mut Seed { state: seed });
+    let mut ways = drive(rt, alloc, &mut both, &mut Seed::new(seed), cancels);
     settle(rt, &mut both, &mut ways);
     Some(ways)
 }
 
-// Whether all that went came, in order.
-fn all_came(ways: &[Way; 2]) -> bool {
-    let [forth, back] = ways;
-    are_in_order(ways) && forth.came == forth.sent && back.came == back.sent
+// Whether all that went both ways came, in order and each once.
+fn are_whole(ways: &[Way; 2]) -> bool {
+    ways[0].is_whole() && ways[1].is_whole()
 }
 
-fn are_in_order(ways: &[Way; 2]) -> bool {
-    ways[0].in_order && ways[1].in_order
+// Whether what came both ways was sent, and came in order and each once.
+fn are_right(ways: &[Way; 2]) -> bool {
+    ways[0].is_right() && ways[1].is_right()
 }
 
-// Whether all that went came, in order, for each seed below `count`.
-fn all_come<R: Threads + Wait + Net>(rt: &R, alloc: Global, count: u32) -> bool {
-    for seed in 0..count {
-        let Some(ways) = run(rt, alloc, Vec::new(alloc), seed) else {
-            return false;
-        };
-        if !all_came(&ways) {
-            return false;
-        }
-    }
-    true
+// Whether all that went came, where a seed draws what is done.
+fn all_come<R: Threads + Wait + Net>(rt: &R, alloc: Global, seed: u32) -> bool {
+    let Some(ways) = run(rt, alloc, Vec::new(alloc), seed, false) else {
+        return false;
+    };
+    are_whole(&ways)
 }
 
 #[test]
 fn all_that_went_comes_in_order(rt: HostRuntime) {
-    assert!(rt; all_come(&rt, rt.alloc(), 200));
+    for seed in 0..200 {
+        assert!(rt; all_come(&rt, rt.alloc(), seed));
+    }
 }
 
-// Whether what came is in order, where a call of each end fails.
+// Whether what came is right, where cancellations are drawn too.
+fn the_rest_comes<R: Threads + Wait + Net>(rt: &R, alloc: Global, seed: u32) -> bool {
+    let Some(ways) = run(rt, alloc, Vec::new(alloc), seed, true) else {
+        return false;
+    };
+    are_right(&ways)
+}
+
+#[test]
+fn what_comes_beside_cancellations_is_in_order(rt: HostRuntime) {
+    for seed in 0..200 {
+        assert!(rt; the_rest_comes(&rt, rt.alloc(), seed));
+    }
+}
+
+// Whether what came is right, where a call of each end fails.
 fn comes_in_order<R: Threads + Wait + Net>(rt: &R, alloc: Global, seed: u32) -> bool {
     let Ok(fail) = Vec::from_array(alloc, [1 + seed % 60]) else {
         return false;
     };
-    let Some(ways) = run(rt, alloc, fail, seed) else {
+    let Some(ways) = run(rt, alloc, fail, seed, true) else {
         return false;
     };
-    are_in_order(&ways)
+    are_right(&ways)
 }
 
 #[test]

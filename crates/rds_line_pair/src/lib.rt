@@ -4,6 +4,7 @@
 ghost use Rattle.std.specs.Prelude.{◌≤◌, All, IfOk, IfSome, length};
 ghost use Rattle.rds_line_streams.specs.Streams.{AreNumbered, IsUnused};
 
+mod seed;
 mod ways;
 
 use rds_line::Turn;
@@ -11,6 +12,7 @@ use rds_line_hosts::{LineHost, PORT};
 use rds_link::{End, MemEnd, MemWire, Wire};
 use rds_model::Order;
 use rds_wire::{Memory, Payload};
+pub use seed::Seed;
 use std::alloc::Global;
 use std::net::Net;
 use std::sync::Wait;

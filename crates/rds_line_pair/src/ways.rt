@@ -5,31 +5,52 @@ use rds_link::End;
 use std::alloc::Global;
 use std::sync::Wait;
 
-/// How many datagrams went one way and how many came, and whether each that came was the next: each has its number as its bytes.
+/// How many datagrams a host of a test sends at most.
+const MOST: u32 = 60_000;
+
+/// How many datagrams went one way and how many came. Each has its number as its bytes, from 0 on.
 #[derive(Clone, Copy, Debug, PartialEq, Eq)]
 pub struct Way {
+    /// So many went.
     pub sent: u32,
+    /// So many came.
     pub came: u32,
-    pub in_order: bool,
+    /// The least number that may come next.
+    pub next: u32,
+    /// Whether each that came has a higher number than those before it.
+    pub rises: bool,
 }
 
+/// A way on which nothing went yet.
 pub const NEW: Way = Way {
     sent: 0,
     came: 0,
-    in_order: true,
+    next: 0,
+    rises: true,
 };
 
 impl Way {
+    /// Whether those that came were sent, and came in order and each once.
+    pub fn is_right(&self) -> bool {
+        self.rises && self.next <= self.sent
+    }
+
+    /// Whether all that were sent came so.
+    pub fn is_whole(&self) -> bool {
+        self.is_right() && self.came == self.sent
+    }
+
     // A datagram with this number came.
-    fn note(&mut self, bytes: &[u8]) {
-        self.in_order = self.in_order && bytes == self.came.to_be_bytes().as_slice();
-        self.came = self.came.wrapping_add(1);
+    fn note(&mut self, number: u32) {
+        self.rises = self.rises && self.next <= number;
+        self.next = number.saturating_add(1);
+        self.came = self.came.saturating_add(1);
     }
 }
 
 /// The host sends the next datagram of its way.
 pub fn send_next<E: End>(rt: &impl Wait, alloc: Global, host: &mut LineHost<E>, way: &mut Way) {
-    if way.sent < 60_000 && send(rt, alloc, host, &way.sent.to_be_bytes()) {
+    if way.sent < MOST && send(rt, alloc, host, &way.sent.to_be_bytes()) {
         way.sent += 1;
     }
 }
@@ -38,10 +59,18 @@ pub fn send_next<E: End>(rt: &impl Wait, alloc: Global, host: &mut LineHost<E>, 
 pub fn take_next<E: End>(rt: &impl Wait, host: &mut LineHost<E>, way: &mut Way) -> bool {
     match host.next(rt) {
         Some(datagram) => {
-            way.note(datagram.payload.as_slice());
+            way.note(number_of(datagram.payload.as_slice()));
             true
         }
         None => false,
+    }
+}
+
+// The number that a datagram has as its bytes. Bytes of another length are no number that was sent.
+fn number_of(bytes: &[u8]) -> u32 {
+    match bytes.first_chunk::<4>() {
+        Some(number) if bytes.len() == 4 => u32::from_be_bytes(*number),
+        _ => u32::MAX,
     }
 }
 

@@ -161,7 +161,7 @@ fn a_failing_sink(rt: HostRuntime) -> Result<(), Fail> {
 
 #[test]
 fn words_of_no_command_that_runs(rt: HostRuntime) {
-    let lines: [&[&str]; 12] = [
+    let lines: [&[&str]; 14] = [
         &["Play"],
         &["play", "hello.rds"],
         &["play", "--help"],
@@ -174,6 +174,8 @@ fn words_of_no_command_that_runs(rt: HostRuntime) {
         &["gen", "0", "1"],
         &["gen", "100001", "1"],
         &["gen", "1", "18446744073709551616"],
+        &["gen", "+5", "7"],
+        &["gen", "5", "07"],
     ];
     for words in lines {
         assert!(rt; is_answer(&rt, rt.alloc(), words, BINDS, 2, USAGE));

@@ -1,3 +1,4 @@
 pub mod Named
 pub mod Parsed
+pub mod Decimals
 pub mod Generated

@@ -1,7 +1,7 @@
 -- The command line of `gen`. Source: this project's own.
-use Rattle.std.specs.Prelude.{◌≡◌, ◌≤◌, ℕ, true, List, [], Option, Some, None, map, codes, String, string_bytes, slice_get}
+use Rattle.std.specs.Prelude.{◌≡◌, ◌≢◌, ◌≤◌, ℕ, true, List, [], Option, Some, None, length, map, codes, String, string_bytes, slice_get, slice_index}
 use Rattle.std.specs.Global.{Global}
-use Rattle.std.specs.Str.Parse.{IsNumeral, digits_value, without_leading_plus}
+use Rattle.std.specs.Fmt.{decimal}
 use Rattle.clap.specs.Words.{App, Kinds, Rule, new_app, new_rule, with_rule, fault_of, first_of, matches_of}
 use Rattle.clap.specs.declared.builder.action.ArgAction.TheVariants.{Set}
 
@@ -20,16 +20,15 @@ gen_faults words = fault_of gen_app words
 unfoldable pub gen_word : (id : List ℕ) → List (List ℕ) → Option (List ℕ)
 gen_word id words = first_of id (matches_of gen_app words)
 
--- a word is this number in decimal digits, before which a plus may stand, and the number lies in these bounds
-pub record IsNumberIn (low high : ℕ) (word : List ℕ) (n : ℕ) : Type 0 where
-  pub numeral : IsNumeral 10 (without_leading_plus word)
-  pub value : n ≡ digits_value 10 (without_leading_plus word)
+-- A word is this number in decimal digits, with no sign and no zero before them, and the number lies in these bounds.
+pub record IsDecimalIn (low high : ℕ) (word : List ℕ) (n : ℕ) : Type 0 where
+  pub digits : word ≡ decimal n
   pub least : low ≤ n
   pub most : n ≤ high
 
 -- there is such a word
 abbrev pub IsNamed : (low high : ℕ) → Option (List ℕ) → ℕ → Type 0
-IsNamed low high (Some word) n = IsNumberIn low high word n
+IsNamed low high (Some word) n = IsDecimalIn low high word n
 IsNamed low high None n = ⊥
 
 -- the first word is 1 to 100,000 sends, and the second a seed of 64 bits
@@ -49,3 +48,7 @@ AreGen words sends seed = (slice_get (map string_bytes words) 0 ≡ Some (codes 
 abbrev pub IsFound : ((sends seed : ℕ) → Type 0) → Option (ℕ × ℕ) → Type 0
 IsFound Are (Some n) = Are n.0 n.1
 IsFound Are None = (sends seed : ℕ) → Are sends seed → ⊥
+
+-- Private: it serves the contract of a private function. No plus stands before some digits, and no zero before others.
+abbrev pub IsPlain : List ℕ → Type 0
+IsPlain digits = (slice_index digits 0 ≢ 43) × (slice_index digits 0 ≡ 48 → length digits ≡ 1)

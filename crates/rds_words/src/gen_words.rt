@@ -1,6 +1,6 @@
-ghost use Rattle.std.specs.Prelude.{ℕ, IfOk, MatchOption, codes, map, option_map, string_bytes};
+ghost use Rattle.std.specs.Prelude.{◌↔◌, ℕ, IfOk, IsTrue, MatchOption, codes, map, option_map, string_bytes};
 ghost use Rattle.clap.specs.Words.{first_value, found_of};
-ghost use Rattle.rds_words.specs.Gen.{AreGen, AreNumbers, IsFound, IsNamed, TakesGen};
+ghost use Rattle.rds_words.specs.Gen.{AreGen, AreNumbers, IsFound, IsNamed, IsPlain, TakesGen};
 
 use clap::error::ErrorKind;
 use clap::{Arg, ArgAction, ArgMatches, Command};
@@ -60,9 +60,21 @@ fn number_in(word: Option<&str>, low: u64, high: u64) -> Option<u64>
         ((n : ℕ) → IsNamed low high (option_map (λ s. s.now) word.entry) n → ⊥)
         (λ n. IsNamed low high (option_map (λ s. s.now) word.entry) n) }
 {
-    let number = word?.parse::<u64>().ok()?;
-    if number < low || high < number {
+    let word = word?;
+    let number = word.parse::<u64>().ok()?;
+    if !is_plain(word.as_bytes()) || number < low || high < number {
         return None;
     }
     Some(number)
+}
+
+// Whether no sign stands before digits, and no zero before others.
+fn is_plain(digits: &[u8]) -> bool
+    ensures { IsTrue result ↔ IsPlain digits.now }
+{
+    match digits {
+        [b'+', ..] => false,
+        [b'0', others @ ..] => others.is_empty(),
+        _ => true,
+    }
 }
