@@ -1,8 +1,8 @@
 -- Items that stand in the order of their pairs, pair by pair.
-use Rattle.std.proofs.Common.{◌≡◌, ◌<◌, ◌+◌, inl, inr, ℕ, suc, Bool, true, false, not, ◌&&◌, ◌||◌, ◌==◌, if◌then◌else◌, cond, List, [], ◌∷◌, ◌++◌, length, map, filter, take, drop, get_or, arith, refl, sym, ap, ◌∙◌, subst, length-append}
+use Rattle.std.proofs.Common.{◌≡◌, ◌<◌, ◌+◌, ℕ, suc, Bool, true, false, not, ◌&&◌, ◌||◌, ◌==◌, if◌then◌else◌, cond, List, [], ◌∷◌, ◌++◌, length, map, filter, take, drop, get_or, arith, refl, sym, ap, ◌∙◌, subst}
 use Rattle.std.specs.Bool.{⊤}
 use Rattle.std.specs.List.{flat_map, prefix_len}
-use Rattle.std.proofs.lemmas.Bool.{true≢false, cases_eq, ne_eqb, eq-eqb}
+use Rattle.std.proofs.lemmas.Bool.{true≢false, ne_eqb}
 use Rattle.std.proofs.lemmas.List.{map-append, append-nil, take-append-drop}
 use Rattle.std.proofs.lemmas.List.Elements.{filter-append}
 use Rattle.std.proofs.lemmas.List.Folds.{list_any-append}
@@ -10,9 +10,8 @@ use Rattle.rds_report.specs.Item.{Item}
 use Rattle.rds_final.specs.Hosts.{IsAddress}
 use Rattle.rds_final.specs.Report.{Group, is_before, ascending}
 use Rattle.rds_report.specs.Items.{seen}
-use Rattle.rds_report.specs.ItemReport.{is_same, is_of, is_accepted, count_of, of_pair, accepted_pairs, pair_lines, lines_of, groups_text, AreKnown, AreNotBefore, IsUp}
-use Rattle.rds_report.specs.ItemTotals.{grouped, with_accepted}
-use Rattle.rds_report.proofs.Orders.{same_is, same_itself, before_itself, same_sym, before_either, before_differs, not_before_trans, before_then_not, Above, has, rising_one, rising_ascending, has_ascending}
+use Rattle.rds_report.specs.ItemReport.{is_same, is_of, is_accepted, count_of, of_pair, accepted_pairs, AreKnown, AreNotBefore, IsUp}
+use Rattle.rds_report.proofs.Orders.{same_is, same_itself, same_sym, before_either, before_differs, not_before_trans, before_then_not, Above, has, rising_one, rising_ascending, has_ascending}
 
 pub filter_tests : {X : Type 0} (p q : X → Bool) → ((x : X) → p x ≡ q x) → (xs : List X) → filter p xs ≡ filter q xs
 filter_tests p q h [] = refl

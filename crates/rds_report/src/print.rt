@@ -1,10 +1,8 @@
-ghost use Rattle.std.specs.Prelude.{◌≡◌, ◌++◌, ◌∷◌, [], ◌==◌, false, OnOk, string_bytes};
+ghost use Rattle.std.specs.Prelude.{◌≡◌, ◌++◌, ◌==◌, false, OnOk, string_bytes};
 ghost use Rattle.std.specs.List.{flat_map};
 ghost use Rattle.rds_report.specs.Item.{Item as Piece};
-ghost use Rattle.std.specs.Fmt.{decimal};
 ghost use Rattle.rds_final.specs.Hosts.{IsAddress};
 ghost use Rattle.rds_final.specs.Report.{pair_text, counts_line};
-ghost use Rattle.rds_text.specs.Lines.{phrase};
 ghost use Rattle.rds_report.specs.Items.{seen};
 ghost use Rattle.rds_report.specs.ItemReport.{AreKnown, IsUp, groups_text, lines_of, data_lines, count_of, is_accepted};
 ghost use Rattle.rds_report.specs.ItemTotals.{fates, seen_counts};

@@ -1,4 +1,4 @@
-use Rattle.std.proofs.Common.{◌≡◌, ◌∙◌, ◌+◌, ◌-◌, ℕ, length, take, drop, arith, sym, ap, add_assoc}
+use Rattle.std.proofs.Common.{◌∙◌, ◌+◌, ◌-◌, ℕ, length, take, drop, arith, sym, ap, add_assoc}
 use Rattle.std.proofs.lemmas.List.Sums.{sum_by-append}
 use Rattle.std.proofs.lemmas.List.{take_rest}
 use Rattle.rds_report.specs.Item.{Item}
