@@ -54,7 +54,7 @@ groups hosts =
 abbrev pub of_group : Group → List Datagram → List Datagram
 of_group g ds = filter (λ (d : Datagram). (d.from == g.from && (d.sport == g.sport)) && (d.dport == g.dport)) ds
 
--- the datagrams of the pair that were handed out, in the order of the sockets, and so of their numbers
+-- the datagrams of the pair that were handed out, socket by socket; those of a socket stand in the order of their numbers
 abbrev pub received : List FinalHost → Group → List Datagram
 received hosts g = of_group g (flat_map (λ (s : FinalSocket). s.got) (sockets_of g.to hosts))
 

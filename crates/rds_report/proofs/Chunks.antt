@@ -1,8 +1,8 @@
 -- Items that stand in the order of their pairs, pair by pair.
-use Rattle.std.proofs.Common.{◌≡◌, ◌<◌, ◌+◌, inl, inr, ℕ, suc, Bool, true, false, not, ◌&&◌, ◌||◌, ◌==◌, if◌then◌else◌, cond, List, [], ◌∷◌, ◌++◌, length, map, filter, take, drop, get_or, arith, refl, sym, ap, ◌∙◌, subst, length-append}
+use Rattle.std.proofs.Common.{◌≡◌, ◌<◌, ◌+◌, ℕ, suc, Bool, true, false, not, ◌&&◌, ◌||◌, ◌==◌, if◌then◌else◌, cond, List, [], ◌∷◌, ◌++◌, length, map, filter, take, drop, get_or, arith, refl, sym, ap, ◌∙◌, subst}
 use Rattle.std.specs.Bool.{⊤}
 use Rattle.std.specs.List.{flat_map, prefix_len}
-use Rattle.std.proofs.lemmas.Bool.{true≢false, cases_eq, ne_eqb, eq-eqb}
+use Rattle.std.proofs.lemmas.Bool.{true≢false, ne_eqb}
 use Rattle.std.proofs.lemmas.List.{map-append, append-nil, take-append-drop}
 use Rattle.std.proofs.lemmas.List.Elements.{filter-append}
 use Rattle.std.proofs.lemmas.List.Folds.{list_any-append}
@@ -10,9 +10,8 @@ use Rattle.rds_report.specs.Item.{Item}
 use Rattle.rds_final.specs.Hosts.{IsAddress}
 use Rattle.rds_final.specs.Report.{Group, is_before, ascending}
 use Rattle.rds_report.specs.Items.{seen}
-use Rattle.rds_report.specs.ItemReport.{is_same, is_of, is_accepted, count_of, of_pair, accepted_pairs, pair_lines, lines_of, groups_text, AreKnown, AreNotBefore, IsUp}
-use Rattle.rds_report.specs.ItemTotals.{grouped, with_accepted}
-use Rattle.rds_report.proofs.Orders.{same_is, same_itself, before_itself, same_sym, before_either, before_differs, not_before_trans, before_then_not, Above, has, rising_one, rising_ascending, has_ascending}
+use Rattle.rds_report.specs.ItemReport.{is_same, is_of, is_accepted, count_of, of_pair, accepted_pairs, AreKnown, AreNotBefore, IsUp}
+use Rattle.rds_report.proofs.Orders.{same_is, same_itself, same_sym, before_either, before_differs, not_before_trans, before_then_not, Above, has, rising_one, rising_ascending, has_ascending}
 
 pub filter_tests : {X : Type 0} (p q : X → Bool) → ((x : X) → p x ≡ q x) → (xs : List X) → filter p xs ≡ filter q xs
 filter_tests p q h [] = refl
@@ -234,63 +233,3 @@ pub peel : {T : Type 0} (f : Group → List Item → List T) (g : Group) (items 
 peel f g items first up =
     ap (parts f) (sym (take-append-drop (prefix_len (is_of g) items) items))
     ∙ split_parts g (take (prefix_len (is_of g) items) items) (drop (prefix_len (is_of g) items) items) (run_of g items) (rest_after g items first up).0 f
-
--- the first item's pair is first, and its run isn't empty
-pub first_first : (items : List Item) (d : Item) → 0 < length items → IsUp items → AreNotBefore (seen (get_or items 0 d).group) items
-first_first [] d long up = absurd (omega arith)
-first_first (j ∷ items) d long up = (before_itself (seen j.group), up.0)
-
-pub run_long : (items : List Item) (d : Item) → 0 < length items → 0 < prefix_len (is_of (seen (get_or items 0 d).group)) items
-run_long [] d long = absurd (omega arith)
-run_long (j ∷ items) d long =
-    subst (λ (b : Bool). 0 < cond b (1 + prefix_len (is_of (seen j.group)) items) 0) (sym (same_itself (seen j.group))) (omega arith)
-
-pub positive : (n : ℕ) → false ≡ (n == 0) → 0 < n
-positive n h = elim (cases_eq n 0) [
-  | inl e ↦ absurd (true≢false (sym (eq-eqb n 0 e) ∙ sym h))
-  | inr o ↦ omega (arith, o)
-]
-
--- what a turn of the loop takes, and what it leaves
-module _ (g : Group) (items run rest : List Item) (n : ℕ) (n_is : n ≡ prefix_len (is_of g) items) (run_is : run ≡ take n items) (rest_is : rest ≡ drop n items)
-    (first : AreNotBefore g items) (up : IsUp items) where
-  the_run : run ≡ take (prefix_len (is_of g) items) items
-  the_run = run_is ∙ ap (λ (m : ℕ). take m items) n_is
-
-  the_rest : rest ≡ drop (prefix_len (is_of g) items) items
-  the_rest = rest_is ∙ ap (λ (m : ℕ). drop m items) n_is
-
-  all : take (prefix_len (is_of g) items) items ++ drop (prefix_len (is_of g) items) items ≡ items
-  all = take-append-drop (prefix_len (is_of g) items) items
-
-  pub peeled_parts : {T : Type 0} (f : Group → List Item → List T) → parts f items ≡ part f g run ++ parts f rest
-  peeled_parts f =
-      peel f g items first up
-      ∙ ap (λ (l : List Item). part f g l ++ parts f (drop (prefix_len (is_of g) items) items)) (sym the_run)
-      ∙ ap (λ (l : List Item). part f g run ++ parts f l) (sym the_rest)
-
-  pub peeled_text : groups_text items ≡ lines_of g run ++ groups_text rest
-  peeled_text = peeled_parts pair_lines
-
-  pub peeled_items : grouped items ≡ with_accepted run ++ grouped rest
-  peeled_items = peeled_parts (λ k l. l)
-
-  pub peeled_length : length items ≡ length run + length rest
-  peeled_length =
-      ap length (sym all) ∙ length-append (take (prefix_len (is_of g) items) items) (drop (prefix_len (is_of g) items) items)
-      ∙ ap (λ (l : List Item). length l + length (drop (prefix_len (is_of g) items) items)) (sym the_run)
-      ∙ ap (λ (l : List Item). length run + length l) (sym the_rest)
-
-  pub peeled_up : IsUp rest
-  peeled_up = subst IsUp (sym the_rest) (rest_after g items first up).1
-
-  pub peeled_known : AreKnown items → AreKnown rest
-  peeled_known known =
-      subst AreKnown (sym the_rest)
-      (known_rest g (take (prefix_len (is_of g) items) items) (drop (prefix_len (is_of g) items) items) (run_of g items) (rest_after g items first up).0
-      (subst AreKnown (sym all) known))
-
-  pub peeled_run : AreKnown items → (count_of is_accepted run == 0) ≡ false → IsAddress g.to × IsAddress g.from
-  peeled_run known some =
-      known_run g (take (prefix_len (is_of g) items) items) (drop (prefix_len (is_of g) items) items) (run_of g items) (rest_after g items first up).0
-      (subst AreKnown (sym all) known) (ap (λ (l : List Item). count_of is_accepted l == 0) (sym the_run) ∙ some)

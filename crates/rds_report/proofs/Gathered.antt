@@ -1,5 +1,7 @@
 -- Items of lists that grow.
-use Rattle.std.proofs.Common.{◌≡◌, ◌∙◌, ◌++◌, ℕ, suc, ◌<◌, ◌+◌, ◌&&◌, not, Bool, false, List, get_or, length, map, take, [], ◌∷◌, sym, ap, refl, append_assoc}
+use Rattle.std.proofs.Common.{◌≡◌, ◌∙◌, ◌++◌, ℕ, suc, ◌<◌, ◌+◌, ◌&&◌, not, Bool, false, Option, Some, None, is_some, List, get_or, length, map, take, [], ◌∷◌, sym, ap, refl, append_assoc}
+use Rattle.std.specs.Prelude.{unwrap_or}
+use Rattle.std.proofs.lemmas.Bool.{true≢false}
 use Rattle.std.proofs.lemmas.List.{append-nil, map-append, take_more}
 use Rattle.std.proofs.Math.Seq.{take-append_seam}
 use Rattle.std.specs.List.{flat_map}
@@ -7,9 +9,10 @@ use Rattle.std.proofs.lemmas.Grind.{flat_map-append}
 use Rattle.rds_model.specs.declared.entry.Entry.{Entry}
 use Rattle.rds_model.specs.declared.entry.Entry.TheVariants.{Accept, Cancel, Open, Pull, Read, Shut, Bad}
 use Rattle.rds_model.specs.Past.{accepted}
+use Rattle.rds_report.specs.declared.item.Group.{Group as Key}
 use Rattle.rds_report.specs.Item.{Item}
 use Rattle.rds_model.specs.Streams.{was_passed}
-use Rattle.rds_report.specs.Items.{acceptance_items, came_items, arrival_items, has_cancellation, is_lost, sent_items, accepted_items}
+use Rattle.rds_report.specs.Items.{acceptance_items, acceptance_pair, came_items, arrival_items, has_cancellation, is_lost, sent_items, accepted_items}
 use Rattle.rds_report.proofs.Walked.{untaken}
 
 came_one : (from to : ℕ) (e : Entry) (past : List Entry) →
@@ -29,35 +32,30 @@ came_more from to e past old now is =
     ∙ append_assoc old (came_items from to past) (arrival_items from to e)
     ∙ ap (λ (l : List Item). old ++ l) (came_one from to e past)
 
--- an acceptance
-pub sent_accept : (from to : ℕ) (lost : ℕ → Bool) (slot sport dport : ℕ) (payload : List ℕ) (past : List Entry) (old now : List Item) →
-    now ≡ old ++ sent_items from to lost past →
-    now ++ accepted_items from to sport dport (lost (suc (accepted past))) ≡ old ++ sent_items from to lost (Accept slot sport dport payload ∷ past)
-sent_accept from to lost slot sport dport payload past old now is =
-    ap (λ (l : List Item). l ++ accepted_items from to sport dport (lost (suc (accepted past)))) is
-    ∙ append_assoc old (sent_items from to lost past) (accepted_items from to sport dport (lost (suc (accepted past))))
+-- an acceptance, by its pair
+pub accepted_accept : (from to : ℕ) (e : Entry) (k : Key) (past : List Entry) → acceptance_pair from to e ≡ Some k → accepted (e ∷ past) ≡ suc (accepted past)
+accepted_accept from to (Accept slot sport dport payload) k past pair = refl
+accepted_accept from to _ k past pair = absurd (true≢false (sym (ap is_some pair)))
+
+pub sent_accept : (from to : ℕ) (lost : ℕ → Bool) (e : Entry) (k : Key) (past : List Entry) (old now : List Item) →
+    acceptance_pair from to e ≡ Some k → now ≡ old ++ sent_items from to lost past →
+    now ++ accepted_items k.from k.to k.sport k.dport (lost (suc (accepted past))) ≡ old ++ sent_items from to lost (e ∷ past)
+sent_accept from to lost (Accept slot sport dport payload) k past old now pair is =
+    let number = suc (accepted past) in
+    ap (λ (o : Option Key). let g = unwrap_or o k in now ++ accepted_items g.from g.to g.sport g.dport (lost number)) (sym pair)
+    ∙ ap (λ (l : List Item). l ++ accepted_items from to sport dport (lost number)) is
+    ∙ append_assoc old (sent_items from to lost past) (accepted_items from to sport dport (lost number))
+sent_accept from to lost _ k past old now pair is = absurd (true≢false (sym (ap is_some pair)))
 
 -- any other entry
-pub accepted_other : (e : Entry) (past : List Entry) → ((slot sport dport : ℕ) (payload : List ℕ) → e ≡ Accept slot sport dport payload → ⊥) →
-    accepted (e ∷ past) ≡ accepted past
-accepted_other (Accept slot sport dport payload) past other = absurd (other slot sport dport payload refl)
-accepted_other (Read stream frame outcome) past other = refl
-accepted_other (Cancel slot target) past other = refl
-accepted_other (Open stream) past other = refl
-accepted_other (Pull stream frame) past other = refl
-accepted_other (Shut stream) past other = refl
-accepted_other (Bad stream header cause) past other = refl
+pub accepted_other : (from to : ℕ) (e : Entry) (past : List Entry) → acceptance_pair from to e ≡ None → accepted (e ∷ past) ≡ accepted past
+accepted_other from to (Accept slot sport dport payload) past none = absurd (true≢false (ap is_some none))
+accepted_other from to _ past none = refl
 
-pub sent_other : (from to : ℕ) (lost : ℕ → Bool) (e : Entry) (past : List Entry) →
-    ((slot sport dport : ℕ) (payload : List ℕ) → e ≡ Accept slot sport dport payload → ⊥) →
+pub sent_other : (from to : ℕ) (lost : ℕ → Bool) (e : Entry) (past : List Entry) → acceptance_pair from to e ≡ None →
     sent_items from to lost (e ∷ past) ≡ sent_items from to lost past
-sent_other from to lost (Accept slot sport dport payload) past other = absurd (other slot sport dport payload refl)
-sent_other from to lost (Read stream frame outcome) past other = refl
-sent_other from to lost (Cancel slot target) past other = refl
-sent_other from to lost (Open stream) past other = refl
-sent_other from to lost (Pull stream frame) past other = refl
-sent_other from to lost (Shut stream) past other = refl
-sent_other from to lost (Bad stream header cause) past other = refl
+sent_other from to lost (Accept slot sport dport payload) past none = absurd (true≢false (ap is_some none))
+sent_other from to lost _ past none = refl
 
 -- an entry of a journal in which nothing is lost
 sent_one : (from to : ℕ) (e : Entry) (past : List Entry) →

@@ -4,6 +4,7 @@ pub mod Walked
 pub mod Gathered
 pub mod Orders
 pub mod Chunks
+pub mod Turns
 pub mod Chosen
 pub mod Selected
 pub mod Sides

@@ -1,5 +1,5 @@
 -- Private: needed by the proofs of `report` and `summary` only. The report of items. Source: this project's own.
-use Rattle.std.specs.Prelude.{◌≡◌, ℕ, zero, suc, ⊤, ◌==◌, if◌then◌else◌, ◌&&◌, Bool, true, false, List, [], ◌∷◌, ◌++◌, length, filter, map, codes}
+use Rattle.std.specs.Prelude.{◌≡◌, ℕ, zero, suc, ⊤, ◌==◌, if◌then◌else◌, ◌&&◌, Bool, true, false, Option, Some, None, List, [], ◌∷◌, ◌++◌, length, filter, map, codes}
 use Rattle.std.specs.List.{flat_map, list_any}
 use Rattle.rds_text.specs.Words.{hex}
 use Rattle.rds_report.specs.Item.{What, Accepted, Received, Unread, Dropped, Port0, Cancelled, Item}
@@ -60,6 +60,11 @@ tally items = record {
 abbrev pub data_lines : What → List ℕ
 data_lines (Received payload) = text_line (codes " data=" ∷ hex payload ∷ [])
 data_lines _ = []
+
+-- the pair of the first item, if there is one
+abbrev pub first_pair : List Item → Option Group
+first_pair [] = None
+first_pair (i ∷ items) = Some (seen i.group)
 
 -- the lines of a pair whose items these are
 abbrev pub pair_lines : Group → List Item → List ℕ

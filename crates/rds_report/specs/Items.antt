@@ -28,6 +28,11 @@ seen k = record { to = k.to; dport = k.dport; from = k.from; sport = k.sport }
 abbrev pub item : (to dport from sport : ℕ) → What → Item
 item to dport from sport what = record { group = record { to = to; dport = dport; from = from; sport = sport }; what = what }
 
+-- the pair of an entry, where it is an acceptance
+abbrev pub acceptance_pair : (from to : ℕ) → Entry → Option Key
+acceptance_pair from to (Accept slot sport dport payload) = Some (record { to = to; dport = dport; from = from; sport = sport })
+acceptance_pair from to _ = None
+
 -- the items of an acceptance: itself, and once more where it is lost
 abbrev pub accepted_items : (from to sport dport : ℕ) → Bool → List Item
 accepted_items from to sport dport true = item to dport from sport Accepted ∷ item to dport from sport Cancelled ∷ []

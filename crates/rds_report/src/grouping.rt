@@ -1,8 +1,8 @@
-ghost use Rattle.std.specs.Prelude.{◌≡◌, ◌≤◌, OnOk, length};
-ghost use Rattle.std.specs.List.{prefix_len};
+ghost use Rattle.std.specs.Prelude.{◌≡◌, ◌≤◌, IfSome, OnOk, length, option_map};
+ghost use Rattle.std.specs.List.{prefix_len, take_while};
 ghost use Rattle.rds_final.specs.Report.{Group as Pair};
 ghost use Rattle.rds_report.specs.Items.{seen};
-ghost use Rattle.rds_report.specs.ItemReport.{IsUp, is_of, of_pair};
+ghost use Rattle.rds_report.specs.ItemReport.{IsUp, first_pair, is_of, of_pair};
 
 use crate::item::{Group, Item};
 use rds_wire::Memory;
@@ -20,8 +20,19 @@ pub fn sort(items: &mut Vec<Item<'_>>) -> Result<(), Memory>
     Ok(())
 }
 
-/// How many items of a group stand in front.
-pub fn run_length(items: &[Item<'_>], group: Group) -> usize
+/// The group of the first item, and the items of it in front. It's `None` where there are no items.
+pub fn first_run<'a, 'b>(items: &'a [Item<'b>]) -> Option<(Group, &'a [Item<'b>])>
+    ensures group { option_map (λ (group, run). seen group) result ≡ first_pair items.now }
+    ensures run { IfSome result (λ (group, run). run.now ≡ take_while (is_of (seen group)) items.now) }
+    ensures within { IfSome result (λ (group, run). length run.now ≤ length items.now) }
+{
+    let group = items.first()?.group();
+    let length = run_length(items, group);
+    Some((group, &items[..length]))
+}
+
+// How many items of a group stand in front.
+fn run_length(items: &[Item<'_>], group: Group) -> usize
     ensures run { result ≡ prefix_len (is_of (seen group)) items.now }
     ensures within { result ≤ length items.now }
 {

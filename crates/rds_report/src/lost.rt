@@ -1,11 +1,11 @@
 ghost use Rattle.std.specs.Prelude.{◌≡◌, ◌&&◌, not, ℕ, Bool, IfOk, option_copied};
-ghost use Rattle.rds_model.specs.Past.{accepted, passes as passes_it};
+ghost use Rattle.rds_model.specs.Past.{accepted};
 ghost use Rattle.rds_model.specs.Streams.{was_passed};
 ghost use Rattle.rds_report.specs.Items.{flags, is_lost, past_in, passes_number};
 
 use crate::flags::set_flag;
 use crate::taken::taken_back;
-use rds_model::{Entry, Journal, Outcome};
+use rds_model::{Entry, Journal};
 use rds_wire::Memory;
 use std::alloc::Global;
 
@@ -39,17 +39,8 @@ fn clear(lost: &mut [bool], entry: &Entry)
         lost.new ≡ flags (λ n. test n && not (passes_number entry.now n)) m }
 {
     if let Entry::Read { frame, outcome, .. } = entry {
-        if passes(*outcome) {
+        if outcome.passes() {
             set_flag(lost, frame.header.sequence, false);
         }
-    }
-}
-
-fn passes(outcome: Outcome) -> bool
-    ensures { result ≡ passes_it outcome }
-{
-    match outcome {
-        Outcome::NoSocket | Outcome::Slot(_) | Outcome::Ping | Outcome::Void => true,
-        Outcome::Old | Outcome::AckOnly | Outcome::Map | Outcome::OddMap => false,
     }
 }

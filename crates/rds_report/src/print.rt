@@ -1,16 +1,14 @@
-ghost use Rattle.std.specs.Prelude.{◌≡◌, ◌++◌, ◌∷◌, [], ◌==◌, false, OnOk, string_bytes};
+ghost use Rattle.std.specs.Prelude.{◌≡◌, ◌++◌, ◌==◌, false, OnOk, string_bytes};
 ghost use Rattle.std.specs.List.{flat_map};
 ghost use Rattle.rds_report.specs.Item.{Item as Piece};
-ghost use Rattle.std.specs.Fmt.{decimal};
 ghost use Rattle.rds_final.specs.Hosts.{IsAddress};
 ghost use Rattle.rds_final.specs.Report.{pair_text, counts_line};
-ghost use Rattle.rds_text.specs.Lines.{phrase};
 ghost use Rattle.rds_report.specs.Items.{seen};
 ghost use Rattle.rds_report.specs.ItemReport.{AreKnown, IsUp, groups_text, lines_of, data_lines, count_of, is_accepted};
 ghost use Rattle.rds_report.specs.ItemTotals.{fates, seen_counts};
 
 use crate::counts::Counts;
-use crate::grouping::run_length;
+use crate::grouping::first_run;
 use crate::item::{Group, Item, What};
 use rds_final::host_of;
 use rds_text::{Hex, HostName};
@@ -23,12 +21,9 @@ pub fn print_groups(text: &mut String, items: &[Item<'_>]) -> Result<(), Memory>
 {
     text.reserve(room(items))?;
     let mut rest = items;
-    while !rest.is_empty() {
-        let group = rest[0].group();
-        let length = run_length(rest, group);
-        let run = &rest[..length];
-        rest = &rest[length..];
+    while let Some((group, run)) = first_run(rest) {
         print_group(text, group, run)?;
+        rest = &rest[run.len()..];
     }
     Ok(())
 }
@@ -116,27 +111,15 @@ fn print_counts(text: &mut String, counts: Counts) -> Result<(), Memory>
 pub fn print_fates(text: &mut String, counts: Counts) -> Result<(), Memory>
     ensures { OnOk result (string_bytes text.new ≡ string_bytes text.old ++ fates (seen_counts counts)) }
 {
-    print_two(
+    let accepted = counts.accepted;
+    let received = counts.received;
+    let unread = counts.unread;
+    let dropped = counts.dropped;
+    let port0 = counts.port0;
+    let cancelled = counts.cancelled;
+    write!(
         text,
-        " accepted ",
-        counts.accepted,
-        " received ",
-        counts.received,
+        " accepted {accepted} received {received} unread {unread} dropped {dropped} port0 {port0} cancelled {cancelled}"
     )?;
-    print_two(text, " unread ", counts.unread, " dropped ", counts.dropped)?;
-    print_two(
-        text,
-        " port0 ",
-        counts.port0,
-        " cancelled ",
-        counts.cancelled,
-    )
-}
-
-// Prints two counts, each behind its words.
-fn print_two(text: &mut String, first: &str, m: u128, second: &str, n: u128) -> Result<(), Memory>
-    ensures { OnOk result (string_bytes text.new ≡ string_bytes text.old ++ phrase (first.now ∷ decimal m ∷ second.now ∷ decimal n ∷ [])) }
-{
-    write!(text, "{first}{m}{second}{n}")?;
     Ok(())
 }

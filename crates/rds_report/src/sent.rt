@@ -2,7 +2,7 @@
 ghost use Rattle.std.specs.Prelude.{◌≡◌, ◌++◌, ℕ, Bool, Ok, List, OnOk, false, length, option_copied, take, true};
 ghost use Rattle.rds_model.specs.Past.{accepted};
 ghost use Rattle.rds_report.specs.Item.{Item as Piece};
-ghost use Rattle.rds_report.specs.Items.{acceptance_items, accepted_items, flags, has_cancellation, is_cancellation as cancels, is_lost, past_in, sent_items};
+ghost use Rattle.rds_report.specs.Items.{acceptance_items, acceptance_pair, accepted_items, flags, has_cancellation, is_cancellation as cancels, is_lost, past_in, sent_items};
 
 use crate::flags::flag;
 use crate::item::{Group, Item, What};
@@ -70,13 +70,7 @@ fn add_acceptance(
 ) -> Result<(), Memory>
     ensures { OnOk result (items.new.items ≡ items.old.items ++ acceptance_items from to entry.now) }
 {
-    if let Entry::Accept { sport, dport, .. } = entry {
-        let group = Group {
-            to,
-            dport: *dport,
-            from,
-            sport: *sport,
-        };
+    if let Some(group) = accepted_group(entry, from, to) {
         add_accepted(items, group, false)?;
     }
     Ok(())
@@ -98,18 +92,27 @@ fn add_acceptances(
         let Some(entry) = journal.at(i) else {
             unreachable!()
         };
-        if let Entry::Accept { sport, dport, .. } = entry {
-            let group = Group {
-                to,
-                dport: *dport,
-                from,
-                sport: *sport,
-            };
+        if let Some(group) = accepted_group(entry, from, to) {
             add_accepted(items, group, flag(lost, n))?;
             n += 1;
         }
     }
     Ok(())
+}
+
+// The group of an entry, where it is an acceptance.
+fn accepted_group(entry: &Entry, from: u32, to: u32) -> Option<Group>
+    ensures { result ≡ acceptance_pair from to entry.now }
+{
+    match entry {
+        Entry::Accept { sport, dport, .. } => Some(Group {
+            to,
+            dport: *dport,
+            from,
+            sport: *sport,
+        }),
+        _ => None,
+    }
 }
 
 // The items of an acceptance, which is lost or not.

@@ -18,6 +18,15 @@ use rds_wire::Memory;
 use std::alloc::Global;
 use std::thread::Threads;
 
+/// How many hosts there are, as generated scripts have them.
+const HOSTS: u8 = 8;
+
+/// How many sockets they have together, as generated scripts have them.
+const SOCKETS: u8 = 32;
+
+/// After so many sends stands a cut, as generated scripts have it.
+const CUT_EVERY: u32 = 500;
+
 /// The summary over what the hosts have in the end, of the script that is generated for so many sends and this seed: one
 /// text line with the sums over all port pairs with an accepted datagram, and `end ok`. A thread sums up what went to one of
 /// the `MAX_HOSTS` hosts. It is exact where each address is that of one of them, and no host and no peer of a host stands
@@ -88,10 +97,10 @@ fn totals_to(alloc: Global, hosts: &[HostEnd], to: u32) -> Result<Totals, Memory
 fn print_totals(text: &mut String, seed: u64, sends: u32, totals: Totals) -> Result<(), Memory>
     ensures { OnOk result (string_bytes text.new ≡ string_bytes text.old ++ summary_line seed sends (seen_counts totals.counts) totals.bytes) }
 {
-    let cuts = sends / 500;
+    let cuts = sends / CUT_EVERY;
     write!(
         text,
-        "seed {seed} sends {sends} hosts 8 sockets 32 cuts {cuts}"
+        "seed {seed} sends {sends} hosts {HOSTS} sockets {SOCKETS} cuts {cuts}"
     )?;
     print::print_fates(text, totals.counts)?;
     let bytes = totals.bytes;

@@ -7,7 +7,7 @@ ghost use Rattle.rds_report.specs.ItemReport.{AreKnown, IsUp, groups_text, lines
 ghost use Rattle.rds_report.specs.Texts.{text_bytes};
 
 use crate::counts::Counts;
-use crate::grouping::run_length;
+use crate::grouping::first_run;
 use crate::item::{Group, Item};
 use crate::print::{print_head, print_received, room};
 use rayon::prelude::*;
@@ -60,12 +60,9 @@ impl Texts {
         ensures { AreKnown items.now → OnOk result (text_bytes self.new ≡ text_bytes self.old ++ groups_text items.now) }
     {
         let mut rest = items;
-        while !rest.is_empty() {
-            let group = rest[0].group();
-            let length = run_length(rest, group);
-            let run = &rest[..length];
-            rest = &rest[length..];
+        while let Some((group, run)) = first_run(rest) {
             self.print_group(rt, alloc, group, run)?;
+            rest = &rest[run.len()..];
         }
         Ok(())
     }

@@ -4,7 +4,7 @@ ghost use Rattle.rds_report.specs.Summary.{plus as together};
 ghost use Rattle.rds_report.specs.ItemTotals.{bytes_of, count_all, grouped, payload_bytes, seen_counts, with_accepted};
 
 use crate::counts::Counts;
-use crate::grouping::run_length;
+use crate::grouping::first_run;
 use crate::item::{Item, What};
 
 /// What the items of some groups come to: how many there are of each kind, and how many payload bytes were received.
@@ -25,12 +25,9 @@ impl Totals {
     {
         let mut totals = Totals::none();
         let mut rest = items;
-        while !rest.is_empty() {
-            let group = rest[0].group();
-            let length = run_length(rest, group);
-            let run = &rest[..length];
-            rest = &rest[length..];
+        while let Some((_group, run)) = first_run(rest) {
             totals = totals.plus(run);
+            rest = &rest[run.len()..];
         }
         totals
     }

@@ -4,8 +4,8 @@ use Rattle.rds_report.specs.ItemTotals.{bytes_of, count_all, grouped, seen_count
 use Rattle.rds_report.specs.Summary.{plus}
 use Rattle.rds_report.proofs.totals.Totals.of.Given as goal
 
-abbrev pub invariant-loop-rest : goal.invariant-loop-rest
-invariant-loop-rest l = record {
+abbrev pub invariant-loop-group : goal.invariant-loop-group
+invariant-loop-group l = record {
   up : IsUp l.rest;
   counts : plus (seen_counts l.totals.counts) (tally (grouped l.rest)) ≡ tally (grouped l.items);
   counted : count_all (seen_counts l.totals.counts) + length l.rest ≤ length l.items;
@@ -13,5 +13,5 @@ invariant-loop-rest l = record {
   limit : l.totals.bytes + length l.rest * 2 ^ 32 ≤ length l.items * 2 ^ 32;
 }
 
-abbrev pub decreases-loop-rest : goal.decreases-loop-rest
-decreases-loop-rest l = length l.rest
+abbrev pub decreases-loop-group : goal.decreases-loop-group
+decreases-loop-group l = length l.rest
