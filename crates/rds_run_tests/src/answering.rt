@@ -226,10 +226,13 @@ fn a_run_of_three_hosts(rt: HostRuntime) {
 }
 
 #[test]
-fn a_generated_script(rt: HostRuntime) {
-    let text =
-        "seed 1 sends 5 hosts 8 sockets 32 cuts 0 accepted 5 received 5 unread 0 dropped 0 port0 0 cancelled 0 bytes 10\nend ok\n";
-    assert!(rt; is_answer(&rt, rt.alloc(), &["gen", "5", "1"], "", 0, text));
+fn generated_scripts(rt: HostRuntime) {
+    let one =
+        "seed 0 sends 1 hosts 8 sockets 32 cuts 0 accepted 1 received 1 unread 0 dropped 0 port0 0 cancelled 0 bytes 0\nend ok\n";
+    assert!(rt; is_answer(&rt, rt.alloc(), &["gen", "1", "0"], "", 0, one));
+    let many =
+        "seed 7 sends 10000 hosts 8 sockets 32 cuts 20 accepted 10000 received 10000 unread 0 dropped 0 port0 0 cancelled 0 bytes 314616\nend ok\n";
+    assert!(rt; is_answer(&rt, rt.alloc(), &["gen", "10000", "7"], "", 0, many));
 }
 
 #[test]

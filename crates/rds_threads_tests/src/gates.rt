@@ -16,6 +16,9 @@ const MAP: usize = 8_240;
 
 const DATUM: usize = 49;
 
+/// The bytes of the map and of both datagrams.
+const ALL: usize = 8_338;
+
 /// A gate at which host A waits until its ends have taken the map, and then all that its commands so far have sent.
 #[derive(Drop)]
 struct Counted<'a> {
@@ -58,4 +61,5 @@ fn frames_are_written_while_the_caller_waits(rt: HostRuntime) {
     let mut wire = CountingWire::new(rt.alloc(), &taken);
     assert!(rt; writes(&rt, rt.alloc(), SCRIPT, &mut wire, &gate, 1, TEXT));
     assert!(rt; !gate.is_late.load(Ordering::SeqCst));
+    assert!(rt; taken.load(Ordering::SeqCst) == ALL);
 }
