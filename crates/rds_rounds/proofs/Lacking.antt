@@ -1,5 +1,6 @@
 -- A line that has no stream left, and whether it should have one.
-use Rattle.std.proofs.Common.{◌≡◌, ◌⊎◌, inl, inr, ◌<◌, ◌+◌, ℕ, zero, suc, Bool, true, false, List, [], ◌∷◌, None, Some, if◌then◌else◌, length, length-append, max, min, slice_get, sym, ap, subst, ◌∙◌, arith}
+use Rattle.std.proofs.Common.{◌≡◌, ◌⊎◌, inl, inr, ◌<◌, ◌+◌, ℕ, zero, suc, Bool, true, false, List, [], ◌∷◌, Option, None, Some, IsSome, is_some, if◌then◌else◌, length, length-append, max, min, slice_get, refl, sym, ap, subst, ◌∙◌, arith}
+use Rattle.std.proofs.lemmas.Bool.{false≢true}
 use Rattle.std.proofs.lemmas.List.{length-map, take_all}
 use Rattle.rds_link.specs.Ends.{Means}
 use Rattle.rds_fmap.specs.Readers.{WriterView}
@@ -63,7 +64,24 @@ not_none [] i within none = omega (arith, within)
 not_none (x ∷ xs) zero within none = absurd (cc)
 not_none (x ∷ xs) (suc i) within none = not_none xs i (omega (arith, within)) none
 
+-- what isn't nothing is something
+some_of : (o : Option ℕ) → (o ≡ None → ⊥) → IsSome o
+some_of None some = absurd (some refl)
+some_of (Some number) some = refl
+
 module _ {E : Type 0} where
+  -- the journal of a line with a stream open has one open
+  pub open_in_journal : {M : Type 0} (m : Means E) (line : LineView E M) → KeepsStreams m line → line.channel.streams.is_open ≡ true →
+      IsSome (open_stream (line_past line))
+  open_in_journal m line keeps on =
+      let streams = line.channel.streams in
+      let count = length-map streams.list (λ (stream : ℕ × E). stream.0) in
+      let some = keeps.streams.some on in
+      let within = keeps.streams.within in
+      some_of (open_stream (line_past line))
+      (λ none.
+      not_none (numbers streams.list) (newest_place streams) (omega (arith, count, some, within)) (sym (number_of_open streams on) ∙ keeps.carried.current ∙ none))
+
   -- a line with a stream open, or one that it may open, lacks none, unless it took an order
   pub lacks_by_order : {M : Type 0} (m : Means E) (old new : LineView E M) → KeepsStreams m new →
       TakesOrder old.orders new.orders ⊎ ((new.channel.streams.is_open ≡ true) ⊎ (new.channel.streams.opened < length new.channel.streams.list)) →
@@ -73,12 +91,7 @@ module _ {E : Type 0} where
       let one = length-append old.orders.got ((took.0, took.1) ∷ []) in
       omega (arith, more, one)
   lacks_by_order m old new keeps (inr (inl on)) lacks =
-      let streams = new.channel.streams in
-      let count = length-map streams.list (λ (stream : ℕ × E). stream.0) in
-      let some = keeps.streams.some on in
-      let within = keeps.streams.within in
-      absurd (not_none (numbers streams.list) (newest_place streams) (omega (arith, count, some, within))
-      (sym (number_of_open streams on) ∙ keeps.carried.current ∙ lacks.closed))
+      absurd (false≢true (sym (ap is_some lacks.closed) ∙ open_in_journal m new keeps on))
   lacks_by_order m old new keeps (inr (inr more)) lacks =
       let streams = new.channel.streams in
       let count = length-map streams.list (λ (stream : ℕ × E). stream.0) in
@@ -119,7 +132,7 @@ module _ (tells : Bool) (w : Wanted) where
       misses_met misses = (lacks_met one one_met first misses.0, should_met misses.1)
 
       pub left_met : IsLeftWell tells w one other → IsLeftWell tells w one_met other_met
-      left_met (inl on) = inl (first.on ∙ on)
+      left_met (inl on) = inl (subst (λ (past : List Entry). IsSome (open_stream past)) (sym first.past) on)
       left_met (inr lacks) = inr (lacks_met one one_met first lacks.0, λ should. lacks.1 (should_have_met should))
 
       pub by_order_met : (before_it old : LineView E WriterView) → HasMet before_it old → MissesByOrder tells w old one other →

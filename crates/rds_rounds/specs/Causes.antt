@@ -1,6 +1,6 @@
 -- Why the last rounds ended, where they ended otherwise than well, and when two hosts have no stream left and should have one.
 -- Source: this project's own.
-use Rattle.std.specs.Prelude.{◌≡◌, ◌⊎◌, ◌≤◌, ◌<◌, ◌+◌, ◌-◌, ℕ, suc, Bool, true, false, All, List, [], ◌∷◌, None, Some, length, option_and_then, slice_get, sum_by, unwrap_or}
+use Rattle.std.specs.Prelude.{◌≡◌, ◌⊎◌, ◌≤◌, ◌<◌, ◌+◌, ◌-◌, ℕ, suc, Bool, true, false, All, List, [], ◌∷◌, None, Some, IsSome, length, option_and_then, slice_get, sum_by, unwrap_or}
 use Rattle.rds_model.specs.declared.entry.Entry.{Entry}
 use Rattle.rds_model.specs.declared.entry.Entry.TheVariants.{Bad}
 use Rattle.rds_model.specs.Alive.{alive_numbers}
@@ -59,7 +59,7 @@ module _ {E M : Type 0} where
     -- it has a stream open; or it lacks one, and nothing says that the hosts should have one
     abbrev pub IsLeftWell : (own other : LineView E M) → Type 0
     IsLeftWell own other =
-        (own.channel.streams.is_open ≡ true) ⊎ (LacksStream own × (ShouldHaveStream tells w (line_past own) (line_past other) → ⊥))
+        IsSome (open_stream (line_past own)) ⊎ (LacksStream own × (ShouldHaveStream tells w (line_past own) (line_past other) → ⊥))
 
     -- where it lacks one that the hosts should have, it took an order since
     abbrev pub MissesByOrder : (old own other : LineView E M) → Type 0

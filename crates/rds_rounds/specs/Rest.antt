@@ -13,13 +13,12 @@ use Rattle.rds_line.specs.Line.{IsFull, LineView, line_past}
 use Rattle.rds_line.specs.Turns.{IsIdleTurn}
 use Rattle.rds_rounds.specs.Quiet.{LineGoesOn}
 
--- a line has met the other one: it goes on, and its journal, its orders, what it has to write and whether a stream is open are as before
+-- a line has met the other one: it goes on, and its journal, its orders and what it has to write are as before
 pub record HasMet {E : Type 0} (old new : LineView E WriterView) : Type 0 where
   pub goes : LineGoesOn old new
   pub past : line_past new ≡ line_past old
   pub orders : new.orders ≡ old.orders
   pub out : new.channel.out ≡ old.channel.out
-  pub on : new.channel.streams.is_open ≡ old.channel.streams.is_open
   pub full : (entries : ℕ) → IsFull entries old → IsFull entries new
 
 module _ {E : Type 0} (m : Means E) where

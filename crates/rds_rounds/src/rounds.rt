@@ -86,11 +86,16 @@ pub fn last_rounds<W: Wire, R: Wait>(
         if let Some(end) = end_after(came, wire.tells(), quiet, budget, lines) {
             return end;
         }
-        if came == Round::Idle {
-            yield_now();
-        }
+        rest_after(came);
     }
     unreachable!()
+}
+
+// After a round in which nothing moved, other threads get their turn: those that read and write sockets.
+fn rest_after(came: Round) {
+    if came == Round::Idle {
+        yield_now();
+    }
 }
 
 // How many rounds in a row were quiet.

@@ -49,7 +49,7 @@ pub returns-clause-fault : goal.returns-clause-fault
 returns-clause-fault g c = λ first second fault.
     let less = c.requires.less in
     let Misses = MissStreamAt c.args.tells c.args.wanted first second c.args.low c.args.high c.turn-first.new.line c.turn-second.new.line in
-    ⊎_elim {C = Misses} (λ same. absurd (never_goes c.turn-first.result first second (c.goes_on.ensures.0 c.goes_on-test.true) (sym same ∙ fault)))
+    ⊎_elim {C = Misses} (λ same. absurd (never_goes c.turn-first.result first second (c.goes_on.ensures.0 c.if-not-goes_on.false) (sym same ∙ fault)))
     (λ same.
     let is = sym same ∙ fault in
     let named = c.turn-second.ensures.fault first second is in (
