@@ -141,9 +141,15 @@ module _ {E : Type 0} (m : Means E) (wanted : List (List Wanted)) where
         by_pair host place one other ordered one_at other_at (inl same) (inr apart) = outside host place one other ordered one_at other_at (λ is. apart is.1)
         by_pair host place one other ordered one_at other_at (inr apart) next = outside host place one other ordered one_at other_at (λ is. apart is.0)
 
-    pub swept_pair : (lower_after higher_after : List (LineView E WriterView)) → RowsHadRound m (known_of wanted low high) low high came lower higher lower_after higher_after →
+    swept_rows : (lower_after higher_after : List (LineView E WriterView)) → RowsHadRound m (known_of wanted low high) low high came lower higher lower_after higher_after →
         AreSwept m wanted (IsPair low high) came rows (set (set rows low lower_after) high higher_after)
-    swept_pair lower_after higher_after had =
+    swept_rows lower_after higher_after had =
         subst (λ (l : List (LineView E WriterView)). AreSwept m wanted (IsPair low high) came rows (set (set rows low l) high higher_after)) (sym had.lower_is)
         (subst (λ (l : List (LineView E WriterView)). AreSwept m wanted (IsPair low high) came rows (set (set rows low (set lower (high - 1) had.one_after)) high l)) (sym had.higher_is)
         (swept_both lower_after higher_after had (slice_get_within rows high higher higher_at)))
+
+    pub swept_pair : (lower_after higher_after : List (LineView E WriterView)) (w : Wanted) → w ≡ known_of wanted low high →
+        RowsHadRound m w low high came lower higher lower_after higher_after →
+        AreSwept m wanted (IsPair low high) came rows (set (set rows low lower_after) high higher_after)
+    swept_pair lower_after higher_after w known had =
+        swept_rows lower_after higher_after (subst (λ (v : Wanted). RowsHadRound m v low high came lower higher lower_after higher_after) known had)

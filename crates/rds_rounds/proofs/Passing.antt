@@ -1,15 +1,9 @@
 -- What several rounds come to, and which hosts it passes.
-use Rattle.std.proofs.Common.{◌≡◌, ◌⊎◌, inl, inr, ℕ, suc, Bool, false, sym, subst, ◌∙◌, arith}
-use Rattle.std.specs.Prelude.{◌↔◌, IsTrue}
-use Rattle.std.proofs.lemmas.Bool.{false≢true}
+use Rattle.std.proofs.Common.{◌≡◌, ◌⊎◌, inl, inr, ℕ, suc, sym, subst, arith}
 use Rattle.rds_rounds.specs.Causes.{IsBefore}
 use Rattle.rds_rounds.specs.Sweep.{ComesTo, GoesOn, IsPair, IsPairBelow, IsPairOf, Passed, Stops}
 use Rattle.rds_rounds.specs.declared.verdict.Round.{Round}
 use Rattle.rds_rounds.specs.declared.verdict.Round.TheVariants as verdict
-
--- whether a round goes on is told
-pub stops_on : (came : Round) (on : Bool) → (IsTrue on ↔ GoesOn came) → on ≡ false → GoesOn came → ⊥
-stops_on came on exact off goes = false≢true (sym off ∙ exact.1 goes)
 
 -- a fault doesn't go on
 pub never_goes : (came : Round) (low high : ℕ) → GoesOn came → came ≡ verdict.Fault low high → ⊥
@@ -22,10 +16,6 @@ goes_past verdict.Idle low high goes = tt
 goes_past (verdict.Fault first second) low high goes = absurd goes
 goes_past (verdict.Spent host peer entries) low high goes = absurd goes
 goes_past verdict.Memory low high goes = absurd goes
-
--- a round that doesn't go on was no idle one
-pub not_idle : (came : Round) (on : Bool) → (IsTrue on ↔ GoesOn came) → on ≡ false → came ≡ verdict.Idle → ⊥
-not_idle came on exact off idle = stops_on came on exact off (subst GoesOn (sym idle) tt)
 
 -- two rounds that come to what stops nothing stop nothing
 pub both_go : (first second came : Round) → ComesTo came first second → GoesOn came → GoesOn first × GoesOn second

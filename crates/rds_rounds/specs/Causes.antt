@@ -77,7 +77,8 @@ module _ {E M : Type 0} where
     NoneMissBefore first second old new =
         (low place : ℕ) (one other one_after other_after : LineView E M) → low ≤ place → IsBefore low (suc place) first second →
         IsAt old low place one → IsAt old (suc place) low other → IsAt new low place one_after → IsAt new (suc place) low other_after →
-        MissesByOrder tells (known_of wanted low (suc place)) one one_after other_after × MissesByOrder tells (known_of wanted low (suc place)) other other_after one_after
+        MissesByOrder tells (known_of wanted low (suc place)) one one_after other_after
+        × MissesByOrder tells (known_of wanted low (suc place)) other other_after one_after
 
     -- two hosts, the lower one first, have lines to each other, and one of these lacks a stream that the two should have
     pub record HostsMissStream (low high : ℕ) (rows : List (List (LineView E M))) : Type 0 where

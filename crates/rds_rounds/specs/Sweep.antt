@@ -141,9 +141,11 @@ pub record IsAmong {E : Type 0} (In : ℕ → ℕ → Type 0) (Holds : (low high
   pub holds : Holds low (suc place) one other
 
 -- The two lines of each of these pairs had a round, and all other lines are the same. The rounds together came to this.
-pub record AreSwept {E : Type 0} (m : Means E) (wanted : List (List Wanted)) (In : ℕ → ℕ → Type 0) (came : Round) (old new : List (List (LineView E WriterView))) : Type 0 where
+pub record AreSwept {E : Type 0} (m : Means E) (wanted : List (List Wanted)) (In : ℕ → ℕ → Type 0) (came : Round)
+    (old new : List (List (LineView E WriterView))) : Type 0 where
   pub lengths : EachRow HasAsMany old new
   pub pair : (low place : ℕ) (one other : LineView E WriterView) → low ≤ place → IsAt old low place one → IsAt old (suc place) low other →
       PairAfter m (known_of wanted low (suc place)) (In low place) (came ≡ verdict.Idle) (Passed came low (suc place)) low place one other new
-  pub fault : (first second : ℕ) → came ≡ verdict.Fault first second → IsAmong In (λ low high. MissStreamAt m.tells (known_of wanted low high) first second low high) new
+  pub fault : (first second : ℕ) → came ≡ verdict.Fault first second →
+      IsAmong In (λ low high. MissStreamAt m.tells (known_of wanted low high) first second low high) new
   pub spent : (host peer entries : ℕ) → came ≡ verdict.Spent host peer entries → IsAmong In (IsFullAt host peer entries) new

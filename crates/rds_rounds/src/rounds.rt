@@ -70,7 +70,8 @@ pub fn last_rounds<W: Wire, R: Wait>(
     ensures drained { W.End.means.tells ≡ true → result ≡ ended.Done → AreDrainedLines (rows_of lines.new.items) }
     ensures acknowledged { result ≡ ended.Done → alive_in_rows (rows_of lines.new.items) ≡ 0 }
     ensures fault { (low high : ℕ) → result ≡ ended.Fault low high → (low < high) × (high < length lines.new.items) }
-    ensures misses { (low high : ℕ) → result ≡ ended.Fault low high → HostsMissStream W.End.means.tells (rows_of wanted.now) low high (rows_of lines.new.items) }
+    ensures misses { (low high : ℕ) → result ≡ ended.Fault low high →
+        HostsMissStream W.End.means.tells (rows_of wanted.now) low high (rows_of lines.new.items) }
     ensures lowest { (low high : ℕ) → result ≡ ended.Fault low high →
         NoneMissBefore W.End.means.tells (rows_of wanted.now) low high (rows_of lines.old.items) (rows_of lines.new.items) }
     ensures unfinished { (count : ℕ) (unwritten connected : Bool) → result ≡ ended.Unfinished count unwritten connected →

@@ -32,7 +32,8 @@ pub(crate) fn round<W: Wire, R: Wait>(
     ensures together { GoOnTogether W.End.means low high one.old other.old one.new other.new }
     ensures had { HaveHadRound W.End.means wanted (result ≡ verdict.Idle) one.new other.new }
     ensures by_order { GoesOn result → MissByOrder W.End.means.tells wanted one.old other.old one.new other.new }
-    ensures fault { (first second : ℕ) → result ≡ verdict.Fault first second → MissStreamAt W.End.means.tells wanted first second low high one.new other.new }
+    ensures fault { (first second : ℕ) → result ≡ verdict.Fault first second →
+        MissStreamAt W.End.means.tells wanted first second low high one.new other.new }
     ensures spent { (host peer entries : ℕ) → result ≡ verdict.Spent host peer entries → IsFullAt host peer entries low high one.new other.new }
 {
     meet_lines::<W>(one, other);

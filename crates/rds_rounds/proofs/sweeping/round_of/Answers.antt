@@ -1,7 +1,6 @@
 use Rattle.std.proofs.Common.{slice_index_or, sym, subst, arith}
 use Rattle.rds_rounds.specs.Grid.{rows_of}
-use Rattle.rds_rounds.specs.Sweep.{AreSwept, IsPair, RowsHadRound}
-use Rattle.rds_rounds.specs.declared.verdict.Wanted.{Wanted}
+use Rattle.rds_rounds.specs.Sweep.{AreSwept, IsPair}
 use Rattle.rds_rounds.proofs.Halves.{back_part, both_rows, front_part, higher_row, lower_row, rows_count}
 use Rattle.rds_rounds.proofs.OnePair.{swept_pair}
 use Rattle.rds_rounds.proofs.Swept.{connected_rows}
@@ -39,9 +38,4 @@ returns g c =
     (slice_index_or front c.from-2.result c.index-lower-from.result).items (slice_index_or back 0 c.index-higher-0.result).items c.requires.less
     (lower_row xs front back c.args.low c.args.high c.from-2.result c.requires.less c.requires.within c.from-2.ensures front_is back_is c.index-lower-from.result)
     (higher_row xs front back c.args.low c.args.high c.from-2.result c.requires.less c.requires.within c.from-2.ensures front_is back_is c.index-higher-0.result)
-    c.round_between.new.lower.items c.round_between.new.higher.items
-    (subst
-    (λ (w : Wanted).
-    RowsHadRound g.W.End.End.means w c.args.low c.args.high c.round_between.result (slice_index_or front c.from-2.result c.index-lower-from.result).items
-    (slice_index_or back 0 c.index-higher-0.result).items c.round_between.new.lower.items c.round_between.new.higher.items)
-    c.wanted_of-wanted.ensures c.round_between.ensures))
+    c.round_between.new.lower.items c.round_between.new.higher.items c.wanted_of-wanted.result c.wanted_of-wanted.ensures c.round_between.ensures)

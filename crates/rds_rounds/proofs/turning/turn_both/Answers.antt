@@ -1,10 +1,10 @@
-use Rattle.std.proofs.Common.{⊎_elim, inl, inr, sym, ◌∙◌}
+use Rattle.std.proofs.Common.{⊎_elim, inr, sym, ◌∙◌}
 use Rattle.rds_host.specs.Lines.{pair_of}
 use Rattle.rds_rounds.specs.Sweep.{MissStreamAt}
-use Rattle.rds_rounds.proofs.Connected.{connected_first, connected_stays}
-use Rattle.rds_rounds.proofs.Going.{goes_of_stays, goes_same}
-use Rattle.rds_rounds.proofs.Lacking.{by_order_grows, left_grows, named_high, named_high_too, named_low, named_low_too}
-use Rattle.rds_rounds.proofs.Passing.{both_go, never_goes, not_idle, stops_on}
+use Rattle.rds_rounds.proofs.Connected.{connected_stays}
+use Rattle.rds_rounds.proofs.Going.{goes_of_stays}
+use Rattle.rds_rounds.proofs.Lacking.{by_order_grows, left_grows, named_high_too, named_low_too}
+use Rattle.rds_rounds.proofs.Passing.{both_go, never_goes}
 use Rattle.rds_rounds.proofs.turning.turn_both.Goals as goal
 
 pub returns-clause-together : goal.returns-clause-together
