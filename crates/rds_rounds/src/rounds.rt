@@ -50,10 +50,11 @@ pub enum Rounds {
     Memory,
 }
 
-/// Turns all lines in rounds: in each the two lines of each two hosts meet, have a turn each, and meet again. Over ends that tell
-/// their bytes the rounds stop after an idle one that left nothing to be written. Over others they stop once rounds were quiet and all
-/// is acknowledged, or as many were quiet as the budget allows. Where the lines of several two hosts end them by a fault, a full
-/// journal or a lack of memory, the first in ascending order tells how; `lowest` says so of faults.
+/// Turns all lines in rounds: in each the two lines of each two hosts meet, have a turn each, and meet again. Where the first one's
+/// turn ends the rounds, the second has none. Over ends that tell their bytes the rounds stop after an idle one that left nothing to be
+/// written. Over others they stop once rounds were quiet and all is acknowledged, or as many were quiet as the budget allows. Where the
+/// lines of several two hosts end them by a fault, a full journal or a lack of memory, the first in ascending order tells how; `lowest`
+/// says so of faults.
 /// `wanted` has for each two hosts what is to be known of them, in the row of the lower one, at the place of the line between them.
 pub fn last_rounds<W: Wire, R: Wait>(
     rt: &R,
