@@ -12,5 +12,6 @@ pub mod Resting
 pub mod Owing
 pub mod Drains
 pub mod Knowing
+pub mod Counted
 pub mod Lacking
 pub mod Alive

@@ -6,16 +6,18 @@ use Rattle.rds_fmap.specs.Readers.{WriterView}
 use Rattle.rds_link.specs.Ends.{Means}
 use Rattle.rds_line.specs.Line.{LineView}
 use Rattle.rds_line_streams.specs.PlaceLaws.{beside_set}
+use Rattle.rds_rounds.specs.Causes.{known_of}
 use Rattle.rds_rounds.specs.Connection.{IsFullAt}
 use Rattle.rds_rounds.specs.Grid.{EachRow, IsAt}
-use Rattle.rds_rounds.specs.Sweep.{AreSwept, GoOnTogether, GoesOn, HasAsMany, IsAmong, IsPair, LackByOrder, LackStreamAt, PairAfter, Passed, RowsHadRound}
+use Rattle.rds_rounds.specs.Sweep.{AreSwept, GoOnTogether, GoesOn, HasAsMany, HaveHadRound, IsAmong, IsPair, MissByOrder, MissStreamAt, PairAfter, Passed, RowsHadRound}
 use Rattle.rds_rounds.specs.declared.verdict.Round.{Round}
 use Rattle.rds_rounds.specs.declared.verdict.Round.TheVariants as verdict
+use Rattle.rds_rounds.specs.declared.verdict.Wanted.{Wanted}
 use Rattle.rds_rounds.proofs.Passing.{not_before}
 use Rattle.rds_rounds.proofs.Places.{at_other, at_there, length_through, same_at, set_lengths}
 use Rattle.rds_rounds.proofs.Sweeps.{pair_same}
 
-module _ {E : Type 0} (m : Means E) where
+module _ {E : Type 0} (m : Means E) (wanted : List (List Wanted)) where
   -- one pair had a round
   module _ (low high : ℕ) (came : Round) (rows : List (List (LineView E WriterView))) (lower higher : List (LineView E WriterView)) (less : low < high)
       (lower_at : slice_get rows low ≡ Some lower) (higher_at : slice_get rows high ≡ Some higher) where
@@ -32,12 +34,12 @@ module _ {E : Type 0} (m : Means E) where
         at_other (set rows low (set lower (high - 1) x)) high higher (still x) low y host place line out_too
         (at_other rows low lower lower_at (high - 1) x host place line out at)
 
-    swept_both : (lower_after higher_after : List (LineView E WriterView)) → (had : RowsHadRound m low high came lower higher lower_after higher_after) →
-        high < length rows → AreSwept m (IsPair low high) came rows (after_both had.one_after had.other_after)
+    swept_both : (lower_after higher_after : List (LineView E WriterView)) → (had : RowsHadRound m (known_of wanted low high) low high came lower higher lower_after higher_after) →
+        high < length rows → AreSwept m wanted (IsPair low high) came rows (after_both had.one_after had.other_after)
     swept_both lower_after higher_after had within = record {
       lengths = lengths;
       pair = λ host place one other ordered one_at other_at. by_pair host place one other ordered one_at other_at (cases_eq host low) (cases_eq (suc place) high);
-      fault = λ first second is. here (LackStreamAt first second) (had.fault first second is);
+      fault = λ first second is. here (λ l h. MissStreamAt m.tells (known_of wanted l h) first second l h) (had.fault first second is);
       spent = λ host peer entries is. here (IsFullAt host peer entries) (had.spent host peer entries is);
     }
       where
@@ -86,10 +88,12 @@ module _ {E : Type 0} (m : Means E) where
         }
 
         inside : (host place : ℕ) (one other : LineView E WriterView) → IsAt rows host place one → IsAt rows (suc place) host other → host ≡ low → suc place ≡ high →
-            PairAfter m (IsPair low high host place) (came ≡ verdict.Idle) (Passed came host (suc place)) host place one other
+            PairAfter m (known_of wanted host (suc place)) (IsPair low high host place) (came ≡ verdict.Idle) (Passed came host (suc place)) host place one other
             (after_both had.one_after had.other_after)
         inside host place one other one_at other_at same next =
             let place_is : place ≡ high - 1 = omega (arith, next) in
+            let known : known_of wanted low high ≡ known_of wanted host (suc place) =
+            ap (λ (n : ℕ). known_of wanted n high) (sym same) ∙ ap (λ (n : ℕ). known_of wanted host n) (sym next) in
             let one_is : had.one ≡ one =
             same_at rows host place had.one one (lower, ap (slice_get rows) same ∙ lower_at, ap (slice_get lower) place_is ∙ had.one_at) one_at in
             let other_is : had.other ≡ other =
@@ -108,21 +112,22 @@ module _ {E : Type 0} (m : Means E) where
                   (subst (λ (n : ℕ). GoOnTogether m low n one other had.one_after had.other_after) (sym next)
                   (subst (λ (l : LineView E WriterView). GoOnTogether m low high l other had.one_after had.other_after) one_is
                   (subst (λ (l : LineView E WriterView). GoOnTogether m low high had.one l had.one_after had.other_after) other_is had.together)));
-              round = λ among. had.round;
+              round = λ among. subst (λ (w : Wanted). HaveHadRound m w (came ≡ verdict.Idle) had.one_after had.other_after) known had.round;
               by_order = λ among passed.
-                  subst (λ (l : LineView E WriterView). LackByOrder m l other had.one_after had.other_after) one_is
-                  (subst (λ (l : LineView E WriterView). LackByOrder m had.one l had.one_after had.other_after) other_is
-                  (had.by_order (goes came refl (subst (λ (n : ℕ). Passed came low n) next (subst (λ (n : ℕ). Passed came n (suc place)) same passed)))));
+                  subst (λ (w : Wanted). MissByOrder m.tells w one other had.one_after had.other_after) known
+                  (subst (λ (l : LineView E WriterView). MissByOrder m.tells (known_of wanted low high) l other had.one_after had.other_after) one_is
+                  (subst (λ (l : LineView E WriterView). MissByOrder m.tells (known_of wanted low high) had.one l had.one_after had.other_after) other_is
+                  (had.by_order (goes came refl (subst (λ (n : ℕ). Passed came low n) next (subst (λ (n : ℕ). Passed came n (suc place)) same passed))))));
               one_same = λ out. absurd (out (same, next));
               other_same = λ out. absurd (out (same, next));
             }
 
         outside : (host place : ℕ) (one other : LineView E WriterView) → host ≤ place → IsAt rows host place one → IsAt rows (suc place) host other →
             (IsPair low high host place → ⊥) →
-            PairAfter m (IsPair low high host place) (came ≡ verdict.Idle) (Passed came host (suc place)) host place one other
+            PairAfter m (known_of wanted host (suc place)) (IsPair low high host place) (came ≡ verdict.Idle) (Passed came host (suc place)) host place one other
             (after_both had.one_after had.other_after)
         outside host place one other ordered one_at other_at out =
-            pair_same m (IsPair low high host place) (came ≡ verdict.Idle) (Passed came host (suc place)) host place one other (after_both had.one_after had.other_after) out
+            pair_same m (known_of wanted host (suc place)) (IsPair low high host place) (came ≡ verdict.Idle) (Passed came host (suc place)) host place one other (after_both had.one_after had.other_after) out
             (beside_both had.one_after had.other_after host place one (λ same. λ also. out (same, omega (arith, also, less)))
             (λ same. λ also. omega (arith, same, also, ordered, less)) one_at)
             (beside_both had.one_after had.other_after (suc place) host other (λ same. λ also. omega (arith, same, also, ordered, less))
@@ -130,15 +135,21 @@ module _ {E : Type 0} (m : Means E) where
 
         by_pair : (host place : ℕ) (one other : LineView E WriterView) → host ≤ place → IsAt rows host place one → IsAt rows (suc place) host other →
             (host ≡ low) ⊎ (host ≡ low → ⊥) → (suc place ≡ high) ⊎ (suc place ≡ high → ⊥) →
-            PairAfter m (IsPair low high host place) (came ≡ verdict.Idle) (Passed came host (suc place)) host place one other
+            PairAfter m (known_of wanted host (suc place)) (IsPair low high host place) (came ≡ verdict.Idle) (Passed came host (suc place)) host place one other
             (after_both had.one_after had.other_after)
         by_pair host place one other ordered one_at other_at (inl same) (inl next) = inside host place one other one_at other_at same next
         by_pair host place one other ordered one_at other_at (inl same) (inr apart) = outside host place one other ordered one_at other_at (λ is. apart is.1)
         by_pair host place one other ordered one_at other_at (inr apart) next = outside host place one other ordered one_at other_at (λ is. apart is.0)
 
-    pub swept_pair : (lower_after higher_after : List (LineView E WriterView)) → RowsHadRound m low high came lower higher lower_after higher_after →
-        AreSwept m (IsPair low high) came rows (set (set rows low lower_after) high higher_after)
-    swept_pair lower_after higher_after had =
-        subst (λ (l : List (LineView E WriterView)). AreSwept m (IsPair low high) came rows (set (set rows low l) high higher_after)) (sym had.lower_is)
-        (subst (λ (l : List (LineView E WriterView)). AreSwept m (IsPair low high) came rows (set (set rows low (set lower (high - 1) had.one_after)) high l)) (sym had.higher_is)
+    swept_rows : (lower_after higher_after : List (LineView E WriterView)) → RowsHadRound m (known_of wanted low high) low high came lower higher lower_after higher_after →
+        AreSwept m wanted (IsPair low high) came rows (set (set rows low lower_after) high higher_after)
+    swept_rows lower_after higher_after had =
+        subst (λ (l : List (LineView E WriterView)). AreSwept m wanted (IsPair low high) came rows (set (set rows low l) high higher_after)) (sym had.lower_is)
+        (subst (λ (l : List (LineView E WriterView)). AreSwept m wanted (IsPair low high) came rows (set (set rows low (set lower (high - 1) had.one_after)) high l)) (sym had.higher_is)
         (swept_both lower_after higher_after had (slice_get_within rows high higher higher_at)))
+
+    pub swept_pair : (lower_after higher_after : List (LineView E WriterView)) (w : Wanted) → w ≡ known_of wanted low high →
+        RowsHadRound m w low high came lower higher lower_after higher_after →
+        AreSwept m wanted (IsPair low high) came rows (set (set rows low lower_after) high higher_after)
+    swept_pair lower_after higher_after w known had =
+        swept_rows lower_after higher_after (subst (λ (v : Wanted). RowsHadRound m v low high came lower higher lower_after higher_after) known had)

@@ -5,6 +5,10 @@ use Rattle.rds_rounds.specs.Sweep.{ComesTo, GoesOn, IsPair, IsPairBelow, IsPairO
 use Rattle.rds_rounds.specs.declared.verdict.Round.{Round}
 use Rattle.rds_rounds.specs.declared.verdict.Round.TheVariants as verdict
 
+-- a fault doesn't go on
+pub never_goes : (came : Round) (low high : ℕ) → GoesOn came → came ≡ verdict.Fault low high → ⊥
+never_goes came low high goes is = subst GoesOn is goes
+
 -- rounds that stop nothing pass all hosts
 pub goes_past : (came : Round) (low high : ℕ) → GoesOn came → Passed came low high
 goes_past verdict.Moved low high goes = tt

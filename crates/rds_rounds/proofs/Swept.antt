@@ -1,5 +1,5 @@
 -- What the lines of a run are after a round of each two hosts.
-use Rattle.std.proofs.Common.{◌≡◌, ◌⊎◌, inl, inr, ℕ, suc, ◌<◌, ◌≤◌, ◌-◌, true, List, [], length, length-append, Some, slice_get, sym, ap, subst, ◌∙◌, arith}
+use Rattle.std.proofs.Common.{◌≡◌, ◌⊎◌, inl, inr, ℕ, suc, ◌<◌, ◌≤◌, ◌-◌, Bool, true, List, [], length, length-append, Some, slice_get, sym, ap, subst, ◌∙◌, arith}
 use Rattle.std.proofs.lemmas.Option.{same_Some, slice_get_within}
 use Rattle.std.specs.List.{All}
 use Rattle.rds_fmap.specs.Readers.{WriterView}
@@ -7,15 +7,16 @@ use Rattle.rds_mail.specs.Learning.{AllGot}
 use Rattle.rds_model.specs.Honest.{Begins}
 use Rattle.rds_link.specs.Ends.{Means}
 use Rattle.rds_line.specs.Line.{LineView, line_past}
-use Rattle.rds_rounds.specs.Causes.{HostsLackStream, LacksByOrder, NoneLackBefore, OweNothing, OwesNothing}
+use Rattle.rds_rounds.specs.Causes.{AreLeftWell, HostsMissStream, NoneMissBefore, OneMissesStream, OweNothing, OwesNothing, known_of}
 use Rattle.rds_rounds.specs.Connection.{AreConnected, AreHosts, IsFullAt, IsFullHost}
 use Rattle.rds_rounds.specs.Done.{AreDone}
 use Rattle.rds_rounds.specs.Drained.{AreDrainedLines}
 use Rattle.rds_rounds.specs.Grid.{AreRows, EachRow, IsAt, peer_at}
 use Rattle.rds_rounds.specs.Quiet.{AreQuiet, LineGoesOn, LinesGoOn}
-use Rattle.rds_rounds.specs.Sweep.{AreConnectedRows, AreSwept, AreWritten, GoOnTogether, HaveHadRound, IsAmong, IsPairBelow, LackStreamAt, Passed}
+use Rattle.rds_rounds.specs.Sweep.{AreConnectedRows, AreSwept, AreWritten, GoOnTogether, HaveHadRound, IsAmong, IsPairBelow, MissByOrder, MissStreamAt, Passed}
 use Rattle.rds_rounds.specs.declared.verdict.Round.{Round}
 use Rattle.rds_rounds.specs.declared.verdict.Round.TheVariants as verdict
+use Rattle.rds_rounds.specs.declared.verdict.Wanted.{Wanted}
 use Rattle.rds_rounds.proofs.Going.{stood_at}
 use Rattle.rds_rounds.proofs.Partners.{all_at, all_of, has_partner, is_there, rows_keep}
 use Rattle.rds_rounds.proofs.Places.{same_at, was_at}
@@ -39,6 +40,7 @@ module _ {E : Type 0} (m : Means E) where
             (are.connected low (high - 1) one.0 other.0 (omega (arith, less)) one.1 (subst (λ (n : ℕ). IsAt rows n low other.0) (sym top) other.1));
       }
 
+module _ {E : Type 0} (m : Means E) (wanted : List (List Wanted)) where
   -- the two lines of a pair as they were, and what became of them
   record CameFrom (In Idle : Type 0) (low place : ℕ) (old : List (List (LineView E WriterView))) (x y : LineView E WriterView) : Type 0 where
     pub one : LineView E WriterView
@@ -46,9 +48,9 @@ module _ {E : Type 0} (m : Means E) where
     pub one_at : IsAt old low place one
     pub other_at : IsAt old (suc place) low other
     pub together : GoOnTogether m low (suc place) one other x y
-    pub round : In → HaveHadRound m Idle x y
+    pub round : In → HaveHadRound m (known_of wanted low (suc place)) Idle x y
 
-  module _ (In : ℕ → ℕ → Type 0) (came : Round) (old new : List (List (LineView E WriterView))) (swept : AreSwept m In came old new) where
+  module _ (In : ℕ → ℕ → Type 0) (came : Round) (old new : List (List (LineView E WriterView))) (swept : AreSwept m wanted In came old new) where
     came_from : (low place : ℕ) (x y : LineView E WriterView) → low ≤ place → IsAt new low place x → IsAt new (suc place) low y →
         CameFrom (In low place) (came ≡ verdict.Idle) low place old x y
     came_from low place x y ordered x_at y_at =
@@ -66,8 +68,8 @@ module _ {E : Type 0} (m : Means E) where
               subst (λ (l : LineView E WriterView). GoOnTogether m low (suc place) one.0 other.0 l y) x_is
               (subst (λ (l : LineView E WriterView). GoOnTogether m low (suc place) one.0 other.0 after.one_after l) y_is after.together);
           round = λ among.
-              subst (λ (l : LineView E WriterView). HaveHadRound m (came ≡ verdict.Idle) l y) x_is
-              (subst (λ (l : LineView E WriterView). HaveHadRound m (came ≡ verdict.Idle) after.one_after l) y_is (after.round among));
+              subst (λ (l : LineView E WriterView). HaveHadRound m (known_of wanted low (suc place)) (came ≡ verdict.Idle) l y) x_is
+              (subst (λ (l : LineView E WriterView). HaveHadRound m (known_of wanted low (suc place)) (came ≡ verdict.Idle) after.one_after l) y_is (after.round among));
         }
 
     pub hosts_swept : (limit hosts : ℕ) → AreHosts m limit hosts old → AreHosts m limit hosts new
@@ -79,17 +81,18 @@ module _ {E : Type 0} (m : Means E) where
           was.together.connected limit (are.connected low place was.one was.other ordered was.one_at was.other_at);
     }
 
-    -- no line of hosts before two that lack a stream lacks one, but by an order
-    pub lowest_swept : m.tells ≡ true → (first second : ℕ) → came ≡ verdict.Fault first second →
-        ((low place : ℕ) → low ≤ place → suc place < length new → In low place) → NoneLackBefore first second old new
-    lowest_swept tells first second is all low place one other one_after other_after ordered before one_at other_at one_now other_now =
+    -- no line of hosts before two that lack a stream lacks one that they should have, but by an order
+    pub lowest_swept : (first second : ℕ) → came ≡ verdict.Fault first second →
+        ((low place : ℕ) → low ≤ place → suc place < length new → In low place) → NoneMissBefore m.tells wanted first second old new
+    lowest_swept first second is all low place one other one_after other_after ordered before one_at other_at one_now other_now =
         let after = swept.pair low place one other ordered one_at other_at in
-        let lack =
-        after.by_order (all low place ordered (slice_get_within new (suc place) other_now.0 other_now.1))
-        (subst (λ (r : Round). Passed r low (suc place)) (sym is) before) tells in (
-          subst (λ (l : LineView E WriterView). LacksByOrder one l) (same_at new low place after.one_after one_after after.one_at one_now) lack.0,
-          subst (λ (l : LineView E WriterView). LacksByOrder other l) (same_at new (suc place) low after.other_after other_after after.other_at other_now) lack.1,
-        )
+        let w = known_of wanted low (suc place) in
+        let one_is = same_at new low place after.one_after one_after after.one_at one_now in
+        let other_is = same_at new (suc place) low after.other_after other_after after.other_at other_now in
+        subst (λ (l : LineView E WriterView). MissByOrder m.tells w one other l other_after) one_is
+        (subst (λ (l : LineView E WriterView). MissByOrder m.tells w one other after.one_after l) other_is
+        (after.by_order (all low place ordered (slice_get_within new (suc place) other_now.0 other_now.1))
+        (subst (λ (r : Round). Passed r low (suc place)) (sym is) before)))
 
     -- each line goes on
     line_goes : (hosts : ℕ) → AreRows hosts new → (host place : ℕ) (line after : LineView E WriterView) → IsAt old host place line → IsAt new host place after →
@@ -123,7 +126,7 @@ module _ {E : Type 0} (m : Means E) where
       still_rows = rows_keep hosts old new are.shape swept.lengths
 
       had_round : (low place : ℕ) (x y : LineView E WriterView) → low ≤ place → IsAt new low place x → IsAt new (suc place) low y →
-          HaveHadRound m (came ≡ verdict.Idle) x y
+          HaveHadRound m (known_of wanted low (suc place)) (came ≡ verdict.Idle) x y
       had_round low place x y ordered x_at y_at =
           (came_from low place x y ordered x_at y_at).round (all low place ordered (slice_get_within new (suc place) y_at.0 y_at.1))
 
@@ -172,14 +175,17 @@ module _ {E : Type 0} (m : Means E) where
           all_of (λ (l : LineView E WriterView). OwesNothing (line_past l)) row
           (λ place line at. line_owes idle host place line (row, stands, at) (out_of written host place line (row, stands, at))))
 
+      pub left_swept : came ≡ verdict.Idle → AreLeftWell m.tells wanted new
+      left_swept idle low place x y ordered x_at y_at = (had_round low place x y ordered x_at y_at).left idle
+
       pub drained_swept : m.tells ≡ true → came ≡ verdict.Idle → All AreWritten new → AreDrainedLines new
       drained_swept tells idle written low place x y ordered x_at y_at =
           (had_round low place x y ordered x_at y_at).drained tells idle (out_of written low place x x_at) (out_of written (suc place) low y y_at)
 
 -- each pair is among those of a round of all hosts
-pub all_pairs : {E : Type 0} (m : Means E) (hosts : ℕ) (came : Round) (old new : List (List (LineView E WriterView))) → AreSwept m (IsPairBelow hosts hosts) came old new →
+pub all_pairs : {E : Type 0} (m : Means E) (wanted : List (List Wanted)) (hosts : ℕ) (came : Round) (old new : List (List (LineView E WriterView))) → AreSwept m wanted (IsPairBelow hosts hosts) came old new →
     length old ≡ hosts → (low place : ℕ) → low ≤ place → suc place < length new → IsPairBelow hosts hosts low place
-all_pairs m hosts came old new swept full low place ordered within =
+all_pairs m wanted hosts came old new swept full low place ordered within =
     (omega (arith, ordered, within, swept.lengths.count, full), omega (arith, within, swept.lengths.count, full))
 
 -- the host with a full journal
@@ -210,24 +216,29 @@ full_host {E} In host peer entries rows found = by_line found.holds
         lower = grind (arith, found.ordered)
 
 -- the two hosts that lack a stream
-pub lacking_hosts : {E : Type 0} (In : ℕ → ℕ → Type 0) (low high : ℕ) (rows : List (List (LineView E WriterView))) → IsAmong In (LackStreamAt low high) rows →
-    HostsLackStream low high rows
-lacking_hosts {E} In low high rows found = record {
-  place = found.place;
-  one = found.one;
-  other = found.other;
-  ordered = omega (arith, found.ordered, found.holds.0);
-  next = found.holds.1;
-  one_at = subst (λ (n : ℕ). IsAt rows n found.place found.one) (sym found.holds.0) found.one_at;
-  other_at =
-      subst (λ (n : ℕ). IsAt rows n low found.other) (sym found.holds.1)
-      (subst (λ (n : ℕ). IsAt rows (suc found.place) n found.other) (sym found.holds.0) found.other_at);
-  lacks = found.holds.2;
-}
+pub missing_hosts : {E : Type 0} (tells : Bool) (wanted : List (List Wanted)) (In : ℕ → ℕ → Type 0) (first second : ℕ) (rows : List (List (LineView E WriterView))) →
+    IsAmong In (λ low high. MissStreamAt tells (known_of wanted low high) first second low high) rows → HostsMissStream tells wanted first second rows
+missing_hosts {E} tells wanted In first second rows found =
+    let low_is = found.holds.0 in
+    let high_is = found.holds.1 in
+    record {
+      place = found.place;
+      one = found.one;
+      other = found.other;
+      ordered = omega (arith, found.ordered, low_is);
+      next = high_is;
+      one_at = subst (λ (n : ℕ). IsAt rows n found.place found.one) (sym low_is) found.one_at;
+      other_at =
+          subst (λ (n : ℕ). IsAt rows n first found.other) (sym high_is) (subst (λ (n : ℕ). IsAt rows (suc found.place) n found.other) (sym low_is) found.other_at);
+      misses =
+          subst (λ (n : ℕ). OneMissesStream tells (known_of wanted first n) found.one found.other) (sym high_is)
+          (subst (λ (n : ℕ). OneMissesStream tells (known_of wanted n (suc found.place)) found.one found.other) (sym low_is) found.holds.2);
+    }
 
 -- they are two of the hosts
-pub lacking_within : {E : Type 0} (low high : ℕ) (rows : List (List (LineView E WriterView))) → HostsLackStream low high rows → (low < high) × (high < length rows)
-lacking_within low high rows lack = (omega (arith, lack.ordered, lack.next), slice_get_within rows high lack.other_at.0 lack.other_at.1)
+pub missing_within : {E : Type 0} (tells : Bool) (wanted : List (List Wanted)) (low high : ℕ) (rows : List (List (LineView E WriterView))) →
+    HostsMissStream tells wanted low high rows → (low < high) × (high < length rows)
+missing_within tells wanted low high rows miss = (omega (arith, miss.ordered, miss.next), slice_get_within rows high miss.other_at.0 miss.other_at.1)
 
 -- a list is no longer than one that begins with it
 no_longer : {T : Type 0} (x y : List T) (n : ℕ) → Begins x y → length y < n → length x < n
@@ -247,12 +258,12 @@ module _ {E : Type 0} where
       (y.0, (after.0, after.1, y.1), lines.each place x y.0 at y.1)
 
   -- an order that was taken since was taken since an earlier time
-  pub lowest_since : (first second : ℕ) (old middle new : List (List (LineView E WriterView))) → EachRow LinesGoOn old middle →
-      NoneLackBefore first second middle new → NoneLackBefore first second old new
-  lowest_since first second old middle new goes none low place one other one_after other_after ordered before one_at other_at one_now other_now =
+  pub lowest_since : (tells : Bool) (wanted : List (List Wanted)) (first second : ℕ) (old middle new : List (List (LineView E WriterView))) →
+      EachRow LinesGoOn old middle → NoneMissBefore tells wanted first second middle new → NoneMissBefore tells wanted first second old new
+  lowest_since tells wanted first second old middle new goes none low place one other one_after other_after ordered before one_at other_at one_now other_now =
       let x = goes_to old middle goes low place one one_at in
       let y = goes_to old middle goes (suc place) low other other_at in
-      let lack = none low place x.0 y.0 one_after other_after ordered before x.1 y.1 one_now other_now in (
-        λ lacks. no_longer one.orders.got x.0.orders.got (length one_after.orders.got) x.2.got (lack.0 lacks),
-        λ lacks. no_longer other.orders.got y.0.orders.got (length other_after.orders.got) y.2.got (lack.1 lacks),
+      let miss = none low place x.0 y.0 one_after other_after ordered before x.1 y.1 one_now other_now in (
+        λ misses. no_longer one.orders.got x.0.orders.got (length one_after.orders.got) x.2.got (miss.0 misses),
+        λ misses. no_longer other.orders.got y.0.orders.got (length other_after.orders.got) y.2.got (miss.1 misses),
       )

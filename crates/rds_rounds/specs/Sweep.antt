@@ -1,10 +1,10 @@
 -- Private: it serves the contracts of the private functions that turn the lines of a run for the last time. Source: this project's own.
-use Rattle.std.specs.Prelude.{◌≡◌, ◌⊎◌, ◌≤◌, ◌<◌, ◌-◌, ℕ, suc, true, All, List, [], Some, length, slice_get, slice_set}
+use Rattle.std.specs.Prelude.{◌≡◌, ◌⊎◌, ◌≤◌, ◌<◌, ◌-◌, ℕ, suc, Bool, true, All, List, [], Some, length, slice_get, slice_set}
 use Rattle.rds_fmap.specs.Readers.{WriterView}
 use Rattle.rds_mail.specs.Learning.{AllGot}
 use Rattle.rds_link.specs.Ends.{Means}
 use Rattle.rds_line.specs.Line.{LineView, line_past}
-use Rattle.rds_rounds.specs.Causes.{IsBefore, LacksByOrder, LacksStream, OwesNothing}
+use Rattle.rds_rounds.specs.Causes.{IsBefore, IsLeftWell, MissesByOrder, OneMissesStream, OwesNothing, known_of}
 use Rattle.rds_rounds.specs.Connection.{AreConnected, IsFullAt}
 use Rattle.rds_rounds.specs.Drained.{AreDrained}
 use Rattle.rds_rounds.specs.Grid.{EachRow, IsAt}
@@ -12,6 +12,7 @@ use Rattle.rds_rounds.specs.Quiet.{LineGoesOn}
 use Rattle.rds_rounds.specs.Sound.{AreSoundJournals}
 use Rattle.rds_rounds.specs.declared.verdict.Round.{Round}
 use Rattle.rds_rounds.specs.declared.verdict.Round.TheVariants as verdict
+use Rattle.rds_rounds.specs.declared.verdict.Wanted.{Wanted}
 
 -- a row has as many things as before
 abbrev pub HasAsMany : {T : Type 0} → List T → List T → Type 0
@@ -61,29 +62,21 @@ Passed verdict.Memory low high = ⊥
 abbrev pub AreWritten : {E M : Type 0} → List (LineView E M) → Type 0
 AreWritten {E} {M} row = All (λ (line : LineView E M). line.channel.out ≡ []) row
 
--- these are the two hosts, and one of their two lines lacks a stream
-abbrev pub LackStreamAt : {E : Type 0} → (first second : ℕ) → (low high : ℕ) → (one other : LineView E WriterView) → Type 0
-LackStreamAt first second low high one other = (first ≡ low) × (second ≡ high) × (LacksStream one ⊎ LacksStream other)
+module _ {E : Type 0} (tells : Bool) (w : Wanted) where
+  -- these are the two hosts, and one of their two lines lacks a stream that they should have
+  abbrev pub MissStreamAt : (first second : ℕ) → (low high : ℕ) → (one other : LineView E WriterView) → Type 0
+  MissStreamAt first second low high one other = (first ≡ low) × (second ≡ high) × OneMissesStream tells w one other
+
+  -- where a line of two hosts lacks a stream that they should have, it took an order since
+  abbrev pub MissByOrder : (one other one_after other_after : LineView E WriterView) → Type 0
+  MissByOrder one other one_after other_after = MissesByOrder tells w one one_after other_after × MissesByOrder tells w other other_after one_after
 
 module _ {E : Type 0} (m : Means E) where
-  -- The lines of two hosts after a round of theirs: what their journals have is sound. Where the round was idle, each got all orders that
-  -- it was told of, and owes nothing where it has nothing to write. Where moreover neither has over ends that tell their bytes, the journals
-  -- are drained.
-  pub record HaveHadRound (Idle : Type 0) (one other : LineView E WriterView) : Type 0 where
-    pub sound : AreSoundJournals m.tells (line_past one) (line_past other)
-    pub quiet : Idle → AllGot one.orders × AllGot other.orders
-    pub owes : Idle → (one.channel.out ≡ [] → OwesNothing (line_past one)) × (other.channel.out ≡ [] → OwesNothing (line_past other))
-    pub drained : m.tells ≡ true → Idle → one.channel.out ≡ [] → other.channel.out ≡ [] → AreDrained (line_past one) (line_past other)
-
   -- the lines of two hosts go on, and stay connected
   pub record GoOnTogether (low high : ℕ) (one other one_after other_after : LineView E WriterView) : Type 0 where
     pub one_goes : LineGoesOn one one_after
     pub other_goes : LineGoesOn other other_after
     pub connected : (limit : ℕ) → AreConnected m limit low high one other → AreConnected m limit low high one_after other_after
-
-  -- where a line of two hosts lacks a stream, over ends that tell their bytes, it took an order since
-  abbrev pub LackByOrder : (one other one_after other_after : LineView E WriterView) → Type 0
-  LackByOrder one other one_after other_after = m.tells ≡ true → LacksByOrder one one_after × LacksByOrder other other_after
 
   -- in the rows of two hosts, the lower host's first, stand their two lines, which are connected
   pub record AreConnectedRows (limit low high : ℕ) (lower higher : List (LineView E WriterView)) : Type 0 where
@@ -92,6 +85,18 @@ module _ {E : Type 0} (m : Means E) where
     pub one_at : slice_get lower (high - 1) ≡ Some one
     pub other_at : slice_get higher low ≡ Some other
     pub connected : AreConnected m limit low high one other
+
+-- what is known of two hosts is this
+module _ {E : Type 0} (m : Means E) (w : Wanted) where
+  -- The lines of two hosts after a round of theirs: what their journals have is sound. Where the round was idle, each is left well, got all
+  -- orders that it was told of, and owes nothing where it has nothing to write. Where moreover neither has over ends that tell their bytes,
+  -- the journals are drained.
+  pub record HaveHadRound (Idle : Type 0) (one other : LineView E WriterView) : Type 0 where
+    pub sound : AreSoundJournals m.tells (line_past one) (line_past other)
+    pub left : Idle → IsLeftWell m.tells w one other × IsLeftWell m.tells w other one
+    pub quiet : Idle → AllGot one.orders × AllGot other.orders
+    pub owes : Idle → (one.channel.out ≡ [] → OwesNothing (line_past one)) × (other.channel.out ≡ [] → OwesNothing (line_past other))
+    pub drained : m.tells ≡ true → Idle → one.channel.out ≡ [] → other.channel.out ≡ [] → AreDrained (line_past one) (line_past other)
 
   -- The two lines of two hosts had a round, which came to this, in the rows of these hosts, the lower host's first.
   pub record RowsHadRound (low high : ℕ) (came : Round) (lower higher lower_after higher_after : List (LineView E WriterView)) : Type 0 where
@@ -103,22 +108,22 @@ module _ {E : Type 0} (m : Means E) where
     pub other_at : slice_get higher low ≡ Some other
     pub lower_is : lower_after ≡ slice_set lower (high - 1) one_after
     pub higher_is : higher_after ≡ slice_set higher low other_after
-    pub together : GoOnTogether low high one other one_after other_after
+    pub together : GoOnTogether m low high one other one_after other_after
     pub round : HaveHadRound (came ≡ verdict.Idle) one_after other_after
-    pub by_order : GoesOn came → LackByOrder one other one_after other_after
-    pub fault : (first second : ℕ) → came ≡ verdict.Fault first second → LackStreamAt first second low high one_after other_after
+    pub by_order : GoesOn came → MissByOrder m.tells w one other one_after other_after
+    pub fault : (first second : ℕ) → came ≡ verdict.Fault first second → MissStreamAt m.tells w first second low high one_after other_after
     pub spent : (host peer entries : ℕ) → came ≡ verdict.Spent host peer entries → IsFullAt host peer entries low high one_after other_after
 
-  -- What became of the two lines of two hosts: they go on. They had a round where they are among those that had one, and lack no stream but
-  -- by an order that they took where the rounds passed them; they are the same where they aren't.
+  -- What became of the two lines of two hosts: they go on. They had a round where they are among those that had one, and lack no stream that
+  -- they should have but by an order that they took where the rounds passed them; they are the same where they aren't.
   pub record PairAfter (In Idle Pass : Type 0) (low place : ℕ) (one other : LineView E WriterView) (new : List (List (LineView E WriterView))) : Type 0 where
     pub one_after : LineView E WriterView
     pub other_after : LineView E WriterView
     pub one_at : IsAt new low place one_after
     pub other_at : IsAt new (suc place) low other_after
-    pub together : GoOnTogether low (suc place) one other one_after other_after
+    pub together : GoOnTogether m low (suc place) one other one_after other_after
     pub round : In → HaveHadRound Idle one_after other_after
-    pub by_order : In → Pass → LackByOrder one other one_after other_after
+    pub by_order : In → Pass → MissByOrder m.tells w one other one_after other_after
     pub one_same : (In → ⊥) → one_after ≡ one
     pub other_same : (In → ⊥) → other_after ≡ other
 
@@ -136,9 +141,11 @@ pub record IsAmong {E : Type 0} (In : ℕ → ℕ → Type 0) (Holds : (low high
   pub holds : Holds low (suc place) one other
 
 -- The two lines of each of these pairs had a round, and all other lines are the same. The rounds together came to this.
-pub record AreSwept {E : Type 0} (m : Means E) (In : ℕ → ℕ → Type 0) (came : Round) (old new : List (List (LineView E WriterView))) : Type 0 where
+pub record AreSwept {E : Type 0} (m : Means E) (wanted : List (List Wanted)) (In : ℕ → ℕ → Type 0) (came : Round)
+    (old new : List (List (LineView E WriterView))) : Type 0 where
   pub lengths : EachRow HasAsMany old new
   pub pair : (low place : ℕ) (one other : LineView E WriterView) → low ≤ place → IsAt old low place one → IsAt old (suc place) low other →
-      PairAfter m (In low place) (came ≡ verdict.Idle) (Passed came low (suc place)) low place one other new
-  pub fault : (low high : ℕ) → came ≡ verdict.Fault low high → IsAmong In (LackStreamAt low high) new
+      PairAfter m (known_of wanted low (suc place)) (In low place) (came ≡ verdict.Idle) (Passed came low (suc place)) low place one other new
+  pub fault : (first second : ℕ) → came ≡ verdict.Fault first second →
+      IsAmong In (λ low high. MissStreamAt m.tells (known_of wanted low high) first second low high) new
   pub spent : (host peer entries : ℕ) → came ≡ verdict.Spent host peer entries → IsAmong In (IsFullAt host peer entries) new

@@ -1,6 +1,6 @@
 //! The last rounds of a run, on one thread.
 ghost use Rattle.std.specs.Prelude.{◌≡◌, ◌≢◌, ◌≤◌, ◌<◌, ℕ, Bool, All, false, true, Some, length};
-ghost use Rattle.rds_rounds.specs.Causes.{AreClosed, AreUnacked, HostsLackStream, NoneLackBefore, OweNothing, alive_in_rows};
+ghost use Rattle.rds_rounds.specs.Causes.{AreClosed, AreLeftWell, AreUnacked, HostsMissStream, NoneMissBefore, OweNothing, alive_in_rows};
 ghost use Rattle.rds_rounds.specs.Connection.{AreHosts, IsFullHost};
 ghost use Rattle.rds_rounds.specs.Done.{AreDone};
 ghost use Rattle.rds_rounds.specs.Drained.{AreDrainedLines};
@@ -18,6 +18,7 @@ use rds_fmap::Writer;
 use rds_line::Line;
 use rds_link::{End, Wire};
 use std::sync::Wait;
+use std::thread::yield_now;
 
 /// The lines of each host, by host: those of one host have its peers in ascending order.
 pub type Lines<E> = Vec<Vec<Line<E, Writer>>>;
@@ -27,14 +28,14 @@ pub type Lines<E> = Vec<Vec<Line<E, Writer>>>;
 pub enum Rounds {
     /// Nothing is left to move, and no datagram is left unacknowledged.
     Done,
-    /// So many datagrams aren't acknowledged, and the budget of quiet rounds is spent. Whether bytes wait that an end had no room for, and
-    /// whether a stream is open between two of the hosts.
+    /// So many datagrams aren't acknowledged. Where nothing is unwritten, no line owes a frame; where the hosts aren't connected, no
+    /// stream is open between two of them.
     Unfinished {
         count: u64,
         unwritten: bool,
         connected: bool,
     },
-    /// The two hosts have no stream left and should have one.
+    /// The line of one of these two hosts with the other has no stream left, and the two should have one.
     Fault {
         low: u8,
         high: u8,
@@ -49,10 +50,11 @@ pub enum Rounds {
     Memory,
 }
 
-/// Turns all lines in rounds: in each the two lines of each two hosts meet, have a turn each, and meet again. Over ends that tell
-/// their bytes the rounds stop after an idle one that left nothing to be written. Over others they stop once rounds were quiet and all
-/// is acknowledged, or as many were quiet as the budget allows. Where the lines of several two hosts end them by a fault, a full
-/// journal or a lack of memory, the first in ascending order tells how; `lowest` says so of faults over ends that tell their bytes.
+/// Turns all lines in rounds: in each the two lines of each two hosts meet, have a turn each, and meet again. Where the first one's
+/// turn ends the rounds, the second has none. Over ends that tell their bytes the rounds stop after an idle one that left nothing to be
+/// written. Over others they stop once rounds were quiet and all is acknowledged, or as many were quiet as the budget allows. Where the
+/// lines of several two hosts end them by a fault, a full journal or a lack of memory, the first in ascending order tells how; `lowest`
+/// says so of faults.
 /// `wanted` has for each two hosts what is to be known of them, in the row of the lower one, at the place of the line between them.
 pub fn last_rounds<W: Wire, R: Wait>(
     rt: &R,
@@ -65,12 +67,14 @@ pub fn last_rounds<W: Wire, R: Wait>(
     ensures done { (limit hosts : ℕ) → AreHosts W.End.means limit hosts (rows_of lines.old.items) → AreDone W.End.means limit hosts (rows_of lines.new.items) }
     ensures rows { EachRow LinesGoOn (rows_of lines.old.items) (rows_of lines.new.items) }
     ensures quiet { IsQuietEnd result → All AreQuiet (rows_of lines.new.items) }
+    ensures left { IsQuietEnd result → AreLeftWell W.End.means.tells (rows_of wanted.now) (rows_of lines.new.items) }
     ensures drained { W.End.means.tells ≡ true → result ≡ ended.Done → AreDrainedLines (rows_of lines.new.items) }
     ensures acknowledged { result ≡ ended.Done → alive_in_rows (rows_of lines.new.items) ≡ 0 }
     ensures fault { (low high : ℕ) → result ≡ ended.Fault low high → (low < high) × (high < length lines.new.items) }
-    ensures lacks { (low high : ℕ) → result ≡ ended.Fault low high → HostsLackStream low high (rows_of lines.new.items) }
-    ensures lowest { W.End.means.tells ≡ true → (low high : ℕ) → result ≡ ended.Fault low high →
-        NoneLackBefore low high (rows_of lines.old.items) (rows_of lines.new.items) }
+    ensures misses { (low high : ℕ) → result ≡ ended.Fault low high →
+        HostsMissStream W.End.means.tells (rows_of wanted.now) low high (rows_of lines.new.items) }
+    ensures lowest { (low high : ℕ) → result ≡ ended.Fault low high →
+        NoneMissBefore W.End.means.tells (rows_of wanted.now) low high (rows_of lines.old.items) (rows_of lines.new.items) }
     ensures unfinished { (count : ℕ) (unwritten connected : Bool) → result ≡ ended.Unfinished count unwritten connected →
         AreUnacked W.End.means.tells count (rows_of lines.new.items) }
     ensures owes { (count : ℕ) (connected : Bool) → result ≡ ended.Unfinished count false connected → All OweNothing (rows_of lines.new.items) }
@@ -84,8 +88,16 @@ pub fn last_rounds<W: Wire, R: Wait>(
         if let Some(end) = end_after(came, wire.tells(), quiet, budget, lines) {
             return end;
         }
+        rest_after(came);
     }
     unreachable!()
+}
+
+// After a round in which nothing moved, other threads get their turn: those that read and write sockets.
+fn rest_after(came: Round) {
+    if came == Round::Idle {
+        yield_now();
+    }
 }
 
 // How many rounds in a row were quiet.

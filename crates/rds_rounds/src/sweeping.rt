@@ -1,5 +1,6 @@
 //! One round of the lines of each two hosts.
 ghost use Rattle.std.specs.Prelude.{◌≡◌, ◌≤◌, ◌<◌, ◌-◌, ℕ, Some, length, slice_get};
+ghost use Rattle.rds_rounds.specs.Causes.{known_of};
 ghost use Rattle.rds_rounds.specs.Connection.{AreConnected, AreHosts};
 ghost use Rattle.rds_rounds.specs.Grid.{rows_of};
 ghost use Rattle.rds_rounds.specs.Sweep.{AreConnectedRows, AreSwept, IsPair, IsPairBelow, IsPairOf, RowsHadRound};
@@ -20,7 +21,7 @@ pub(crate) fn round_of_all<W: Wire, R: Wait>(
     lines: &mut Lines<W::End>,
 ) -> Round
     requires { (limit hosts : ℕ) × AreHosts W.End.means limit hosts (rows_of lines.old.items) }
-    ensures { AreSwept W.End.means (IsPairBelow (length lines.old.items) (length lines.old.items)) result (rows_of lines.old.items) (rows_of lines.new.items) }
+    ensures { AreSwept W.End.means (rows_of wanted.now) (IsPairBelow (length lines.old.items) (length lines.old.items)) result (rows_of lines.old.items) (rows_of lines.new.items) }
 {
     let hosts = hosts_of(lines);
     let mut came = Round::Idle;
@@ -49,7 +50,7 @@ fn round_of_host<W: Wire, R: Wait>(
 ) -> Round
     requires hosts { (limit hosts : ℕ) × AreHosts W.End.means limit hosts (rows_of lines.old.items) }
     requires within { low < length lines.old.items }
-    ensures { AreSwept W.End.means (IsPairOf low (length lines.old.items)) result (rows_of lines.old.items) (rows_of lines.new.items) }
+    ensures { AreSwept W.End.means (rows_of wanted.now) (IsPairOf low (length lines.old.items)) result (rows_of lines.old.items) (rows_of lines.new.items) }
 {
     let hosts = hosts_of(lines);
     let mut came = Round::Idle;
@@ -72,7 +73,7 @@ fn round_of<W: Wire, R: Wait>(
     requires hosts { (limit hosts : ℕ) × AreHosts W.End.means limit hosts (rows_of lines.old.items) }
     requires less { low < high }
     requires within { high < length lines.old.items }
-    ensures { AreSwept W.End.means (IsPair low high) result (rows_of lines.old.items) (rows_of lines.new.items) }
+    ensures { AreSwept W.End.means (rows_of wanted.now) (IsPair low high) result (rows_of lines.old.items) (rows_of lines.new.items) }
 {
     let wanted = wanted_of(wanted, low, high);
     let (lower, higher) = lines.split_at_mut(usize::from(high));
@@ -90,6 +91,7 @@ fn round_of<W: Wire, R: Wait>(
 // What is to be known of two hosts.
 fn wanted_of(wanted: &[Vec<Wanted>], low: u8, high: u8) -> Wanted
     requires { low < high }
+    ensures { result ≡ known_of (rows_of wanted.now) low high }
 {
     if let Some(row) = wanted.get(usize::from(low)) {
         if let Some(wanted) = row.get(usize::from(high - 1)) {
@@ -114,7 +116,7 @@ fn round_between<W: Wire, R: Wait>(
 ) -> Round
     requires less { low < high }
     requires connected { (limit : ℕ) × AreConnectedRows W.End.means limit low high lower.old.items higher.old.items }
-    ensures { RowsHadRound W.End.means low high result lower.old.items higher.old.items lower.new.items higher.new.items }
+    ensures { RowsHadRound W.End.means wanted low high result lower.old.items higher.old.items lower.new.items higher.new.items }
 {
     let one = &mut lower[usize::from(high - 1)];
     let other = &mut higher[usize::from(low)];

@@ -2,16 +2,16 @@
 ghost use Rattle.std.specs.Prelude.{◌≡◌, ◌⊎◌, ◌<◌, ℕ, true, []};
 ghost use Rattle.rds_mail.specs.Learning.{AllGot};
 ghost use Rattle.rds_line.specs.Line.{line_past};
-ghost use Rattle.rds_rounds.specs.Causes.{OwesNothing};
+ghost use Rattle.rds_rounds.specs.Causes.{IsLeftWell, OwesNothing};
 ghost use Rattle.rds_rounds.specs.Connection.{AreConnected, IsFullAt};
 ghost use Rattle.rds_rounds.specs.Drained.{AreDrained};
 ghost use Rattle.rds_rounds.specs.Rest.{AreMetLines};
-ghost use Rattle.rds_rounds.specs.Sweep.{ComesTo, GoOnTogether, GoesOn, HaveHadRound, LackByOrder, LackStreamAt};
+ghost use Rattle.rds_rounds.specs.Sweep.{ComesTo, GoOnTogether, GoesOn, HaveHadRound, MissByOrder, MissStreamAt};
 ghost use Rattle.rds_rounds.specs.declared.verdict.Round.TheVariants as verdict;
 
 use crate::laws::rested_are_drained;
 use crate::meeting::meet_lines;
-use crate::verdict::{Round, Wanted, turn};
+use crate::verdict::{Round, Wanted, goes_on, turn};
 use rds_fmap::Writer;
 use rds_line::Line;
 use rds_link::{End, Wire};
@@ -30,9 +30,10 @@ pub(crate) fn round<W: Wire, R: Wait>(
     requires less { low < high }
     requires connected { (limit : ℕ) × AreConnected W.End.means limit low high one.old other.old }
     ensures together { GoOnTogether W.End.means low high one.old other.old one.new other.new }
-    ensures had { HaveHadRound W.End.means (result ≡ verdict.Idle) one.new other.new }
-    ensures by_order { GoesOn result → LackByOrder W.End.means one.old other.old one.new other.new }
-    ensures fault { (first second : ℕ) → result ≡ verdict.Fault first second → LackStreamAt first second low high one.new other.new }
+    ensures had { HaveHadRound W.End.means wanted (result ≡ verdict.Idle) one.new other.new }
+    ensures by_order { GoesOn result → MissByOrder W.End.means.tells wanted one.old other.old one.new other.new }
+    ensures fault { (first second : ℕ) → result ≡ verdict.Fault first second →
+        MissStreamAt W.End.means.tells wanted first second low high one.new other.new }
     ensures spent { (host peer entries : ℕ) → result ≡ verdict.Spent host peer entries → IsFullAt host peer entries low high one.new other.new }
 {
     meet_lines::<W>(one, other);
@@ -41,7 +42,7 @@ pub(crate) fn round<W: Wire, R: Wait>(
     came
 }
 
-// A turn of each line.
+// A turn of each line, or of the first one alone where that ends the rounds.
 fn turn_both<E: End, R: Wait>(
     rt: &R,
     tells: bool,
@@ -54,16 +55,20 @@ fn turn_both<E: End, R: Wait>(
     requires less { low < high }
     requires told { tells ≡ E.means.tells }
     ensures together { GoOnTogether E.means low high one.old other.old one.new other.new }
-    ensures by_order { GoesOn result → LackByOrder E.means one.old other.old one.new other.new }
+    ensures by_order { GoesOn result → MissByOrder tells wanted one.old other.old one.new other.new }
+    ensures left { result ≡ verdict.Idle → IsLeftWell tells wanted one.new other.new × IsLeftWell tells wanted other.new one.new }
     ensures idle { result ≡ verdict.Idle → AllGot one.new.orders × AllGot other.new.orders }
     ensures owes { result ≡ verdict.Idle →
         (one.new.channel.out ≡ [] → OwesNothing (line_past one.new)) × (other.new.channel.out ≡ [] → OwesNothing (line_past other.new)) }
     ensures drained { E.means.tells ≡ true → AreMetLines E.means one.old other.old → result ≡ verdict.Idle → one.new.channel.out ≡ [] →
         other.new.channel.out ≡ [] → AreDrained (line_past one.new) (line_past other.new) }
-    ensures fault { (first second : ℕ) → result ≡ verdict.Fault first second → LackStreamAt first second low high one.new other.new }
+    ensures fault { (first second : ℕ) → result ≡ verdict.Fault first second → MissStreamAt tells wanted first second low high one.new other.new }
     ensures spent { (host peer entries : ℕ) → result ≡ verdict.Spent host peer entries → IsFullAt host peer entries low high one.new other.new }
 {
     let first = turn(rt, low, high, tells, wanted, one, other);
+    if !goes_on(first) {
+        return first;
+    }
     let second = turn(rt, high, low, tells, wanted, other, one);
     rested_are_drained::<E>();
     either(first, second)
@@ -76,7 +81,7 @@ pub(crate) fn either(first: Round, second: Round) -> Round
     ensures one { (result ≡ first) ⊎ (result ≡ second) }
     ensures exact { ComesTo result first second }
 {
-    if second == Round::Idle || (first != Round::Moved && first != Round::Idle) {
+    if second == Round::Idle || !goes_on(first) {
         return first;
     }
     second

@@ -1,13 +1,14 @@
 //! What the turns of a round come to.
-ghost use Rattle.std.specs.Prelude.{◌≡◌, ◌∷◌, ℕ, List, [], max, min, true};
+ghost use Rattle.std.specs.Prelude.{◌≡◌, ◌↔◌, ◌<◌, ◌+◌, ◌^◌, ◌∷◌, IsTrue, ℕ, List, [], max, min, true};
 ghost use Rattle.rds_mail.specs.Learning.{AllGot};
 ghost use Rattle.rds_model.specs.declared.entry.Entry.{Entry as Event};
 ghost use Rattle.rds_model.specs.Past.{newest_stream};
+ghost use Rattle.rds_line_channel.specs.Carried.{shuts};
 ghost use Rattle.rds_line.specs.Line.{IsFull, line_past};
 ghost use Rattle.rds_line.specs.Stays.{LineStays};
 ghost use Rattle.rds_line.specs.Turns.{IsIdleTurn};
 ghost use Rattle.rds_host.specs.Lines.{pair_of};
-ghost use Rattle.rds_rounds.specs.Causes.{LacksByOrder, LacksStream, OwesNothing};
+ghost use Rattle.rds_rounds.specs.Causes.{IsLeftWell, MissesByOrder, MissesStream, OwesNothing, ShouldHaveStream, refusals};
 ghost use Rattle.rds_rounds.specs.Rest.{KeepsStreams};
 ghost use Rattle.rds_rounds.specs.Sweep.{GoesOn};
 ghost use Rattle.rds_rounds.specs.declared.verdict.Round.TheVariants as round;
@@ -25,7 +26,7 @@ pub(crate) enum Round {
     Moved,
     /// None did.
     Idle,
-    /// The two hosts have no stream left and should have one.
+    /// The line of one of these two hosts with the other has no stream left, and the two should have one.
     Fault { low: u8, high: u8 },
     /// The journal of this host with that peer has so many entries, and two more would pass its limit.
     Spent { host: u8, peer: u8, entries: u32 },
@@ -33,35 +34,70 @@ pub(crate) enum Round {
     Memory,
 }
 
-/// What is to be known beside the journals where a line is over.
+/// Whether the rounds go on after this.
+pub(crate) fn goes_on(came: Round) -> bool
+    ensures { IsTrue result ↔ GoesOn came }
+{
+    matches!(came, Round::Moved | Round::Idle)
+}
+
+/// What is to be known of two hosts beside the journals of their lines where one of these is over.
 #[derive(Clone, Copy)]
 pub struct Wanted {
-    /// Whether some streams weren't opened.
+    /// Whether a stream between them wasn't opened.
     pub lacks: bool,
-    /// How many cuts the script has.
+    /// How many cuts of these two hosts the script has.
     pub cuts: u32,
 }
 
-// How many entries of a journal are shuts of streams.
-fn shuts(journal: &Journal) -> u32 {
+// How many streams a journal shut.
+fn shuts_in(journal: &Journal) -> u32
+    ensures { result ≡ shuts journal.now.past }
+{
     let mut count = 0u32;
     for i in 0..journal.len() {
-        if let Some(Entry::Shut { .. }) = journal.at(i) {
-            count = count.saturating_add(1);
-        }
+        let Some(entry) = journal.at(i) else {
+            unreachable!()
+        };
+        count = shuts_after(count, entry);
     }
     count
 }
 
-// How many entries of a journal are refused headers.
-fn refusals(journal: &Journal) -> u32 {
+// How many it shut after an entry.
+fn shuts_after(count: u32, entry: &Entry) -> u32
+    requires { count + 1 < 2 ^ 32 }
+    ensures { (past : List Event) → count ≡ shuts past → result ≡ shuts (entry.now ∷ past) }
+{
+    match entry {
+        Entry::Shut { .. } => count + 1,
+        _ => count,
+    }
+}
+
+// How many headers a journal refused.
+fn refusals_in(journal: &Journal) -> u32
+    ensures { result ≡ refusals journal.now.past }
+{
     let mut count = 0u32;
     for i in 0..journal.len() {
-        if let Some(Entry::Bad { .. }) = journal.at(i) {
-            count = count.saturating_add(1);
-        }
+        let Some(entry) = journal.at(i) else {
+            unreachable!()
+        };
+        count = refusals_after(count, entry);
     }
     count
+}
+
+// How many it refused after an entry.
+fn refusals_after(count: u32, entry: &Entry) -> u32
+    requires { count + 1 < 2 ^ 32 }
+    ensures { (past : List Event) → count ≡ refusals past → result ≡ refusals (entry.now ∷ past) }
+{
+    match entry {
+        Entry::Bad { .. } => count + 1,
+        _ => count,
+    }
 }
 
 // Whether a line that is over should have a stream left: one wasn't opened, or more were shut than cuts and refused headers say.
@@ -72,10 +108,13 @@ fn is_fault<E: End>(
     line: &Line<E, Writer>,
     other: &Line<E, Writer>,
 ) -> bool
-    ensures told { tells ≡ true → result ≡ true }
+    ensures { IsTrue result ↔ ShouldHaveStream tells wanted (line_past line.now) (line_past other.now) }
 {
-    let causes = wanted.cuts.saturating_add(refusals(other.journal()));
-    tells || wanted.lacks || shuts(line.journal()) > causes
+    if tells || wanted.lacks {
+        return true;
+    }
+    let causes = wanted.cuts.saturating_add(refusals_in(other.journal()));
+    shuts_in(line.journal()) > causes
 }
 
 /// One turn of a host's line, where `other` is the peer's line back, over ends that tell their bytes or don't.
@@ -93,10 +132,11 @@ pub(crate) fn turn<E: End, R: Wait>(
     ensures kept { KeepsStreams E.means line.old }
     ensures keeps { KeepsStreams E.means line.new }
     ensures nothing { tells ≡ true → result ≡ round.Idle → IsIdleTurn E.means line.old line.new }
-    ensures by_order { tells ≡ true → GoesOn result → LacksByOrder line.old line.new }
+    ensures left { result ≡ round.Idle → IsLeftWell tells wanted line.new other.now }
+    ensures by_order { GoesOn result → MissesByOrder tells wanted line.old line.new other.now }
     ensures owes { result ≡ round.Idle → line.new.channel.out ≡ [] → OwesNothing (line_past line.new) }
     ensures fault { (low high : ℕ) → result ≡ round.Fault low high → (low ≡ min host peer) × (high ≡ max host peer) }
-    ensures lacks { (low high : ℕ) → result ≡ round.Fault low high → LacksStream line.new }
+    ensures misses { (low high : ℕ) → result ≡ round.Fault low high → MissesStream tells wanted line.new other.now }
     ensures spent { (at to entries : ℕ) → result ≡ round.Spent at to entries → (at ≡ host) × (to ≡ peer) × IsFull entries line.new }
 {
     line.known();

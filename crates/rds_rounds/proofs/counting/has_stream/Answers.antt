@@ -1,7 +1,7 @@
 use Rattle.std.proofs.Common.{◌≡◌, ◌+◌, ◌∷◌, List, is_some, sym, ap, ◌∙◌}
 use Rattle.rds_model.specs.declared.entry.Entry.{Entry}
 use Rattle.rds_model.specs.Past.{open_stream}
-use Rattle.rds_rounds.proofs.Lacking.{oldest, oldest_more}
+use Rattle.rds_rounds.proofs.Counted.{oldest, oldest_more}
 use Rattle.rds_rounds.proofs.counting.has_stream.Goals as goal
 
 pub loop-i-preserved : goal.loop-i-preserved

@@ -1,6 +1,6 @@
 use Rattle.std.proofs.Common.{◌≡◌, is_some}
 use Rattle.rds_model.specs.Past.{open_stream}
-use Rattle.rds_rounds.proofs.Lacking.{oldest}
+use Rattle.rds_rounds.proofs.Counted.{oldest}
 use Rattle.rds_rounds.proofs.counting.has_stream.Given as goal
 
 abbrev pub invariant-loop-i : goal.invariant-loop-i

@@ -30,12 +30,12 @@ returns g c =
     let back = c.split_at_mut-lower.result.1.now in
     let front_is = front_part xs c.deref_mut.result.now front c.from.result c.args.high c.split_at_mut-lower.ensures.front c.from.ensures c.deref_mut.ensures.value in
     let back_is = back_part xs c.deref_mut.result.now back c.from.result c.args.high c.split_at_mut-lower.ensures.back c.from.ensures c.deref_mut.ensures.value in
-    subst (AreSwept g.W.End.End.means (IsPair c.args.low c.args.high) c.round_between.result (rows_of xs))
+    subst (AreSwept g.W.End.End.means (rows_of c.args.wanted.now) (IsPair c.args.low c.args.high) c.round_between.result (rows_of xs))
     (sym
     (both_rows xs front back c.args.low c.args.high c.from-2.result c.requires.less c.requires.within c.from-2.ensures front_is back_is c.args.lines.now.len
     c.round_between.new.lower c.round_between.new.higher c.args.lines.now.ok.0))
-    (swept_pair g.W.End.End.means c.args.low c.args.high c.round_between.result (rows_of xs)
+    (swept_pair g.W.End.End.means (rows_of c.args.wanted.now) c.args.low c.args.high c.round_between.result (rows_of xs)
     (slice_index_or front c.from-2.result c.index-lower-from.result).items (slice_index_or back 0 c.index-higher-0.result).items c.requires.less
     (lower_row xs front back c.args.low c.args.high c.from-2.result c.requires.less c.requires.within c.from-2.ensures front_is back_is c.index-lower-from.result)
     (higher_row xs front back c.args.low c.args.high c.from-2.result c.requires.less c.requires.within c.from-2.ensures front_is back_is c.index-higher-0.result)
-    c.round_between.new.lower.items c.round_between.new.higher.items c.round_between.ensures)
+    c.round_between.new.lower.items c.round_between.new.higher.items c.wanted_of-wanted.result c.wanted_of-wanted.ensures c.round_between.ensures)

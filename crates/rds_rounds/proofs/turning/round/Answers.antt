@@ -1,12 +1,13 @@
-use Rattle.std.proofs.Common.{⊎_elim, inl, inr, List, sym, subst, ◌∙◌}
+use Rattle.std.proofs.Common.{⊎_elim, inl, inr, Bool, List, sym, subst, ◌∙◌}
 use Rattle.rds_mail.specs.Learning.{AllGot}
 use Rattle.rds_model.specs.declared.entry.Entry.{Entry}
 use Rattle.rds_line.specs.Line.{line_past}
-use Rattle.rds_rounds.specs.Causes.{OwesNothing}
+use Rattle.rds_rounds.specs.Causes.{IsLeftWell, OwesNothing}
 use Rattle.rds_rounds.specs.Connection.{IsFullAt}
 use Rattle.rds_rounds.specs.Drained.{AreDrained}
+use Rattle.rds_rounds.specs.Sweep.{MissByOrder, MissStreamAt}
 use Rattle.rds_rounds.proofs.Going.{goes_through}
-use Rattle.rds_rounds.proofs.Lacking.{by_order_met, lacks_met}
+use Rattle.rds_rounds.proofs.Lacking.{by_order_met, left_met, one_misses_met}
 use Rattle.rds_rounds.proofs.turning.round.Goals as goal
 
 pub meet_lines-requires-2 : goal.meet_lines-requires-2
@@ -39,6 +40,15 @@ returns-clause-had g c =
     let other = c.meet_lines-2.ensures.other in
     record {
       sound = c.meet_lines-2.ensures.sound;
+      left = λ idle.
+          let w = c.args.wanted in
+          let left = c.turn_both-came.ensures.left idle in
+          let a = c.turn_both-came.new.one in
+          let b = c.turn_both-came.new.other in
+          let a_met = c.meet_lines-2.new.one in
+          let b_met = c.meet_lines-2.new.other in
+          subst (λ (tells : Bool). IsLeftWell tells w a_met b_met × IsLeftWell tells w b_met a_met) c.tells.ensures
+          (left_met c.tells.result w a a_met b b_met one other left.0, left_met c.tells.result w b b_met a a_met other one left.1);
       quiet = λ idle.
           let got = c.turn_both-came.ensures.idle idle in
           (subst AllGot (sym one.orders) got.0, subst AllGot (sym other.orders) got.1);
@@ -53,11 +63,14 @@ returns-clause-had g c =
 
 pub returns-clause-fault : goal.returns-clause-fault
 returns-clause-fault g c = λ first second fault.
-    let found = c.turn_both-came.ensures.fault first second fault in (
+    let found = c.turn_both-came.ensures.fault first second fault in
+    let one = c.meet_lines-2.new.one in
+    let other = c.meet_lines-2.new.other in
+    subst (λ (tells : Bool). MissStreamAt tells c.args.wanted first second c.args.low c.args.high one other) c.tells.ensures (
       found.0,
       found.1,
-      ⊎_elim (λ lacks. inl (lacks_met c.turn_both-came.new.one c.meet_lines-2.new.one c.meet_lines-2.ensures.one lacks))
-          (λ lacks. inr (lacks_met c.turn_both-came.new.other c.meet_lines-2.new.other c.meet_lines-2.ensures.other lacks)) found.2,
+      one_misses_met c.tells.result c.args.wanted c.turn_both-came.new.one one c.turn_both-came.new.other other c.meet_lines-2.ensures.one
+          c.meet_lines-2.ensures.other found.2,
     )
 
 pub returns-clause-spent : goal.returns-clause-spent
@@ -67,9 +80,15 @@ returns-clause-spent g c = λ host peer entries spent.
     (λ at_other. inr (at_other.0, at_other.1, c.meet_lines-2.ensures.other.full entries at_other.2)) (c.turn_both-came.ensures.spent host peer entries spent)
 
 pub returns-clause-by_order : goal.returns-clause-by_order
-returns-clause-by_order g c = λ goes tells.
-    let both = c.turn_both-came.ensures.by_order goes tells in (
-      by_order_met c.args.one.now c.meet_lines.new.one c.turn_both-came.new.one c.meet_lines-2.new.one c.meet_lines.ensures.one c.meet_lines-2.ensures.one both.0,
-      by_order_met c.args.other.now c.meet_lines.new.other c.turn_both-came.new.other c.meet_lines-2.new.other c.meet_lines.ensures.other
-          c.meet_lines-2.ensures.other both.1,
+returns-clause-by_order g c = λ goes.
+    let tells = c.tells.result in
+    let w = c.args.wanted in
+    let one = c.meet_lines-2.new.one in
+    let other = c.meet_lines-2.new.other in
+    let both = c.turn_both-came.ensures.by_order goes in
+    subst (λ (t : Bool). MissByOrder t w c.args.one.now c.args.other.now one other) c.tells.ensures (
+      by_order_met tells w c.turn_both-came.new.one one c.turn_both-came.new.other other c.meet_lines-2.ensures.one c.meet_lines-2.ensures.other c.args.one.now
+          c.meet_lines.new.one c.meet_lines.ensures.one both.0,
+      by_order_met tells w c.turn_both-came.new.other other c.turn_both-came.new.one one c.meet_lines-2.ensures.other c.meet_lines-2.ensures.one
+          c.args.other.now c.meet_lines.new.other c.meet_lines.ensures.other both.1,
     )

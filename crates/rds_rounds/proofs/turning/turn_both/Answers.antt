@@ -1,10 +1,10 @@
-use Rattle.std.proofs.Common.{⊎_elim, inl, inr, sym, ◌∙◌}
+use Rattle.std.proofs.Common.{⊎_elim, inr, sym, ◌∙◌}
 use Rattle.rds_host.specs.Lines.{pair_of}
-use Rattle.rds_rounds.specs.Sweep.{LackStreamAt}
+use Rattle.rds_rounds.specs.Sweep.{MissStreamAt}
 use Rattle.rds_rounds.proofs.Connected.{connected_stays}
 use Rattle.rds_rounds.proofs.Going.{goes_of_stays}
-use Rattle.rds_rounds.proofs.Lacking.{named_high, named_high_too, named_low, named_low_too}
-use Rattle.rds_rounds.proofs.Passing.{both_go}
+use Rattle.rds_rounds.proofs.Lacking.{by_order_grows, left_grows, named_high_too, named_low_too}
+use Rattle.rds_rounds.proofs.Passing.{both_go, never_goes}
 use Rattle.rds_rounds.proofs.turning.turn_both.Goals as goal
 
 pub returns-clause-together : goal.returns-clause-together
@@ -37,26 +37,32 @@ returns-clause-drained g c = λ tells met idle one_out other_out.
       written = other_out;
     })
 
+pub returns-clause-left : goal.returns-clause-left
+returns-clause-left g c = λ idle.
+    let both = c.either.ensures.idle idle in (
+      left_grows c.args.tells c.args.wanted c.turn-first.new.line c.args.other.now c.turn-second.new.line c.turn-second.ensures.stays.channel.past
+          (c.turn-first.ensures.left both.0),
+      c.turn-second.ensures.left both.1,
+    )
+
 pub returns-clause-fault : goal.returns-clause-fault
 returns-clause-fault g c = λ first second fault.
     let less = c.requires.less in
-    let Lacks = LackStreamAt first second c.args.low c.args.high c.turn-first.new.line c.turn-second.new.line in
-    ⊎_elim {C = Lacks}
-    (λ same.
-    let is = sym same ∙ fault in
-    let named = c.turn-first.ensures.fault first second is in
-    (named_low c.args.low c.args.high first less named.0, named_high c.args.low c.args.high second less named.1, inl (c.turn-first.ensures.lacks first second is)))
+    let Misses = MissStreamAt c.args.tells c.args.wanted first second c.args.low c.args.high c.turn-first.new.line c.turn-second.new.line in
+    ⊎_elim {C = Misses} (λ same. absurd (never_goes c.turn-first.result first second (c.goes_on.ensures.0 c.if-not-goes_on.false) (sym same ∙ fault)))
     (λ same.
     let is = sym same ∙ fault in
     let named = c.turn-second.ensures.fault first second is in (
       named_low_too c.args.low c.args.high first less named.0,
       named_high_too c.args.low c.args.high second less named.1,
-      inr (c.turn-second.ensures.lacks first second is),
+      inr (c.turn-second.ensures.misses first second is),
     ))
     c.either.ensures.one
 
 pub returns-clause-by_order : goal.returns-clause-by_order
-returns-clause-by_order g c = λ goes tells.
-    let both = both_go c.turn-first.result c.turn-second.result c.either.result c.either.ensures.exact goes in
-    let told = c.requires.told ∙ tells in
-    (c.turn-first.ensures.by_order told both.0, c.turn-second.ensures.by_order told both.1)
+returns-clause-by_order g c = λ goes.
+    let both = both_go c.turn-first.result c.turn-second.result c.either.result c.either.ensures.exact goes in (
+      by_order_grows c.args.tells c.args.wanted c.args.one.now c.turn-first.new.line c.args.other.now c.turn-second.new.line
+          c.turn-second.ensures.stays.channel.past (c.turn-first.ensures.by_order both.0),
+      c.turn-second.ensures.by_order both.1,
+    )

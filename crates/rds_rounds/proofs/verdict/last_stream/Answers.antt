@@ -1,6 +1,6 @@
 use Rattle.std.proofs.Common.{◌≡◌, ◌+◌, ◌∷◌, sym, ap, ◌∙◌}
 use Rattle.rds_model.specs.Past.{newest_stream}
-use Rattle.rds_rounds.proofs.Lacking.{oldest, oldest_more}
+use Rattle.rds_rounds.proofs.Counted.{oldest, oldest_more}
 use Rattle.rds_rounds.proofs.verdict.last_stream.Goals as goal
 
 pub loop-i-preserved : goal.loop-i-preserved
