@@ -1,11 +1,11 @@
 -- A journal that is walked from its oldest entry on, the streams that it shut and the headers that it refused.
-use Rattle.std.proofs.Common.{◌≡◌, ◌<◌, ◌≤◌, ◌+◌, ◌-◌, ℕ, suc, List, [], ◌∷◌, Some, drop, drop-cons, get_or, length, reverse, slice_get, sym, ap, ◌∙◌, arith}
+use Rattle.std.proofs.Common.{◌≡◌, ◌<◌, ◌≤◌, ◌+◌, ◌-◌, ℕ, suc, List, [], ◌∷◌, Some, drop, drop-cons, get_or, length, length-append, reverse, slice_get, sym, ap, ◌∙◌, arith}
 use Rattle.std.proofs.lemmas.List.{get_or-reverse, length-drop, length-reverse}
 use Rattle.std.proofs.lemmas.Option.{get_or_from_slice_get, slice_get_within}
 use Rattle.rds_model.specs.declared.entry.Entry.{Entry}
 use Rattle.rds_model.specs.declared.entry.Entry.TheVariants.{Bad, Shut}
 use Rattle.rds_model.specs.Past.{Moment, before, now}
-use Rattle.rds_line_channel.specs.Carried.{shuts}
+use Rattle.rds_line_channel.specs.Carried.{shut_streams, shuts}
 use Rattle.rds_rounds.specs.Causes.{refusals}
 
 -- the oldest entries of a journal
@@ -28,7 +28,8 @@ oldest_more past i e is =
 -- no more streams were shut, and no more headers refused, than there are entries
 shuts_within : (past : List Entry) → shuts past ≤ length past
 shuts_within [] = omega arith
-shuts_within (Shut stream ∷ past) = let rest = shuts_within past in omega (arith, rest)
+shuts_within (Shut stream ∷ past) =
+    let rest = shuts_within past in let more = length-append (shut_streams past) (stream ∷ []) in omega (arith, rest, more)
 shuts_within (_ ∷ past) = let rest = shuts_within past in omega (arith, rest)
 
 refusals_within : (past : List Entry) → refusals past ≤ length past
