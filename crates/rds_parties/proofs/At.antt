@@ -64,6 +64,30 @@ at_set_any (z ∷ xs) zero x (suc i) y at = inr (λ e. omega (arith, e), at)
 at_set_any (z ∷ xs) (suc k) x zero y at = inr (λ e. omega (arith, e), at)
 at_set_any (z ∷ xs) (suc k) x (suc i) y at = ⊎_elim (λ here. inl (ap suc here.0, here.1)) (λ there. inr (λ e. there.0 (omega (arith, e)), there.1)) (at_set_any xs k x i y at)
 
+-- two lists as long as each other, each with one more element: what stands at a place of both stood there before, or is those two
+pub at_both_snoc : {A B : Type 0} (xs : List A) (ys : List B) (x : A) (y : B) (i : ℕ) (a : A) (b : B) → length ys ≡ length xs →
+    slice_get (xs ++ x ∷ []) i ≡ Some a → slice_get (ys ++ y ∷ []) i ≡ Some b →
+    ((slice_get xs i ≡ Some a) × (slice_get ys i ≡ Some b)) ⊎ ((i ≡ length xs) × (a ≡ x) × (b ≡ y))
+at_both_snoc [] [] x y zero a b same at_a at_b = inr (refl, sym (same_Some x a at_a), sym (same_Some y b at_b))
+at_both_snoc [] [] x y (suc i) a b same at_a at_b = absurd (cc)
+at_both_snoc [] (v ∷ ys) x y i a b same at_a at_b = absurd (omega (arith, same))
+at_both_snoc (u ∷ xs) [] x y i a b same at_a at_b = absurd (omega (arith, same))
+at_both_snoc (u ∷ xs) (v ∷ ys) x y zero a b same at_a at_b = inl (at_a, at_b)
+at_both_snoc (u ∷ xs) (v ∷ ys) x y (suc i) a b same at_a at_b =
+    ⊎_elim (λ old. inl old) (λ new. inr (ap suc new.0, new.1, new.2)) (at_both_snoc xs ys x y i a b (omega (arith, same)) at_a at_b)
+
+-- two lists of which the same place was set: what stands at a place of both is what was set, or stood there before
+pub at_both_set : {A B : Type 0} (xs : List A) (ys : List B) (k : ℕ) (x : A) (y : B) (i : ℕ) (a : A) (b : B) →
+    slice_get (set xs k x) i ≡ Some a → slice_get (set ys k y) i ≡ Some b →
+    ((i ≡ k) × (a ≡ x) × (b ≡ y)) ⊎ ((slice_get xs i ≡ Some a) × (slice_get ys i ≡ Some b))
+at_both_set [] ys k x y i a b at_a at_b = absurd (cc)
+at_both_set (u ∷ xs) [] k x y i a b at_a at_b = absurd (cc)
+at_both_set (u ∷ xs) (v ∷ ys) zero x y zero a b at_a at_b = inl (refl, sym (same_Some x a at_a), sym (same_Some y b at_b))
+at_both_set (u ∷ xs) (v ∷ ys) zero x y (suc i) a b at_a at_b = inr (at_a, at_b)
+at_both_set (u ∷ xs) (v ∷ ys) (suc k) x y zero a b at_a at_b = inr (at_a, at_b)
+at_both_set (u ∷ xs) (v ∷ ys) (suc k) x y (suc i) a b at_a at_b =
+    ⊎_elim (λ here. inl (ap suc here.0, here.1, here.2)) (λ there. inr there) (at_both_set xs ys k x y i a b at_a at_b)
+
 -- a list of one thing is that which stands at its end
 pub the_one : {A : Type 0} (xs front : List A) (x : A) → xs ≡ front ++ x ∷ [] → length xs ≡ 1 → xs ≡ x ∷ []
 the_one xs [] x is one = is

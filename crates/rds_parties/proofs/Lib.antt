@@ -13,3 +13,4 @@ pub mod Counted
 pub mod Missing
 pub mod Summing
 pub mod Held
+pub mod Known

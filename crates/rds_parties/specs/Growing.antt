@@ -1,11 +1,13 @@
 -- Private: it serves the contracts of the private functions that open the streams of a run. Source: this project's own.
-use Rattle.std.specs.Prelude.{◌≡◌, ◌≤◌, ◌<◌, ◌+◌, ◌*◌, ◌^◌, ℕ, List, Vec, [], ◌∷◌, ◌++◌, Some, slice_get, slice_set}
+use Rattle.std.specs.Prelude.{◌≡◌, ◌≤◌, ◌<◌, ◌+◌, ◌*◌, ◌^◌, ℕ, suc, List, Vec, [], ◌∷◌, ◌++◌, Some, length, slice_get, slice_set}
 use Rattle.std.specs.Global.{Global}
 use Rattle.rds_link.specs.Ends.{Means}
 use Rattle.rds_link.specs.Streaming.{HasRisenBy}
 use Rattle.rds_line_streams.specs.Streams.{numbers}
+use Rattle.rds_rounds.specs.declared.verdict.Wanted.{Wanted}
+use Rattle.rds_script.specs.declared.script.Placed.{Placed}
 use Rattle.rds_parties.specs.Preparing.{ArePrepared}
-use Rattle.rds_parties.specs.Streams.{AreNumbersOf}
+use Rattle.rds_parties.specs.Streams.{AreNumbersOf, IsKnown}
 
 -- the values that a count has
 abbrev pub IsCount : ℕ → Type 0
@@ -29,3 +31,20 @@ pub record GrowsBy {E : Type 0} (m : Means E) (host count faults faults_after : 
 abbrev pub AreMissingBeside : (streams ends ends_after faults faults_after : ℕ) → Type 0
 AreMissingBeside streams ends ends_after faults faults_after =
     (missing : ℕ) × (streams * 2 + ends ≤ ends_after + missing * 2) × HasRisenBy missing faults faults_after
+
+-- a host has a thing for each other host below this later one, and for no more
+abbrev pub HasThoseBelow : {T : Type 0} → (host later : ℕ) → List (List T) → Type 0
+HasThoseBelow {T} host later rows = (row : List T) → slice_get rows host ≡ Some row → suc (length row) ≡ later
+
+module _ {E : Type 0} (commands : List Placed) where
+  -- What is known of a host and each other one stands where the streams to that one do. It is true of each later one.
+  pub record IsRowKnown (host : ℕ) (row : List (Vec (ℕ × E) Global)) (known : List Wanted) : Type 0 where
+    pub count : length known ≡ length row
+    pub each : (place : ℕ) (list : Vec (ℕ × E) Global) (w : Wanted) → host ≤ place → slice_get row place ≡ Some list → slice_get known place ≡ Some w →
+        IsKnown commands host (suc place) w (numbers list.items)
+
+  -- so it is of each host
+  pub record AreRowsKnown (rows : List (List (Vec (ℕ × E) Global))) (wanted : List (List Wanted)) : Type 0 where
+    pub count : length wanted ≡ length rows
+    pub each : (host : ℕ) (row : List (Vec (ℕ × E) Global)) (known : List Wanted) → slice_get rows host ≡ Some row → slice_get wanted host ≡ Some known →
+        IsRowKnown host row known

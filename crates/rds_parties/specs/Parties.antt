@@ -10,7 +10,7 @@ use Rattle.rds_script.specs.declared.script.Placed.{Placed}
 use Rattle.rds_callers.specs.Places.{Bound, CallerView, Place}
 use Rattle.rds_rounds.specs.Grid.{IsAt}
 use Rattle.rds_settling.specs.Tied.{AreTied}
-use Rattle.rds_parties.specs.Obeyed.{AreNewPlaces, HasDone, HasObeyed, after_binds, leading_binds, slot_count}
+use Rattle.rds_parties.specs.Obeyed.{AreNewPlaces, HasObeyed, after_binds, leading_binds, slot_count}
 
 -- the callers and the lines of so many hosts, by host: those of each belong together
 pub record AreParties {E : Type 0} (hosts : ℕ) (callers : List CallerView) (rows : List (List (LineView E WriterView))) : Type 0 where
@@ -47,7 +47,3 @@ pub record HasLed {E : Type 0} (host : ℕ) (commands : List Placed) (first last
 abbrev pub HaveLed : {E : Type 0} → List Placed → (old new : List CallerView) → List (List (LineView E WriterView)) → Type 0
 HaveLed {E} commands old new rows = (host : ℕ) (caller after : CallerView) (row : List (LineView E WriterView)) → slice_get old host ≡ Some caller →
     slice_get new host ≡ Some after → slice_get rows host ≡ Some row → HasLed host commands caller.places after.places row
-
--- the callers of so many hosts did these commands from new slots, each those of its own host
-abbrev pub HaveDone : (hosts : ℕ) → List Placed → List CallerView → Type 0
-HaveDone hosts commands callers = (host : ℕ) (caller : CallerView) → slice_get callers host ≡ Some caller → HasDone hosts host commands caller.places

@@ -1,13 +1,15 @@
 -- The streams of a run before they are used, and the lines that were given them. Source: this project's own.
-use Rattle.std.specs.Prelude.{ℕ, ◌≤◌, List, Vec, All}
+use Rattle.std.specs.Prelude.{ℕ, suc, ◌≤◌, List, Vec, All}
 use Rattle.std.specs.Global.{Global}
 use Rattle.rds_link.specs.Ends.{Means}
 use Rattle.rds_line.specs.Line.{LineView}
 use Rattle.rds_line_streams.specs.Streams.{AreNumbered, IsUnused, numbers}
 use Rattle.rds_script.specs.declared.script.Placed.{Placed}
+use Rattle.rds_rounds.specs.Causes.{known_of}
 use Rattle.rds_rounds.specs.Connection.{ArePaired}
-use Rattle.rds_rounds.specs.Grid.{AreRows, OfEachPair}
-use Rattle.rds_parties.specs.Streams.{AreNumbersOf, streams_between}
+use Rattle.rds_rounds.specs.Grid.{AreRows, IsAt, OfEachPair}
+use Rattle.rds_rounds.specs.declared.verdict.Wanted.{Wanted}
+use Rattle.rds_parties.specs.Streams.{AreNumbersOf, IsKnown, streams_between}
 
 module _ {E : Type 0} (m : Means E) where
   -- the streams of two hosts that were opened so far, with numbers up to this one
@@ -40,3 +42,8 @@ module _ {E : Type 0} (commands : List Placed) (before after : ℕ) where
   abbrev pub HaveCounted : {M : Type 0} → List (List (LineView E M)) → Type 0
   HaveCounted {M} rows =
       OfEachPair (λ low high (one : LineView E M) (other : LineView E M). HaveNumbered low high one.channel.streams.list other.channel.streams.list) rows
+
+-- what is known of each two hosts is true of the streams that the lower one has to the higher one
+abbrev pub AreAllKnown : {E : Type 0} → List Placed → List (List Wanted) → List (List (Vec (ℕ × E) Global)) → Type 0
+AreAllKnown {E} commands wanted rows = (low place : ℕ) (list : Vec (ℕ × E) Global) → low ≤ place → IsAt rows low place list →
+    IsKnown commands low (suc place) (known_of wanted low (suc place)) (numbers list.items)

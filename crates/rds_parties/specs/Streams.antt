@@ -4,6 +4,7 @@ use Rattle.std.specs.List.{range_with_len}
 use Rattle.std.specs.List.Sorted.{IsStrictlyIncreasing}
 use Rattle.rds_link.specs.Streaming.{HasRisen, HasRisenBy}
 use Rattle.rds_model.specs.Alive.{up_to}
+use Rattle.rds_rounds.specs.declared.verdict.Wanted.{Wanted}
 use Rattle.rds_script.specs.Grammar.{Meaning}
 use Rattle.rds_script.specs.declared.script.Command.{Command}
 use Rattle.rds_script.specs.declared.script.Command.TheVariants.{Cut}
@@ -47,3 +48,13 @@ pub record AreNumbersOf (count before after : ℕ) (list : List ℕ) : Type 0 wh
 -- faults rose from this to that, by at least as many as are missing.
 abbrev pub AreMissing : (streams ends before after : ℕ) → Type 0
 AreMissing streams ends before after = (missing : ℕ) × (streams * 2 ≤ ends + missing * 2) × HasRisenBy missing before after
+
+-- the numbers of all of so many streams, unless some are said to be missing
+abbrev pub AreAllUnlessLacking : (count : ℕ) (lacks : Bool) → List ℕ → Type 0
+AreAllUnlessLacking count lacks list = lacks ≡ false → list ≡ up_to count
+
+-- This is known of two hosts, whose streams have these numbers: how many of the commands are cuts between the two. And where no stream is said
+-- to be missing, all that were to be prepared were opened.
+pub record IsKnown (commands : List Placed) (low high : ℕ) (known : Wanted) (list : List ℕ) : Type 0 where
+  pub cuts : known.cuts ≡ cuts_between low high commands
+  pub whole : AreAllUnlessLacking (streams_between low high commands) known.lacks list

@@ -6,10 +6,10 @@ ghost use Rattle.rds_rounds.specs.Grid.{rows_of};
 ghost use Rattle.rds_script.specs.Grammar.{meaning};
 ghost use Rattle.rds_script.specs.Script.{IsScript};
 ghost use Rattle.rds_parties.specs.Cuts.{AreFewCuts};
-ghost use Rattle.rds_parties.specs.Growing.{AreMissingBeside, GrowsBy, IsCount};
+ghost use Rattle.rds_parties.specs.Growing.{AreMissingBeside, AreRowsKnown, GrowsBy, HasThoseBelow, IsCount};
 ghost use Rattle.rds_parties.specs.Held.{ends_of_row, ends_prepared};
-ghost use Rattle.rds_parties.specs.Preparing.{AreAllCounted, AreAllPrepared, ArePrepared};
-ghost use Rattle.rds_parties.specs.Streams.{AreAllUnlessRisen, AreMissing, AreNumbersOf, prepared_streams, streams_below, streams_between};
+ghost use Rattle.rds_parties.specs.Preparing.{AreAllCounted, AreAllKnown, AreAllPrepared, ArePrepared};
+ghost use Rattle.rds_parties.specs.Streams.{AreAllUnlessLacking, AreAllUnlessRisen, AreMissing, AreNumbersOf, prepared_streams, streams_below, streams_between};
 
 use crate::counts::{MORE_STREAMS, cuts_between, cuts_of};
 use rds_final::address;
@@ -53,6 +53,7 @@ impl<E: End> Opened<E> {
     fn add(&mut self, number: u32, first: E, second: E) -> Result<(), Memory>
         ensures low { OnOk result (self.new.low.items ≡ self.old.low.items ++ (number, first) ∷ []) }
         ensures high { OnOk result (self.new.high.items ≡ self.old.high.items ++ (number, second) ∷ []) }
+        ensures lacks { self.new.lacks ≡ self.old.lacks }
     {
         self.low.push((number, first))?;
         self.high.push((number, second))?;
@@ -75,6 +76,7 @@ pub fn prepare<W: Wire, R: Threads + Wait + Net>(
     requires { IsScript script.now }
     ensures prepared { IfOk result (λ p. AreAllPrepared W.End.means script.now.hosts (rows_of p.streams.items)) }
     ensures counted { IfOk result (λ p. AreAllCounted script.now.commands.items (W.faults wire.old) (W.faults wire.new) (rows_of p.streams.items)) }
+    ensures wanted { IfOk result (λ p. AreAllKnown script.now.commands.items (rows_of p.wanted.items) (rows_of p.streams.items)) }
     ensures missing { IfOk result (λ p. AreMissing (prepared_streams (meaning script.now)) (ends_prepared (rows_of p.streams.items)) (W.faults wire.old) (W.faults wire.new)) }
     ensures grows { W.faults wire.old ≤ W.faults wire.new }
     ensures out { IfOk result (λ p. W.out wire.new ≤ W.out wire.old + ends_prepared (rows_of p.streams.items)) }
@@ -110,9 +112,9 @@ fn add_host<W: Wire, R: Threads + Wait + Net>(
 ) -> Result<(), Memory>
     requires cuts { AreFewCuts all_cuts.now }
     requires prepared { AreAllPrepared W.End.means host (rows_of prepared.old.streams.items) }
-    requires wanted { length prepared.old.wanted.items ≡ host }
+    requires wanted { AreRowsKnown all_cuts.now (rows_of prepared.old.streams.items) (rows_of prepared.old.wanted.items) }
     ensures prepared { OnOk result (AreAllPrepared W.End.means (host + 1) (rows_of prepared.new.streams.items)) }
-    ensures wanted { OnOk result (length prepared.new.wanted.items ≡ host + 1) }
+    ensures wanted { OnOk result (AreRowsKnown all_cuts.now (rows_of prepared.new.streams.items) (rows_of prepared.new.wanted.items)) }
     ensures counted { (before : ℕ) → before ≤ W.faults wire.old → IsCount (W.faults wire.new) →
         AreAllCounted all_cuts.now before (W.faults wire.old) (rows_of prepared.old.streams.items) →
         OnOk result (AreAllCounted all_cuts.now before (W.faults wire.new) (rows_of prepared.new.streams.items)) }
@@ -145,11 +147,14 @@ fn add_pair<W: Wire, R: Threads + Wait + Net>(
 ) -> Result<(), Memory>
     requires cuts { AreFewCuts all_cuts.now }
     requires streams { low < length prepared.old.streams.items }
+    requires below { HasThoseBelow low high (rows_of prepared.old.streams.items) }
+    requires known { AreRowsKnown all_cuts.now (rows_of prepared.old.streams.items) (rows_of prepared.old.wanted.items) }
     requires wanted { low < length prepared.old.wanted.items }
     ensures grows { OnOk result (GrowsBy W.End.means low (streams_between low high all_cuts.now) (W.faults wire.old) (W.faults wire.new) (rows_of prepared.old.streams.items) (rows_of prepared.new.streams.items) row.old.streams.items row.new.streams.items) }
     ensures missing { IsCount (W.faults wire.new) → OnOk result (AreMissingBeside (streams_between low high all_cuts.now) (ends_prepared (rows_of prepared.old.streams.items) + ends_of_row row.old.streams.items)
         (ends_prepared (rows_of prepared.new.streams.items) + ends_of_row row.new.streams.items) (W.faults wire.old) (W.faults wire.new)) }
-    ensures wanted { length prepared.new.wanted.items ≡ length prepared.old.wanted.items }
+    ensures known { OnOk result (AreRowsKnown all_cuts.now (rows_of prepared.new.streams.items) (rows_of prepared.new.wanted.items)) }
+    ensures row { OnOk result (length row.new.wanted.items ≡ length row.old.wanted.items + 1) }
     ensures faults { W.faults wire.old ≤ W.faults wire.new }
     ensures out { OnOk result (W.out wire.new + (ends_prepared (rows_of prepared.old.streams.items) + ends_of_row row.old.streams.items) ≤
         W.out wire.old + (ends_prepared (rows_of prepared.new.streams.items) + ends_of_row row.new.streams.items)) }
@@ -175,6 +180,7 @@ fn open_all<W: Wire, R: Threads + Wait + Net>(
     count: u32,
 ) -> Result<Opened<W::End>, Memory>
     ensures prepared { IfOk result (λ opened. (newest : ℕ) × ArePrepared W.End.means newest opened.low.items opened.high.items) }
+    ensures lacks { IfOk result (λ opened. AreAllUnlessLacking count opened.lacks (numbers opened.low.items)) }
     ensures counted { IsCount (W.faults wire.new) → IfOk result (λ opened. AreNumbersOf count (W.faults wire.old) (W.faults wire.new) (numbers opened.low.items)) }
     ensures grows { W.faults wire.old ≤ W.faults wire.new }
     ensures out { IfOk result (λ opened. W.out wire.new ≤ W.out wire.old + (length opened.low.items + length opened.high.items)) }
@@ -202,6 +208,8 @@ fn open_next<W: Wire, R: Threads + Wait + Net>(
     requires room { before < 4294967295 }
     requires prepared { ArePrepared W.End.means before opened.old.low.items opened.old.high.items }
     ensures prepared { OnOk result (ArePrepared W.End.means (before + 1) opened.new.low.items opened.new.high.items) }
+    ensures lacks { AreAllUnlessLacking before opened.old.lacks (numbers opened.old.low.items) →
+        OnOk result (AreAllUnlessLacking (before + 1) opened.new.lacks (numbers opened.new.low.items)) }
     ensures whole { (first : ℕ) → first ≤ W.faults wire.old → AreAllUnlessRisen before first (W.faults wire.old) (numbers opened.old.low.items) →
         OnOk result (AreAllUnlessRisen (before + 1) first (W.faults wire.new) (numbers opened.new.low.items)) }
     ensures missing { (first : ℕ) → IsCount (W.faults wire.new) → HasRisenBy (before - length (numbers opened.old.low.items)) first (W.faults wire.old) →

@@ -1,4 +1,4 @@
-use Rattle.std.proofs.Common.{◌≡◌, ◌≤◌, ◌<◌, ℕ, suc, ◌+◌, List, Vec, [], ◌∷◌, ◌++◌, set, sum_by, ap, sym, ◌∙◌, subst, arith}
+use Rattle.std.proofs.Common.{◌≡◌, ◌≤◌, ◌<◌, ℕ, suc, ◌+◌, List, Vec, [], ◌∷◌, ◌++◌, length, set, sum_by, ap, sym, ◌∙◌, subst, arith}
 use Rattle.std.specs.Global.{Global}
 use Rattle.std.specs.List.{range_with_len}
 use Rattle.std.proofs.lemmas.List.{map-append}
@@ -6,7 +6,8 @@ use Rattle.std.proofs.lemmas.List.Sums.{sum_by_push}
 use Rattle.rds_rounds.specs.Grid.{rows_of}
 use Rattle.rds_link.specs.Ends.{Means}
 use Rattle.rds_line_streams.specs.Streams.{numbers}
-use Rattle.rds_parties.specs.Growing.{AreMissingBeside, GrowsBy}
+use Rattle.rds_rounds.specs.declared.verdict.Wanted.{Wanted}
+use Rattle.rds_parties.specs.Growing.{AreMissingBeside, AreRowsKnown, GrowsBy}
 use Rattle.rds_parties.specs.Held.{ends_of_row, ends_prepared}
 use Rattle.rds_parties.specs.Preparing.{AreAllCounted, AreAllPrepared}
 use Rattle.rds_parties.specs.Streams.{streams_between}
@@ -15,6 +16,7 @@ use Rattle.rds_parties.proofs.At.{length_map}
 use Rattle.rds_parties.proofs.Cuts.{sum_below_more}
 use Rattle.rds_parties.proofs.Missing.{missing_both, none_missing}
 use Rattle.rds_parties.proofs.Growing.{IsHalfway, halfway_more, halfway_pairs, halfway_rows, halfway_start}
+use Rattle.rds_parties.proofs.Known.{last_known, rows_known_pushed}
 use Rattle.rds_parties.proofs.Made.{IsPair}
 use Rattle.rds_parties.proofs.streams.add_host.Goals as goal
 
@@ -29,6 +31,7 @@ loop-low-init g c =
           subst (λ (l : List (EndsOf g.row.W-End.Denot)). IsHalfway (IsPair m) c.args.host 0 rows l) (sym c.new.ensures.items)
           (halfway_start (IsPair m) c.args.host rows c.requires.prepared.shape c.requires.prepared.pairs);
       wanted = c.requires.wanted;
+      row = ap length c.new-2.ensures.items;
       counted = λ before least small all.
           let holds = IsCounted c.args.all_cuts.now before (g.W.Wire.faults c.args.wire.now) in
           subst (λ (l : List (EndsOf g.row.W-End.Denot)). IsHalfway holds c.args.host 0 rows l) (sym c.new.ensures.items)
@@ -57,6 +60,19 @@ add_pair-requires-clause-streams g c =
     let size = length_map (λ (v : Vec (EndsOf g.row.W-End.Denot) Global). v.items) c.loop-low.prepared.streams.items in
     omega (arith, count, size, c.loop-low-test.true)
 
+pub add_pair-requires-clause-below : goal.add_pair-requires-clause-below
+add_pair-requires-clause-below g c = λ row at. c.loop-low.invariant.half.rest c.loop-low.low row (omega arith) at
+
+pub add_pair-requires-clause-known : goal.add_pair-requires-clause-known
+add_pair-requires-clause-known g c = c.loop-low.invariant.wanted
+
+pub add_pair-requires-clause-wanted : goal.add_pair-requires-clause-wanted
+add_pair-requires-clause-wanted g c =
+    let count = c.loop-low.invariant.half.count in
+    let same = c.loop-low.invariant.wanted.count in
+    let size = length_map (λ (v : Vec Wanted Global). v.items) c.loop-low.prepared.wanted.items in
+    omega (arith, count, same, size, c.loop-low-test.true)
+
 pub loop-low-preserved : goal.loop-low-preserved
 loop-low-preserved g c =
     let m = g.W.End.End.means in
@@ -75,7 +91,8 @@ loop-low-preserved g c =
       half =
           one_pair_more m (IsPair m) host low (streams_between low host commands) faults after rows new row own c.loop-low-test.true grows
           (grows.newest, grows.prepared) c.loop-low.invariant.half;
-      wanted = c.add_pair.ensures.wanted ∙ c.loop-low.invariant.wanted;
+      wanted = c.in_ok-add_pair.ensures.known;
+      row = c.in_ok-add_pair.ensures.row ∙ ap (λ n. n + 1) c.loop-low.invariant.row;
       counted = λ before least small all.
           let lower : before ≤ faults = omega (arith, least, so_far) in
           one_pair_more m (IsCounted commands before after) host low (streams_between low host commands) faults after rows new row own c.loop-low-test.true grows
@@ -113,6 +130,25 @@ returns-clause-prepared g c =
     subst (λ n. AreAllPrepared m n (rows_of c.push.new.self.items)) next
     (subst (λ (l : List (List (EndsOf g.row.W-End.Denot))). AreAllPrepared m (suc host) l) (sym all)
     (record { shape = halfway_rows (IsPair m) host rows own half; pairs = halfway_pairs (IsPair m) host rows own half }))
+
+pub returns-clause-wanted : goal.returns-clause-wanted
+returns-clause-wanted g c =
+    let commands = c.args.all_cuts.now in
+    let host = c.args.host in
+    let rows = rows_of c.loop-low.prepared.streams.items in
+    let wanted = rows_of c.loop-low.prepared.wanted.items in
+    let own = c.loop-low.row.streams.items in
+    let known = c.loop-low.row.wanted.items in
+    let end : c.loop-low.low ≡ host = (let t = c.loop-low-test.false in let a = c.loop-low.auto.low-end in omega (arith, t, a)) in
+    let half = c.loop-low.invariant.half in
+    let all = with_own c.loop-low.prepared.streams.items c.loop-low.row.streams c.push.new.self.items c.in_ok-push.ensures.items in
+    let all_known =
+    ap (λ (l : List (Vec Wanted Global)). rows_of l) c.in_ok-push-2.ensures.items
+    ∙ map-append (λ (v : Vec Wanted Global). v.items) c.loop-low.prepared.wanted.items (c.loop-low.row.wanted ∷ []) in
+    let last = last_known commands (length rows) own known (half.later ∙ end ∙ sym half.count) (c.loop-low.invariant.row ∙ sym half.later) in
+    subst (λ (l : List (List (EndsOf g.row.W-End.Denot))). AreRowsKnown commands l (rows_of c.push-2.new.self.items)) (sym all)
+    (subst (λ (l : List (List Wanted)). AreRowsKnown commands (rows ++ own ∷ []) l) (sym all_known)
+    (rows_known_pushed commands rows wanted own known c.loop-low.invariant.wanted last))
 
 pub returns-clause-counted : goal.returns-clause-counted
 returns-clause-counted g c = λ before least small counted.

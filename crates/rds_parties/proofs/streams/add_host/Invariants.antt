@@ -1,7 +1,7 @@
 use Rattle.std.proofs.Common.{◌≡◌, ◌≤◌, ◌+◌, ℕ, length, sum_by}
 use Rattle.std.specs.List.{range_with_len}
 use Rattle.rds_rounds.specs.Grid.{rows_of}
-use Rattle.rds_parties.specs.Growing.{AreMissingBeside, IsCount}
+use Rattle.rds_parties.specs.Growing.{AreMissingBeside, AreRowsKnown, IsCount}
 use Rattle.rds_parties.specs.Streams.{streams_between}
 use Rattle.rds_parties.specs.Held.{ends_of_row, ends_prepared}
 use Rattle.rds_parties.specs.Preparing.{AreAllCounted}
@@ -13,7 +13,8 @@ use Rattle.rds_parties.proofs.streams.add_host.Given as goal
 abbrev pub invariant-loop-low : goal.invariant-loop-low
 invariant-loop-low g l = record {
   half : IsHalfway (IsPair g.W.End.End.means) l.fn.host l.low (rows_of l.prepared.streams.items) l.row.streams.items;
-  wanted : length l.prepared.wanted.items ≡ l.fn.host;
+  wanted : AreRowsKnown l.fn.all_cuts (rows_of l.prepared.streams.items) (rows_of l.prepared.wanted.items);
+  row : length l.row.wanted.items ≡ l.low;
   counted : (before : ℕ) → before ≤ g.W.Wire.faults l.fn.wire → IsCount (g.W.Wire.faults l.wire) →
       AreAllCounted l.fn.all_cuts before (g.W.Wire.faults l.fn.wire) (rows_of l.fn.prepared.streams.items) →
       IsHalfway (IsCounted l.fn.all_cuts before (g.W.Wire.faults l.wire)) l.fn.host l.low (rows_of l.prepared.streams.items) l.row.streams.items;

@@ -1,12 +1,15 @@
-use Rattle.std.proofs.Common.{◌≡◌, ◌+◌, ℕ, Vec, Some, set, slice_get, ap, ◌∙◌, subst, arith}
+use Rattle.std.proofs.Common.{◌≡◌, ◌+◌, ℕ, suc, List, Vec, [], ◌∷◌, ◌++◌, Some, length, set, slice_get, sym, ap, ◌∙◌, subst, arith}
 use Rattle.std.specs.Global.{Global}
 use Rattle.std.proofs.lemmas.List.{length-map, map-set}
 use Rattle.rds_rounds.specs.Grid.{rows_of}
+use Rattle.rds_rounds.specs.declared.verdict.Wanted.{Wanted}
 use Rattle.rds_line_streams.specs.Streams.{numbers}
-use Rattle.rds_parties.specs.Streams.{AreNumbersOf, streams_between}
+use Rattle.rds_parties.specs.Growing.{AreRowsKnown}
+use Rattle.rds_parties.specs.Streams.{AreAllUnlessLacking, AreNumbersOf, IsKnown, streams_between}
 use Rattle.rds_parties.specs.Held.{ends_of_row, ends_prepared}
 use Rattle.rds_parties.proofs.At.{map_at, stands_at}
 use Rattle.rds_parties.proofs.Held.{ends_grown}
+use Rattle.rds_parties.proofs.Known.{rows_known_more}
 use Rattle.rds_parties.proofs.Missing.{missing_between}
 use Rattle.rds_parties.proofs.Preparing.{same_count}
 use Rattle.rds_parties.proofs.streams.add_pair.Goals as goal
@@ -74,3 +77,37 @@ returns-clause-missing g c = λ small.
     let both = same_count g.W.End.End.means opened.low.items opened.high.items c.in_ok-opened.ensures.prepared.1.paired.same in
     missing_between (streams_between c.args.low c.args.high c.args.all_cuts.now) (ends_prepared (rows_of rows) + ends_of_row c.args.row.now.streams.items) _
     before after (numbers opened.low.items) (omega (arith, lower, grown, size, both)) of
+
+-- refused where what is known isn't true of these two hosts
+pub returns-clause-known : goal.returns-clause-known
+returns-clause-known g c =
+    let low = c.args.low in
+    let high = c.args.high in
+    let commands = c.args.all_cuts.now in
+    let rows = c.args.prepared.now.streams.items in
+    let wanted = c.args.prepared.now.wanted.items in
+    let stood = c.index_mut-2.result.now in
+    let known = c.index_mut.result.now in
+    let opened = c.in_ok-opened.opened in
+    let w : Wanted = record { lacks = opened.lacks; cuts = c.cuts_between-cuts.result } in
+    let at = map_at (λ (v : StreamsOf g.row.W-End.Denot). v.items) rows low stood
+    (subst (λ n. slice_get rows n ≡ Some stood) c.from-low.ensures
+    (stands_at rows c.from-low.result stood (omega (arith, c.from-low.ensures, c.requires.streams)) c.index_mut-2.ensures.value)) in
+    let at_known = map_at (λ (v : Vec Wanted Global). v.items) wanted low known
+    (subst (λ n. slice_get wanted n ≡ Some known) c.from-low.ensures
+    (stands_at wanted c.from-low.result known (omega (arith, c.from-low.ensures, c.requires.wanted)) c.index_mut.ensures.value)) in
+    let lower = map-set (λ (v : StreamsOf g.row.W-End.Denot). v.items) rows c.from-low.result c.push-3.new.self
+    ∙ ap (λ n. set (rows_of rows) n c.push-3.new.self.items) c.from-low.ensures
+    ∙ ap (set (rows_of rows) low) c.in_ok-push-3.ensures.items in
+    let lower_known = map-set (λ (v : Vec Wanted Global). v.items) wanted c.from-low.result c.push.new.self
+    ∙ ap (λ n. set (rows_of wanted) n c.push.new.self.items) c.from-low.ensures
+    ∙ ap (set (rows_of wanted) low) c.in_ok-push.ensures.items in
+    let is : IsKnown commands low high w (numbers opened.low.items) = record {
+      cuts = c.cuts_between-cuts.ensures.count;
+      whole = subst (λ n. AreAllUnlessLacking n opened.lacks (numbers opened.low.items)) (ap (λ n. n + 3) c.cuts_between-cuts.ensures.count) c.in_ok-opened.ensures.lacks;
+    } in
+    let next : IsKnown commands low (suc (length stood.items)) w (numbers opened.low.items) =
+    subst (λ n. IsKnown commands low n w (numbers opened.low.items)) (sym (c.requires.below stood.items at)) is in
+    subst (λ (l : List (List (Vec (ℕ × g.row.W-End.Denot) Global))). AreRowsKnown commands l (rows_of (set wanted c.from-low.result c.push.new.self))) (sym lower)
+    (subst (λ (l : List (List Wanted)). AreRowsKnown commands (set (rows_of rows) low (stood.items ++ opened.low ∷ [])) l) (sym lower_known)
+    (rows_known_more commands (rows_of rows) (rows_of wanted) low stood.items known.items opened.low w c.requires.known at at_known next))

@@ -1,7 +1,7 @@
-use Rattle.std.proofs.Common.{◌≡◌, inl, ℕ, List, [], refl, rules, sym, subst, arith}
+use Rattle.std.proofs.Common.{◌≡◌, inl, ℕ, false, List, [], refl, rules, sym, subst, arith}
 use Rattle.rds_line_streams.specs.Streams.{numbers}
 use Rattle.rds_parties.specs.Preparing.{ArePrepared}
-use Rattle.rds_parties.specs.Streams.{AreAllUnlessRisen, AreNumbersOf}
+use Rattle.rds_parties.specs.Streams.{AreAllUnlessLacking, AreAllUnlessRisen, AreNumbersOf}
 use Rattle.rds_parties.proofs.Counted.{numbers_of}
 use Rattle.rds_parties.proofs.Preparing.{none_prepared}
 use Rattle.rds_parties.proofs.streams.open_all.Goals as goal
@@ -15,6 +15,7 @@ loop-before-init g c =
       prepared =
           subst (λ (l : List (ℕ × g.row.W-End.Denot)). ArePrepared m 0 l c.new-2.result.items) (sym low)
           (subst (λ (h : List (ℕ × g.row.W-End.Denot)). ArePrepared m 0 [] h) (sym high) (none_prepared m));
+      lacks = subst (λ (l : List (ℕ × g.row.W-End.Denot)). AreAllUnlessLacking 0 false (numbers l)) (sym low) (λ calm. refl);
       whole =
           subst (λ (l : List (ℕ × g.row.W-End.Denot)). AreAllUnlessRisen 0 (g.W.Wire.faults c.args.wire.now) (g.W.Wire.faults c.args.wire.now) (numbers l)) (sym low)
           (λ calm. refl);
@@ -26,6 +27,7 @@ loop-before-init g c =
 pub loop-before-preserved : goal.loop-before-preserved
 loop-before-preserved g c = record {
   prepared = c.in_ok-open_next.ensures.prepared;
+  lacks = c.in_ok-open_next.ensures.lacks c.loop-before.invariant.lacks;
   whole = c.in_ok-open_next.ensures.whole (g.W.Wire.faults c.args.wire.now) c.loop-before.invariant.grows c.loop-before.invariant.whole;
   missing = λ small. c.in_ok-open_next.ensures.missing (g.W.Wire.faults c.args.wire.now) small
       (c.loop-before.invariant.missing (let more = c.open_next.ensures.grows in omega (arith, more, small)));
@@ -44,3 +46,10 @@ returns-clause-counted g c = λ small.
     subst (λ n. AreNumbersOf n (g.W.Wire.faults c.args.wire.now) (g.W.Wire.faults c.loop-before.wire) (numbers c.loop-before.opened.low.items)) end
     (numbers_of g.W.End.End.means c.loop-before.before (g.W.Wire.faults c.args.wire.now) (g.W.Wire.faults c.loop-before.wire) c.loop-before.opened.low.items
     c.loop-before.opened.high.items c.loop-before.invariant.prepared c.loop-before.invariant.whole (c.loop-before.invariant.missing small))
+
+pub returns-clause-lacks : goal.returns-clause-lacks
+returns-clause-lacks g c =
+    let test = c.loop-before-test.false in
+    let most = c.loop-before.auto.before-end in
+    let end : c.loop-before.before ≡ c.args.count = omega (arith, test, most) in
+    subst (λ n. AreAllUnlessLacking n c.loop-before.opened.lacks (numbers c.loop-before.opened.low.items)) end c.loop-before.invariant.lacks

@@ -1,16 +1,18 @@
-use Rattle.std.proofs.Common.{◌≡◌, ℕ, List, Vec, length, sum_by, ap, sym, ◌∙◌, subst, arith}
+use Rattle.std.proofs.Common.{◌≡◌, ℕ, List, Vec, [], sum_by, ap, sym, ◌∙◌, subst, arith}
 use Rattle.std.specs.Global.{Global}
 use Rattle.std.specs.List.{range_with_len}
 use Rattle.rds_rounds.specs.Grid.{rows_of}
+use Rattle.rds_rounds.specs.declared.verdict.Wanted.{Wanted}
 use Rattle.rds_script.specs.Grammar.{meaning}
 use Rattle.rds_script.specs.declared.script.Placed.{Placed}
 use Rattle.rds_script.specs.declared.script.Script.{Script}
 use Rattle.rds_parties.specs.Preparing.{AreAllCounted, AreAllPrepared}
-use Rattle.rds_parties.specs.Growing.{AreMissingBeside}
+use Rattle.rds_parties.specs.Growing.{AreMissingBeside, AreRowsKnown}
 use Rattle.rds_parties.specs.Held.{ends_prepared}
 use Rattle.rds_parties.specs.Streams.{AreMissing, cuts_between, prepared_streams, streams_below}
 use Rattle.rds_parties.proofs.Counted.{counted_alike, none_counted}
 use Rattle.rds_parties.proofs.Cuts.{same_streams, sum_below_more}
+use Rattle.rds_parties.proofs.Known.{all_known, none_known}
 use Rattle.rds_parties.proofs.Missing.{missing_both, none_missing}
 use Rattle.rds_parties.proofs.Made.{none_prepared}
 use Rattle.rds_parties.proofs.streams.prepare.Goals as goal
@@ -20,7 +22,10 @@ loop-host-init g c = record {
   prepared =
       subst (λ (l : List (Vec (Vec (ℕ × g.row.W-End.Denot) Global) Global)). AreAllPrepared g.W.End.End.means 0 (rows_of l)) (sym c.new.ensures.items)
       (none_prepared g.W.End.End.means);
-  wanted = ap length c.new-2.ensures.items;
+  wanted =
+      subst (λ (l : List (Vec (Vec (ℕ × g.row.W-End.Denot) Global) Global)). AreRowsKnown c.in_ok-cuts.cuts.items (rows_of l) (rows_of c.new-2.result.items)) (sym c.new.ensures.items)
+      (subst (λ (l : List (Vec Wanted Global)). AreRowsKnown {E = g.row.W-End.Denot} c.in_ok-cuts.cuts.items [] (rows_of l)) (sym c.new-2.ensures.items)
+      (none_known c.in_ok-cuts.cuts.items));
   counted = λ small.
       subst (λ (l : List (Vec (Vec (ℕ × g.row.W-End.Denot) Global) Global)).
       AreAllCounted c.in_ok-cuts.cuts.items (g.W.Wire.faults c.args.wire.now) (g.W.Wire.faults c.args.wire.now) (rows_of l)) (sym c.new.ensures.items)
@@ -34,7 +39,9 @@ loop-host-init g c = record {
 pub loop-host-preserved : goal.loop-host-preserved
 loop-host-preserved g c = record {
   prepared = c.in_ok-add_host.ensures.prepared;
-  wanted = c.in_ok-add_host.ensures.wanted;
+  wanted =
+      subst (λ (l : List Placed). AreRowsKnown l (rows_of c.add_host.new.prepared.streams.items) (rows_of c.add_host.new.prepared.wanted.items)) c.as_slice.ensures.value
+      c.in_ok-add_host.ensures.wanted;
   counted = λ small.
       let more = c.add_host.ensures.grows in
       let first = g.W.Wire.faults c.args.wire.now in
@@ -59,6 +66,16 @@ loop-host-preserved g c = record {
   grows = (let more = c.add_host.ensures.grows in let so_far = c.loop-host.invariant.grows in omega (arith, more, so_far));
   out = (let one = c.in_ok-add_host.ensures.out in let past = c.loop-host.invariant.out in omega (arith, one, past));
 }
+
+pub add_host-requires-clause-wanted : goal.add_host-requires-clause-wanted
+add_host-requires-clause-wanted g c =
+    subst (λ (l : List Placed). AreRowsKnown l (rows_of c.loop-host.prepared.streams.items) (rows_of c.loop-host.prepared.wanted.items)) (sym c.as_slice.ensures.value)
+    c.loop-host.invariant.wanted
+
+pub returns-clause-wanted : goal.returns-clause-wanted
+returns-clause-wanted g c =
+    all_known c.in_ok-cuts.cuts.items c.args.script.now.commands.items (rows_of c.loop-host.prepared.streams.items) (rows_of c.loop-host.prepared.wanted.items)
+    c.in_ok-cuts.ensures.all c.loop-host.invariant.wanted
 
 pub returns-clause-counted : goal.returns-clause-counted
 returns-clause-counted g c =

@@ -1,7 +1,7 @@
-use Rattle.std.proofs.Common.{◌≡◌, ◌≤◌, ◌+◌, length, sum_by}
+use Rattle.std.proofs.Common.{◌≤◌, ◌+◌, sum_by}
 use Rattle.std.specs.List.{range_with_len}
 use Rattle.rds_rounds.specs.Grid.{rows_of}
-use Rattle.rds_parties.specs.Growing.{AreMissingBeside, IsCount}
+use Rattle.rds_parties.specs.Growing.{AreMissingBeside, AreRowsKnown, IsCount}
 use Rattle.rds_parties.specs.Streams.{streams_below}
 use Rattle.rds_parties.specs.Held.{ends_prepared}
 use Rattle.rds_parties.specs.Preparing.{AreAllCounted, AreAllPrepared}
@@ -10,7 +10,7 @@ use Rattle.rds_parties.proofs.streams.prepare.Given as goal
 abbrev pub invariant-loop-host : goal.invariant-loop-host
 invariant-loop-host g l = record {
   prepared : AreAllPrepared g.W.End.End.means l.host (rows_of l.prepared.streams.items);
-  wanted : length l.prepared.wanted.items ≡ l.host;
+  wanted : AreRowsKnown l.cuts.items (rows_of l.prepared.streams.items) (rows_of l.prepared.wanted.items);
   counted : IsCount (g.W.Wire.faults l.wire) → AreAllCounted l.cuts.items (g.W.Wire.faults l.fn.wire) (g.W.Wire.faults l.wire) (rows_of l.prepared.streams.items);
   missing : IsCount (g.W.Wire.faults l.wire) →
       AreMissingBeside (sum_by (λ host. streams_below host l.cuts.items) (range_with_len 0 l.host)) 0 (ends_prepared (rows_of l.prepared.streams.items))
