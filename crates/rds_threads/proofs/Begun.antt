@@ -28,27 +28,27 @@ module _ (form : Form) (tells : Bool) (limit hosts : ℕ) (commands : List Place
   module _ (may_fail : Type 0) (budget : ℕ) (before after : WireCounts) where
     -- and so of what was to be written in the end
     pub begun_ok : (was now : ℕ) (sink : Written) (text : List ℕ) (end : RunEnd) → HasToWrite form tells limit hosts commands end text →
-        IsCountedEnd tells may_fail budget before after end → IsCutEnd commands was now end → (result : Result RunEnd Memory) → IfOk result (Writes sink text end) →
-        IfOk result (BeginsAtFault form tells limit hosts commands (IsCountedEnd tells may_fail budget before after) was now sink.held_before sink.held_after)
+        IsCountedEnd tells may_fail budget commands before after end → IsCutEnd commands was now end → (result : Result RunEnd Memory) → IfOk result (Writes sink text end) →
+        IfOk result (BeginsAtFault form tells limit hosts commands (IsCountedEnd tells may_fail budget commands before after) was now sink.held_before sink.held_after)
     begun_ok was now sink text end has counted cut result =
         on_ok (Writes sink text end)
-        (BeginsAtFault form tells limit hosts commands (IsCountedEnd tells may_fail budget before after) was now sink.held_before sink.held_after) result
-        (λ e written. begun_written (IsCountedEnd tells may_fail budget before after) was now sink text end has counted cut e written)
+        (BeginsAtFault form tells limit hosts commands (IsCountedEnd tells may_fail budget commands before after) was now sink.held_before sink.held_after) result
+        (λ e written. begun_written (IsCountedEnd tells may_fail budget commands before after) was now sink text end has counted cut e written)
 
     -- what was counted since the start
     pub begun_of : (can : Type 0) → (can → may_fail) → (b : ℕ) (was : WireCounts) → b ≡ budget → was ≡ before → (now : ℕ)
         (held_before held_after : Option (List ℕ)) (result : Result RunEnd Memory) →
-        IfOk result (BeginsAtFault form tells limit hosts commands (IsCountedEnd tells can b was after) was.faults now held_before held_after) →
-        IfOk result (BeginsAtFault form tells limit hosts commands (IsCountedEnd tells may_fail budget before after) before.faults now held_before held_after)
+        IfOk result (BeginsAtFault form tells limit hosts commands (IsCountedEnd tells can b commands was after) was.faults now held_before held_after) →
+        IfOk result (BeginsAtFault form tells limit hosts commands (IsCountedEnd tells may_fail budget commands before after) before.faults now held_before held_after)
     begun_of can why b was same_budget same_before now held_before held_after result =
-        on_ok (BeginsAtFault form tells limit hosts commands (IsCountedEnd tells can b was after) was.faults now held_before held_after)
-        (BeginsAtFault form tells limit hosts commands (IsCountedEnd tells may_fail budget before after) before.faults now held_before held_after) result
+        on_ok (BeginsAtFault form tells limit hosts commands (IsCountedEnd tells can b commands was after) was.faults now held_before held_after)
+        (BeginsAtFault form tells limit hosts commands (IsCountedEnd tells may_fail budget commands before after) before.faults now held_before held_after) result
         (λ e begun. λ fault.
         let b0 = begun fault in (
           b0.0,
           b0.1,
           b0.2,
-          counted_from tells can may_fail why b budget was before after same_budget same_before b0.0 b0.3,
+          counted_from tells can may_fail why b budget commands was before after same_budget same_before b0.0 b0.3,
           subst (λ (w : WireCounts). IsCutEnd commands w.faults now b0.0) same_before b0.4,
           b0.5,
         ))

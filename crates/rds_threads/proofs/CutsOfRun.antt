@@ -1,10 +1,11 @@
 -- What became of the cuts that the commands of a run ask for, in what its hosts have in the end.
-use Rattle.std.proofs.Common.{◌≡◌, ℕ, inl, inr, List, Some, Result, IfOk, length, map, slice_get, sym, ap, subst, ⊎_elim, ◌∙◌}
+use Rattle.std.proofs.Common.{◌≡◌, ℕ, inl, inr, List, Some, Result, IfOk, length, map, slice_get, sym, ap, subst, ◌∙◌}
 use Rattle.rds_wire.specs.declared.memory.Memory.{Memory}
 use Rattle.rds_link.specs.Ends.{Means}
-use Rattle.rds_link.specs.Streaming.{HasRisen}
 use Rattle.rds_fmap.specs.Readers.{WriterView}
-use Rattle.rds_line.specs.Line.{LineView}
+use Rattle.rds_line_streams.specs.Streams.{numbers}
+use Rattle.rds_line.specs.Line.{LineView, line_past}
+use Rattle.rds_gather.specs.Cuts.{AreCutsDone}
 use Rattle.rds_gather.specs.Sides.{line_side}
 use Rattle.rds_final.specs.FinalState.{FinalHost, FinalJournal}
 use Rattle.rds_final.specs.Views.{host_view, host_views}
@@ -13,23 +14,23 @@ use Rattle.rds_script.specs.declared.script.Placed.{Placed}
 use Rattle.rds_callers.specs.Places.{CallerView}
 use Rattle.rds_rounds.specs.Done.{AreDone}
 use Rattle.rds_rounds.specs.Grid.{IsAt, peer_at}
-use Rattle.rds_parties.specs.Preparing.{HaveCounted}
-use Rattle.rds_threads.specs.Cuts.{AreCutsOfEnds, IsCutEnd, IsCutOrUsed}
+use Rattle.rds_threads.specs.Cuts.{AreCutsOfEnds, HasLostNoCut, IsCutEnd}
 use Rattle.rds_threads.specs.Ends.{Writes, Written}
+use Rattle.rds_threads.specs.Known.{AreOpenOrUsed}
+use Rattle.rds_threads.specs.Outcome.{cuts_to}
 use Rattle.rds_threads.specs.Settled.{AreLeftOf, HaveDoneSpared}
 use Rattle.rds_threads.specs.declared.form.RunEnd.{RunEnd}
 use Rattle.rds_threads.proofs.At.{at_map, stood_at}
 use Rattle.rds_threads.proofs.CutsAsked.{asked_done}
 use Rattle.rds_threads.proofs.Hosts.{line_of}
-use Rattle.rds_threads.proofs.Lacking.{counted_at}
 use Rattle.rds_threads.proofs.Rows.{place_within}
+use Rattle.rds_threads.proofs.UsedUp.{left_at, none_lost}
 use Rattle.rds_threads.proofs.Written.{on_ok}
 
 pub cuts_of_ends : {E : Type 0} (m : Means E) (limit hosts : ℕ) (callers : List CallerView) (rows : List (List (LineView E WriterView))) (ends : List HostEnd) →
     AreDone m limit hosts rows → length callers ≡ length rows → AreLeftOf callers rows ends → (commands : List Placed) → HaveDoneSpared hosts commands callers rows →
-    (before middle after : ℕ) → HaveCounted commands before middle rows → (HasRisen before middle → HasRisen before after) →
-    AreCutsOfEnds commands before after (host_views ends)
-cuts_of_ends {E} m limit hosts callers rows ends done same left commands did before middle after counted later host place final side at at_side =
+    AreOpenOrUsed commands rows → AreCutsOfEnds commands (host_views ends)
+cuts_of_ends {E} m limit hosts callers rows ends done same left commands did used host place final side at at_side =
     let end = at_map host_view ends host final at in
     let row = stood_at rows ends host end.0 left.count end.1 in
     let caller = stood_at callers rows host row.0 (sym same) row.1 in
@@ -37,11 +38,15 @@ cuts_of_ends {E} m limit hosts callers rows ends done same left commands did bef
     let sides : final.sides ≡ map line_side row.0 = ap (λ (h : FinalHost). h.sides) end.2 ∙ rest.journals in
     let line = at_map line_side row.0 place side (subst (λ (l : List FinalJournal). slice_get l place ≡ Some side) sides at_side) in
     let stands : IsAt rows host place line.0 = (row.0, row.1, line.1) in
-    let of = counted_at hosts rows done.shape commands before middle counted host place line.0 stands in
-    subst (λ (s : FinalJournal). IsCutOrUsed host (peer_at host place) commands before after s) (sym line.2)
-    (⊎_elim (λ shut. inl shut) (λ used. inr (record { opened = λ none. used.0 ∙ of.whole (λ risen. none (later risen)); closed = used.1 }))
-    (asked_done hosts host commands caller.0.places row.0 (did host caller.0 row.0 caller.1 row.1) rest.cut place line.0 line.1
-    (line_of m limit hosts rows done host place line.0 stands).peer_is (place_within hosts rows done.shape host place line.0 stands)))
+    let peer = (line_of m limit hosts rows done host place line.0 stands).peer_is in
+    let is = left_at m limit hosts rows done commands used host place line.0 stands in
+    let past = line_past line.0 in
+    let asked = asked_done hosts host commands caller.0.places row.0 (did host caller.0 row.0 caller.1 row.1) rest.cut place line.0 line.1 peer
+    (place_within hosts rows done.shape host place line.0 stands) in
+    subst (λ (s : FinalJournal). HasLostNoCut host (peer_at host place) commands s) (sym line.2)
+    (subst (λ (p : ℕ). HasLostNoCut host (peer_at host place) commands (record { peer = p; past = past })) (sym peer)
+    (none_lost host (peer_at host place) commands (numbers line.0.channel.streams.list) past is.other is.legal
+    (subst (λ (p : ℕ). AreCutsDone (cuts_to host p commands) (numbers line.0.channel.streams.list) past) peer asked) is.is))
 
 -- what was written changes nothing of that
 cut_written : (commands : List Placed) (before after : ℕ) (sink : Written) (text : List ℕ) (end result : RunEnd) → IsCutEnd commands before after end →

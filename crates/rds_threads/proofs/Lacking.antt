@@ -16,11 +16,12 @@ use Rattle.rds_script.specs.declared.script.Command.{Command}
 use Rattle.rds_script.specs.declared.script.Command.TheVariants.{Bind, BindAny, Send, Recv, Cancel, Close, Open, Move, Cut, Drain}
 use Rattle.rds_script.specs.declared.script.Placed.{Placed}
 use Rattle.rds_parties.specs.Preparing.{HaveCounted, HaveNumbered}
-use Rattle.rds_parties.specs.Streams.{AreNumbersOf, is_cut_between, streams_between}
-use Rattle.rds_rounds.specs.Causes.{HostsLackStream, LacksStream}
+use Rattle.rds_parties.specs.Streams.{AreNumbersOf, cuts_between, is_cut_between, streams_between}
+use Rattle.rds_rounds.specs.Causes.{HostsMissStream, LacksStream}
 use Rattle.rds_rounds.specs.Done.{AreDone}
 use Rattle.rds_rounds.specs.Grid.{AreRows, IsAt, peer_at}
 use Rattle.rds_rounds.specs.Sound.{AreSoundJournals}
+use Rattle.rds_rounds.specs.declared.verdict.Wanted.{Wanted}
 use Rattle.rds_threads.specs.Causes.{AreLackingStream, BeginsOrders, HasNoneLeft, IsFilledAlone, IsOfCommands, OpenedAmong}
 use Rattle.rds_threads.specs.Settled.{HaveDoneSpared}
 use Rattle.rds_threads.specs.Taking.{HaveSameStreams, HaveTied, IsGroundedAt, IsJournalOf, IsJournalOfLine}
@@ -47,8 +48,11 @@ cut_either_way a b (Move host to bytes) = refl
 cut_either_way a b (Cut host to) = either_way (host == a && (to == b)) (host == b && (to == a))
 cut_either_way a b Drain = refl
 
+pub cuts_either_way : (a b : ℕ) (commands : List Placed) → cuts_between a b commands ≡ cuts_between b a commands
+cuts_either_way a b commands i = length (filter (λ (placed : Placed). cut_either_way a b placed.command i) commands)
+
 pub streams_either_way : (a b : ℕ) (commands : List Placed) → streams_between a b commands ≡ streams_between b a commands
-streams_either_way a b commands i = length (filter (λ (placed : Placed). cut_either_way a b placed.command i) commands) + 3
+streams_either_way a b commands = ap (λ (n : ℕ). n + 3) (cuts_either_way a b commands)
 
 -- what is taken from the front of a list begins it
 front_of : (whole front : List ℕ) (n : ℕ) → front ≡ take n whole → Begins front whole
@@ -72,12 +76,12 @@ module _ {E M : Type 0} where
         (of_other.opened.1 ∙ ap (take of_other.opened.0) (same ∙ sym (ap opens of_own.is ∙ lacks.all)));
   }
 
-  lacking_of : (m : Means E) (limit hosts : ℕ) (rows : List (List (LineView E M))) → AreDone m limit hosts rows → HaveSameStreams rows → (low high : ℕ) →
-      HostsLackStream low high rows → (commands : List Placed) (before after : ℕ) → HaveCounted commands before after rows → (own other : List Entry) →
+  lacking_of : (m : Means E) (limit hosts : ℕ) (rows : List (List (LineView E M))) → AreDone m limit hosts rows → HaveSameStreams rows →
+      (wanted : List (List Wanted)) (low high : ℕ) → HostsMissStream m.tells wanted low high rows → (commands : List Placed) (before after : ℕ) → HaveCounted commands before after rows → (own other : List Entry) →
       IsJournalOf rows low high own → IsJournalOf rows high low other → IsOfCommands hosts low high commands own →
       IsOfCommands hosts high low commands other → (hosts ≡ 2 → IsFilledAlone low high commands own) → (hosts ≡ 2 → IsFilledAlone high low commands other) →
       AreLackingStream m.tells hosts commands low high (newest_stream own) own other
-  lacking_of m limit hosts rows done streams low high lack commands before after counted own other is_own is_other own_sent other_sent own_filled other_filled =
+  lacking_of m limit hosts rows done streams wanted low high lack commands before after counted own other is_own is_other own_sent other_sent own_filled other_filled =
       let ordered = lack.ordered in
       let next = lack.next in
       let less : low < high = omega (arith, ordered, next) in
@@ -101,8 +105,8 @@ module _ {E M : Type 0} where
         own_opened = opened_among (streams_between low high commands) before after lack.one own both.0 of_own;
         other_opened = opened_among (streams_between low high commands) before after lack.other other both.1 of_other;
         lacks =
-            ⊎_elim (λ lacks. inl (none_left lack.one lack.other own other lacks of_own of_other same))
-            (λ lacks. inr (none_left lack.other lack.one other own lacks of_other of_own (sym same))) lack.lacks;
+            ⊎_elim (λ misses. inl (none_left lack.one lack.other own other misses.0 of_own of_other same))
+            (λ misses. inr (none_left lack.other lack.one other own misses.0 of_other of_own (sym same))) lack.misses;
         newest = refl;
       }
 
@@ -132,16 +136,16 @@ module _ {E M : Type 0} where
 module _ {E : Type 0} (m : Means E) (limit hosts : ℕ) (callers : List CallerView) (rows : List (List (LineView E WriterView))) (done : AreDone m limit hosts rows)
     (tied : HaveTied callers rows) (commands : List Placed) (did : HaveDoneSpared hosts commands callers rows) where
   -- so it is of the two journals that were taken out of what all hosts have
-  pub lacking_in_run : (before after : ℕ) → HaveCounted commands before after rows → HaveSameStreams rows → (low high : ℕ) → HostsLackStream low high rows →
-      low < high → high < length rows → (own other : List Entry) → IsJournalOf rows low high own → IsJournalOf rows high low other →
+  pub lacking_in_run : (before after : ℕ) → HaveCounted commands before after rows → HaveSameStreams rows → (wanted : List (List Wanted)) (low high : ℕ) →
+      HostsMissStream m.tells wanted low high rows → low < high → high < length rows → (own other : List Entry) → IsJournalOf rows low high own → IsJournalOf rows high low other →
       ((caller : CallerView) → slice_get callers low ≡ Some caller → BeginsOrders low high caller.places own) →
       ((caller : CallerView) → slice_get callers high ≡ Some caller → BeginsOrders high low caller.places other) →
       IsGroundedAt callers rows low → IsGroundedAt callers rows high → AreLackingStream m.tells hosts commands low high (newest_stream own) own other
-  lacking_in_run before after counted streams low high lacks less known own other is is_other own_orders other_orders own_grounded other_grounded =
+  lacking_in_run before after counted streams wanted low high lacks less known own other is is_other own_orders other_orders own_grounded other_grounded =
       let count = done.shape.count in
       let first : low < hosts = omega (arith, less, known, count) in
       let second : high < hosts = omega (arith, known, count) in
-      lacking_of m limit hosts rows done streams low high lacks commands before after counted own other is is_other
+      lacking_of m limit hosts rows done streams wanted low high lacks commands before after counted own other is is_other
       (of_commands_at hosts commands callers rows did tied low high (omega (arith, less, known)) own own_orders)
       (of_commands_at hosts commands callers rows did tied high low known other other_orders)
       (filled_alone m limit hosts callers rows done tied commands did low high first second (λ same. omega (arith, same, less)) own is own_grounded)

@@ -32,3 +32,6 @@ pub mod Taken
 pub mod Held
 pub mod Fronts
 pub mod CutsOfRun
+pub mod Endings
+pub mod CutsBetween
+pub mod UsedUp

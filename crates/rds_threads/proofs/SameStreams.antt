@@ -12,13 +12,13 @@ use Rattle.rds_threads.proofs.At.{stood_at}
 
 module _ {E : Type 0} where
   -- each line has streams with the numbers of those that it had
-  abbrev HaveNumbersOf : List (LineView E WriterView) → List (LineView E WriterView) → Type 0
+  abbrev pub HaveNumbersOf : List (LineView E WriterView) → List (LineView E WriterView) → Type 0
   HaveNumbersOf row after =
       (length after ≡ length row)
       × ((place : ℕ) (line later : LineView E WriterView) → slice_get row place ≡ Some line → slice_get after place ≡ Some later →
       numbers later.channel.streams.list ≡ numbers line.channel.streams.list)
 
-  was_at : (Same : List (LineView E WriterView) → List (LineView E WriterView) → Type 0) (rows new : List (List (LineView E WriterView))) →
+  pub was_at : (Same : List (LineView E WriterView) → List (LineView E WriterView) → Type 0) (rows new : List (List (LineView E WriterView))) →
       EachRow Same rows new → ((row after : List (LineView E WriterView)) → Same row after → HaveNumbersOf row after) →
       (host place : ℕ) (later : LineView E WriterView) → IsAt new host place later →
       (line : LineView E WriterView) × IsAt rows host place line × (numbers later.channel.streams.list ≡ numbers line.channel.streams.list)
@@ -36,11 +36,18 @@ module _ {E : Type 0} where
       let b = was_at Same rows new each law (suc place) low other at_other in
       b.2 ∙ (same low place a.0 b.0 le a.1 b.1 ∙ sym a.2)
 
+  -- a line of the same connection has them, and one that went on
+  pub same_connections : (row after : List (LineView E WriterView)) → AreSameConnections row after → HaveNumbersOf row after
+  same_connections row after keep =
+      (keep.count, λ place line now at is. ap (λ (l : List (ℕ × E)). numbers l) (keep.each place line now at is).streams)
+
+  pub went_on : (row after : List (LineView E WriterView)) → LinesGoOn row after → HaveNumbersOf row after
+  went_on row after go = (go.count, λ place line now at is. (go.each place line now at is).numbers)
+
   -- once the lines were told of orders, and went on
   pub streams_end : (m : Means E) (limit hosts : ℕ) (rows told after : List (List (LineView E WriterView))) → AreHosts m limit hosts rows →
       EachRow AreSameConnections rows told → EachRow LinesGoOn told after → HaveSameStreams after
   streams_end m limit hosts rows told after are kept goes =
-      streams_keep LinesGoOn told after goes (λ row later go. (go.count, λ place line now at is. (go.each place line now at is).numbers))
-      (streams_keep AreSameConnections rows told kept
-      (λ row later keep. (keep.count, λ place line now at is. ap (λ (l : List (ℕ × E)). numbers l) (keep.each place line now at is).streams))
+      streams_keep LinesGoOn told after goes went_on
+      (streams_keep AreSameConnections rows told kept same_connections
       (λ low place one other le at_one at_other. (are.connected low place one other le at_one at_other).streams.same))

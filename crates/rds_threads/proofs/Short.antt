@@ -1,5 +1,5 @@
 -- Two hosts that lack a stream, and how many faults the wire counted for the streams that their journals didn't open.
-use Rattle.std.proofs.Common.{◌≡◌, ◌⊎◌, ◌<◌, ◌-◌, ◌^◌, ⊎_elim, inl, inr, ℕ, zero, suc, List, length, sym, ap, subst, ◌∙◌, arith}
+use Rattle.std.proofs.Common.{◌≡◌, ◌⊎◌, ◌<◌, ◌-◌, ◌^◌, ⊎_elim, inl, inr, ℕ, zero, suc, Bool, List, length, sym, ap, subst, ◌∙◌, arith}
 use Rattle.std.proofs.lemmas.Bool.{cases_lt}
 use Rattle.rds_link.specs.Streaming.{HasRisenBy}
 use Rattle.rds_model.specs.declared.entry.Entry.{Entry}
@@ -10,8 +10,9 @@ use Rattle.rds_line.specs.Line.{LineView}
 use Rattle.rds_script.specs.declared.script.Placed.{Placed}
 use Rattle.rds_parties.specs.Preparing.{HaveCounted, HaveNumbered}
 use Rattle.rds_parties.specs.Streams.{AreNumbersOf, streams_between}
-use Rattle.rds_rounds.specs.Causes.{HostsLackStream, LacksStream}
+use Rattle.rds_rounds.specs.Causes.{HostsMissStream, LacksStream}
 use Rattle.rds_rounds.specs.Grid.{IsAt}
+use Rattle.rds_rounds.specs.declared.verdict.Wanted.{Wanted}
 use Rattle.rds_threads.specs.Cuts.{IsShortBy}
 use Rattle.rds_threads.specs.Taking.{HaveSameStreams, IsJournalOf, IsJournalOfLine}
 use Rattle.rds_threads.proofs.Lacking.{none_left}
@@ -49,11 +50,11 @@ module _ {E M : Type 0} where
   )
 
   -- so it is of one of two hosts
-  pub short_of : (rows : List (List (LineView E M))) → HaveSameStreams rows → (low high : ℕ) → HostsLackStream low high rows → (commands : List Placed) (before old new : ℕ) →
+  pub short_of : (rows : List (List (LineView E M))) → HaveSameStreams rows → (tells : Bool) (wanted : List (List Wanted)) (low high : ℕ) → HostsMissStream tells wanted low high rows → (commands : List Placed) (before old new : ℕ) →
       HaveCounted commands before old rows → new < 2 ^ 64 → StaysRisen old new → (own other : List Entry) → IsJournalOf rows low high own →
       IsJournalOf rows high low other →
       IsShortBy (streams_between low high commands) before new own other ⊎ IsShortBy (streams_between low high commands) before new other own
-  short_of rows streams low high lack commands before old new counted fits stays own other is_own is_other =
+  short_of rows streams tells wanted low high lack commands before old new counted fits stays own other is_own is_other =
       let ordered = lack.ordered in
       let next = lack.next in
       let less : low < high = omega (arith, ordered, next) in
@@ -65,5 +66,5 @@ module _ {E M : Type 0} where
       subst (λ (n : ℕ). HaveNumbered commands before old low n lack.one.channel.streams.list lack.other.channel.streams.list) (sym next)
       (counted low lack.place lack.one lack.other ordered lack.one_at there) in
       let count = streams_between low high commands in
-      ⊎_elim (λ lacks. inl (short_line count before old new fits stays lack.one lack.other own other both.0 lacks of_own of_other same))
-      (λ lacks. inr (short_line count before old new fits stays lack.other lack.one other own both.1 lacks of_other of_own (sym same))) lack.lacks
+      ⊎_elim (λ misses. inl (short_line count before old new fits stays lack.one lack.other own other both.0 misses.0 of_own of_other same))
+      (λ misses. inr (short_line count before old new fits stays lack.other lack.one other own both.1 misses.0 of_other of_own (sym same))) lack.misses

@@ -75,7 +75,7 @@ module _ {E : Type 0} (m : Means E) (limit hosts : ℕ) (callers : List CallerVi
       line_at host place final.0 side final.1 (subst (λ (l : List FinalJournal). slice_get l place ≡ Some side) final.2 at_side)
 
   -- what holds of the journals of the lines of each two hosts holds of the journals that are left
-  pairs_of : (Holds : (low high : ℕ) → List Entry → List Entry → Type 0) →
+  pub pairs_of : (Holds : (low high : ℕ) → List Entry → List Entry → Type 0) →
       OfEachPair (λ low high (one : LineView E WriterView) (other : LineView E WriterView). Holds low high (line_past one) (line_past other)) rows →
       OfEachPair (λ low high (one : FinalJournal) (other : FinalJournal). Holds low high one.past other.past) (map (λ (h : FinalHost). h.sides) (host_views ends))
   pairs_of Holds each low place one other least at at_other =

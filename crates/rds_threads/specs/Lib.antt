@@ -8,3 +8,4 @@ pub mod Counted
 pub mod Begun
 pub mod Settled
 pub mod Cuts
+pub mod Known

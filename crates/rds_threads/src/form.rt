@@ -17,8 +17,8 @@ pub enum RunEnd {
     Ok {
         ends: Vec<HostEnd>,
     },
-    /// The stream with this number was the last that could be opened between the two hosts, or none could where it is 0. A text
-    /// line that says so was written, and nothing else. The two journals of this connection are here, that of `low` first.
+    /// The two hosts lack a stream that they should have. The line of `low` opened this stream last, or none where it is 0. A text line
+    /// that says so was written, and nothing else. The two journals of this connection are here, that of `low` first.
     WireFault {
         low: u8,
         high: u8,
@@ -35,8 +35,7 @@ pub enum RunEnd {
         own: Journal,
         other: Journal,
     },
-    /// So many datagrams aren't acknowledged, and nothing has moved for as many rounds as the budget allows. A text line that
-    /// says so was written, and nothing else.
+    /// So many datagrams aren't acknowledged. A text line that says so was written, and nothing else.
     Unfinished {
         count: u64,
         ends: Vec<HostEnd>,

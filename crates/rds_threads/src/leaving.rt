@@ -1,8 +1,7 @@
 //! What is left of the hosts of a run.
-ghost use Rattle.std.specs.Prelude.{◌≡◌, ◌≤◌, ◌<◌, ◌-◌, ◌^◌, ◌∷◌, ◌++◌, [], ℕ, List, All, IfOk, Ok, OnOk, Some, length, slice_get, true};
+ghost use Rattle.std.specs.Prelude.{◌≡◌, ◌≤◌, ◌-◌, ◌∷◌, ◌++◌, [], ℕ, List, All, IfOk, Ok, OnOk, Some, length, slice_get, true};
 ghost use Rattle.rds_text.specs.declared.host.TheConstants.{MAX_HOSTS};
 ghost use Rattle.rds_host.specs.Held.{ends_in, ends_of_all};
-ghost use Rattle.rds_gather.specs.Risen.{StaysRisen};
 ghost use Rattle.rds_final.specs.declared.final_state.HostEnd.{HostEnd as EndView};
 ghost use Rattle.rds_final.specs.Hosts.{address_of};
 ghost use Rattle.rds_final.specs.Views.{AreFinalHosts, host_views};
@@ -11,13 +10,13 @@ ghost use Rattle.rds_rounds.specs.Done.{AreDone};
 ghost use Rattle.rds_rounds.specs.Drained.{AreDrainedLines};
 ghost use Rattle.rds_rounds.specs.Grid.{rows_of};
 ghost use Rattle.rds_callers.specs.Places.{CallerView, IsUsed, Place};
-ghost use Rattle.rds_parties.specs.Preparing.{HaveCounted};
 ghost use Rattle.rds_settling.specs.Tied.{AreSlotsTold, AreTied, PlacesHear, holdings};
 ghost use Rattle.rds_script.specs.declared.script.Placed.{Placed};
 ghost use Rattle.rds_threads.specs.Causes.{alive_in_ends};
-ghost use Rattle.rds_threads.specs.Counted.{AreEndsClosed, EndsOweNothing};
+ghost use Rattle.rds_threads.specs.Counted.{EndsOweNothing, HaveAllUsedUp};
 ghost use Rattle.rds_threads.specs.Cuts.{AreCutsOfEnds};
 ghost use Rattle.rds_threads.specs.Ends.{AreAcknowledged, AreEnds, AreSettledHosts};
+ghost use Rattle.rds_threads.specs.Known.{AreOpenOrUsed};
 ghost use Rattle.rds_threads.specs.Taking.{HaveTied};
 ghost use Rattle.rds_threads.specs.Settled.{AreLeftOf, HasEnded, HasHeard, HasSettled, HaveDoneSpared, HaveEnded, HaveHeardBelow, HaveSettled, IsLeftOf};
 
@@ -54,9 +53,9 @@ pub(crate) fn host_ends<W: Wire, R: Threads + Wait + Sync>(
     requires settled { HaveSettled callers.items (rows_of lines.items) }
     ensures ends { (limit hosts : ℕ) (commands : List Placed) → AreDone W.End.means limit hosts (rows_of lines.items) →
         HaveDoneSpared hosts commands callers.items (rows_of lines.items) → IfOk result (λ ends. AreEnds W.End.means.tells hosts commands (host_views ends.items)) }
-    ensures cut { (limit hosts : ℕ) (commands : List Placed) (before : ℕ) → AreDone W.End.means limit hosts (rows_of lines.items) →
-        HaveDoneSpared hosts commands callers.items (rows_of lines.items) → HaveCounted commands before (W.faults wire.old) (rows_of lines.items) →
-        before < 2 ^ 64 → IfOk result (λ ends. AreCutsOfEnds commands before (W.faults wire.new) (host_views ends.items)) }
+    ensures cut { (limit hosts : ℕ) (commands : List Placed) → AreDone W.End.means limit hosts (rows_of lines.items) →
+        HaveDoneSpared hosts commands callers.items (rows_of lines.items) → AreOpenOrUsed commands (rows_of lines.items) →
+        IfOk result (λ ends. AreCutsOfEnds commands (host_views ends.items)) }
     ensures hosts { IfOk result (λ ends. AreFinalHosts (host_views ends.items)) }
     ensures settled { (limit hosts : ℕ) (commands : List Placed) → AreDone W.End.means limit hosts (rows_of lines.items) →
         HaveDoneSpared hosts commands callers.items (rows_of lines.items) → W.End.means.tells ≡ true → AreDrainedLines (rows_of lines.items) →
@@ -66,7 +65,8 @@ pub(crate) fn host_ends<W: Wire, R: Threads + Wait + Sync>(
         IfOk result (λ ends. AreAcknowledged (host_views ends.items)) }
     ensures alive { IfOk result (λ ends. alive_in_ends (host_views ends.items) ≡ alive_in_rows (rows_of lines.items)) }
     ensures owe { All OweNothing (rows_of lines.items) → IfOk result (λ ends. EndsOweNothing (host_views ends.items)) }
-    ensures closed { All AreClosed (rows_of lines.items) → IfOk result (λ ends. AreEndsClosed (host_views ends.items)) }
+    ensures used { (commands : List Placed) → All AreClosed (rows_of lines.items) → AreOpenOrUsed commands (rows_of lines.items) →
+        IfOk result (λ ends. HaveAllUsedUp commands (host_views ends.items)) }
     ensures out { W.out wire.new ≡ W.out wire.old - ends_of_all (rows_of lines.items) }
 {
     accounted_of_all();
@@ -85,7 +85,6 @@ fn all_ends<W: Wire, R: Threads + Wait + Sync>(
     requires few { length lines.items ≤ MAX_HOSTS }
     requires settled { HaveSettled callers.items (rows_of lines.items) }
     ensures left { IfOk result (λ ends. AreLeftOf callers.items (rows_of lines.items) ends.items) }
-    ensures risen { StaysRisen (W.faults wire.old) (W.faults wire.new) }
     ensures out { W.out wire.new ≡ W.out wire.old - ends_of_all (rows_of lines.items) }
 {
     tell_all_slots(&mut callers, &mut lines);
@@ -147,7 +146,6 @@ fn gather_all<W: Wire, R: Wait>(
     ensures left { (callers told : List CallerView) → HaveSettled callers (rows_of lines.items) →
         HaveHeardBelow (length callers) callers told (rows_of lines.items) → HaveEnded told left.items →
         IfOk result (λ ends. AreLeftOf callers (rows_of lines.items) ends.items) }
-    ensures risen { StaysRisen (W.faults wire.old) (W.faults wire.new) }
     ensures out { W.out wire.new ≡ W.out wire.old - ends_of_all (rows_of lines.items) }
 {
     let mut ends = Vec::new(alloc);
@@ -182,7 +180,6 @@ fn host_end<W: Wire, R: Wait>(
     requires { (told : List Place) × AreTied told lines.items × IfOk slots (HasEnded told) }
     ensures left { (host : ℕ) (places told : List Place) → addr ≡ address_of host → HasSettled places lines.items →
         HasHeard places told lines.items → IfOk slots (HasEnded told) → IfOk result (IsLeftOf host places lines.items) }
-    ensures risen { StaysRisen (W.faults wire.old) (W.faults wire.new) }
     ensures out { W.out wire.new ≡ W.out wire.old - ends_in lines.items }
 {
     let Ok((kept, closed)) = slots else {

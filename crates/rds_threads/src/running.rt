@@ -11,6 +11,7 @@ ghost use Rattle.rds_threads.specs.Counted.{IsCountedEnd};
 ghost use Rattle.rds_threads.specs.Cuts.{IsCutEnd};
 ghost use Rattle.rds_threads.specs.Ends.{IsEndOfRun};
 ghost use Rattle.rds_threads.specs.declared.form.RunEnd.TheVariants as ended;
+ghost use Rattle.rds_threads.specs.Known.{AreKnownOf};
 ghost use Rattle.rds_threads.specs.Settled.{AreToldBelow, HaveDoneLed, IsToldOf};
 ghost use Rattle.rds_parties.specs.Parties.{AreParties};
 ghost use Rattle.rds_parties.specs.Preparing.{HaveCounted};
@@ -39,8 +40,8 @@ use std::thread::Threads;
 
 /// Runs a script over the wire: a caller for each host does its commands beside a worker for each of its lines. Then all lines turn
 /// until nothing moves any more, all that waits at open sockets is received, every end is given back to the wire, and the text of
-/// this form is written to the sink. Before each command its caller asks the gate. No journal gets more than `limit`
-/// entries. Over ends that don't tell their bytes, the last rounds stop after `budget` quiet ones.
+/// this form is written to the sink. Before each command its caller asks the gate. A journal is full where two more entries would
+/// pass `limit`. Over ends that don't tell their bytes, the last rounds stop after `budget` quiet ones.
 pub fn run<K: Sink, W: Wire, G: Gate + Sync, R: Threads + Wait + Net + Sync>(
     rt: &R,
     alloc: Global,
@@ -60,13 +61,13 @@ where
     ensures end { IsEndOfRun form W.End.means.tells limit script.now.hosts script.now.commands.items
         record { held_before = K.held sink.old; held_after = K.held sink.new; faults_before = K.faults sink.old; faults_after = K.faults sink.new }
         result }
-    ensures counted { IsCountedEnd W.End.means.tells (W.may_fail wire.old) budget
+    ensures counted { IsCountedEnd W.End.means.tells (W.may_fail wire.old) budget script.now.commands.items
         record { faults = W.faults wire.old; nothings = W.nothings wire.old; fulls = W.fulls wire.old }
         record { faults = W.faults wire.new; nothings = W.nothings wire.new; fulls = W.fulls wire.new } result }
     ensures cut { IsCutEnd script.now.commands.items (W.faults wire.old) (W.faults wire.new) result }
     // Where the sink failed, it took a beginning of what the run had to write at an end that the wire's counts tell of, with no cut lost.
     ensures begun { BeginsAtFault form W.End.means.tells limit script.now.hosts script.now.commands.items
-        (IsCountedEnd W.End.means.tells (W.may_fail wire.old) budget
+        (IsCountedEnd W.End.means.tells (W.may_fail wire.old) budget script.now.commands.items
         record { faults = W.faults wire.old; nothings = W.nothings wire.old; fulls = W.fulls wire.old }
         record { faults = W.faults wire.new; nothings = W.nothings wire.new; fulls = W.fulls wire.new })
         (W.faults wire.old) (W.faults wire.new) (K.held sink.old) (K.held sink.new) result }
@@ -97,12 +98,12 @@ where
     requires most { limit ≤ MAX_ENTRIES }
     ensures end { IfOk result (IsEndOfRun form W.End.means.tells limit script.now.hosts script.now.commands.items
         record { held_before = K.held sink.old; held_after = K.held sink.new; faults_before = K.faults sink.old; faults_after = K.faults sink.new }) }
-    ensures counted { IfOk result (IsCountedEnd W.End.means.tells (W.may_fail wire.old) budget
+    ensures counted { IfOk result (IsCountedEnd W.End.means.tells (W.may_fail wire.old) budget script.now.commands.items
         record { faults = W.faults wire.old; nothings = W.nothings wire.old; fulls = W.fulls wire.old }
         record { faults = W.faults wire.new; nothings = W.nothings wire.new; fulls = W.fulls wire.new }) }
     ensures cut { IfOk result (IsCutEnd script.now.commands.items (W.faults wire.old) (W.faults wire.new)) }
     ensures begun { IfOk result (BeginsAtFault form W.End.means.tells limit script.now.hosts script.now.commands.items
-        (IsCountedEnd W.End.means.tells (W.may_fail wire.old) budget
+        (IsCountedEnd W.End.means.tells (W.may_fail wire.old) budget script.now.commands.items
         record { faults = W.faults wire.old; nothings = W.nothings wire.old; fulls = W.fulls wire.old }
         record { faults = W.faults wire.new; nothings = W.nothings wire.new; fulls = W.fulls wire.new })
         (W.faults wire.old) (W.faults wire.new) (K.held sink.old) (K.held sink.new)) }
@@ -138,15 +139,16 @@ fn finish<K: Sink, W: Wire, R: Threads + Wait + Sync>(
     ensures end { (limit hosts : ℕ) (commands : List Placed) (before after : ℕ) → AreHosts W.End.means limit hosts (rows_of lines.items) →
         HaveDoneLed hosts commands callers.items (rows_of lines.items) → HaveCounted commands before after (rows_of lines.items) → IfOk result (IsEndOfRun form W.End.means.tells limit hosts commands
         record { held_before = K.held sink.old; held_after = K.held sink.new; faults_before = K.faults sink.old; faults_after = K.faults sink.new }) }
-    ensures counted { IfOk result (IsCountedEnd W.End.means.tells (start.can_fail ≡ true) start.budget start.counts
+    ensures counted { (commands : List Placed) → AreKnownOf (rows_of wanted.now) commands (rows_of lines.items) →
+        IfOk result (IsCountedEnd W.End.means.tells (start.can_fail ≡ true) start.budget commands start.counts
         record { faults = W.faults wire.new; nothings = W.nothings wire.new; fulls = W.fulls wire.new }) }
     ensures cut { (limit hosts : ℕ) (commands : List Placed) → AreHosts W.End.means limit hosts (rows_of lines.items) →
         HaveDoneLed hosts commands callers.items (rows_of lines.items) → HaveCounted commands start.counts.faults (W.faults wire.old) (rows_of lines.items) →
-        IfOk result (IsCutEnd commands start.counts.faults (W.faults wire.new)) }
+        AreKnownOf (rows_of wanted.now) commands (rows_of lines.items) → IfOk result (IsCutEnd commands start.counts.faults (W.faults wire.new)) }
     ensures begun { (limit hosts : ℕ) (commands : List Placed) → AreHosts W.End.means limit hosts (rows_of lines.items) →
         HaveDoneLed hosts commands callers.items (rows_of lines.items) → HaveCounted commands start.counts.faults (W.faults wire.old) (rows_of lines.items) →
-        IfOk result (BeginsAtFault form W.End.means.tells limit hosts commands
-        (IsCountedEnd W.End.means.tells (start.can_fail ≡ true) start.budget start.counts
+        AreKnownOf (rows_of wanted.now) commands (rows_of lines.items) → IfOk result (BeginsAtFault form W.End.means.tells limit hosts commands
+        (IsCountedEnd W.End.means.tells (start.can_fail ≡ true) start.budget commands start.counts
         record { faults = W.faults wire.new; nothings = W.nothings wire.new; fulls = W.fulls wire.new })
         start.counts.faults (W.faults wire.new) (K.held sink.old) (K.held sink.new)) }
     ensures memory { OnErr result (K.held sink.new ≡ K.held sink.old) }

@@ -6,11 +6,11 @@ use Rattle.rds_final.specs.Views.{host_views}
 use Rattle.rds_rounds.specs.Grid.{rows_of}
 use Rattle.rds_threads.specs.Causes.{AreUnacknowledged}
 use Rattle.rds_rounds.specs.declared.rounds.Rounds.TheVariants as rounds
-use Rattle.rds_threads.specs.Counted.{AreEndsClosed, EndsOweNothing}
+use Rattle.rds_threads.specs.Counted.{EndsOweNothing, HaveAllUsedUp}
 use Rattle.rds_threads.specs.Ends.{IsEndOfRun, Writes, Written}
 use Rattle.rds_threads.specs.Texts.{fault_line, text_of, unfinished_line}
 use Rattle.rds_threads.specs.declared.form.RunEnd.TheVariants as ended
-use Rattle.rds_threads.proofs.Counted.{as_tested, counted_fault, counted_ok}
+use Rattle.rds_threads.proofs.Counted.{as_tested, counted_fault, counted_ok, quiet_done, quiet_of}
 use Rattle.rds_threads.proofs.CutsOfRun.{cut_ok}
 use Rattle.rds_threads.proofs.Lacking.{lacking_in_run}
 use Rattle.rds_threads.proofs.Rows.{rows_count}
@@ -104,10 +104,11 @@ returns-else-not-has_faulted-clause-end g c = λ limit hosts commands before aft
     let other = c.in_ok-one-in-Fault.other in
     let stream = newest_stream own.past in
     let found_hosts = c.requires.fault low high c.in-Fault.is in
+    let misses = c.requires.misses low high c.in-Fault.is in
     let known : high < length (rows_of c.args.lines.items) = omega (arith, found_hosts.1, rows_count c.args.lines.items) in
     let lacking =
     lacking_in_run g.W.End.End.means limit hosts c.args.callers.items (rows_of c.args.lines.items) done c.requires.tied commands did before after counted
-    c.requires.streams low high (c.requires.lacks low high c.in-Fault.is) found_hosts.0 known own.past other.past c.in_ok-one-in-Fault.ensures.own
+    c.requires.streams misses.0 low high misses.1 found_hosts.0 known own.past other.past c.in_ok-one-in-Fault.ensures.own
     c.in_ok-one-in-Fault.ensures.other c.in_ok-one-in-Fault.ensures.own_orders c.in_ok-one-in-Fault.ensures.other_orders
     c.in_ok-one-in-Fault.ensures.own_grounded c.in_ok-one-in-Fault.ensures.other_grounded in
     let sink : Written = record {
@@ -122,7 +123,7 @@ returns-else-not-has_faulted-clause-end g c = λ limit hosts commands before aft
     c.end_by_fault.ensures.end
 
 pub returns-in_ok-ends-in-Done-clause-counted : goal.returns-in_ok-ends-in-Done-clause-counted
-returns-in_ok-ends-in-Done-clause-counted g c =
+returns-in_ok-ends-in-Done-clause-counted g c = λ commands used.
     let ends = c.in_ok-ends-in-Done.ends in
     let sink : Written = record {
       held_before = g.K.Sink.held c.args.sink.now;
@@ -130,10 +131,10 @@ returns-in_ok-ends-in-Done-clause-counted g c =
       faults_before = g.K.Sink.faults c.args.sink.now;
       faults_after = g.K.Sink.faults c.end_by_report.new.sink;
     } in
-    counted_ok _ _ _ _ _ sink (text_of c.args.form (host_views ends.items)) (ended.Ok ends) c.end_by_report.result tt c.end_by_report.ensures.end
+    counted_ok _ _ _ commands _ _ sink (text_of c.args.form (host_views ends.items)) (ended.Ok ends) c.end_by_report.result tt c.end_by_report.ensures.end
 
 pub returns-in_ok-own-in-Spent-clause-counted : goal.returns-in_ok-own-in-Spent-clause-counted
-returns-in_ok-own-in-Spent-clause-counted g c =
+returns-in_ok-own-in-Spent-clause-counted g c = λ commands used.
     let own = c.in_ok-own-in-Spent.own in
     let other = c.in_ok-own-in-Spent.other in
     let sink : Written = record {
@@ -142,12 +143,12 @@ returns-in_ok-own-in-Spent-clause-counted g c =
       faults_before = g.K.Sink.faults c.args.sink.now;
       faults_after = g.K.Sink.faults c.end_by_spent.new.sink;
     } in
-    counted_ok _ _ _ _ _ sink _ (ended.Spent c.in-Spent.host c.in-Spent.peer c.in-Spent.entries own other) c.end_by_spent.result tt
+    counted_ok _ _ _ commands _ _ sink _ (ended.Spent c.in-Spent.host c.in-Spent.peer c.in-Spent.entries own other) c.end_by_spent.result tt
     c.end_by_spent.ensures.end
 
 -- refused where nothing is asked of the counts
 pub returns-else-not-has_faulted-clause-counted : goal.returns-else-not-has_faulted-clause-counted
-returns-else-not-has_faulted-clause-counted g c =
+returns-else-not-has_faulted-clause-counted g c = λ commands used.
     let low = c.in-Fault.low in
     let high = c.in-Fault.high in
     let own = c.in_ok-one-in-Fault.one in
@@ -158,7 +159,7 @@ returns-else-not-has_faulted-clause-counted g c =
     let start = c.args.start in
     let is : c.has_faulted.result ≡ true = search rules in
     let found =
-    counted_fault g.W.End.End.means.tells c.tells.result (start.can_fail ≡ true) start.budget start.counts c.counts-in-Fault.result now low high stream own other
+    counted_fault g.W.End.End.means.tells c.tells.result (start.can_fail ≡ true) start.budget commands start.counts c.counts-in-Fault.result now low high stream own other
     c.tells.ensures c.counts-in-Fault.ensures (c.has_faulted.ensures.0 is) in
     let sink : Written = record {
       held_before = g.K.Sink.held c.args.sink.now;
@@ -166,12 +167,12 @@ returns-else-not-has_faulted-clause-counted g c =
       faults_before = g.K.Sink.faults c.args.sink.now;
       faults_after = g.K.Sink.faults c.end_by_fault.new.sink;
     } in
-    counted_ok g.W.End.End.means.tells (start.can_fail ≡ true) start.budget start.counts now sink (fault_line low high stream)
+    counted_ok g.W.End.End.means.tells (start.can_fail ≡ true) start.budget commands start.counts now sink (fault_line low high stream)
     (ended.WireFault low high stream own other) c.end_by_fault.result found c.end_by_fault.ensures.end
 
 -- refused where nothing is asked of the counts
 pub returns-else-not-has_waited-clause-counted : goal.returns-else-not-has_waited-clause-counted
-returns-else-not-has_waited-clause-counted g c =
+returns-else-not-has_waited-clause-counted g c = λ commands used.
     let ends = c.in_ok-ends-in-Unfinished.ends in
     let count = c.in-Unfinished.count in
     let unwritten = c.in-Unfinished.unwritten in
@@ -188,20 +189,21 @@ returns-else-not-has_waited-clause-counted g c =
       faults_before = g.K.Sink.faults c.args.sink.now;
       faults_after = g.K.Sink.faults c.end_unfinished.new.sink;
     } in
-    counted_ok g.W.End.End.means.tells (start.can_fail ≡ true) start.budget start.counts after sink (unfinished_line count) (ended.Unfinished count ends)
+    counted_ok g.W.End.End.means.tells (start.can_fail ≡ true) start.budget commands start.counts after sink (unfinished_line count) (ended.Unfinished count ends)
     c.end_unfinished.result (
       as_tested (EndsOweNothing (host_views ends.items)) _ unwritten
           (λ off. c.in_ok-ends-in-Unfinished.ensures.owe
           (c.requires.owe count connected (c.in-Unfinished.is ∙ ap (λ (u : Bool). rounds.Unfinished count u connected) off)))
           found.0,
-      as_tested (AreEndsClosed (host_views ends.items)) _ connected
-          (λ off. c.in_ok-ends-in-Unfinished.ensures.closed
-          (c.requires.closed count unwritten (c.in-Unfinished.is ∙ ap (λ (o : Bool). rounds.Unfinished count unwritten o) off)))
+      as_tested (HaveAllUsedUp commands (host_views ends.items)) _ connected
+          (λ off. c.in_ok-ends-in-Unfinished.ensures.used commands
+          (c.requires.closed count unwritten (c.in-Unfinished.is ∙ ap (λ (o : Bool). rounds.Unfinished count unwritten o) off))
+          (used (quiet_of c.args.end count unwritten connected c.in-Unfinished.is)))
           found.1,
     ) c.end_unfinished.ensures.end
 
 pub returns-in_ok-ends-in-Done-clause-begun : goal.returns-in_ok-ends-in-Done-clause-begun
-returns-in_ok-ends-in-Done-clause-begun g c = λ limit hosts commands before done did counted fits.
+returns-in_ok-ends-in-Done-clause-begun g c = λ limit hosts commands before done did counted used fits.
     let ends = c.in_ok-ends-in-Done.ends in
     let wire = c.host_ends.new.wire in
     let now : WireCounts = record { faults = g.W.Wire.faults wire; nothings = g.W.Wire.nothings wire; fulls = g.W.Wire.fulls wire } in
@@ -218,10 +220,10 @@ returns-in_ok-ends-in-Done-clause-begun g c = λ limit hosts commands before don
       c.in_ok-ends-in-Done.ensures.acknowledged limit hosts commands done did (c.requires.acknowledged c.in-Done.is),
       λ tells. c.in_ok-ends-in-Done.ensures.settled limit hosts commands done did tells (c.requires.drained tells c.in-Done.is),
       refl,
-    ) tt (c.in_ok-ends-in-Done.ensures.cut limit hosts commands before done did counted fits) c.end_by_report.result c.end_by_report.ensures.end
+    ) tt (c.in_ok-ends-in-Done.ensures.cut limit hosts commands done did (used (quiet_done c.args.end c.in-Done.is))) c.end_by_report.result c.end_by_report.ensures.end
 
 pub returns-in_ok-own-in-Spent-clause-begun : goal.returns-in_ok-own-in-Spent-clause-begun
-returns-in_ok-own-in-Spent-clause-begun g c = λ limit hosts commands before done did counted fits.
+returns-in_ok-own-in-Spent-clause-begun g c = λ limit hosts commands before done did counted used fits.
     let host = c.in-Spent.host in
     let peer = c.in-Spent.peer in
     let entries = c.in-Spent.entries in
@@ -248,17 +250,18 @@ returns-in_ok-own-in-Spent-clause-begun g c = λ limit hosts commands before don
 
 -- refused where the line of another cause is begun
 pub returns-else-not-has_faulted-clause-begun : goal.returns-else-not-has_faulted-clause-begun
-returns-else-not-has_faulted-clause-begun g c = λ limit hosts commands before done did counted fits.
+returns-else-not-has_faulted-clause-begun g c = λ limit hosts commands before done did counted used fits.
     let low = c.in-Fault.low in
     let high = c.in-Fault.high in
     let own = c.in_ok-one-in-Fault.one in
     let other = c.in_ok-one-in-Fault.other in
     let stream = newest_stream own.past in
     let found_hosts = c.requires.fault low high c.in-Fault.is in
+    let misses = c.requires.misses low high c.in-Fault.is in
     let known : high < length (rows_of c.args.lines.items) = omega (arith, found_hosts.1, rows_count c.args.lines.items) in
     let lacking =
     lacking_in_run g.W.End.End.means limit hosts c.args.callers.items (rows_of c.args.lines.items) done c.requires.tied commands did before (g.W.Wire.faults c.args.wire.now) counted
-    c.requires.streams low high (c.requires.lacks low high c.in-Fault.is) found_hosts.0 known own.past other.past c.in_ok-one-in-Fault.ensures.own
+    c.requires.streams misses.0 low high misses.1 found_hosts.0 known own.past other.past c.in_ok-one-in-Fault.ensures.own
     c.in_ok-one-in-Fault.ensures.other c.in_ok-one-in-Fault.ensures.own_orders c.in_ok-one-in-Fault.ensures.other_orders
     c.in_ok-one-in-Fault.ensures.own_grounded c.in_ok-one-in-Fault.ensures.other_grounded in
     let wire = c.journals.new.wire in
@@ -266,7 +269,7 @@ returns-else-not-has_faulted-clause-begun g c = λ limit hosts commands before d
     let start = c.args.start in
     let is : c.has_faulted.result ≡ true = search rules in
     let found =
-    counted_fault g.W.End.End.means.tells c.tells.result (start.can_fail ≡ true) start.budget start.counts c.counts-in-Fault.result now low high stream own other
+    counted_fault g.W.End.End.means.tells c.tells.result (start.can_fail ≡ true) start.budget commands start.counts c.counts-in-Fault.result now low high stream own other
     c.tells.ensures c.counts-in-Fault.ensures (c.has_faulted.ensures.0 is) in
     let sink : Written = record {
       held_before = g.K.Sink.held c.args.sink.now;
@@ -276,7 +279,7 @@ returns-else-not-has_faulted-clause-begun g c = λ limit hosts commands before d
     } in
     let fits_now : c.counts-in-Fault.result.faults < 2 ^ 64 = search rules in
     let short =
-    short_of (rows_of c.args.lines.items) c.requires.streams low high (c.requires.lacks low high c.in-Fault.is) commands before
+    short_of (rows_of c.args.lines.items) c.requires.streams g.W.End.End.means.tells misses.0 low high misses.1 commands before
     (g.W.Wire.faults c.args.wire.now) (g.W.Wire.faults c.journals.new.wire) counted
     (subst (λ (w : WireCounts). w.faults < 2 ^ 64) c.counts-in-Fault.ensures fits_now) c.journals.ensures.risen own.past other.past
     c.in_ok-one-in-Fault.ensures.own c.in_ok-one-in-Fault.ensures.other in
@@ -284,7 +287,7 @@ returns-else-not-has_faulted-clause-begun g c = λ limit hosts commands before d
     (fault_line low high stream) (ended.WireFault low high stream own other) (lacking, refl) found short c.end_by_fault.result c.end_by_fault.ensures.end
 
 pub returns-else-not-has_waited-clause-begun : goal.returns-else-not-has_waited-clause-begun
-returns-else-not-has_waited-clause-begun g c = λ limit hosts commands before done did counted fits.
+returns-else-not-has_waited-clause-begun g c = λ limit hosts commands before done did counted used fits.
     let ends = c.in_ok-ends-in-Unfinished.ends in
     let count = c.in-Unfinished.count in
     let unwritten = c.in-Unfinished.unwritten in
@@ -310,15 +313,16 @@ returns-else-not-has_waited-clause-begun g c = λ limit hosts commands before do
           (λ off. c.in_ok-ends-in-Unfinished.ensures.owe
           (c.requires.owe count connected (c.in-Unfinished.is ∙ ap (λ (u : Bool). rounds.Unfinished count u connected) off)))
           found.0,
-      as_tested (AreEndsClosed (host_views ends.items)) _ connected
-          (λ off. c.in_ok-ends-in-Unfinished.ensures.closed
-          (c.requires.closed count unwritten (c.in-Unfinished.is ∙ ap (λ (o : Bool). rounds.Unfinished count unwritten o) off)))
+      as_tested (HaveAllUsedUp commands (host_views ends.items)) _ connected
+          (λ off. c.in_ok-ends-in-Unfinished.ensures.used commands
+          (c.requires.closed count unwritten (c.in-Unfinished.is ∙ ap (λ (o : Bool). rounds.Unfinished count unwritten o) off))
+          (used (quiet_of c.args.end count unwritten connected c.in-Unfinished.is)))
           found.1,
-    ) (c.in_ok-ends-in-Unfinished.ensures.cut limit hosts commands before done did counted fits) c.end_unfinished.result c.end_unfinished.ensures.end
+    ) (c.in_ok-ends-in-Unfinished.ensures.cut limit hosts commands done did (used (quiet_of c.args.end count c.in-Unfinished.unwritten c.in-Unfinished.connected c.in-Unfinished.is))) c.end_unfinished.result c.end_unfinished.ensures.end
 
 -- refused where a line's cuts are lost
 pub returns-in_ok-ends-in-Done-clause-cut : goal.returns-in_ok-ends-in-Done-clause-cut
-returns-in_ok-ends-in-Done-clause-cut g c = λ limit hosts commands before done did counted fits.
+returns-in_ok-ends-in-Done-clause-cut g c = λ limit hosts commands before done did counted used fits.
     let ends = c.in_ok-ends-in-Done.ends in
     let sink : Written = record {
       held_before = g.K.Sink.held c.args.sink.now;
@@ -327,11 +331,11 @@ returns-in_ok-ends-in-Done-clause-cut g c = λ limit hosts commands before done 
       faults_after = g.K.Sink.faults c.end_by_report.new.sink;
     } in
     cut_ok commands before (g.W.Wire.faults c.host_ends.new.wire) sink (text_of c.args.form (host_views ends.items)) (ended.Ok ends) c.end_by_report.result
-    (c.in_ok-ends-in-Done.ensures.cut limit hosts commands before done did counted fits) c.end_by_report.ensures.end
+    (c.in_ok-ends-in-Done.ensures.cut limit hosts commands done did (used (quiet_done c.args.end c.in-Done.is))) c.end_by_report.ensures.end
 
 -- refused where a line's cuts are lost
 pub returns-else-not-has_waited-clause-cut : goal.returns-else-not-has_waited-clause-cut
-returns-else-not-has_waited-clause-cut g c = λ limit hosts commands before done did counted fits.
+returns-else-not-has_waited-clause-cut g c = λ limit hosts commands before done did counted used fits.
     let ends = c.in_ok-ends-in-Unfinished.ends in
     let count = c.in-Unfinished.count in
     let sink : Written = record {
@@ -341,10 +345,10 @@ returns-else-not-has_waited-clause-cut g c = λ limit hosts commands before done
       faults_after = g.K.Sink.faults c.end_unfinished.new.sink;
     } in
     cut_ok commands before (g.W.Wire.faults c.host_ends-in-Unfinished.new.wire) sink (unfinished_line count) (ended.Unfinished count ends) c.end_unfinished.result
-    (c.in_ok-ends-in-Unfinished.ensures.cut limit hosts commands before done did counted fits) c.end_unfinished.ensures.end
+    (c.in_ok-ends-in-Unfinished.ensures.cut limit hosts commands done did (used (quiet_of c.args.end count c.in-Unfinished.unwritten c.in-Unfinished.connected c.in-Unfinished.is))) c.end_unfinished.ensures.end
 
 pub returns-else-not-has_faulted-clause-cut : goal.returns-else-not-has_faulted-clause-cut
-returns-else-not-has_faulted-clause-cut g c = λ limit hosts commands before done did counted fits.
+returns-else-not-has_faulted-clause-cut g c = λ limit hosts commands before done did counted used fits.
     let low = c.in-Fault.low in
     let high = c.in-Fault.high in
     let own = c.in_ok-one-in-Fault.one in
@@ -356,16 +360,17 @@ returns-else-not-has_faulted-clause-cut g c = λ limit hosts commands before don
       faults_before = g.K.Sink.faults c.args.sink.now;
       faults_after = g.K.Sink.faults c.end_by_fault.new.sink;
     } in
+    let misses = c.requires.misses low high c.in-Fault.is in
     let fits_now : c.counts-in-Fault.result.faults < 2 ^ 64 = search rules in
     let short =
-    short_of (rows_of c.args.lines.items) c.requires.streams low high (c.requires.lacks low high c.in-Fault.is) commands before
+    short_of (rows_of c.args.lines.items) c.requires.streams g.W.End.End.means.tells misses.0 low high misses.1 commands before
     (g.W.Wire.faults c.args.wire.now) (g.W.Wire.faults c.journals.new.wire) counted
     (subst (λ (w : WireCounts). w.faults < 2 ^ 64) c.counts-in-Fault.ensures fits_now) c.journals.ensures.risen own.past other.past
     c.in_ok-one-in-Fault.ensures.own c.in_ok-one-in-Fault.ensures.other in
     cut_ok commands before _ sink (fault_line low high stream) (ended.WireFault low high stream own other) c.end_by_fault.result short c.end_by_fault.ensures.end
 
 pub returns-in_ok-own-in-Spent-clause-cut : goal.returns-in_ok-own-in-Spent-clause-cut
-returns-in_ok-own-in-Spent-clause-cut g c = λ limit hosts commands before done did counted fits.
+returns-in_ok-own-in-Spent-clause-cut g c = λ limit hosts commands before done did counted used fits.
     let own = c.in_ok-own-in-Spent.own in
     let other = c.in_ok-own-in-Spent.other in
     let sink : Written = record {

@@ -99,5 +99,4 @@ loop-slots-preserved g c =
           (let first = first_more (rows_of lines) n row.items stands in
           let past = c.loop-slots.invariant.2 in
           omega (arith, first, past, end.ensures.out)),
-      λ before fits risen. end.ensures.risen before fits (c.loop-slots.invariant.3 before fits risen),
     )

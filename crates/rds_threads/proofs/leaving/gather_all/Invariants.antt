@@ -1,6 +1,5 @@
 use Rattle.std.proofs.Common.{◌≡◌, ◌-◌, List, length, take, OnOk}
 use Rattle.rds_callers.specs.Places.{CallerView}
-use Rattle.rds_gather.specs.Risen.{StaysRisen}
 use Rattle.rds_host.specs.Held.{ends_of_all}
 use Rattle.rds_rounds.specs.Grid.{rows_of}
 use Rattle.rds_threads.specs.Settled.{HaveEnded, HaveHeardBelow, HaveSettled}
@@ -14,4 +13,3 @@ invariant-loop-slots g l =
     HaveHeardBelow (length callers) callers told (rows_of l.fn.lines.items) → HaveEnded told l.fn.left.items →
     OnOk l.all (AreLeftBelow (length l.yielded) callers (rows_of l.fn.lines.items) l.ends.items))
     × (g.W.Wire.out l.wire ≡ g.W.Wire.out l.fn.wire - ends_of_all (take (length l.yielded) (rows_of l.fn.lines.items)))
-    × StaysRisen (g.W.Wire.faults l.fn.wire) (g.W.Wire.faults l.wire)

@@ -1,13 +1,12 @@
-use Rattle.std.proofs.Common.{◌≡◌, None, Vec, ◌∙◌, arith}
+use Rattle.std.proofs.Common.{◌≡◌, Vec, ◌∙◌, arith}
 use Rattle.std.specs.Global.{Global}
 use Rattle.std.proofs.lemmas.List.{length-map}
 use Rattle.rds_final.specs.Views.{AreFinalHosts, host_views}
 use Rattle.rds_final.specs.declared.final_state.HostEnd.{HostEnd}
-use Rattle.rds_model.specs.Past.{open_stream}
 use Rattle.rds_rounds.specs.Causes.{OwesNothing, alive_in_rows}
 use Rattle.rds_rounds.specs.Grid.{rows_of}
 use Rattle.rds_threads.specs.Causes.{alive_in_ends}
-use Rattle.rds_threads.specs.Counted.{AreEndsClosed, EndsOweNothing}
+use Rattle.rds_threads.specs.Counted.{EndsOweNothing, HaveAllUsedUp, HaveUsedUp}
 use Rattle.rds_threads.specs.Cuts.{AreCutsOfEnds}
 use Rattle.rds_threads.specs.Ends.{AreAcknowledged, AreEnds, AreSettledHosts}
 use Rattle.rds_threads.specs.Settled.{AreLeftOf}
@@ -15,7 +14,8 @@ use Rattle.rds_threads.proofs.NonePending.{none_pending, none_where_honest}
 use Rattle.rds_threads.proofs.Alive.{alive_left, silent_counted, silent_drained}
 use Rattle.rds_threads.proofs.Counted.{of_each_left}
 use Rattle.rds_threads.proofs.CutsOfRun.{cuts_of_ends}
-use Rattle.rds_threads.proofs.Sound.{drained_of, ends_of, final_of}
+use Rattle.rds_threads.proofs.Sound.{drained_of, ends_of, final_of, pairs_of}
+use Rattle.rds_threads.proofs.UsedUp.{all_used_up}
 use Rattle.rds_threads.proofs.Written.{on_ok}
 use Rattle.rds_threads.proofs.leaving.host_ends.Goals as goal
 
@@ -78,19 +78,21 @@ returns-clause-owe g c = λ owe.
     (λ (ends : Vec HostEnd Global). EndsOweNothing (host_views ends.items)) c.all_ends.result
     (λ ends left. of_each_left OwesNothing c.args.callers.items (rows_of c.args.lines.items) ends.items c.requires.settled.count left owe) c.all_ends.ensures.left
 
-pub returns-clause-closed : goal.returns-clause-closed
-returns-clause-closed g c = λ closed.
+pub returns-clause-used : goal.returns-clause-used
+returns-clause-used g c = λ commands closed used.
     on_ok (λ (ends : Vec HostEnd Global). AreLeftOf c.args.callers.items (rows_of c.args.lines.items) ends.items)
-    (λ (ends : Vec HostEnd Global). AreEndsClosed (host_views ends.items)) c.all_ends.result
+    (λ (ends : Vec HostEnd Global). HaveAllUsedUp commands (host_views ends.items)) c.all_ends.result
     (λ ends left.
-    of_each_left (λ past. open_stream past ≡ None) c.args.callers.items (rows_of c.args.lines.items) ends.items c.requires.settled.count left closed)
+    pairs_of g.W.End.End.means c.requires.done.0 c.requires.done.1 c.args.callers.items (rows_of c.args.lines.items) ends.items c.requires.done.2
+    c.requires.settled.count left (λ low high. HaveUsedUp low high commands)
+    (all_used_up g.W.End.End.means c.requires.done.0 c.requires.done.1 (rows_of c.args.lines.items) c.requires.done.2 commands used closed))
     c.all_ends.ensures.left
 
 -- refused where a line's cuts are lost
 pub returns-clause-cut : goal.returns-clause-cut
-returns-clause-cut g c = λ limit hosts commands before done did counted fits.
+returns-clause-cut g c = λ limit hosts commands done did used.
     on_ok (λ (ends : Vec HostEnd Global). AreLeftOf c.args.callers.items (rows_of c.args.lines.items) ends.items)
-    (λ (ends : Vec HostEnd Global). AreCutsOfEnds commands before (g.W.Wire.faults c.all_ends.new.wire) (host_views ends.items)) c.all_ends.result
+    (λ (ends : Vec HostEnd Global). AreCutsOfEnds commands (host_views ends.items)) c.all_ends.result
     (λ ends left.
-    cuts_of_ends g.W.End.End.means limit hosts c.args.callers.items (rows_of c.args.lines.items) ends.items done c.requires.settled.count left commands did before
-    (g.W.Wire.faults c.args.wire.now) (g.W.Wire.faults c.all_ends.new.wire) counted (c.all_ends.ensures.risen before fits)) c.all_ends.ensures.left
+    cuts_of_ends g.W.End.End.means limit hosts c.args.callers.items (rows_of c.args.lines.items) ends.items done c.requires.settled.count left commands did used)
+    c.all_ends.ensures.left

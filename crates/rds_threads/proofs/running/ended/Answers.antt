@@ -1,12 +1,16 @@
-use Rattle.std.proofs.Common.{IfOk, ap, arith, subst, sym, true, ℕ, ◌≡◌, ◌≤◌}
+use Rattle.std.proofs.Common.{IfOk, List, Vec, ap, arith, subst, sym, true, ℕ, ◌≡◌, ◌≤◌}
+use Rattle.std.specs.Global.{Global}
 use Rattle.rds_link.specs.declared.wire.WireCounts.{WireCounts}
 use Rattle.rds_parties.specs.Preparing.{HaveCounted}
 use Rattle.rds_rounds.specs.Grid.{rows_of}
+use Rattle.rds_rounds.specs.declared.verdict.Wanted.{Wanted}
 use Rattle.rds_threads.specs.Cuts.{IsCutEnd}
+use Rattle.rds_threads.specs.Known.{AreKnownOf}
 use Rattle.rds_threads.proofs.Counted.{counted_of}
 use Rattle.rds_threads.proofs.Finished.{all_done}
 use Rattle.rds_threads.proofs.Held.{of_any}
 use Rattle.rds_threads.proofs.Begun.{begun_of}
+use Rattle.rds_threads.proofs.UsedUp.{known_of_lines}
 use Rattle.rds_threads.proofs.running.ended.Goals as goal
 
 pub finish-requires-clause-hosts : goal.finish-requires-clause-hosts
@@ -32,11 +36,16 @@ returns-clause-end g c =
 
 pub returns-clause-counted : goal.returns-clause-counted
 returns-clause-counted g c =
+    let commands = c.args.script.now.commands.items in
     let wire = c.args.wire.now in
     let start = c.of-start.result in
-    counted_of g.W.End.End.means.tells (start.can_fail ≡ true) (g.W.Wire.may_fail wire) c.of-start.ensures.can_fail.0 start.budget c.args.budget start.counts
+    counted_of g.W.End.End.means.tells (start.can_fail ≡ true) (g.W.Wire.may_fail wire) c.of-start.ensures.can_fail.0 start.budget c.args.budget commands start.counts
     (record { faults = g.W.Wire.faults wire; nothings = g.W.Wire.nothings wire; fulls = g.W.Wire.fulls wire }) _ c.of-start.ensures.budget
-    c.of-start.ensures.counts c.finish.result c.finish.ensures.counted
+    c.of-start.ensures.counts c.finish.result
+    (c.finish.ensures.counted commands
+    (subst (λ (l : List (Vec Wanted Global)). AreKnownOf (rows_of l) commands (rows_of c.play-callers.result.1.items)) (sym c.as_slice-wanted.ensures.value)
+    (known_of_lines commands (rows_of c.in_ok-streams.field-0.wanted.items) (rows_of c.in_ok-streams.field-0.streams.items) (rows_of c.play-callers.result.1.items)
+    c.in_ok-streams.ensures.wanted (c.play-callers.ensures.numbered (rows_of c.in_ok-streams.field-0.streams.items) c.in_ok-callers.ensures.numbered))))
 
 pub returns-clause-begun : goal.returns-clause-begun
 returns-clause-begun g c =
@@ -59,7 +68,10 @@ returns-clause-begun g c =
     (c.play-callers.ensures.hosts c.args.limit hosts c.in_ok-callers.ensures.hosts)
     (all_done hosts commands _ _ _ c.in_ok-callers.ensures.new obeyed led)
     (subst (λ (n : ℕ). HaveCounted commands n middle (rows_of c.play-callers.result.1.items)) (sym same)
-    (c.play-callers.ensures.counted commands before middle (c.in_ok-callers.ensures.counted commands before middle c.in_ok-streams.ensures.counted))))
+    (c.play-callers.ensures.counted commands before middle (c.in_ok-callers.ensures.counted commands before middle c.in_ok-streams.ensures.counted)))
+    (subst (λ (l : List (Vec Wanted Global)). AreKnownOf (rows_of l) commands (rows_of c.play-callers.result.1.items)) (sym c.as_slice-wanted.ensures.value)
+    (known_of_lines commands (rows_of c.in_ok-streams.field-0.wanted.items) (rows_of c.in_ok-streams.field-0.streams.items) (rows_of c.play-callers.result.1.items)
+    c.in_ok-streams.ensures.wanted (c.play-callers.ensures.numbered (rows_of c.in_ok-streams.field-0.streams.items) c.in_ok-callers.ensures.numbered))))
 
 pub returns-clause-out : goal.returns-clause-out
 returns-clause-out g c =
@@ -82,4 +94,7 @@ returns-clause-cut g c =
     (c.play-callers.ensures.hosts c.args.limit hosts c.in_ok-callers.ensures.hosts)
     (all_done hosts commands _ _ _ c.in_ok-callers.ensures.new obeyed led)
     (subst (λ (n : ℕ). HaveCounted commands n middle (rows_of c.play-callers.result.1.items)) (sym same)
-    (c.play-callers.ensures.counted commands before middle (c.in_ok-callers.ensures.counted commands before middle c.in_ok-streams.ensures.counted))))
+    (c.play-callers.ensures.counted commands before middle (c.in_ok-callers.ensures.counted commands before middle c.in_ok-streams.ensures.counted)))
+    (subst (λ (l : List (Vec Wanted Global)). AreKnownOf (rows_of l) commands (rows_of c.play-callers.result.1.items)) (sym c.as_slice-wanted.ensures.value)
+    (known_of_lines commands (rows_of c.in_ok-streams.field-0.wanted.items) (rows_of c.in_ok-streams.field-0.streams.items) (rows_of c.play-callers.result.1.items)
+    c.in_ok-streams.ensures.wanted (c.play-callers.ensures.numbered (rows_of c.in_ok-streams.field-0.streams.items) c.in_ok-callers.ensures.numbered))))

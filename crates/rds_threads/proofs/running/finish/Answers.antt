@@ -4,6 +4,7 @@ use Rattle.rds_parties.specs.HeldLaws.{going_as_many, kept_as_many}
 use Rattle.rds_threads.proofs.Finished.{all_settled, all_tied, done_spared}
 use Rattle.rds_threads.proofs.Keeping.{rows_same}
 use Rattle.rds_threads.proofs.SameStreams.{streams_end}
+use Rattle.rds_threads.proofs.UsedUp.{open_in_end}
 use Rattle.rds_threads.proofs.running.finish.Goals as goal
 
 pub last_rounds-end-requires : goal.last_rounds-end-requires
@@ -83,9 +84,23 @@ returns-clause-end g c = λ limit hosts commands before after are did counted.
     (c.counted_keeps.ensures.goes commands before after told (rows_of c.last_rounds-end.new.lines.items)
     (c.counted_keeps.ensures.same commands before after old told counted kept) c.last_rounds-end.ensures.rows)
 
+-- refused where a run is unfinished with no cause
+pub returns-clause-counted : goal.returns-clause-counted
+returns-clause-counted g c = λ commands known.
+    let old = rows_of c.args.lines.items in
+    let told = rows_of c.tell_all.new.lines.items in
+    let callers = c.requires.parties.2.callers_count in
+    let rows = c.requires.parties.2.rows_count in
+    let same : length c.args.callers.items ≡ length old = omega (arith, callers, rows) in
+    let kept = rows_same c.args.callers.items c.tell_all.new.callers.items old told same c.tell_all.ensures in
+    c.end_run.ensures.counted commands
+    (λ quiet.
+    open_in_end g.W.End.End.means c.requires.hosts.0 c.requires.hosts.1 (rows_of c.args.wanted.now) commands old told (rows_of c.last_rounds-end.new.lines.items)
+    c.requires.hosts.2 kept c.last_rounds-end.ensures.rows known (c.last_rounds-end.ensures.left quiet))
+
 -- refused where a cut may be lost in what was begun
 pub returns-clause-begun : goal.returns-clause-begun
-returns-clause-begun g c = λ limit hosts commands are did counted.
+returns-clause-begun g c = λ limit hosts commands are did counted known.
     let old = rows_of c.args.lines.items in
     let told = rows_of c.tell_all.new.lines.items in
     let callers = c.requires.parties.2.callers_count in
@@ -100,6 +115,9 @@ returns-clause-begun g c = λ limit hosts commands are did counted.
     c.last_rounds-end.ensures.rows did)
     (c.counted_keeps.ensures.goes commands before middle told (rows_of c.last_rounds-end.new.lines.items)
     (c.counted_keeps.ensures.same commands before middle old told counted kept) c.last_rounds-end.ensures.rows)
+    (λ quiet.
+    open_in_end g.W.End.End.means limit hosts (rows_of c.args.wanted.now) commands old told (rows_of c.last_rounds-end.new.lines.items) are kept
+    c.last_rounds-end.ensures.rows known (c.last_rounds-end.ensures.left quiet))
     (search rules)
 
 -- refused where the lines of two hosts have other streams than were prepared for them
@@ -115,6 +133,9 @@ end_run-requires-clause-streams g c = λ κs within.
 
 pub end_run-requires-clause-owe : goal.end_run-requires-clause-owe
 end_run-requires-clause-owe g c = λ κs within. c.last_rounds-end.ensures.owes
+
+pub end_run-requires-clause-misses : goal.end_run-requires-clause-misses
+end_run-requires-clause-misses g c = λ κs within low high is. (rows_of c.args.wanted.now, c.last_rounds-end.ensures.misses low high is)
 
 pub end_run-requires-clause-closed : goal.end_run-requires-clause-closed
 end_run-requires-clause-closed g c = λ κs within. c.last_rounds-end.ensures.closed
@@ -132,7 +153,7 @@ returns-clause-out g c =
     c.end_run.ensures.out ∙ ap (λ n. g.W.Wire.out c.args.wire.now - n) ends
 
 pub returns-clause-cut : goal.returns-clause-cut
-returns-clause-cut g c = λ limit hosts commands are did counted.
+returns-clause-cut g c = λ limit hosts commands are did counted known.
     let old = rows_of c.args.lines.items in
     let told = rows_of c.tell_all.new.lines.items in
     let callers = c.requires.parties.2.callers_count in
@@ -147,4 +168,7 @@ returns-clause-cut g c = λ limit hosts commands are did counted.
     c.last_rounds-end.ensures.rows did)
     (c.counted_keeps.ensures.goes commands before middle told (rows_of c.last_rounds-end.new.lines.items)
     (c.counted_keeps.ensures.same commands before middle old told counted kept) c.last_rounds-end.ensures.rows)
+    (λ quiet.
+    open_in_end g.W.End.End.means limit hosts (rows_of c.args.wanted.now) commands old told (rows_of c.last_rounds-end.new.lines.items) are kept
+    c.last_rounds-end.ensures.rows known (c.last_rounds-end.ensures.left quiet))
     (search rules)
