@@ -15,7 +15,7 @@ use Rattle.rds_rounds.specs.Connection.{AreSameConnections}
 use Rattle.rds_rounds.specs.Grid.{EachRow, IsAt}
 use Rattle.rds_rounds.specs.Quiet.{LinesGoOn}
 use Rattle.rds_parties.specs.Growing.{IsCount}
-use Rattle.rds_parties.specs.Preparing.{AreAllCounted, ArePrepared, HaveCounted, HaveNumbered}
+use Rattle.rds_parties.specs.Preparing.{AreAllCounted, ArePrepared, HaveCounted, HaveNumbered, HaveStreamsOf}
 use Rattle.rds_parties.specs.Streams.{AreAllUnlessRisen, AreNumbersOf, cuts_between, streams_between}
 use Rattle.rds_parties.proofs.At.{stood_at}
 use Rattle.rds_parties.proofs.Growing.{IsHalfway}
@@ -152,13 +152,31 @@ module _ {E : Type 0} where
         subst (AreNumbersOf (streams_between low (suc place) commands) first after) (sym b.2) was.1,
       )
 
+  pub numbered_same : (streams : List (List (Vec (ℕ × E) Global))) (rows new : List (List (LineView E WriterView))) →
+      ((host place : ℕ) (line : LineView E WriterView) → IsAt new host place line →
+      (old : LineView E WriterView) × IsAt rows host place old × (numbers line.channel.streams.list ≡ numbers old.channel.streams.list)) →
+      HaveStreamsOf streams rows → HaveStreamsOf streams new
+  numbered_same streams rows new same given host place line at =
+      let old = same host place line at in
+      let list = given host place old.0 old.1 in
+      (list.0, list.1, old.2 ∙ list.2)
+
   -- lines of the same connections, and lines that go on
+  rows_kept : (rows new : List (List (LineView E WriterView))) → EachRow AreSameConnections rows new → (host place : ℕ) (line : LineView E WriterView) →
+      IsAt new host place line →
+      (old : LineView E WriterView) × IsAt rows host place old × (numbers line.channel.streams.list ≡ numbers old.channel.streams.list)
+  rows_kept rows new same =
+      rows_were AreSameConnections rows new same
+      (λ old now kept. (kept.count, λ place line later at is. ap (λ (l : List (ℕ × E)). numbers l) (kept.each place line later at is).streams))
+
+  pub numbered_keep : (streams : List (List (Vec (ℕ × E) Global))) (rows new : List (List (LineView E WriterView))) → EachRow AreSameConnections rows new →
+      HaveStreamsOf streams rows → HaveStreamsOf streams new
+  numbered_keep streams rows new same = numbered_same streams rows new (rows_kept rows new same)
+
   pub counted_keep : (commands : List Placed) (first after : ℕ) (rows new : List (List (LineView E WriterView))) → EachRow AreSameConnections rows new →
       HaveCounted commands first after rows → HaveCounted commands first after new
   counted_keep commands first after rows new same =
-      counted_same commands first after rows new
-      (rows_were AreSameConnections rows new same
-      (λ old now kept. (kept.count, λ place line later at is. ap (λ (l : List (ℕ × E)). numbers l) (kept.each place line later at is).streams)))
+      counted_same commands first after rows new (rows_kept rows new same)
 
   pub counted_go_on : (commands : List Placed) (first after : ℕ) (rows new : List (List (LineView E WriterView))) → EachRow LinesGoOn rows new →
       HaveCounted commands first after rows → HaveCounted commands first after new

@@ -9,7 +9,7 @@ use Rattle.std.specs.Global.{Global}
 use Rattle.std.specs.List.{range_with_len}
 use Rattle.rds_fmap.specs.Readers.{WriterView}
 use Rattle.rds_link.specs.Ends.{Means}
-use Rattle.rds_line_streams.specs.Streams.{AreNumbered, IsUnused}
+use Rattle.rds_line_streams.specs.Streams.{AreNumbered, IsUnused, numbers}
 use Rattle.rds_line.specs.Line.{LineView}
 use Rattle.rds_parts.specs.Lanes.{Ascend}
 use Rattle.rds_final.specs.Hosts.{address_of}
@@ -24,7 +24,7 @@ use Rattle.rds_parties.specs.Held.{ends_of_row, ends_prepared}
 use Rattle.rds_parties.specs.HeldLaws.{as_many_each}
 use Rattle.rds_parties.specs.Obeyed.{AreNewPlaces, slot_count}
 use Rattle.rds_parties.specs.Parties.{AreNewCallers, AreParties, HaveNotLooked}
-use Rattle.rds_parties.specs.Preparing.{AreAllCounted, AreAllPrepared, ArePrepared, HaveCounted, HaveNumbered}
+use Rattle.rds_parties.specs.Preparing.{AreAllCounted, AreAllPrepared, ArePrepared, HaveCounted, HaveNumbered, HaveStreamsOf}
 use Rattle.rds_parties.proofs.At.{at_snoc, length_map, map_at, some_at}
 
 -- a host below a place's number stands at its own place, and one above one place earlier
@@ -280,6 +280,12 @@ module _ {E : Type 0} (m : Means E) where
         let b = line_at (suc place) low other at_other in
         subst (λ (l : List (ℕ × E)). HaveNumbered cuts before after low (suc place) l other.channel.streams.list) (sym a.2)
         (subst (λ (l : List (ℕ × E)). HaveNumbered cuts before after low (suc place) a.0.items l) (sym b.2) (counted low place a.0 b.0 le a.1 b.1))
+
+    -- and their numbers
+    pub made_numbered : HaveStreamsOf streams rows
+    made_numbered host place line at =
+        let list = line_at host place line at in
+        (list.0, list.1, ap (λ (l : List (ℕ × E)). numbers l) list.2)
 
     -- and hold all the ends
     pub made_ends : ends_of_all rows ≡ ends_prepared streams

@@ -1,5 +1,5 @@
 -- The streams of a run before they are used, and the lines that were given them. Source: this project's own.
-use Rattle.std.specs.Prelude.{ℕ, suc, ◌≤◌, List, Vec, All}
+use Rattle.std.specs.Prelude.{◌≡◌, ℕ, suc, ◌≤◌, List, Vec, All}
 use Rattle.std.specs.Global.{Global}
 use Rattle.rds_link.specs.Ends.{Means}
 use Rattle.rds_line.specs.Line.{LineView}
@@ -26,6 +26,11 @@ module _ {E : Type 0} (m : Means E) where
   pub record AreAllPrepared (hosts : ℕ) (rows : List (List (Vec (ℕ × E) Global))) : Type 0 where
     pub shape : AreRows hosts rows
     pub pairs : OfEachPair (λ low high (one : Vec (ℕ × E) Global) (other : Vec (ℕ × E) Global). (newest : ℕ) × ArePrepared newest one.items other.items) rows
+
+-- each line has streams with the numbers of those that were prepared for it
+abbrev pub HaveStreamsOf : {E M : Type 0} → List (List (Vec (ℕ × E) Global)) → List (List (LineView E M)) → Type 0
+HaveStreamsOf {E} {M} streams rows = (host place : ℕ) (line : LineView E M) → IsAt rows host place line →
+    (list : Vec (ℕ × E) Global) × IsAt streams host place list × (numbers line.channel.streams.list ≡ numbers list.items)
 
 module _ {E : Type 0} (commands : List Placed) (before after : ℕ) where
   -- these two hosts have the streams that were prepared for these commands, where the wire's count of faults was this before and that

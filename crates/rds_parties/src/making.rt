@@ -12,7 +12,7 @@ ghost use Rattle.rds_rounds.specs.Grid.{others, peer_at, rows_of};
 ghost use Rattle.rds_parties.specs.Held.{ends_prepared};
 ghost use Rattle.rds_parties.specs.Obeyed.{AreNewPlaces, is_bind_of as is_bind_of_host, slot_count};
 ghost use Rattle.rds_parties.specs.Parties.{AreNewCallers, AreParties, HaveNotLooked};
-ghost use Rattle.rds_parties.specs.Preparing.{AreAllCounted, AreAllPrepared, HaveCounted};
+ghost use Rattle.rds_parties.specs.Preparing.{AreAllCounted, AreAllPrepared, HaveCounted, HaveStreamsOf};
 ghost use Rattle.rds_script.specs.declared.script.Placed.{Placed as PlacedCommand};
 ghost use Rattle.rds_settling.specs.Tied.{AreTied};
 
@@ -83,6 +83,7 @@ pub fn parties<E: End>(
     ensures looks { IfOk result (λ p. HaveNotLooked (rows_of p.1.items)) }
     ensures counted { (commands : List PlacedCommand) (before after : ℕ) → AreAllCounted commands before after (rows_of streams.items) →
         IfOk result (λ p. HaveCounted commands before after (rows_of p.1.items)) }
+    ensures numbered { IfOk result (λ p. HaveStreamsOf (rows_of streams.items) (rows_of p.1.items)) }
     ensures ends { IfOk result (λ p. ends_of_all (rows_of p.1.items) ≡ ends_prepared (rows_of streams.items)) }
 {
     let mut callers = Vec::new(alloc);

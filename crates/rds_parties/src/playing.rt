@@ -1,10 +1,11 @@
 //! The callers of a run, beside its workers.
-ghost use Rattle.std.specs.Prelude.{◌≡◌, ◌≤◌, ℕ, All, IfOk, List, OnOk, Ok, length, map};
+ghost use Rattle.std.specs.Prelude.{◌≡◌, ◌≤◌, ℕ, All, IfOk, List, OnOk, Ok, Vec, length, map};
+ghost use Rattle.std.specs.Global.{Global};
 ghost use Rattle.rds_callers.specs.Places.{PlacesKeep};
 ghost use Rattle.rds_parties.specs.Leading.{AreJobs, CallersKeep, HasCalled};
 ghost use Rattle.rds_parties.specs.Obeyed.{HasObeyed, DoesCommand};
 ghost use Rattle.rds_parties.specs.Parties.{AreParties, HaveLed, HaveNotLooked, HaveObeyed};
-ghost use Rattle.rds_parties.specs.Preparing.{HaveCounted};
+ghost use Rattle.rds_parties.specs.Preparing.{HaveCounted, HaveStreamsOf};
 ghost use Rattle.rds_script.specs.declared.script.Placed.{Placed as PlacedCommand};
 ghost use Rattle.rds_script.specs.Script.{IsCommand, IsScript};
 ghost use Rattle.rds_host.specs.Held.{ends_of_all};
@@ -170,6 +171,8 @@ pub fn play<E: End + Send, R: Threads + Wait + Sync, G: Gate + Sync>(
     ensures hosts { (limit hosts : ℕ) → AreHosts E.means limit hosts (rows_of lines.items) → AreHosts E.means limit hosts (rows_of result.1.items) }
     ensures counted { (commands : List PlacedCommand) (before after : ℕ) → HaveCounted commands before after (rows_of lines.items) →
         HaveCounted commands before after (rows_of result.1.items) }
+    ensures numbered { (streams : List (List (Vec (ℕ × E) Global))) → HaveStreamsOf streams (rows_of lines.items) →
+        HaveStreamsOf streams (rows_of result.1.items) }
     ensures ends { ends_of_all (rows_of result.1.items) ≡ ends_of_all (rows_of lines.items) }
 {
     let commands = script.commands.as_slice();

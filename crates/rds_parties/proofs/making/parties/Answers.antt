@@ -8,7 +8,7 @@ use Rattle.rds_line.specs.Line.{LineView}
 use Rattle.rds_callers.specs.Places.{CallerView}
 use Rattle.rds_rounds.specs.Grid.{rows_of}
 use Rattle.rds_parties.proofs.At.{length_map, map_at, stands_at}
-use Rattle.rds_parties.proofs.Made.{AreMade, all_numbered, all_unused, made_counted, made_ends, made_hosts, made_looks, made_more, made_none, made_parties, row_size}
+use Rattle.rds_parties.proofs.Made.{AreMade, all_numbered, all_unused, made_counted, made_ends, made_hosts, made_looks, made_more, made_none, made_numbered, made_parties, row_size}
 use Rattle.rds_parties.proofs.making.parties.Goals as goal
 use Rattle.rds_parties.proofs.making.parties.Goals.{After-drop-row-iterator-2, In-Some}
 
@@ -102,6 +102,9 @@ returns-clause-looks g c = made_looks g.E.End.means c.args.limit _ _ _ _ _ c.req
 pub returns-clause-counted : goal.returns-clause-counted
 returns-clause-counted g c = λ commands before after counted.
     made_counted g.E.End.means c.args.limit _ _ _ _ _ c.requires.streams (all_made g c) commands before after counted
+
+pub returns-clause-numbered : goal.returns-clause-numbered
+returns-clause-numbered g c = made_numbered g.E.End.means c.args.limit _ _ _ _ _ c.requires.streams (all_made g c)
 
 pub returns-clause-ends : goal.returns-clause-ends
 returns-clause-ends g c = made_ends g.E.End.means c.args.limit _ _ _ _ _ c.requires.streams (all_made g c)

@@ -9,8 +9,8 @@ use Rattle.rds_rounds.specs.Grid.{rows_of}
 use Rattle.rds_parties.specs.HeldLaws.{all_as_many, kept_as_many}
 use Rattle.rds_parties.specs.Leading.{CallersKeep}
 use Rattle.rds_parties.specs.Parties.{AreParties, HaveLed, HaveObeyed}
-use Rattle.rds_parties.specs.Preparing.{HaveCounted}
-use Rattle.rds_parties.proofs.Counted.{counted_keep, counted_same, rows_were}
+use Rattle.rds_parties.specs.Preparing.{HaveCounted, HaveStreamsOf}
+use Rattle.rds_parties.proofs.Counted.{counted_keep, counted_same, numbered_keep, numbered_same, rows_were}
 use Rattle.rds_parties.proofs.Jobs.{parties_called, parties_turned}
 use Rattle.rds_parties.proofs.Keeping.{on_ok}
 use Rattle.rds_parties.proofs.Led.{led_of}
@@ -76,6 +76,21 @@ pub returns-in_default-clause-counted : goal.returns-in_default-clause-counted
 returns-in_default-clause-counted g c = λ commands before after counted.
     subst (λ (l : Vec (Vec (LineView g.row.E.Denot WriterView) Global) Global). HaveCounted commands before after (rows_of l.items))
     (sym c.in_default.ensures.memory) counted
+
+pub returns-clause-numbered : goal.returns-clause-numbered
+returns-clause-numbered g c = λ streams given.
+    let first = rows_of c.args.lines.items in
+    let led = rows_of c.lead.new.lines.items in
+    let last = rows_of c.play_beside.result.1.items in
+    numbered_same streams led last
+    (rows_were (AreTurned g.E.End.means pair_of) led last c.play_beside.ensures.turned
+    (λ old new turned. (turned.count, λ place line later at is. (turned.each place line later at is).channel.streams.numbers)))
+    (numbered_keep streams first led (learned_same first led c.in-Ok.ensures.lines) given)
+
+pub returns-in_default-clause-numbered : goal.returns-in_default-clause-numbered
+returns-in_default-clause-numbered g c = λ streams given.
+    subst (λ (l : Vec (Vec (LineView g.row.E.Denot WriterView) Global) Global). HaveStreamsOf streams (rows_of l.items))
+    (sym c.in_default.ensures.memory) given
 
 pub returns-clause-ends : goal.returns-clause-ends
 returns-clause-ends g c =
