@@ -1,14 +1,16 @@
 -- What was written where the sink failed.
-use Rattle.std.proofs.Common.{◌≡◌, ◌⊎◌, inl, inr, ℕ, Bool, true, false, List, String, sym, subst, ◌∙◌}
+use Rattle.std.proofs.Common.{◌≡◌, ◌⊎◌, inl, inr, ℕ, Bool, true, List, String, sym, subst, ◌∙◌}
 use Rattle.std.specs.Global.{Global}
 use Rattle.rds_link.specs.Streaming.{HasRisen, SinkGainedFront}
 use Rattle.rds_link.specs.declared.wire.WireCounts.{WireCounts}
 use Rattle.rds_model.specs.declared.journal.TheConstants.{MAX_ENTRIES}
 use Rattle.rds_script.specs.Grammar.{Meaning}
+use Rattle.rds_script.specs.declared.script.Placed.{Placed}
 use Rattle.rds_generator.specs.Generator.{generated}
 use Rattle.rds_parties.specs.Streams.{prepared_streams}
 use Rattle.rds_threads.specs.Begun.{HasBegun}
 use Rattle.rds_threads.specs.Counted.{IsCountedEnd}
+use Rattle.rds_threads.specs.Cuts.{IsCutEnd}
 use Rattle.rds_threads.specs.Ends.{HasToWrite, Written}
 use Rattle.rds_threads.specs.declared.form.Form.{Form}
 use Rattle.rds_threads.specs.declared.form.Form.TheVariants as form
@@ -25,19 +27,19 @@ use Rattle.rds_run.specs.Texts.{too_many_line}
 use Rattle.rds_run.proofs.Ended.{Ends, HasRun, by_run, ends_at, gen_at, run_at}
 
 -- what was counted of an end, where it isn't asked whether the wire may fail
-counted_so : (tells : Bool) (may_fail : Type 0) (before after : WireCounts) (e : RunEnd) → IsCountedEnd tells may_fail 20000000 before after e →
-    IsCountedEnd tells (Unit {0}) 20000000 before after e
-counted_so tells may_fail before after (run_end.Ok ends) counted = tt
-counted_so tells may_fail before after (run_end.WireFault low high stream own other) counted = (tt, counted.1, counted.2)
-counted_so tells may_fail before after (run_end.Spent host peer entries own other) counted = tt
-counted_so tells may_fail before after (run_end.Unfinished count ends) counted = counted
-counted_so tells may_fail before after run_end.WriteFault counted = tt
-counted_so tells may_fail before after run_end.Memory counted = tt
+counted_so : (tells : Bool) (may_fail : Type 0) (commands : List Placed) (before after : WireCounts) (e : RunEnd) →
+    IsCountedEnd tells may_fail 20000000 commands before after e → IsCountedEnd tells (Unit {0}) 20000000 commands before after e
+counted_so tells may_fail commands before after (run_end.Ok ends) counted = tt
+counted_so tells may_fail commands before after (run_end.WireFault low high stream own other) counted = (tt, counted.1, counted.2)
+counted_so tells may_fail commands before after (run_end.Spent host peer entries own other) counted = tt
+counted_so tells may_fail commands before after (run_end.Unfinished count ends) counted = counted
+counted_so tells may_fail commands before after run_end.WriteFault counted = tt
+counted_so tells may_fail commands before after run_end.Memory counted = tt
 
 -- nothing is asked of the counts of a wire whose ends tell their bytes and that can't fail
 counted_none : (form : Form) (m : Meaning) (may_fail : Type 0) → (may_fail → ⊥) → (before after : WireCounts) (e : RunEnd) (text : List ℕ) →
-    HasToWrite form true MAX_ENTRIES m.hosts m.commands e text → IsCountedEnd true may_fail 20000000 before after e →
-    IsCountedEnd true (Unit {0}) 20000000 none_counted none_counted e
+    HasToWrite form true MAX_ENTRIES m.hosts m.commands e text → IsCountedEnd true may_fail 20000000 m.commands before after e →
+    IsCountedEnd true (Unit {0}) 20000000 m.commands none_counted none_counted e
 counted_none form m may_fail never before after (run_end.Ok ends) text has counted = tt
 counted_none form m may_fail never before after (run_end.WireFault low high stream own other) text has counted = absurd (never counted.0)
 counted_none form m may_fail never before after (run_end.Spent host peer entries own other) text has counted = tt
@@ -45,31 +47,42 @@ counted_none form m may_fail never before after (run_end.Unfinished count ends) 
 counted_none form m may_fail never before after run_end.WriteFault text has counted = absurd has
 counted_none form m may_fail never before after run_end.Memory text has counted = absurd has
 
+-- and no cut is lost, whatever its count of faults
+cut_none : (m : Meaning) (may_fail : Type 0) → (may_fail → ⊥) → (before after : WireCounts) (was now : ℕ) (e : RunEnd) →
+    IsCountedEnd true may_fail 20000000 m.commands before after e → IsCutEnd m.commands was now e → IsCutEnd m.commands 0 0 e
+cut_none m may_fail never before after was now (run_end.Ok ends) counted cut = cut
+cut_none m may_fail never before after was now (run_end.WireFault low high stream own other) counted cut = absurd (never counted.0)
+cut_none m may_fail never before after was now (run_end.Spent host peer entries own other) counted cut = tt
+cut_none m may_fail never before after was now (run_end.Unfinished count ends) counted cut = cut
+cut_none m may_fail never before after was now run_end.WriteFault counted cut = tt
+cut_none m may_fail never before after was now run_end.Memory counted cut = tt
+
 -- where the sink failed, it took a beginning of what the run has to write
 pub begun_of : (seen : WireSeen) (form : Form) (m : Meaning) (may_fail : Type 0) (sink : Written) → HasRisen sink.faults_before sink.faults_after →
-    HasBegun form seen.tells MAX_ENTRIES m.hosts m.commands (IsCountedEnd seen.tells may_fail 20000000 seen.before seen.after) seen.before.faults seen.after.faults
+    HasBegun form seen.tells MAX_ENTRIES m.hosts m.commands (IsCountedEnd seen.tells may_fail 20000000 m.commands seen.before seen.after) seen.before.faults seen.after.faults
     sink.held_before sink.held_after →
     (text : List ℕ) × IsRunText seen form m text × (HasRisen sink.faults_before sink.faults_after × SinkGainedFront sink.held_before sink.held_after text)
 begun_of seen form m may_fail sink risen begun =
-    (begun.1, (begun.0, begun.2, counted_so seen.tells may_fail seen.before seen.after begun.0 begun.3, λ untold. begun.4), (risen, begun.5))
+    (begun.1, (begun.0, begun.2, counted_so seen.tells may_fail m.commands seen.before seen.after begun.0 begun.3, begun.4), (risen, begun.5))
 
 -- so it did in a run that ended so
 pub risen_of : (seen : WireSeen) (form : Form) (m : Meaning) (sink : SinkSeen) (s : Status) → s ≡ ended.WriteFault → IsEndOfScript seen form m sink s →
     HasRisen sink.faults_before sink.faults_after
 risen_of seen form m sink s is end = (subst (IsEndOfScript seen form m sink) is end).2.0
 
--- ends that tell their bytes are none that don't
-told_apart : true ≡ false → ⊥
-told_apart same = absurd (cc)
-
 -- in memory, too
 pub begun_in_memory : (form : Form) (m : Meaning) (may_fail : Type 0) → (may_fail → ⊥) → (before after : WireCounts) (was now : ℕ) (sink : SinkSeen) →
     HasRisen sink.faults_before sink.faults_after →
-    HasBegun form true MAX_ENTRIES m.hosts m.commands (IsCountedEnd true may_fail 20000000 before after) was now sink.held_before sink.held_after →
+    HasBegun form true MAX_ENTRIES m.hosts m.commands (IsCountedEnd true may_fail 20000000 m.commands before after) was now sink.held_before sink.held_after →
     (text : List ℕ) × IsRunText memory_seen form m text × HasFailedIn sink text
 begun_in_memory form m may_fail never before after was now sink risen begun = (
   begun.1,
-  (begun.0, begun.2, counted_none form m may_fail never before after begun.0 begun.1 begun.2 begun.3, λ untold. absurd (told_apart untold)),
+  (
+    begun.0,
+    begun.2,
+    counted_none form m may_fail never before after begun.0 begun.1 begun.2 begun.3,
+    cut_none m may_fail never before after was now begun.0 begun.3 begun.4,
+  ),
   (risen, begun.5),
 )
 

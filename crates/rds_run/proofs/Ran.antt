@@ -29,7 +29,7 @@ ran_of seen form s sink result ends is end cut =
       acknowledged = ran.1;
       drained = λ told. (ran.2 told).0;
       none_pending = λ told. (ran.2 told).1;
-      cut = λ untold. subst (IsCutEnd s.commands seen.before.faults seen.after.faults) is cut;
+      cut = subst (IsCutEnd s.commands seen.before.faults seen.after.faults) is cut;
       written = ran.3;
     }
 
@@ -40,7 +40,7 @@ module _ (seen : WireSeen) (form : Form) (s : Meaning) (sink : Written) (result 
 
   module _ (may_fail : Type 0) where
     abbrev IsCounted : RunEnd → Type 0
-    IsCounted end = IsCountedEnd seen.tells may_fail 20000000 seen.before seen.after end
+    IsCounted end = IsCountedEnd seen.tells may_fail 20000000 s.commands seen.before seen.after end
 
     pub lacking_of : (low high stream : ℕ) (own other : Log) → result ≡ ended.WireFault low high stream own other → IsEnd result → IsCounted result →
         IsCutEnd s.commands seen.before.faults seen.after.faults result → IsWireFault seen s sink.held_before sink.held_after
@@ -96,7 +96,7 @@ in_memory_of before after form m sink status.Written never begun end = record {
   acknowledged = end.acknowledged;
   drained = end.drained;
   none_pending = end.none_pending;
-  cut = λ untold. absurd (cc);
+  cut = end.cut;
   written = end.written;
 }
 in_memory_of before after form m sink status.Refused never begun end = end

@@ -9,7 +9,7 @@ use Rattle.rds_text.specs.Lines.{spent_line}
 use Rattle.rds_final.specs.FinalState.{FinalHost}
 use Rattle.rds_parties.specs.Streams.{prepared_streams, streams_between}
 use Rattle.rds_threads.specs.Causes.{AreLackingStream, AreUnacknowledged, IsFullJournal}
-use Rattle.rds_threads.specs.Counted.{AreEndsClosed, EndsOweNothing, IsCountedEnd}
+use Rattle.rds_threads.specs.Counted.{EndsOweNothing, HaveAllUsedUp, IsCountedEnd}
 use Rattle.rds_threads.specs.Cuts.{AreCutsOfEnds, IsCutEnd, IsShortBy}
 use Rattle.rds_threads.specs.Ends.{AreAcknowledged, AreDrainedHosts, AreEnds, HasToWrite, NonePending}
 use Rattle.rds_threads.specs.Texts.{fault_line, text_of, unfinished_line}
@@ -50,15 +50,15 @@ seen_over wire.Memory tcp = memory_seen
 seen_over wire.Tcp tcp = tcp
 
 -- A run of the script came to its end over a wire that was seen so: its hosts did the script's commands, what they have then is sound, no
--- datagram is left unacknowledged, and the sink took exactly the text of this form on it. Where ends tell their bytes, nothing is left on its
--- way between any two of the hosts, and no datagram is pending. Where they don't, no cut of the commands is lost.
+-- datagram is left unacknowledged, no cut of the commands is lost, and the sink took exactly the text of this form on it. Where ends tell their
+-- bytes, nothing is left on its way between any two of the hosts, and no datagram is pending.
 pub record IsRan (seen : WireSeen) (form : Form) (s : Meaning) (held_before held_after : Option (List ℕ)) : Type 0 where
   pub ends : List FinalHost
   pub did : AreEnds seen.tells s.hosts s.commands ends
   pub acknowledged : AreAcknowledged ends
   pub drained : seen.tells ≡ true → AreDrainedHosts ends
   pub none_pending : seen.tells ≡ true → NonePending ends
-  pub cut : seen.tells ≡ false → AreCutsOfEnds s.commands seen.before.faults seen.after.faults ends
+  pub cut : AreCutsOfEnds s.commands ends
   pub written : SinkGained held_before held_after (text_of form ends)
 
 -- A run of the script filled the journal of a host with a peer: both journals of the two are sound, and neither opened more streams than were
@@ -91,23 +91,24 @@ pub record IsWireFault (seen : WireSeen) (s : Meaning) (held_before held_after :
 
 -- The hosts did the script's commands, and what they have then is sound. So many datagrams aren't acknowledged, and the sink took the line
 -- that says so. No journal owes anything to its open stream, or the wire counted in the call that there was no room; and it counted at least
--- 20,000,000 times that no bytes were there, or no stream is open. No cut of the commands is lost.
+-- 20,000,000 times that no bytes were there, or each two hosts have used up their streams, and the journals of the two refused at least three
+-- headers together. No cut of the commands is lost.
 pub record IsRunUnfinished (seen : WireSeen) (s : Meaning) (held_before held_after : Option (List ℕ)) : Type 0 where
   pub count : ℕ
   pub ends : List FinalHost
   pub did : AreEnds seen.tells s.hosts s.commands ends
   pub unacknowledged : AreUnacknowledged seen.tells count ends
   pub full : EndsOweNothing ends ⊎ HasRisen seen.before.fulls seen.after.fulls
-  pub waited : AreEndsClosed ends ⊎ HasRisenBy 20000000 seen.before.nothings seen.after.nothings
-  pub cut : AreCutsOfEnds s.commands seen.before.faults seen.after.faults ends
+  pub waited : HaveAllUsedUp s.commands ends ⊎ HasRisenBy 20000000 seen.before.nothings seen.after.nothings
+  pub cut : AreCutsOfEnds s.commands ends
   pub written : SinkGained held_before held_after (unfinished_line count)
 
 -- What a run of the script has to write, in a text of this form: the text of an end that the run may come to, by what was counted of the
--- wire. Where ends don't tell their bytes, what its hosts have then lost no cut of the commands.
+-- wire, and at which no cut of the commands is lost.
 abbrev pub IsRunText : WireSeen → Form → Meaning → List ℕ → Type 0
 IsRunText seen form s text =
-    (end : RunEnd) × HasToWrite form seen.tells MAX_ENTRIES s.hosts s.commands end text × IsCountedEnd seen.tells (Unit {0}) 20000000 seen.before seen.after end
-    × (seen.tells ≡ false → IsCutEnd s.commands seen.before.faults seen.after.faults end)
+    (end : RunEnd) × HasToWrite form seen.tells MAX_ENTRIES s.hosts s.commands end text × IsCountedEnd seen.tells (Unit {0}) 20000000 s.commands seen.before seen.after end
+    × IsCutEnd s.commands seen.before.faults seen.after.faults end
 
 -- more streams would be prepared for a run of the script over TCP than may be
 abbrev pub IsTooMany : RunWire → Meaning → Type 0

@@ -64,7 +64,7 @@ where
         result }
     ensures may_fail { result ≡ status.WireFault → W.may_fail wire.old }
     ensures begun { result ≡ status.WriteFault → HasBegun form W.End.means.tells MAX_ENTRIES script.hosts script.commands.items
-        (IsCountedEnd W.End.means.tells (W.may_fail wire.old) 20000000
+        (IsCountedEnd W.End.means.tells (W.may_fail wire.old) 20000000 script.commands.items
         record { faults = W.faults wire.old; nothings = W.nothings wire.old; fulls = W.fulls wire.old }
         record { faults = W.faults wire.new; nothings = W.nothings wire.new; fulls = W.fulls wire.new })
         (W.faults wire.old) (W.faults wire.new) (K.held sink.old) (K.held sink.new) }

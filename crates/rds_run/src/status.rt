@@ -14,7 +14,7 @@ pub enum Status {
     ReadFault = 3,
     /// The sink failed.
     WriteFault = 4,
-    /// A stream that hosts should have couldn't be opened.
+    /// Two hosts lack a stream that they should have.
     WireFault = 5,
     /// Memory ran out.
     Memory = 6,
