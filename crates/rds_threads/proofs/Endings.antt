@@ -7,7 +7,7 @@ use Rattle.rds_model.specs.Legal.{IsLegal}
 use Rattle.rds_model.specs.LegalityLaws.{lawful_bad, lawful_open, lawful_shut}
 use Rattle.rds_model.specs.Past.{now, open_stream}
 use Rattle.rds_model.specs.Sums.{opens}
-use Rattle.rds_line_channel.specs.Carried.{shuts}
+use Rattle.rds_line_channel.specs.Carried.{shut_streams, shuts}
 use Rattle.rds_rounds.specs.Causes.{refusals}
 
 -- how many streams are open
@@ -25,7 +25,8 @@ counted (Open stream ∷ past) legal =
 counted (Shut stream ∷ past) legal =
     let before = counted past legal.1 in
     let one = ap one_if (lawful_shut stream past legal) in
-    omega (arith, before, one)
+    let more = length_push (shut_streams past) stream in
+    omega (arith, before, one, more)
 counted (Bad stream header cause ∷ past) legal =
     let before = counted past legal.1 in
     let one = ap one_if (lawful_bad stream header cause legal now).on in
