@@ -1,5 +1,5 @@
 -- What the exit status of a run says of its source and its sink. Source: this project's own; docs/COMMAND.md has the table.
-use Rattle.std.specs.Prelude.{◌≡◌, ◌⊎◌, ℕ, ◌<◌, Bool, true, false, Option, List}
+use Rattle.std.specs.Prelude.{◌≡◌, ◌⊎◌, ℕ, ◌<◌, Bool, true, Option, List}
 use Rattle.rds_link.specs.Streaming.{HasRisen, HasRisenBy, SinkGained}
 use Rattle.rds_link.specs.declared.wire.WireCounts.{WireCounts}
 use Rattle.rds_model.specs.declared.entry.Entry.{Entry}
