@@ -13,7 +13,7 @@ use Rattle.rds_run.specs.Reading.{IsEndOfReading}
 use Rattle.rds_run.specs.RunStatus.{HasFilled, IsEndOfGenCall, IsEndOfRunCall, IsEndOfRunOver, IsEndOfScript, IsEndOfTooMany, IsRan, IsRunUnfinished, IsTooMany, IsWireFault, Ran, TooMany, WireSeen, memory_seen, seen_over, tells_over}
 use Rattle.rds_parties.specs.Streams.{prepared_streams}
 use Rattle.rds_run.specs.Texts.{read_fault_line, too_many_line, usage_line}
-use Rattle.rds_run.specs.Ending.{IsEndOfProgram, IsEndOfRunning, IsEndOfUsage, OfGen, OfMemory, OfNone, OfPlay, OfRun}
+use Rattle.rds_run.specs.Ending.{IsEndOfProgram, IsEndOfRunning, IsEndOfUsage, OfGen, OfMemory, OfNone, OfPlay, OfRun, ReadsScript}
 use Rattle.rds_generator.specs.Generator.{generated}
 use Rattle.rds_threads.specs.declared.form.Form.TheVariants as form
 use Rattle.rds_words.specs.declared.wire.RunWire.{RunWire}
@@ -157,14 +157,14 @@ module _ (tcp : WireSeen) (words : List (String Global)) (source : SourceSeen) (
   pub memory : (s : Status) (n : ℕ) → n ≡ code s → Ends s → n ≡ 6 → sink.held_after ≡ sink.held_before
   memory s n is end e = memory_at (ends_at s 6 end (sym is ∙ e))
 
-  refused_at : Ends ended.Refused → IsRefusal source.left sink.held_before sink.held_after
-  refused_at (OfPlay is e) = e.ends
-  refused_at (OfRun over is e) = by_run over _ _ (λ r. r) (λ m read many r. absurd r) (λ m read few r. absurd r) e.ends
+  refused_at : Ends ended.Refused → ReadsScript words × IsRefusal source.left sink.held_before sink.held_after
+  refused_at (OfPlay is e) = (inl is, e.ends)
+  refused_at (OfRun over is e) = (inr (over, is), by_run over _ _ (λ r. r) (λ m read many r. absurd r) (λ m read few r. absurd r) e.ends)
   refused_at (OfGen sends seed is e) = absurd e
   refused_at (OfNone none e) = absurd e
   refused_at (OfMemory e same) = absurd (cc)
 
-  pub refused : (s : Status) (n : ℕ) → n ≡ code s → Ends s → n ≡ 1 → IsRefusal source.left sink.held_before sink.held_after
+  pub refused : (s : Status) (n : ℕ) → n ≡ code s → Ends s → n ≡ 1 → ReadsScript words × IsRefusal source.left sink.held_before sink.held_after
   refused s n is end e = refused_at (ends_at s 1 end (sym is ∙ e))
 
   refusal_code : (s : Status) → Ends s → ArePlay words ⊎ ((over : RunWire) × AreRun words over) → (line : ℕ) (why : Cause) → IsToldRefused source.left line why → IsRefusalCode line why sink (code s)

@@ -16,6 +16,10 @@ use Rattle.rds_words.specs.Play.{ArePlay}
 use Rattle.rds_words.specs.Run.{AreRun}
 use Rattle.rds_words.specs.Works.{AreNoCommand}
 
+-- the words are those of `play` or of `run`, which read a script from the source
+abbrev pub ReadsScript : List (String Global) → Type 0
+ReadsScript words = ArePlay words ⊎ ((over : RunWire) × AreRun words over)
+
 -- a text that is refused is answered so, unless the source or the sink fails or memory runs out
 abbrev pub Refuses : SourceSeen → SinkSeen → Status → Type 0
 Refuses source sink s = (line : ℕ) (cause : Cause) → IsToldRefused source.left line cause →

@@ -15,7 +15,7 @@ ghost use Rattle.rds_words.specs.Run.{AreRun};
 ghost use Rattle.rds_words.specs.Works.{AreNoCommand};
 ghost use Rattle.rds_run.specs.RunStatus.{HasFilled, IsRan, IsRunAnswer, IsRunText, IsRunUnfinished, IsWireFault, memory_seen, seen_over, tells_over};
 ghost use Rattle.rds_parties.specs.Streams.{prepared_streams};
-ghost use Rattle.rds_run.specs.Ending.{IsEndOfProgram};
+ghost use Rattle.rds_run.specs.Ending.{IsEndOfProgram, ReadsScript};
 ghost use Rattle.rds_run.specs.Texts.{usage_line, read_fault_line, bad_line, too_many_line};
 
 use crate::answer::say;
@@ -89,10 +89,10 @@ where
         × SinkGainedFront (K.held sink.old) (K.held sink.new) answer }
     ensures memory { result ≡ 6 → K.held sink.new ≡ K.held sink.old }
 
-    // The text of the source is refused, and the line that was written says where and why.
-    ensures refused { result ≡ 1 → IsRefusal (S.left source.old) (K.held sink.old) (K.held sink.new) }
+    // The words are those of `play` or of `run`. The text of the source is refused, and the line that was written says where and why.
+    ensures refused { result ≡ 1 → ReadsScript words.now × IsRefusal (S.left source.old) (K.held sink.old) (K.held sink.new) }
     // A text that is refused is answered so, unless the source or the sink fails or memory runs out.
-    ensures refuses { ArePlay words.now ⊎ ((over : RunWire) × AreRun words.now over) →
+    ensures refuses { ReadsScript words.now →
         (line : ℕ) → (cause : Why) → IsToldRefused (S.left source.old) line cause →
         (result ≡ 1 × SinkGained (K.held sink.old) (K.held sink.new) (bad_line line (cause_text cause)))
         ⊎ ((result ≡ 3) ⊎ ((result ≡ 4) ⊎ (result ≡ 6))) }
