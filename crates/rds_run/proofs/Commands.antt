@@ -1,6 +1,7 @@
 -- What words of commands have in common: those of one command are not those of another, and they say one thing.
-use Rattle.std.proofs.Common.{◌≡◌, ℕ, ◌≤◌, List, Option, Some, None, String, codes, map, slice_get, slice_index, string_bytes, sym, ap, unwrap_or, ◌∙◌, refl, arith}
+use Rattle.std.proofs.Common.{◌≡◌, ℕ, ◌≤◌, ◌<◌, ◌^◌, List, Option, Some, None, String, codes, map, slice_get, slice_index, string_bytes, sym, ap, unwrap_or, ◌∙◌, refl, arith}
 use Rattle.std.specs.Global.{Global}
+use Rattle.std.proofs.lemmas.Fmt.{decimal_injective}
 use Rattle.rds_words.specs.declared.wire.RunWire.{RunWire}
 use Rattle.rds_words.specs.declared.wire.RunWire.TheVariants as wire
 use Rattle.rds_words.specs.Gen.{AreGen, IsNamed, gen_word}
@@ -53,12 +54,15 @@ in_memory words wire.Memory run other = refl
 in_memory words wire.Tcp run other = absurd (other run)
 
 -- the words of `gen` name one number of sends and one seed
-same_word : (low high : ℕ) (word : Option (List ℕ)) (n k : ℕ) → IsNamed low high word n → IsNamed low high word k → n ≡ k
-same_word low high None n k one other = absurd one
-same_word low high (Some word) n k one other = one.value ∙ sym other.value
+same_word : (low high : ℕ) (word : Option (List ℕ)) (n k : ℕ) → high < 2 ^ 64 → IsNamed low high word n → IsNamed low high word k → n ≡ k
+same_word low high None n k small one other = absurd one
+same_word low high (Some word) n k small one other =
+    let least : n < 2 ^ 64 = omega (arith, small, one.most) in
+    let most : k < 2 ^ 64 = omega (arith, small, other.most) in
+    decimal_injective n k least most (sym one.digits ∙ other.digits)
 
 pub same_gen : (words : List (String Global)) (sends seed n k : ℕ) → AreGen words sends seed → AreGen words n k → (sends ≡ n) × (seed ≡ k)
 same_gen words sends seed n k one other = (
-  same_word 1 100000 (gen_word (codes "sends") (map string_bytes words)) sends n one.1.numbers.0 other.1.numbers.0,
-  same_word 0 18446744073709551615 (gen_word (codes "seed") (map string_bytes words)) seed k one.1.numbers.1 other.1.numbers.1,
+  same_word 1 100000 (gen_word (codes "sends") (map string_bytes words)) sends n (omega arith) one.1.numbers.0 other.1.numbers.0,
+  same_word 0 18446744073709551615 (gen_word (codes "seed") (map string_bytes words)) seed k (omega arith) one.1.numbers.1 other.1.numbers.1,
 )
