@@ -8,6 +8,7 @@ if [ -z "$INSIDE" ]; then
     exec env INSIDE=1 RDS="$PROGRAM" unshare -rn sh bench/faults.sh "$@"
 fi
 ip link set lo up
+tc qdisc add dev lo root netem delay 1ms 1ms 2> /dev/null || echo "no netem on this machine: no packet is delayed"
 nft -f - <<'NFT' || echo "no filter of packets on this machine: none is lost"
 table ip faults {
     chain input {
