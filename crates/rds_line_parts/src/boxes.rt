@@ -28,12 +28,14 @@ impl Model for Boxes {
 }
 
 impl Boxes {
+    /// The mailboxes of a host's slots, in their order.
     pub fn new(boxes: Vec<SlotBox>) -> Boxes
         ensures { result ≡ boxes.items }
     {
         Boxes { boxes }
     }
 
+    /// The mailboxes, in the same order.
     pub fn into_vec(self) -> Vec<SlotBox>
         ensures { result.items ≡ self }
     {

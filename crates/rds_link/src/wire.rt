@@ -12,7 +12,9 @@ use std::thread::Threads;
 /// Why a stream wasn't opened.
 #[derive(Clone, Copy, Debug, PartialEq, Eq)]
 pub enum WireError {
+    /// A call of the system failed. The wire has counted it.
     Fault,
+    /// Memory ran out.
     Memory,
 }
 

@@ -23,6 +23,7 @@ impl Model for Asked {
 }
 
 impl Asked {
+    /// An order that may be asked for: of a slot, with a payload that isn't too long.
     pub fn new(order: Order) -> Asked
         requires { IsAsked order }
         ensures { result ≡ order }
