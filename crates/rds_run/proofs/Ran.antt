@@ -1,6 +1,7 @@
 -- A run that ended so is one of which the status says so.
 use Rattle.std.proofs.Common.{◌≡◌, ◌≢◌, ◌⊎◌, inl, inr, ℕ, true, List, [], Vec, refl, subst}
 use Rattle.std.specs.Global.{Global}
+use Rattle.rds_link.specs.Streaming.{SinkGained}
 use Rattle.rds_script.specs.Grammar.{Meaning}
 use Rattle.rds_final.specs.Views.{host_views}
 use Rattle.rds_final.specs.declared.final_state.HostEnd.{HostEnd}
@@ -25,12 +26,12 @@ ran_of seen form s sink result ends is end cut =
     let ran = subst (IsEndOfRun form seen.tells MAX_ENTRIES s.hosts s.commands sink) is end in
     record {
       ends = host_views ends.items;
-      did = ran.0;
-      acknowledged = ran.1;
-      drained = λ told. (ran.2 told).0;
-      none_pending = λ told. (ran.2 told).1;
+      did = ran.1.0;
+      acknowledged = ran.1.1;
+      drained = λ told. (ran.1.2 told).0;
+      none_pending = λ told. (ran.1.2 told).1;
       cut = subst (IsCutEnd s.commands seen.before.faults seen.after.faults) is cut;
-      written = ran.3;
+      written = subst (SinkGained sink.held_before sink.held_after) ran.1.3 ran.2;
     }
 
 -- and so for the other ends of a run
@@ -53,11 +54,11 @@ module _ (seen : WireSeen) (form : Form) (s : Meaning) (sink : Written) (result 
           stream = stream;
           own = own.past;
           other = other.past;
-          lacking = ran.0;
+          lacking = ran.1.0;
           rose = why.1;
           thrice = why.2;
           short = subst (IsCutEnd s.commands seen.before.faults seen.after.faults) is cut;
-          written = ran.1;
+          written = subst (SinkGained sink.held_before sink.held_after) ran.1.1 ran.2;
         }
 
     -- where hosts lack a stream the wire may fail
@@ -72,19 +73,27 @@ module _ (seen : WireSeen) (form : Form) (s : Meaning) (sink : Written) (result 
         record {
           count = count;
           ends = host_views ends.items;
-          did = ran.0;
-          unacknowledged = ran.1;
+          did = ran.1.0;
+          unacknowledged = ran.1.1;
           full = why.0;
           waited = why.1;
           cut = subst (IsCutEnd s.commands seen.before.faults seen.after.faults) is cut;
-          written = ran.2;
+          written = subst (SinkGained sink.held_before sink.held_after) ran.1.2 ran.2;
         }
 
   pub filled_of : (host peer entries : ℕ) (own other : Log) → result ≡ ended.Spent host peer entries own other → IsEnd result →
       HasFilled seen.tells s sink.held_before sink.held_after
   filled_of host peer entries own other is end =
       let ran = subst IsEnd is end in
-      record { host = host; peer = peer; entries = entries; own = own.past; other = other.past; full = ran.0; written = ran.1 }
+      record {
+        host = host;
+        peer = peer;
+        entries = entries;
+        own = own.past;
+        other = other.past;
+        full = ran.1.0;
+        written = subst (SinkGained sink.held_before sink.held_after) ran.1.1 ran.2;
+      }
 
 -- a run in memory that lacks no stream, and whose text is begun where the sink fails, ended so that no count tells of it
 pub in_memory_of : (before after : WireCounts) (form : Form) (m : Meaning) (sink : SinkSeen) (s : Status) → (s ≡ status.WireFault → ⊥) →

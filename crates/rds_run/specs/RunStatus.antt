@@ -61,9 +61,9 @@ pub record IsRan (seen : WireSeen) (form : Form) (s : Meaning) (held_before held
   pub cut : AreCutsOfEnds s.commands ends
   pub written : SinkGained held_before held_after (text_of form ends)
 
--- A run of the script filled the journal of a host with a peer: both journals of the two are sound, and neither opened more streams than were
--- to be prepared. Where there are no other hosts, each pulled a map with a port only where it delivered more than a receive buffer holds. The
--- sink took the line that says so.
+-- A run of the script filled the journal of a host with a peer: both journals of the two are sound and of the script's commands, and neither
+-- opened more streams than were to be prepared. Where there are no other hosts, each pulled a map with a port only where it delivered more than
+-- a receive buffer holds. The sink took the line that says so.
 pub record HasFilled (tells : Bool) (s : Meaning) (held_before held_after : Option (List ℕ)) : Type 0 where
   pub host : ℕ
   pub peer : ℕ

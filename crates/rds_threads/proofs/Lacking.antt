@@ -22,9 +22,9 @@ use Rattle.rds_rounds.specs.Done.{AreDone}
 use Rattle.rds_rounds.specs.Grid.{AreRows, IsAt, peer_at}
 use Rattle.rds_rounds.specs.Sound.{AreSoundJournals}
 use Rattle.rds_rounds.specs.declared.verdict.Wanted.{Wanted}
-use Rattle.rds_threads.specs.Causes.{AreLackingStream, BeginsOrders, HasNoneLeft, IsFilledAlone, IsOfCommands, OpenedAmong}
+use Rattle.rds_threads.specs.Causes.{AreLackingStream, HasNoneLeft, IsFilledAlone, IsOfCommands, OpenedAmong}
 use Rattle.rds_threads.specs.Settled.{HaveDoneSpared}
-use Rattle.rds_threads.specs.Taking.{HaveSameStreams, HaveTied, IsGroundedAt, IsJournalOf, IsJournalOfLine}
+use Rattle.rds_threads.specs.Taking.{HasOrders, HaveSameStreams, HaveTied, IsGroundedAt, IsJournalOf, IsJournalOfLine}
 use Rattle.rds_threads.proofs.FilledAlone.{filled_alone}
 use Rattle.rds_threads.proofs.Rows.{host_within, peer_after, peer_before, place_within, stands}
 use Rattle.rds_threads.proofs.Taken.{of_commands_at}
@@ -138,15 +138,15 @@ module _ {E : Type 0} (m : Means E) (limit hosts : ℕ) (callers : List CallerVi
   -- so it is of the two journals that were taken out of what all hosts have
   pub lacking_in_run : (before after : ℕ) → HaveCounted commands before after rows → HaveSameStreams rows → (wanted : List (List Wanted)) (low high : ℕ) →
       HostsMissStream m.tells wanted low high rows → low < high → high < length rows → (own other : List Entry) → IsJournalOf rows low high own → IsJournalOf rows high low other →
-      ((caller : CallerView) → slice_get callers low ≡ Some caller → BeginsOrders low high caller.places own) →
-      ((caller : CallerView) → slice_get callers high ≡ Some caller → BeginsOrders high low caller.places other) →
+      ((caller : CallerView) → slice_get callers low ≡ Some caller → HasOrders low high caller.places own) →
+      ((caller : CallerView) → slice_get callers high ≡ Some caller → HasOrders high low caller.places other) →
       IsGroundedAt callers rows low → IsGroundedAt callers rows high → AreLackingStream m.tells hosts commands low high (newest_stream own) own other
   lacking_in_run before after counted streams wanted low high lacks less known own other is is_other own_orders other_orders own_grounded other_grounded =
       let count = done.shape.count in
       let first : low < hosts = omega (arith, less, known, count) in
       let second : high < hosts = omega (arith, known, count) in
       lacking_of m limit hosts rows done streams wanted low high lacks commands before after counted own other is is_other
-      (of_commands_at hosts commands callers rows did tied low high (omega (arith, less, known)) own own_orders)
-      (of_commands_at hosts commands callers rows did tied high low known other other_orders)
+      (of_commands_at hosts commands callers rows (omega (arith, less, second)) did tied low high (omega (arith, less, known)) own own_orders)
+      (of_commands_at hosts commands callers rows (omega (arith, less, second)) did tied high low known other other_orders)
       (filled_alone m limit hosts callers rows done tied commands did low high first second (λ same. omega (arith, same, less)) own is own_grounded)
       (filled_alone m limit hosts callers rows done tied commands did high low second first (λ same. omega (arith, same, less)) other is_other other_grounded)

@@ -1,5 +1,5 @@
 -- A run that ended since a journal is full.
-use Rattle.std.proofs.Common.{◌≡◌, ◌≢◌, ◌<◌, ℕ, suc, ◌+◌, ◌-◌, inl, inr, List, Some, length, slice_get, sym, ap, subst, ◌∙◌, arith}
+use Rattle.std.proofs.Common.{◌≡◌, ◌≢◌, ◌<◌, ◌≤◌, ℕ, suc, ◌+◌, ◌-◌, inl, inr, List, Some, length, slice_get, sym, ap, subst, ◌∙◌, arith}
 use Rattle.std.proofs.lemmas.Bool.{cases_lt}
 use Rattle.rds_link.specs.Ends.{Means}
 use Rattle.rds_model.specs.declared.entry.Entry.{Entry}
@@ -14,9 +14,9 @@ use Rattle.rds_rounds.specs.Sound.{AreSoundJournals}
 use Rattle.rds_line_streams.specs.Streams.{numbers}
 use Rattle.rds_parties.specs.Preparing.{HaveCounted}
 use Rattle.rds_parties.specs.Streams.{AreNumbersOf, streams_between}
-use Rattle.rds_threads.specs.Causes.{BeginsOrders, IsFilledAlone, IsFullJournal, IsOfCommands}
+use Rattle.rds_threads.specs.Causes.{IsFilledAlone, IsFullJournal, IsOfCommands}
 use Rattle.rds_threads.specs.Settled.{HaveDoneSpared}
-use Rattle.rds_threads.specs.Taking.{HaveTied, IsGroundedAt, IsJournalOf}
+use Rattle.rds_threads.specs.Taking.{HasOrders, HaveTied, IsGroundedAt, IsJournalOf}
 use Rattle.rds_threads.proofs.FilledAlone.{filled_alone}
 use Rattle.rds_threads.proofs.Hosts.{line_of, sound_of}
 use Rattle.rds_threads.proofs.Lacking.{counted_at, opened_among, streams_either_way}
@@ -24,15 +24,16 @@ use Rattle.rds_threads.proofs.Rows.{host_within, peer_after, peer_apart, peer_be
 use Rattle.rds_threads.proofs.Taken.{of_commands_at}
 
 full_of : {E M : Type 0} (limit entries : ℕ) (line : LineView E M) (past : List Entry) → past ≡ line_past line → line.channel.conn.log.limit ≡ limit →
-    IsFull entries line → (length past ≡ entries) × (limit < entries + 2)
-full_of limit entries line past is same full =
+    length past ≤ line.channel.conn.log.limit → IsFull entries line → (length past ≡ entries) × (entries ≤ limit) × (limit < entries + 2)
+full_of limit entries line past is same within full =
     let count : length past ≡ length (line_past line) = ap length is in
     let entries_are = full.count in
     let most = full.most in
-    (count ∙ sym entries_are, omega (arith, entries_are, most, same))
+    (count ∙ sym entries_are, omega (arith, entries_are, count, within, same), omega (arith, entries_are, most, same))
 
 -- two hosts that differ, and how many there are
 pub record AreTwoOf (hosts host peer : ℕ) : Type 0 where
+  pub many : 1 < hosts
   pub first : host < hosts
   pub second : peer < hosts
   pub apart : peer ≢ host
@@ -44,9 +45,11 @@ module _ {E M : Type 0} (m : Means E) (limit hosts : ℕ) (rows : List (List (Li
   pub full_two : (host peer entries : ℕ) → IsFullHost host peer entries rows → AreTwoOf hosts host peer
   full_two host peer entries full =
       let first = host_within hosts rows done.shape host full.at.0 full.at.1 in
-      let within = peer_within hosts host full.place (place_within hosts rows done.shape host full.place full.line full.at) in
+      let more = place_within hosts rows done.shape host full.place full.line full.at in
+      let within = peer_within hosts host full.place more in
       let few = done.few in
       let to = full.to in record {
+        many = omega (arith, more);
         first = first;
         second = omega (arith, within, to);
         apart = λ same. peer_apart host full.place (to ∙ same);
@@ -80,7 +83,7 @@ module _ {E M : Type 0} (m : Means E) (limit hosts : ℕ) (rows : List (List (Li
   full_journal host peer entries full own other is is_other commands before after counted own_sent other_sent own_filled other_filled =
       let line = line_of m limit hosts rows done host full.place full.line full.at in
       let own_is = is full.place full.line full.to full.at in
-      let f = full_of limit entries full.line own own_is.is line.limit_is full.full in
+      let f = full_of limit entries full.line own own_is.is line.limit_is own_is.few full.full in
       let two = full_two host peer entries full in
       let back = back_at host peer full.place full.line full.at full.to in
       let other_is = is_other back.0 back.1 back.2 back.3 in
@@ -90,7 +93,8 @@ module _ {E M : Type 0} (m : Means E) (limit hosts : ℕ) (rows : List (List (Li
         peer_known = two.second;
         apart = two.apart;
         count = f.0;
-        most = f.1;
+        few = f.1;
+        most = f.2;
         sound =
             subst (λ (p : List Entry). AreSoundJournals m.tells p other) (sym own_is.is)
             (subst (λ (p : List Entry). AreSoundJournals m.tells (line_past full.line) p) (sym other_is.is)
@@ -113,8 +117,8 @@ module _ {E : Type 0} (m : Means E) (limit hosts : ℕ) (callers : List CallerVi
   -- so it is of the two journals that were taken out of what all hosts have
   pub full_in_run : (before after : ℕ) → HaveCounted commands before after rows → (host peer entries : ℕ) → IsFullHost host peer entries rows →
       (own other : List Entry) → IsJournalOf rows host peer own → IsJournalOf rows peer host other →
-      ((caller : CallerView) → slice_get callers host ≡ Some caller → BeginsOrders host peer caller.places own) →
-      ((caller : CallerView) → slice_get callers peer ≡ Some caller → BeginsOrders peer host caller.places other) →
+      ((caller : CallerView) → slice_get callers host ≡ Some caller → HasOrders host peer caller.places own) →
+      ((caller : CallerView) → slice_get callers peer ≡ Some caller → HasOrders peer host caller.places other) →
       IsGroundedAt callers rows host → IsGroundedAt callers rows peer → IsFullJournal m.tells limit hosts commands host peer entries own other
   full_in_run before after counted host peer entries full own other is is_other own_orders other_orders own_grounded other_grounded =
       let two = full_two m limit hosts rows done host peer entries full in
@@ -122,7 +126,7 @@ module _ {E : Type 0} (m : Means E) (limit hosts : ℕ) (callers : List CallerVi
       let second = two.second in
       let count = done.shape.count in
       full_journal m limit hosts rows done host peer entries full own other is is_other commands before after counted
-      (of_commands_at hosts commands callers rows did tied host peer (omega (arith, first, count)) own own_orders)
-      (of_commands_at hosts commands callers rows did tied peer host (omega (arith, second, count)) other other_orders)
+      (of_commands_at hosts commands callers rows two.many did tied host peer (omega (arith, first, count)) own own_orders)
+      (of_commands_at hosts commands callers rows two.many did tied peer host (omega (arith, second, count)) other other_orders)
       (filled_alone m limit hosts callers rows done tied commands did host peer first second two.apart own is own_grounded)
       (filled_alone m limit hosts callers rows done tied commands did peer host second first (λ same. two.apart (sym same)) other is_other other_grounded)

@@ -4,7 +4,7 @@ use Rattle.std.specs.Global.{Global}
 use Rattle.std.specs.List.{sum_by}
 use Rattle.std.proofs.lemmas.List.{get_or-set_other, get_or-take, length-map, length-set, length-take-le}
 use Rattle.std.proofs.lemmas.List.Sums.{sum_by-cons, sum_by-swap_remove}
-use Rattle.std.proofs.lemmas.Option.{slice_get-map, slice_get_read}
+use Rattle.std.proofs.lemmas.Option.{slice_get-map, slice_get_read, slice_get_within}
 use Rattle.rds_wire.specs.declared.memory.Memory.{Memory}
 use Rattle.rds_fmap.specs.Readers.{ReaderView, WriterView}
 use Rattle.rds_model.specs.Honest.{Begins}
@@ -23,10 +23,11 @@ use Rattle.rds_callers.specs.Ends.{AreEndsOf}
 use Rattle.rds_callers.specs.Places.{CallerView, Place, spared}
 use Rattle.rds_script.specs.declared.script.Placed.{Placed}
 use Rattle.rds_rounds.specs.Grid.{peer_at, rows_of}
-use Rattle.rds_threads.specs.Causes.{BeginsOrders, BeginsOrdersAt, IsOfCommands}
+use Rattle.rds_threads.specs.Causes.{BeginsOrdersAt, IsOfCommands}
 use Rattle.rds_threads.specs.Settled.{HasDoneSpared, HaveDoneSpared}
-use Rattle.rds_threads.specs.Taking.{HaveTied, IsJournalOf, IsJournalOfLine}
+use Rattle.rds_threads.specs.Taking.{HasOrders, HasOrdersAt, HaveTied, IsJournalOf, IsJournalOfLine}
 use Rattle.rds_threads.proofs.At.{one_at, some_at, spared_holds, stood_at}
+use Rattle.rds_threads.proofs.Cutting.{cuts_of_done}
 use Rattle.rds_threads.proofs.Rows.{place_is, read_at}
 use Rattle.rds_threads.proofs.Written.{on_ok}
 
@@ -75,16 +76,22 @@ journal_is {E} {M} lines journals place taken line same within is at =
     ∙ (slice_get-map (λ (l : LineView E M). line_side l) lines place ∙ ap (option_map (λ (l : LineView E M). line_side l)) at)))
 
 module _ {E : Type 0} where
-  -- what stands of the orders of slots in it begins what they put
+  -- what stands of orders in it is of slots, and begins what they put
   pub orders_begin : (places : List Place) (closed : List (Holding ReaderView)) (lines : List (LineView E WriterView)) (place : ℕ) (past : List Entry) →
       place < length lines → ((line : LineView E WriterView) → slice_get lines place ≡ Some line → past ≡ line_past line) → AreEndsOf places closed →
-      AreJoined closed lines → BeginsOrdersAt place places past
-  orders_begin places closed lines place past within is ends joined slot p lane at at_lane =
+      AreJoined closed lines → HasOrdersAt place places past
+  orders_begin places closed lines place past within is ends joined =
       let line = some_at lines place within in
-      let h = stood_at closed places slot p (sym ends.count) at in
-      let routes = (ends.each slot p h.0 at h.1).routes in
-      subst (λ (l : List Entry). Begins (orders_of slot l) (uncut lane.pass.put)) (sym (is line.0 line.1))
-      (joined.begin_taken slot place h.0 lane line.0 h.1 (subst (λ (l : List (Lane ReaderView)). IsLaneAt l place lane) (sym routes) at_lane) line.1)
+      let same = is line.0 line.1 in record {
+        sent = λ slot p lane at at_lane.
+            let h = stood_at closed places slot p (sym ends.count) at in
+            let routes = (ends.each slot p h.0 at h.1).routes in
+            subst (λ (l : List Entry). Begins (orders_of slot l) (uncut lane.pass.put)) (sym same)
+            (joined.begin_taken slot place h.0 lane line.0 h.1 (subst (λ (l : List (Lane ReaderView)). IsLaneAt l place lane) (sym routes) at_lane) line.1);
+        none_else = λ some slot few.
+            let count = ends.count in
+            ap (orders_of slot) same ∙ joined.known_slots (omega (arith, some, count)) slot place line.0 line.1 (omega (arith, few, count));
+      }
 
   -- the journal of a host's line at a place is that with the peer of the place
   journal_of : (rows : List (List (LineView E WriterView))) (host peer place : ℕ) (row : List (LineView E WriterView)) (line : LineView E WriterView) (past : List Entry) →
@@ -108,10 +115,13 @@ module _ {E : Type 0} where
 
 -- and so are the orders
 pub orders_ok : (host peer place : ℕ) (places : List Place) (result : Result Log Memory) → peer_at host place ≡ peer →
-    IfOk result (λ journal. BeginsOrdersAt place places journal.past) → IfOk result (λ journal. BeginsOrders host peer places journal.past)
+    IfOk result (λ journal. HasOrdersAt place places journal.past) → IfOk result (λ journal. HasOrders host peer places journal.past)
 orders_ok host peer place places result to =
-    on_ok (λ (journal : Log). BeginsOrdersAt place places journal.past) (λ (journal : Log). BeginsOrders host peer places journal.past) result
-    (λ journal begins. λ other also. subst (λ (n : ℕ). BeginsOrdersAt n places journal.past) (sym (place_is host other place (also ∙ sym to))) begins)
+    on_ok (λ (journal : Log). HasOrdersAt place places journal.past) (λ (journal : Log). HasOrders host peer places journal.past) result
+    (λ journal has. record {
+      sent = λ other also. subst (λ (n : ℕ). BeginsOrdersAt n places journal.past) (sym (place_is host other place (also ∙ sym to))) has.sent;
+      none_else = has.none_else;
+    })
 
 -- one of two journals that are both there
 pub first_of : {A : Type 0} (one other : Result A Memory) (result : Result (A × A) Memory) (P : A → Type 0) → IfOk result (λ r. one ≡ Ok r.0) → IfOk one P →
@@ -133,21 +143,26 @@ on_one one (Err e) of P Q is holds go = tt
 module _ {E : Type 0} where
   -- the journal of a host that did its commands, and gave up the slots that no socket had, is of these commands
   of_commands : (hosts host peer : ℕ) (commands : List Placed) (places : List Place) (lines : List (LineView E WriterView)) (past : List Entry) →
-      HasDoneSpared hosts host commands places lines → BeginsOrders host peer places past → IsOfCommands hosts host peer commands past
-  of_commands hosts host peer commands places lines past did begins = record {
+      1 < hosts → HasDoneSpared hosts host commands places lines → HasOrders host peer places past → IsOfCommands hosts host peer commands past
+  of_commands hosts host peer commands places lines past two did has = record {
     last = did.last;
     done = did.did.done;
     sent = λ place to slot p lane at at_lane.
-        begins place to slot (spared p) lane
+        has.sent place to slot (spared p) lane
         (subst (λ (l : List Place). slice_get l slot ≡ Some (spared p)) (sym did.left) (slice_get-map spared did.last slot ∙ ap (option_map spared) at))
         (subst (λ (h : Holding ReaderView). IsLaneAt h.routes place lane) (sym (spared_holds p)) at_lane);
+    none_else = λ slot few.
+        let way = cuts_of_done hosts host 0 commands did.last did.did.done two in
+        let within = slice_get_within did.last way.slot way.p way.at in
+        let count = ap length did.left ∙ length-map did.last spared in
+        has.none_else (omega (arith, within, count)) slot (omega (arith, few, count));
   }
 
   -- so it is of a host of all
   pub of_commands_at : (hosts : ℕ) (commands : List Placed) (callers : List CallerView) (rows : List (List (LineView E WriterView))) →
-      HaveDoneSpared hosts commands callers rows → HaveTied callers rows → (host peer : ℕ) → host < length rows → (past : List Entry) →
-      ((caller : CallerView) → slice_get callers host ≡ Some caller → BeginsOrders host peer caller.places past) → IsOfCommands hosts host peer commands past
-  of_commands_at hosts commands callers rows did tied host peer within past begins =
+      1 < hosts → HaveDoneSpared hosts commands callers rows → HaveTied callers rows → (host peer : ℕ) → host < length rows → (past : List Entry) →
+      ((caller : CallerView) → slice_get callers host ≡ Some caller → HasOrders host peer caller.places past) → IsOfCommands hosts host peer commands past
+  of_commands_at hosts commands callers rows two did tied host peer within past has =
       let row = some_at rows host within in
       let caller = stood_at callers rows host row.0 (sym tied.count) row.1 in
-      of_commands hosts host peer commands caller.0.places row.0 past (did host caller.0 row.0 caller.1 row.1) (begins caller.0 caller.1)
+      of_commands hosts host peer commands caller.0.places row.0 past two (did host caller.0 row.0 caller.1 row.1) (has caller.0 caller.1)

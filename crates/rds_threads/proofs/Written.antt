@@ -1,5 +1,5 @@
 -- A run that wrote its text, or whose sink failed.
-use Rattle.std.proofs.Common.{◌≡◌, inl, inr, ℕ, Bool, List, Result, Ok, Err, IfOk, sym, subst}
+use Rattle.std.proofs.Common.{inl, inr, ℕ, Bool, List, Result, Ok, Err, IfOk, sym, subst}
 use Rattle.rds_wire.specs.declared.memory.Memory.{Memory}
 use Rattle.rds_link.specs.Streaming.{SinkGained}
 use Rattle.rds_script.specs.declared.script.Placed.{Placed}
@@ -9,15 +9,12 @@ use Rattle.rds_threads.specs.declared.form.RunEnd.{RunEnd}
 use Rattle.rds_threads.specs.declared.form.RunEnd.TheVariants as ended
 
 module _ (form : Form) (tells : Bool) (limit hosts : ℕ) (commands : List Placed) (sink : Written) where
-  gained : (text other : List ℕ) → text ≡ other → SinkGained sink.held_before sink.held_after text → SinkGained sink.held_before sink.held_after other
-  gained text other is gain = subst (SinkGained sink.held_before sink.held_after) is gain
-
   ended_so : (text : List ℕ) (end : RunEnd) → HasToWrite form tells limit hosts commands end text → SinkGained sink.held_before sink.held_after text →
       IsEndOfRun form tells limit hosts commands sink end
-  ended_so text (ended.Ok ends) has gain = (has.0, has.1, has.2, gained text _ has.3 gain)
-  ended_so text (ended.WireFault low high stream own other) has gain = (has.0, gained text _ has.1 gain)
-  ended_so text (ended.Spent host peer entries own other) has gain = (has.0, gained text _ has.1 gain)
-  ended_so text (ended.Unfinished count ends) has gain = (has.0, has.1, gained text _ has.2 gain)
+  ended_so text (ended.Ok ends) has gain = (text, has, gain)
+  ended_so text (ended.WireFault low high stream own other) has gain = (text, has, gain)
+  ended_so text (ended.Spent host peer entries own other) has gain = (text, has, gain)
+  ended_so text (ended.Unfinished count ends) has gain = (text, has, gain)
   ended_so text ended.WriteFault has gain = absurd has
   ended_so text ended.Memory has gain = absurd has
 

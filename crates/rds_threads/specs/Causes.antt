@@ -35,11 +35,12 @@ BeginsOrders host peer places past = (place : ℕ) → peer_at host place ≡ pe
 
 -- The journal of one of so many hosts with a peer is of the script's commands: from slots that were new the host's caller did exactly its own
 -- commands, and for each slot the orders that stand in the journal begin those that its socket put on the route to that peer, in order and
--- each once.
+-- each once. No order of another slot stands in it.
 pub record IsOfCommands (hosts host peer : ℕ) (commands : List Placed) (past : List Entry) : Type 0 where
   pub last : List Place
   pub done : HasDone hosts host commands last
   pub sent : BeginsOrders host peer last past
+  pub none_else : (slot : ℕ) → length last ≤ slot → orders_of slot past ≡ []
 
 -- In this journal of a host with a peer a map with a port was pulled only where the journal delivered more bytes to a slot, and a datagram at
 -- that port among them, than the receive buffer of one of the host's binds.
@@ -84,14 +85,15 @@ pub record AreUnacknowledged (tells : Bool) (count : ℕ) (ends : List FinalHost
   pub some : 1 ≤ count
   pub all : count ≡ alive_in_ends ends
 
--- The journal of a host with a peer, two of so many hosts, is full: it has so many entries, and two more would pass the limit. It and the
--- one of the peer with the host are sound and of the script's commands, and neither opened more streams than were to be prepared for these.
--- Where there are no other hosts, each pulled a map with a port only where it delivered more than a receive buffer holds.
+-- The journal of a host with a peer, two of so many hosts, is full: it has so many entries, which are within the limit, and two more would
+-- pass it. It and the one of the peer with the host are sound and of the script's commands, and neither opened more streams than were to be
+-- prepared for these. Where there are no other hosts, each pulled a map with a port only where it delivered more than a receive buffer holds.
 pub record IsFullJournal (tells : Bool) (limit hosts : ℕ) (commands : List Placed) (host peer entries : ℕ) (own other : List Entry) : Type 0 where
   pub host_known : host < hosts
   pub peer_known : peer < hosts
   pub apart : peer ≢ host
   pub count : length own ≡ entries
+  pub few : entries ≤ limit
   pub most : limit < entries + 2
   pub sound : AreSoundJournals tells own other
   pub own_opened : OpenedAmong (streams_between host peer commands) own

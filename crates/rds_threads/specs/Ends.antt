@@ -25,13 +25,19 @@ abbrev pub OfEachJournals : ((low high : ℕ) → List Entry → List Entry → 
 OfEachJournals Holds ends =
     OfEachPair (λ low high (one : FinalJournal) (other : FinalJournal). Holds low high one.past other.past) (map (λ (end : FinalHost). end.sides) ends)
 
+-- what holds of each two hosts and their journals with each other, the lower host first, where each stream between them gave a beginning of
+-- what was written to it
+abbrev pub OfEachHonestPair : ((low high : ℕ) (one other : FinalHost) (own back : List Entry) → Type 0) → List FinalHost → Type 0
+OfEachHonestPair Holds ends =
+    (low place : ℕ) (one other : FinalHost) (a b : FinalJournal) → low ≤ place → slice_get ends low ≡ Some one → slice_get ends (suc place) ≡ Some other →
+    slice_get one.sides place ≡ Some a → slice_get other.sides low ≡ Some b → IsHonest a.past b.past → Holds low (suc place) one other a.past b.past
+
 -- From each host to each other one, where each stream between them gave a beginning of what was written to it: for each port pair what was
 -- delivered was sent, in order and each once, each sent datagram up to the last that arrived is accounted for, and the sockets hand it out
 -- so.
 abbrev pub AreReliable : List FinalHost → Type 0
-AreReliable ends = (low place : ℕ) (one other : FinalHost) (a b : FinalJournal) → low ≤ place → slice_get ends low ≡ Some one → slice_get ends (suc place) ≡ Some other →
-    slice_get one.sides place ≡ Some a → slice_get other.sides low ≡ Some b → IsHonest a.past b.past →
-    IsReliableTo low a.past b.past other.sockets × IsReliableTo (suc place) b.past a.past one.sockets
+AreReliable ends = OfEachHonestPair (λ low high one other own back.
+    IsReliableTo low own back other.sockets × IsReliableTo high back own one.sockets) ends
 
 -- What so many hosts have in the end, by host: each did the script's commands, and has a journal of its connection with each other one, in
 -- ascending order. The journals are sound. What the sockets of each host handed out is what its journals delivered; where streams gave
@@ -61,9 +67,8 @@ NonePendingFrom from to ends = (sport dport : ℕ) → pending (counts ends (rec
 
 -- between any two hosts, where each stream between them gave a beginning of what was written to it, no datagram is pending, either way
 abbrev pub NonePendingWhereHonest : List FinalHost → Type 0
-NonePendingWhereHonest ends = (low place : ℕ) (one other : FinalHost) (a b : FinalJournal) → low ≤ place → slice_get ends low ≡ Some one → slice_get ends (suc place) ≡ Some other →
-    slice_get one.sides place ≡ Some a → slice_get other.sides low ≡ Some b → IsHonest a.past b.past →
-    NonePendingFrom one.addr other.addr ends × NonePendingFrom other.addr one.addr ends
+NonePendingWhereHonest ends = OfEachHonestPair (λ low high one other own back.
+    NonePendingFrom one.addr other.addr ends × NonePendingFrom other.addr one.addr ends) ends
 
 -- No datagram is left unacknowledged: no number is alive in any journal, and where streams gave beginnings of what was written to them, none is
 -- pending.
@@ -102,21 +107,10 @@ HasToWrite form tells limit hosts commands (ended.Unfinished count ends) text =
 HasToWrite form tells limit hosts commands ended.WriteFault text = ⊥
 HasToWrite form tells limit hosts commands ended.Memory text = ⊥
 
--- How a run ended. It wrote the text of its form on what its hosts have in the end, which is sound; or its line; or the sink failed; or
--- memory ran out, and nothing was written.
+-- How a run ended. The sink failed; or memory ran out, and nothing was written; or the run came to an end at which it has something to write,
+-- and the sink took the whole of that.
 abbrev pub IsEndOfRun : (form : Form) (tells : Bool) (limit hosts : ℕ) (commands : List Placed) → Written → RunEnd → Type 0
-IsEndOfRun form tells limit hosts commands sink (ended.Ok ends) =
-    AreEnds tells hosts commands (host_views ends.items) × AreAcknowledged (host_views ends.items)
-    × (tells ≡ true → AreSettledHosts (host_views ends.items))
-    × SinkGained sink.held_before sink.held_after (text_of form (host_views ends.items))
-IsEndOfRun form tells limit hosts commands sink (ended.WireFault low high stream own other) =
-    AreLackingStream tells hosts commands low high stream own.past other.past
-    × SinkGained sink.held_before sink.held_after (fault_line low high stream)
-IsEndOfRun form tells limit hosts commands sink (ended.Spent host peer entries own other) =
-    IsFullJournal tells limit hosts commands host peer entries own.past other.past
-    × SinkGained sink.held_before sink.held_after (spent_line host peer entries)
-IsEndOfRun form tells limit hosts commands sink (ended.Unfinished count ends) =
-    AreEnds tells hosts commands (host_views ends.items) × AreUnacknowledged tells count (host_views ends.items)
-    × SinkGained sink.held_before sink.held_after (unfinished_line count)
 IsEndOfRun form tells limit hosts commands sink ended.WriteFault = HasRisen sink.faults_before sink.faults_after
 IsEndOfRun form tells limit hosts commands sink ended.Memory = sink.held_after ≡ sink.held_before
+IsEndOfRun form tells limit hosts commands sink end =
+    (text : List ℕ) × HasToWrite form tells limit hosts commands end text × SinkGained sink.held_before sink.held_after text

@@ -9,8 +9,7 @@ ghost use Rattle.rds_gather.specs.Risen.{StaysRisen};
 ghost use Rattle.rds_rounds.specs.Done.{AreDone};
 ghost use Rattle.rds_rounds.specs.Grid.{rows_of};
 ghost use Rattle.rds_settling.specs.Tied.{AreTied, holdings};
-ghost use Rattle.rds_threads.specs.Causes.{BeginsOrders, BeginsOrdersAt};
-ghost use Rattle.rds_threads.specs.Taking.{HaveTied, IsGroundedAt, IsJournalOf, IsJournalOfLine};
+ghost use Rattle.rds_threads.specs.Taking.{HasOrders, HasOrdersAt, HaveTied, IsGroundedAt, IsJournalOf, IsJournalOfLine};
 
 use crate::giving::{end_lines, end_row};
 use rds_callers::Caller;
@@ -39,13 +38,15 @@ fn end_host<W: Wire, R: Wait>(
     requires place { place < length lines.items }
     requires tied { AreTied caller.places lines.items }
     ensures journal { (line : LineView W.End WriterView) → slice_get lines.items place ≡ Some line → IfOk result (λ journal. IsJournalOfLine line journal.past) }
-    ensures orders { IfOk result (λ journal. BeginsOrdersAt place caller.places journal.past) }
+    ensures orders { IfOk result (λ journal. HasOrdersAt place caller.places journal.past) }
     ensures grounded { OnOk result (AreMapsGrounded (holdings caller.places) lines.items) }
     ensures risen { StaysRisen (W.faults wire.old) (W.faults wire.new) }
     ensures out { W.out wire.new ≡ W.out wire.old - ends_in lines.items }
 {
     let line = &lines[place];
     line.known();
+    // A journal never has more entries than its limit.
+    let _ = line.journal().len();
     let Ok((kept, closed)) = caller.end(rt, alloc) else {
         end_row(rt, wire, lines);
         return Err(Memory);
@@ -84,9 +85,9 @@ fn low_and_high<W: Wire, R: Wait>(
     ensures low { IfOk result (λ journals. IsJournalOf (rows_of lines.items) low high journals.0.past) }
     ensures high { IfOk result (λ journals. IsJournalOf (rows_of lines.items) high low journals.1.past) }
     ensures low_orders { (caller : CallerView) → slice_get callers.items low ≡ Some caller →
-        IfOk result (λ journals. BeginsOrders low high caller.places journals.0.past) }
+        IfOk result (λ journals. HasOrders low high caller.places journals.0.past) }
     ensures high_orders { (caller : CallerView) → slice_get callers.items high ≡ Some caller →
-        IfOk result (λ journals. BeginsOrders high low caller.places journals.1.past) }
+        IfOk result (λ journals. HasOrders high low caller.places journals.1.past) }
     ensures low_grounded { OnOk result (IsGroundedAt callers.items (rows_of lines.items) low) }
     ensures high_grounded { OnOk result (IsGroundedAt callers.items (rows_of lines.items) high) }
     ensures risen { StaysRisen (W.faults wire.old) (W.faults wire.new) }
@@ -123,9 +124,9 @@ pub(crate) fn journals<W: Wire, R: Wait>(
     ensures own { IfOk result (λ journals. IsJournalOf (rows_of lines.items) host peer journals.0.past) }
     ensures other { IfOk result (λ journals. IsJournalOf (rows_of lines.items) peer host journals.1.past) }
     ensures own_orders { (caller : CallerView) → slice_get callers.items host ≡ Some caller →
-        IfOk result (λ journals. BeginsOrders host peer caller.places journals.0.past) }
+        IfOk result (λ journals. HasOrders host peer caller.places journals.0.past) }
     ensures other_orders { (caller : CallerView) → slice_get callers.items peer ≡ Some caller →
-        IfOk result (λ journals. BeginsOrders peer host caller.places journals.1.past) }
+        IfOk result (λ journals. HasOrders peer host caller.places journals.1.past) }
     ensures own_grounded { OnOk result (IsGroundedAt callers.items (rows_of lines.items) host) }
     ensures other_grounded { OnOk result (IsGroundedAt callers.items (rows_of lines.items) peer) }
     ensures risen { StaysRisen (W.faults wire.old) (W.faults wire.new) }

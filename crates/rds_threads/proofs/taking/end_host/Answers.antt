@@ -1,6 +1,7 @@
-use Rattle.std.proofs.Common.{◌≡◌, ap, subst, sym, ◌∙◌}
+use Rattle.std.proofs.Common.{◌≡◌, ◌≤◌, List, ap, arith, length, subst, sym, ◌∙◌}
 use Rattle.std.proofs.lemmas.Option.{get_or_from_slice_get}
 use Rattle.rds_fmap.specs.Readers.{WriterView}
+use Rattle.rds_model.specs.declared.entry.Entry.{Entry}
 use Rattle.rds_model.specs.Sums.{opens}
 use Rattle.rds_line_streams.specs.Streams.{opened_numbers}
 use Rattle.rds_line.specs.Line.{LineView, line_past}
@@ -24,10 +25,18 @@ returns-clause-journal g c = λ line at.
     c.swap_remove-journal.ensures.value at in
     let seen = c.index-line.result.now in
     let same : seen ≡ line = c.index-line.ensures ∙ get_or_from_slice_get c.args.lines.items c.args.place line seen at in
+    let kept : length (line_past seen) ≤ seen.channel.conn.log.limit =
+    let room = c.len.ensures.limit in
+    let past = c.journal.ensures.past in
+    let limit = c.journal.ensures.limit in
+    omega (arith, room, ap length past, limit) in
     record {
       is = is;
       opened =
           (line.channel.streams.opened, ap opens is ∙ subst (λ (l : LineView g.row.W-End.Denot WriterView). opens (line_past l) ≡ opened_numbers l.channel.streams) same (sym c.known.ensures.carried.opened));
+      few =
+          subst (λ (past : List Entry). length past ≤ line.channel.conn.log.limit) (sym is)
+          (subst (λ (l : LineView g.row.W-End.Denot WriterView). length (line_past l) ≤ l.channel.conn.log.limit) same kept);
     }
 
 pub returns-clause-orders : goal.returns-clause-orders

@@ -5,8 +5,7 @@ use Rattle.rds_callers.specs.Places.{CallerView}
 use Rattle.rds_host.specs.Held.{ends_of_all}
 use Rattle.rds_gather.specs.Grounded.{AreMapsGrounded}
 use Rattle.rds_settling.specs.Tied.{holdings}
-use Rattle.rds_threads.specs.Causes.{BeginsOrders}
-use Rattle.rds_threads.specs.Taking.{IsGroundedAt, IsJournalOf}
+use Rattle.rds_threads.specs.Taking.{HasOrders, IsGroundedAt, IsJournalOf}
 use Rattle.rds_threads.proofs.FilledAlone.{grounded_at}
 use Rattle.rds_threads.proofs.At.{one_at}
 use Rattle.rds_threads.proofs.Rows.{peer_after, peer_before, read_at, row_at, row_length, rows_count}
@@ -186,8 +185,8 @@ returns-clause-low_orders g c = λ caller stands.
     (omega (arith, ordered, two)) (omega (arith, two, known, count, all))
     (c.swap_remove-caller-2.ensures.value ∙ ap (λ l. get_or l c.from-one.result low_caller) fewer_callers) in
     let same : low_caller ≡ caller = one_at c.args.callers.items low low_caller caller at_low_caller stands in
-    first_of c.end_host-own.result c.end_host-other.result c.both.result (λ (journal : Log). BeginsOrders low high caller.places journal.past) c.both.ensures.own
-    (subst (λ (who : CallerView). IfOk c.end_host-own.result (λ journal. BeginsOrders low high who.places journal.past)) same
+    first_of c.end_host-own.result c.end_host-other.result c.both.result (λ (journal : Log). HasOrders low high caller.places journal.past) c.both.ensures.own
+    (subst (λ (who : CallerView). IfOk c.end_host-own.result (λ journal. HasOrders low high who.places journal.past)) same
     (orders_ok low high (c.from-two.result - 1) low_caller.places c.end_host-own.result
     (peer_after low (c.from-two.result - 1) (omega (arith, ordered, two)) ∙ omega (arith, ordered, two)) c.end_host-own.ensures.orders))
 
@@ -205,8 +204,8 @@ returns-clause-high_orders g c = λ caller stands.
     let at_caller = read_at c.args.callers.items c.from-two.result high c.swap_remove-caller.result (omega (arith, two)) (omega (arith, known, count, all))
     c.swap_remove-caller.ensures.value in
     let same : c.swap_remove-caller.result ≡ caller = one_at c.args.callers.items high c.swap_remove-caller.result caller at_caller stands in
-    second_of c.end_host-own.result c.end_host-other.result c.both.result (λ (journal : Log). BeginsOrders high low caller.places journal.past) c.both.ensures.other
-    (subst (λ (who : CallerView). IfOk c.end_host-other.result (λ journal. BeginsOrders high low who.places journal.past)) same
+    second_of c.end_host-own.result c.end_host-other.result c.both.result (λ (journal : Log). HasOrders high low caller.places journal.past) c.both.ensures.other
+    (subst (λ (who : CallerView). IfOk c.end_host-other.result (λ journal. HasOrders high low who.places journal.past)) same
     (orders_ok high low c.from-one.result c.swap_remove-caller.result.places c.end_host-other.result
     (peer_before high c.from-one.result (omega (arith, ordered, one)) ∙ omega (arith, one)) c.end_host-other.ensures.orders))
 
