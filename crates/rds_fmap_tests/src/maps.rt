@@ -79,7 +79,7 @@ fn publishes(rt: &impl Wait, mut writer: Writer, map: &PortMap) -> Writer
     writer
 }
 
-// IsLook the last port up, and answers how often it was set.
+// Looks the last port up, and answers how often it was set.
 fn looks(mut reader: Reader) -> (Reader, u64)
     ensures { result.0.pair ≡ reader.pair }
 {

@@ -1,4 +1,5 @@
 mod Acting
+mod Carrying
 mod Verdicts
 mod Delivering
 mod Feeding

@@ -1,5 +1,6 @@
 -- What a line keeps when it takes an order and obeys it.
-use Rattle.std.proofs.Common.{◌≡◌, ◌≢◌, ◌⊎◌, ◌↔◌, inl, inr, ℕ, ◌+◌, ◌<◌, Bool, true, false, List, [], ◌∷◌, ◌++◌, Some, IsSome, Result, Ok, Err, OnOk, OnErr, refl, sym, ap, subst, ◌∙◌}
+use Rattle.std.proofs.Common.{◌≡◌, ◌≢◌, ◌⊎◌, ◌↔◌, inl, inr, ℕ, ◌+◌, ◌<◌, Bool, true, false, List, [], ◌∷◌, ◌++◌, Option, Some, None, is_some, IsSome, Result, Ok, Err, OnOk, OnErr, refl, sym, ap, subst, ◌∙◌}
+use Rattle.std.proofs.lemmas.Bool.{false≢true}
 use Rattle.rds_link.specs.Ends.{Means}
 use Rattle.rds_wire.specs.declared.memory.Memory.{Memory}
 use Rattle.rds_model.specs.declared.entry.TheConstants.{MAX_SLOTS}
@@ -11,15 +12,17 @@ use Rattle.rds_model.specs.SumLaws.{same_list}
 use Rattle.rds_mail.specs.Numbers.{Number}
 use Rattle.rds_mail.specs.Orders.{IsAsked}
 use Rattle.rds_mail.specs.Passes.{Getter, after_get}
-use Rattle.rds_conn.specs.Connection.{freed_bytes_of, stream_of, with_room}
+use Rattle.rds_conn.specs.Connection.{Connection, freed_bytes_of, stream_of, taken_bytes, with_room}
 use Rattle.rds_conn.specs.Orders.{IsOrderFor, after_order}
 use Rattle.rds_conn.specs.Released.{released_bytes}
-use Rattle.rds_line_channel.specs.Channel.{ChannelView, with_conn}
+use Rattle.rds_line_channel.specs.Channel.{ChannelView, arrived_bytes, with_conn}
 use Rattle.rds_line_channel.specs.Changes.{ShutsStream}
 use Rattle.rds_line.specs.Keeps.{KeepsLine, IsPulled}
 use Rattle.rds_line.specs.Line.{LineView, line_past}
 use Rattle.rds_line.specs.Stays.{ChannelStays}
+use Rattle.rds_line.specs.Steps.{KeepsArrived, KeepsUnwritten}
 use Rattle.rds_line.proofs.Acting.{IsQuietPast}
+use Rattle.rds_line.proofs.Carrying.{appended_arrived, appended_unwritten, roomy_arrived, roomy_unwritten, shut_longer}
 use Rattle.rds_line.proofs.Keeping.{keeps_still, pulled_off, pulled_still}
 use Rattle.rds_line.proofs.Staying.{channel_of, channel_through, order_stays, room_stays, streams_same}
 use Rattle.rds_line.proofs.Taking.{uncut_of, TakesCut, cut_past, takes_cut, orders_past, cut_off, cut_stays, keeps_cut, keeps_ordered, pulled_ordered}
@@ -52,6 +55,17 @@ module _ {E M : Type 0} (v : LineView E M) (roomy new : ChannelView E) (first : 
   pub roomy_streams : new.streams ≡ v.channel.streams
   roomy_streams = ap (λ (c : ChannelView E). c.streams) second ∙ ap (λ (c : ChannelView E). c.streams) first
 
+  -- nor was anything that came touched, or anything that is to be written
+  module _ {shown : LineView E M} (is : v ≡ shown) where
+    pub room_arrived : (later : ChannelView E) → KeepsArrived new later → KeepsArrived shown.channel later
+    room_arrived later keeps = roomy_arrived is roomy later first (λ same.
+        keeps (same ∙ sym (ap (λ (c : ChannelView E). c.conn.log.past) second))
+        ∙ ap (λ (c : ChannelView E). arrived_bytes c) second)
+
+    pub room_unwritten : (later : ChannelView E) → KeepsUnwritten new later → KeepsUnwritten shown.channel later
+    room_unwritten later keeps = roomy_unwritten is roomy later first (λ same.
+        keeps (same ∙ sym (ap (λ (c : ChannelView E). c.conn.log.past) second)) ∙ ap (λ (c : ChannelView E). c.out) second)
+
   pub keeps_roomy : (published : M → List (List ℕ)) → KeepsLine published v → KeepsLine published (record v { channel = new })
   keeps_roomy published k = keeps_still published v new roomy_past
       (ap (λ (c : ChannelView E). c.conn.peer) second ∙ ap (λ (c : ChannelView E). c.conn.peer) first)
@@ -75,6 +89,13 @@ cut_or_not (order.Cancel slot dport) = inr (λ e. absurd (cc))
 cut_or_not (order.CloseSocket slot) = inr (λ e. absurd (cc))
 cut_or_not order.Cut = inl refl
 
+-- an order of a socket touches nothing that came
+ordered_taken : (o : Order) (c : Connection) → taken_bytes (after_order o c) ≡ taken_bytes c
+ordered_taken (order.Send slot sport dport payload) c = refl
+ordered_taken (order.Cancel slot dport) c = refl
+ordered_taken (order.CloseSocket slot) c = refl
+ordered_taken order.Cut c = refl
+
 -- an order was taken and obeyed
 module _ {E M : Type 0} (m : Means E) (v : LineView E M) (channel : ChannelView E) (getter : Getter Order) (number : Number) (o : Order)
     (is : getter ≡ after_get v.orders number o) where
@@ -89,6 +110,38 @@ module _ {E M : Type 0} (m : Means E) (v : LineView E M) (channel : ChannelView 
   module _ (did : Obeys) where
     cut_of : o ≡ order.Cut → TakesCut v channel getter number m
     cut_of cut = takes_cut v channel getter number m (did.shut cut) (did.late cut) did.tie
+
+    -- what came and what is to be written is the same, or an entry was appended
+    obeyed_bytes : KeepsArrived v.channel channel × KeepsUnwritten v.channel channel
+    obeyed_bytes = go (cut_or_not o)
+      where
+        late : o ≡ order.Cut → stream_of v.channel.conn ≡ None → (b : Bool) → v.channel.streams.is_open ≡ b →
+            KeepsArrived v.channel channel × KeepsUnwritten v.channel channel
+        late cut none true on = absurd (false≢true (sym (ap is_some none) ∙ did.tie.0 on))
+        late cut none false off =
+            (λ _. ap (λ (c : ChannelView E). arrived_bytes c) (did.late cut off), λ _. ap (λ (c : ChannelView E). c.out) (did.late cut off))
+
+        shut : o ≡ order.Cut → (n : Option ℕ) → stream_of v.channel.conn ≡ n →
+            KeepsArrived v.channel channel × KeepsUnwritten v.channel channel
+        shut cut (Some n) on =
+            let more = shut_longer m n v.channel channel (did.shut cut n on).0 in
+            (appended_arrived v.channel channel more, appended_unwritten v.channel channel more)
+        shut cut None none = late cut none v.channel.streams.is_open refl
+
+        go : (o ≡ order.Cut) ⊎ (o ≢ order.Cut) → KeepsArrived v.channel channel × KeepsUnwritten v.channel channel
+        go (inl cut) = shut cut (stream_of v.channel.conn) refl
+        go (inr other) = (
+          λ _.
+              ap (λ (c : ChannelView E). arrived_bytes c) (did.entry other)
+              ∙ ap (λ (l : List ℕ). l ++ v.channel.piece) (ordered_taken o v.channel.conn),
+          λ _. ap (λ (c : ChannelView E). c.out) (did.entry other),
+        )
+
+    pub obeyed_arrived : KeepsArrived v.channel channel
+    obeyed_arrived = obeyed_bytes.0
+
+    pub obeyed_unwritten : KeepsUnwritten v.channel channel
+    obeyed_unwritten = obeyed_bytes.1
 
     pub keeps_obeyed : (published : M → List (List ℕ)) (pulled : Bool) → IsAsked o → KeepsLine published v × IsPulled pulled v →
         KeepsLine published (record v { channel = channel; orders = getter }) × IsPulled pulled (record v { channel = channel; orders = getter })

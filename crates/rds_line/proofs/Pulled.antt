@@ -12,7 +12,7 @@ use Rattle.rds_meter.specs.Places.{change_word, put_word, freed_word}
 use Rattle.rds_meter.specs.Grounds.{HasFoundSet}
 use Rattle.rds_meter.specs.Seats.{MeterSeat}
 use Rattle.rds_conn.specs.declared.conn.Pulled.{Pulled}
-use Rattle.rds_conn.specs.Connection.{Connection, freed_bytes_of, stream_of, with_entries}
+use Rattle.rds_conn.specs.Connection.{Connection, freed_bytes_of, stream_of, taken_bytes, with_entries}
 use Rattle.rds_conn.specs.Pulling.{Pulls}
 use Rattle.rds_line_parts.specs.CountedLaws.{counted_for_steps}
 use Rattle.rds_line_parts.specs.Own.{Own, IsRefresh, loads_from}
@@ -39,11 +39,12 @@ pub record LeavesConn (old new : Connection) : Type 0 where
   pub limit : new.log.limit ≡ old.log.limit
   pub past : Moment old.log.past new.log.past
   pub waiting : new.waiting ≡ old.waiting
+  pub taken : taken_bytes new ≡ taken_bytes old
   pub stream : stream_of new ≡ stream_of old
   pub acts : ActsOn old.log.past new.log.past
 
 pub leaves_same : (conn : Connection) → LeavesConn conn conn
-leaves_same conn = record { me = refl; peer = refl; slots = refl; limit = refl; past = now; waiting = refl; stream = refl; acts = still_acts _ _ refl }
+leaves_same conn = record { me = refl; peer = refl; slots = refl; limit = refl; past = now; waiting = refl; taken = refl; stream = refl; acts = still_acts _ _ refl }
 
 leaves_pulled : (s : ℕ) (f : Frame) (conn : Connection) → LeavesConn conn (with_entries (Pull s f ∷ []) conn)
 leaves_pulled s f conn = record {
@@ -53,6 +54,7 @@ leaves_pulled s f conn = record {
   limit = refl;
   past = before now;
   waiting = refl;
+  taken = refl;
   stream = refl;
   acts = entry_acts (Pull s f) conn.log.past (Pull s f ∷ conn.log.past) tt refl;
 }

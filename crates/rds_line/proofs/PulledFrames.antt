@@ -1,5 +1,5 @@
 -- Which frame a line pulled, and what it had read of its host's own map.
-use Rattle.std.proofs.Common.{◌≡◌, ◌≢◌, inl, inr, ℕ, suc, Bool, true, false, Option, Some, None, IfSome, IsSome, IfOk, OnOk, Result, Ok, List, [], ◌∷◌, refl, sym, ap, subst, ◌∙◌}
+use Rattle.std.proofs.Common.{◌≡◌, ◌≢◌, inl, inr, ℕ, suc, ◌<◌, Bool, true, false, Option, Some, None, IfSome, IsSome, IfOk, OnOk, Result, Ok, List, [], ◌∷◌, ◌++◌, length, refl, sym, ap, subst, ◌∙◌, arith}
 use Rattle.std.proofs.lemmas.Option.{same_Some}
 use Rattle.std.proofs.lemmas.Result.{IfOk-at_ok}
 use Rattle.rds_wire.specs.declared.frame.Frame.{Frame}
@@ -15,14 +15,15 @@ use Rattle.rds_model.specs.Owed.{last_map, owed_frame}
 use Rattle.rds_model.specs.SumLaws.{same_list}
 use Rattle.rds_meter.specs.Seats.{MeterSeat}
 use Rattle.rds_conn.specs.declared.conn.Pulled.{Pulled}
-use Rattle.rds_conn.specs.Connection.{Connection, stream_of, with_entries}
+use Rattle.rds_conn.specs.Connection.{Connection, stream_of, taken_bytes, with_entries}
 use Rattle.rds_conn.specs.declared.conn.Pulled.TheVariants as pulled
 use Rattle.rds_conn.specs.Pulling.{Pulls, is_frame, name_of_pull}
 use Rattle.rds_line_parts.specs.Own.{Own, IsRefresh}
-use Rattle.rds_line_channel.specs.Channel.{ChannelView}
+use Rattle.rds_line_channel.specs.Channel.{ChannelView, arrived_bytes}
 use Rattle.rds_line.specs.Keeps.{IsPulled, KeepsLine}
 use Rattle.rds_line.specs.Line.{LineView, line_past, pulls_in}
 use Rattle.rds_line.specs.Stays.{LineStays}
+use Rattle.rds_line.specs.Steps.{KeepsArrived}
 use Rattle.rds_line.specs.Turns.{LeavesNothing, LoadsOwn, FindsNothingOwed}
 use Rattle.rds_line.proofs.Grounding.{own_found, pulled_payload}
 use Rattle.rds_line.proofs.Looking.{PullsOrNone}
@@ -101,6 +102,13 @@ frame_or_nothing : (s : ℕ) (owed : Option Frame) (old new : Connection) (out o
 frame_or_nothing s None old new out out_new came did some = absurd (some did.named)
 frame_or_nothing s (Some f) old new out out_new came did some = ap is_frame did.named ∙ named_frame (kind_of f.header)
 
+frame_longer : (s : ℕ) (owed : Option Frame) (old new : Connection) (out out_new : List ℕ) (came : Pulled) →
+    Pulls s owed old new out out_new came → came ≢ pulled.Nothing → length old.log.past < length new.log.past
+frame_longer s None old new out out_new came did some = absurd (some did.named)
+frame_longer s (Some f) old new out out_new came did some =
+    let e = ap (λ (c : Connection). length c.log.past) did.entry in
+    omega (arith, e)
+
 nothing_owed : (s : ℕ) (owed : Option Frame) (old new : Connection) (out out_new : List ℕ) (came : Pulled) →
     Pulls s owed old new out out_new came → came ≡ pulled.Nothing → (owed ≡ None) × (new ≡ old) × (out_new ≡ out)
 nothing_owed s None old new out out_new came did none = (refl, did.same, did.no_bytes)
@@ -133,6 +141,10 @@ module _ {E M : Type 0} (noted : Bool) (v w : LineView E M) (reads : ReadsOwn no
     failed_pulls =
         inl (ap (λ (l : LineView E M). pulls_in (line_past l)) same_line
         ∙ ap (λ (c : ChannelView E). pulls_in c.conn.log.past) same_channel)
+
+    pub failed_arrived : KeepsArrived v.channel u.channel
+    failed_arrived _ =
+        ap (λ (l : LineView E M). arrived_bytes l.channel) same_line ∙ ap (λ (c : ChannelView E). arrived_bytes c) same_channel
 
     pub keeps_failed : (published : M → List (List ℕ)) → KeepsLine published w → KeepsLine published u × IsPulled noted u
     keeps_failed published k = (
@@ -216,6 +228,19 @@ module _ {E M : Type 0} (noted : Bool) (v w : LineView E M) (reads : ReadsOwn no
       leaves.waiting ∙ none,
       ap (λ (c : ChannelView E). c.piece) p.rest ∙ ap (λ (c : ChannelView E). c.piece) same_channel ∙ left,
     )
+
+    pub pulled_arrived : KeepsArrived v.channel u.channel
+    pulled_arrived _ =
+        ap (λ (l : List ℕ). l ++ u.channel.piece) leaves.taken
+        ∙ ap (λ (l : List ℕ). taken_bytes v.channel.conn ++ l)
+        (ap (λ (c : ChannelView E). c.piece) p.rest ∙ ap (λ (c : ChannelView E). c.piece) same_channel)
+
+    pub pulled_longer : came ≢ pulled.Nothing → length (line_past v) < length (line_past u)
+    pulled_longer some =
+        let shown : length (line_past w) ≡ length (line_past v) = ap (λ (c : ChannelView E). length c.conn.log.past) same_channel in
+        let more = frame_longer p.stream (owed_frame p.stream w.channel.conn.log.past w.own.map) w.channel.conn u.channel.conn
+        w.channel.out u.channel.out came p.pulls some in
+        omega (arith, shown, more)
 
     pub pulled_some : came ≢ pulled.Nothing → u.channel.out ≢ []
     pulled_some some =

@@ -12,7 +12,7 @@ use Rattle.rds_model.specs.Owed.{owed_frame}
 use Rattle.rds_model.specs.Past.{Moment, now, before}
 use Rattle.rds_mail.specs.Learning.{AllGot}
 use Rattle.rds_mail.specs.Passes.{Getter, after_get}
-use Rattle.rds_conn.specs.Connection.{Connection, stream_of}
+use Rattle.rds_conn.specs.Connection.{Connection, stream_of, taken_bytes}
 use Rattle.rds_line_streams.specs.Changes.{ChangesAt, Receives, Sends}
 use Rattle.rds_line_streams.specs.ChangeLaws.{same_length}
 use Rattle.rds_line_streams.specs.Streams.{StreamsView, newest_place}
@@ -25,6 +25,7 @@ use Rattle.rds_line.specs.declared.outcome.Sent.TheVariants as sent
 use Rattle.rds_line.specs.Doing.{IsRelieved}
 use Rattle.rds_line.specs.Line.{LineView, IsOpenOrLast, line_past}
 use Rattle.rds_line.specs.Stays.{StreamsStay}
+use Rattle.rds_line.specs.Steps.{KeepsArrived, KeepsUnwritten}
 use Rattle.rds_line.specs.Turns.{FindsNoRoom, GetsBytes, HearsNothing, IsIdleTurn, LeavesNothing, LoadsOwn, FindsNothingOwed, SendsBytes, TakesOrder, is_bytes_heard, is_bytes_sent}
 
 -- a journal is at least as long as it was
@@ -100,6 +101,14 @@ module _ {E M : Type 0} {old new : LineView E M} (relieved : IsRelieved old new)
 
   pub relieved_past : line_past new ≡ line_past old
   relieved_past = ap (λ (c : Connection). c.log.past) relieved.conn
+
+  pub relieved_arrived : KeepsArrived old.channel new.channel
+  relieved_arrived _ =
+      ap (λ (l : List ℕ). l ++ new.channel.piece) (ap (λ (c : Connection). taken_bytes c) relieved.conn)
+      ∙ ap (λ (l : List ℕ). taken_bytes old.channel.conn ++ l) (ap (λ (c : ChannelView E). c.piece) relieved.channel)
+
+  pub relieved_unwritten : KeepsUnwritten old.channel new.channel
+  relieved_unwritten _ = ap (λ (c : ChannelView E). c.out) relieved.channel
 
   pub relieved_nothing : (old.channel.conn.waiting ≡ None) × (old.channel.piece ≡ []) → (new.channel.conn.waiting ≡ None) × (new.channel.piece ≡ [])
   relieved_nothing none = (ap (λ (c : Connection). c.waiting) relieved.conn ∙ none.0, ap (λ (c : ChannelView E). c.piece) relieved.channel ∙ none.1)

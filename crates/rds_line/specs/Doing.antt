@@ -1,11 +1,11 @@
 -- Private: it serves the contracts of the private steps of a turn, and their proofs. What the steps did together, and what the
 -- turn answers for it. Source: this project's own.
-use Rattle.std.specs.Prelude.{◌≡◌, ◌⊎◌, ◌<◌, ◌||◌, ◌&&◌, not, if◌then◌else◌, ℕ, Bool, true, false, length}
+use Rattle.std.specs.Prelude.{◌≡◌, ◌⊎◌, ◌<◌, ◌||◌, ◌&&◌, not, if◌then◌else◌, Bool, true, false, length}
 use Rattle.rds_link.specs.Ends.{Means}
 use Rattle.rds_mail.specs.Learning.{AllGot}
 use Rattle.rds_line_channel.specs.Channel.{with_conn}
 use Rattle.rds_line.specs.Line.{LineView, line_past}
-use Rattle.rds_line.specs.Turns.{GetsBytes, IsIdleTurn, SendsBytes, TakesOrder, is_bytes_heard, is_bytes_sent}
+use Rattle.rds_line.specs.Turns.{BytesCame, BytesWent, IsIdleTurn, TakesOrder, is_bytes_heard, is_bytes_sent}
 use Rattle.rds_line.specs.declared.outcome.Done.{Done}
 use Rattle.rds_line.specs.declared.outcome.Heard.TheVariants as heard
 use Rattle.rds_line.specs.declared.outcome.Sent.TheVariants as sent
@@ -30,8 +30,8 @@ module _ {E M : Type 0} where
   pub record Did (m : Means E) (old new : LineView E M) (done : Done) : Type 0 where
     pub took : done.took ≡ true → TakesOrder old.orders new.orders
     pub none : done.took ≡ false → (new.orders ≡ old.orders) × AllGot new.orders
-    pub got : done.heard ≡ heard.Bytes → (place : ℕ) × GetsBytes m place old.channel.streams.list new.channel.streams.list
-    pub sent : done.sent ≡ sent.Bytes → (place : ℕ) × SendsBytes m place old.channel.streams.list new.channel.streams.list
+    pub got : done.heard ≡ heard.Bytes → BytesCame m old.channel new.channel
+    pub sent : done.sent ≡ sent.Bytes → BytesWent m old.channel new.channel
     -- where nothing was taken, came or went, no entry was appended, and a stream is open or left, there was nothing to do
     pub idle : done.took ≡ false → is_bytes_heard done.heard ≡ false → is_bytes_sent done.sent ≡ false → line_past new ≡ line_past old →
         (new.channel.streams.is_open ≡ true) ⊎ (new.channel.streams.opened < length new.channel.streams.list) → IsIdleTurn m old new

@@ -9,7 +9,7 @@ use Rattle.rds_cong.specs.Map.{has_port, word_at}
 use Rattle.rds_conn.specs.declared.conn.Found.{Found}
 use Rattle.rds_conn.specs.Connection.{Connection}
 use Rattle.rds_conn.specs.Passing.{Passes}
-use Rattle.rds_line_channel.specs.Channel.{ChannelView, with_conn}
+use Rattle.rds_line_channel.specs.Channel.{ChannelView, arrived_bytes, with_conn}
 use Rattle.rds_link.specs.Ends.{Means}
 use Rattle.rds_line.specs.Line.{LineView, line_past, pulls_in}
 use Rattle.rds_line.specs.Stays.{LineStays}
@@ -30,6 +30,14 @@ module _ {E : Type 0} where
     pub found : Found
     pub passes : Passes found old.conn new.conn
     pub rest : new ≡ with_conn old new.conn
+
+  -- where no entry was appended, the bytes that came and were not passed are the same
+  abbrev pub KeepsArrived : ChannelView E → ChannelView E → Type 0
+  KeepsArrived old new = new.conn.log.past ≡ old.conn.log.past → arrived_bytes new ≡ arrived_bytes old
+
+  -- where no entry was appended, the bytes that are to be written are the same
+  abbrev pub KeepsUnwritten : ChannelView E → ChannelView E → Type 0
+  KeepsUnwritten old new = new.conn.log.past ≡ old.conn.log.past → new.out ≡ old.out
 
   -- how much is left of what came: it falls with each frame that is passed
   abbrev pub left_to_take : ChannelView E → ℕ

@@ -18,7 +18,7 @@ use Rattle.rds_conn.specs.Connection.{stream_of}
 use Rattle.rds_line_parts.specs.Own.{IsRefresh}
 use Rattle.rds_line_streams.specs.Changes.{ChangesAt, Receives, Sends}
 use Rattle.rds_line_streams.specs.Streams.{newest_place}
-use Rattle.rds_line_channel.specs.Channel.{ChannelView}
+use Rattle.rds_line_channel.specs.Channel.{ChannelView, arrived_bytes}
 use Rattle.rds_line.specs.Line.{LineView, line_past, pulls_in}
 use Rattle.rds_line.specs.declared.outcome.Heard.{Heard}
 use Rattle.rds_line.specs.declared.outcome.Heard.TheVariants as heard
@@ -49,6 +49,14 @@ module _ {E : Type 0} where
   abbrev pub LeavesNothing : ChannelView E → ChannelView E → Type 0
   LeavesNothing old new = old.conn.waiting ≡ None → old.piece ≡ [] → (new.conn.waiting ≡ None) × (new.piece ≡ [])
 
+  -- where no entry was appended, there are more bytes that came and were not passed
+  abbrev pub HoldsMore : ChannelView E → ChannelView E → Type 0
+  HoldsMore old new = new.conn.log.past ≡ old.conn.log.past → length (arrived_bytes old) < length (arrived_bytes new)
+
+  -- where no entry was appended, there are fewer bytes to write
+  abbrev pub HasLessToWrite : ChannelView E → ChannelView E → Type 0
+  HasLessToWrite old new = new.conn.log.past ≡ old.conn.log.past → length new.out < length old.out
+
   module _ (m : Means E) where
     -- The end of the open stream answered that no bytes are there. No frame waits, and no byte that came is left.
     pub record HearsNothing (old new : ChannelView E) : Type 0 where
@@ -77,6 +85,18 @@ module _ {E : Type 0} where
       pub stood : slice_get old place ≡ Some before_it
       pub stands : slice_get new place ≡ Some after_it
       pub more : m.tells ≡ true → (piece : List ℕ) × (piece ≢ []) × (m.sent after_it.1 ≡ m.sent before_it.1 ++ piece)
+
+    -- Bytes came. The line itself shows it, of whatever kind its ends are: it holds more of what came, where it appended no entry.
+    pub record BytesCame (old new : ChannelView E) : Type 0 where
+      pub place : ℕ
+      pub gets : GetsBytes place old.streams.list new.streams.list
+      pub more : HoldsMore old new
+
+    -- Bytes went. The line itself shows it too: it has less to write, where it appended no entry.
+    pub record BytesWent (old new : ChannelView E) : Type 0 where
+      pub place : ℕ
+      pub sends : SendsBytes place old.streams.list new.streams.list
+      pub less : HasLessToWrite old new
 
 module _ {E M : Type 0} where
   -- The host's own map was looked at: the change number was loaded, and all words of the map where it isn't the number that was
@@ -130,9 +150,8 @@ module _ {E M : Type 0} where
       pub none_left : new.channel.piece ≡ []
       pub sends : (FindsNothingOwed middle new × LoadsOwn old new) ⊎ FindsNoRoom m middle.channel new.channel
 
-    -- an order was taken, the journal has more entries, or an end got or sent bytes
+    -- an order was taken, the journal has more entries, or bytes came or went
     abbrev pub HasMoved : LineView E M → LineView E M → Type 0
     HasMoved old new =
         TakesOrder old.orders new.orders ⊎ ((length (line_past old) < length (line_past new))
-        ⊎ (((place : ℕ) × GetsBytes m place old.channel.streams.list new.channel.streams.list)
-        ⊎ ((place : ℕ) × SendsBytes m place old.channel.streams.list new.channel.streams.list)))
+        ⊎ (BytesCame m old.channel new.channel ⊎ BytesWent m old.channel new.channel))

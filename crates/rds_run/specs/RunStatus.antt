@@ -50,8 +50,8 @@ seen_over wire.Memory tcp = memory_seen
 seen_over wire.Tcp tcp = tcp
 
 -- A run of the script came to its end over a wire that was seen so: its hosts did the script's commands, what they have then is sound, no
--- datagram is left unacknowledged, no cut of the commands is lost, and the sink took exactly the text of this form on it. Where ends tell their
--- bytes, nothing is left on its way between any two of the hosts, and no datagram is pending.
+-- datagram is left unacknowledged, at least as many streams ended as the commands cut, and the sink took exactly the text of this form on it.
+-- Where ends tell their bytes, nothing is left on its way between any two of the hosts, and no datagram is pending.
 pub record IsRan (seen : WireSeen) (form : Form) (s : Meaning) (held_before held_after : Option (List ℕ)) : Type 0 where
   pub ends : List FinalHost
   pub did : AreEnds seen.tells s.hosts s.commands ends
@@ -92,7 +92,7 @@ pub record IsWireFault (seen : WireSeen) (s : Meaning) (held_before held_after :
 -- The hosts did the script's commands, and what they have then is sound. So many datagrams aren't acknowledged, and the sink took the line
 -- that says so. No journal owes anything to its open stream, or the wire counted in the call that there was no room; and it counted at least
 -- 20,000,000 times that no bytes were there, or each two hosts have used up their streams, and the journals of the two refused at least three
--- headers together. No cut of the commands is lost.
+-- headers together. At least as many streams ended as the commands cut.
 pub record IsRunUnfinished (seen : WireSeen) (s : Meaning) (held_before held_after : Option (List ℕ)) : Type 0 where
   pub count : ℕ
   pub ends : List FinalHost
@@ -104,7 +104,7 @@ pub record IsRunUnfinished (seen : WireSeen) (s : Meaning) (held_before held_aft
   pub written : SinkGained held_before held_after (unfinished_line count)
 
 -- What a run of the script has to write, in a text of this form: the text of an end that the run may come to, by what was counted of the
--- wire, and at which no cut of the commands is lost.
+-- wire, and at which at least as many streams ended as the commands cut.
 abbrev pub IsRunText : WireSeen → Form → Meaning → List ℕ → Type 0
 IsRunText seen form s text =
     (end : RunEnd) × HasToWrite form seen.tells MAX_ENTRIES s.hosts s.commands end text × IsCountedEnd seen.tells (Unit {0}) 20000000 s.commands seen.before seen.after end

@@ -46,7 +46,7 @@ const USAGE: &str = "usage: rds play | rds run [--wire memory|tcp] | rds gen N S
 /// | 3 | the source failed; the text line `read fault` was written |
 /// | 4 | the sink failed, after it took a beginning of the answer |
 /// | 5 | two hosts of a run lack a stream that they should have; the text line `wire fault H K after k=N` was written |
-/// | 6 | memory ran out |
+/// | 6 | memory ran out, or a run found what should never be |
 /// | 7 | a journal had no room for its next two entries; the text line `spent H K ENTRIES` was written |
 /// | 8 | a run stopped while datagrams weren't acknowledged; the text line `unfinished N` was written |
 /// | 9 | a run over `tcp` would need N streams, more than 96; the text line `too many streams N` was written |
@@ -100,12 +100,13 @@ where
     // The source's bytes spell a script. It was played to its end, what it came to is sound, and exactly its text was written.
     ensures played { ArePlay words.now → result ≡ 0 →
         (s : Meaning) × IsSpelled (S.left source.old) s × IsPlayed s (K.held sink.old) (K.held sink.new) }
-    // The source's bytes spell a script. It was run to its end, its hosts did its commands, no cut of these is lost, what the hosts have then
-    // is sound, and exactly the report on it was written.
+    // The source's bytes spell a script. It was run to its end, its hosts did its commands, at least as many streams ended as they cut, what
+    // the hosts have then is sound, and exactly the report on it was written.
     ensures ran { AreRun words.now wires.Memory → result ≡ 0 →
         (s : Meaning) × IsSpelled (S.left source.old) s × IsRan memory_seen form.Report s (K.held sink.old) (K.held sink.new) }
-    // The same over TCP, where no more streams were prepared for that script than may be. The ends of that wire say whether they tell their
-    // bytes.
+    // The same over TCP, where no more streams were prepared for that script than may be. Proved is what the hosts did, what their journals
+    // have, and what their sockets handed out of it, whatever the network does. Assumed is, where a clause says so (`AreReliable`), that each
+    // TCP stream gives a beginning of the bytes written to it.
     ensures ran_over_tcp { AreRun words.now wires.Tcp → result ≡ 0 →
         (s : Meaning) × IsSpelled (S.left source.old) s × (prepared_streams s ≤ 96)
         × IsRan
@@ -115,8 +116,8 @@ where
           after = record { faults = W.faults tcp.new; nothings = W.nothings tcp.new; fulls = W.fulls tcp.new };
         }
         form.Report s (K.held sink.old) (K.held sink.new) }
-    // The script of so many sends and this seed was run to its end, its hosts did its commands, no cut of these is lost, what the hosts have
-    // then is sound, and exactly the summary of it was written.
+    // The script of so many sends and this seed was run to its end, its hosts did its commands, at least as many streams ended as they cut,
+    // what the hosts have then is sound, and exactly the summary of it was written.
     ensures summed { (sends seed : ℕ) → AreGen words.now sends seed → result ≡ 0 →
         IsRan memory_seen (form.Summary seed sends) (generated sends seed) (K.held sink.old) (K.held sink.new) }
     ensures written { ArePlay words.now → result ≡ 0 → (text : List ℕ) × SinkGained (K.held sink.old) (K.held sink.new) (text ++ end_line) }
@@ -147,10 +148,10 @@ where
           after = record { faults = W.faults tcp.new; nothings = W.nothings tcp.new; fulls = W.fulls tcp.new };
         }
         s (K.held sink.old) (K.held sink.new)) }
-    // Over TCP alone, and where its ends don't tell their bytes: some datagrams of the hosts of the script aren't acknowledged, no cut of its
-    // commands is lost, and exactly the line that says how many aren't was written. The wire counted in this call 20,000,000 times that no
-    // bytes were there, or each two hosts have used up their streams and refused at least three headers together; and it counted that there
-    // was no room, or no journal owes anything to its open stream.
+    // Over TCP alone, and where its ends don't tell their bytes: some datagrams of the hosts of the script aren't acknowledged, at least as many
+    // streams ended as its commands cut, and exactly the line that says how many aren't was written. The wire counted in this call 20,000,000
+    // times that no bytes were there, or each two hosts have used up their streams and refused at least three headers together; and it counted
+    // that there was no room, or no journal owes anything to its open stream.
     ensures unfinished { result ≡ 8 → AreRun words.now wires.Tcp × (W.End.means.tells ≡ false)
         × ((s : Meaning) × IsSpelled (S.left source.old) s × IsRunUnfinished
         record {

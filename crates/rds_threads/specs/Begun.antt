@@ -9,7 +9,7 @@ use Rattle.rds_threads.specs.declared.form.RunEnd.{RunEnd}
 use Rattle.rds_threads.specs.declared.form.RunEnd.TheVariants as ended
 
 -- The sink took a beginning of what a run that came to some end has to write. The counts of the wire are those of a run that came to that end,
--- and what its hosts had then lost no cut of the commands.
+-- and at least as many streams ended as the commands cut.
 abbrev pub HasBegun : (form : Form) (tells : Bool) (limit hosts : ℕ) (commands : List Placed) → (IsCounted : RunEnd → Type 0) →
     (faults_before faults_after : ℕ) → (held_before held_after : Option (List ℕ)) → Type 0
 HasBegun form tells limit hosts commands IsCounted faults_before faults_after held_before held_after =

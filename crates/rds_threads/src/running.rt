@@ -65,7 +65,7 @@ where
         record { faults = W.faults wire.old; nothings = W.nothings wire.old; fulls = W.fulls wire.old }
         record { faults = W.faults wire.new; nothings = W.nothings wire.new; fulls = W.fulls wire.new } result }
     ensures cut { IsCutEnd script.now.commands.items (W.faults wire.old) (W.faults wire.new) result }
-    // Where the sink failed, it took a beginning of what the run had to write at an end that the wire's counts tell of, with no cut lost.
+    // Where the sink failed, it took a beginning of what the run had to write at an end that the wire's counts tell of, and of cuts as well.
     ensures begun { BeginsAtFault form W.End.means.tells limit script.now.hosts script.now.commands.items
         (IsCountedEnd W.End.means.tells (W.may_fail wire.old) budget script.now.commands.items
         record { faults = W.faults wire.old; nothings = W.nothings wire.old; fulls = W.fulls wire.old }

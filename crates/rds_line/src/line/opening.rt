@@ -1,7 +1,7 @@
 ghost use Rattle.std.specs.Prelude.{◌≡◌, ◌<◌, ◌+◌, ℕ, Err, OnErr, OnOk, length};
 ghost use Rattle.rds_model.specs.declared.journal.JournalError.TheVariants as errors;
 ghost use Rattle.rds_line.specs.Line.{IsFull, IsOpenOrLast, line_past};
-ghost use Rattle.rds_line.specs.Steps.{StaysQuiet};
+ghost use Rattle.rds_line.specs.Steps.{KeepsArrived, KeepsUnwritten, StaysQuiet};
 
 use super::Line;
 use rds_fmap::MapWriter;
@@ -14,6 +14,8 @@ impl<E: End, M: MapWriter> Line<E, M> {
         ensures quiet { StaysQuiet E.means M.pair self.old self.new }
         ensures alone { self.new ≡ record self.old { channel = self.new.channel } }
         ensures streams { line_past self.new ≡ line_past self.old → self.new.channel.streams ≡ self.old.channel.streams }
+        ensures arrived { OnOk result (KeepsArrived self.old.channel self.new.channel) }
+        ensures unwritten { OnOk result (KeepsUnwritten self.old.channel self.new.channel) }
         ensures open { OnOk result (IsOpenOrLast self.new) }
         ensures same { OnErr result (self.new ≡ self.old) }
         ensures spent { (entries : ℕ) → result ≡ Err (errors.Spent entries) → IsFull entries self.new }

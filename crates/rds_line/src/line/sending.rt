@@ -5,8 +5,8 @@ ghost use Rattle.rds_line_parts.specs.Own.{IsRefresh};
 ghost use Rattle.rds_line_streams.specs.Streams.{newest_place};
 ghost use Rattle.rds_line.specs.Line.{IsFull, line_past, pulls_in};
 ghost use Rattle.rds_line.specs.Stays.{LineStays};
-ghost use Rattle.rds_line.specs.Steps.{HasBits, StaysQuiet};
-ghost use Rattle.rds_line.specs.Turns.{FindsNoRoom, LeavesNothing, LoadsOwn, FindsNothingOwed, PullsOwn, SendsBytes};
+ghost use Rattle.rds_line.specs.Steps.{HasBits, KeepsArrived, StaysQuiet};
+ghost use Rattle.rds_line.specs.Turns.{FindsNoRoom, HasLessToWrite, LeavesNothing, LoadsOwn, FindsNothingOwed, PullsOwn, SendsBytes};
 ghost use Rattle.rds_line.specs.declared.outcome.Sent.TheVariants as sent;
 
 use super::Line;
@@ -22,11 +22,13 @@ impl<E: End, M: MapWriter> Line<E, M> {
         ensures stays { LineStays E.means M.pair self.old self.new }
         ensures orders { self.new.orders ≡ self.old.orders }
         ensures came { OnOk result (LeavesNothing self.old.channel self.new.channel) }
+        ensures arrived { KeepsArrived self.old.channel self.new.channel }
         ensures closed { result ≡ Ok sent.Closed → (self.old.channel.streams.is_open ≡ false) × (self.new ≡ self.old) }
         ensures shut { self.old.channel.streams.is_open ≡ false → result ≡ Ok sent.Closed }
         ensures nothing { result ≡ Ok sent.Nothing → FindsNothingOwed self.old self.new × (line_past self.new ≡ line_past self.old) }
         ensures full { result ≡ Ok sent.Full → FindsNoRoom E.means self.old.channel self.new.channel }
         ensures bytes { result ≡ Ok sent.Bytes → SendsBytes E.means (newest_place self.old.channel.streams) self.old.channel.streams.list self.new.channel.streams.list }
+        ensures less { result ≡ Ok sent.Bytes → HasLessToWrite self.old.channel self.new.channel }
         ensures looked { result ≡ Ok sent.Nothing → LoadsOwn self.old self.new }
         ensures pulls { (pulls_in (line_past self.new) ≡ pulls_in (line_past self.old)) ⊎ PullsOwn self.old self.new }
         ensures ended { result ≡ Ok sent.Ended → length (line_past self.old) < length (line_past self.new) }
@@ -50,7 +52,9 @@ impl<E: End, M: MapWriter> Line<E, M> {
         ensures stays { LineStays E.means M.pair self.old self.new }
         ensures orders { self.new.orders ≡ self.old.orders }
         ensures came { LeavesNothing self.old.channel self.new.channel }
+        ensures arrived { KeepsArrived self.old.channel self.new.channel }
         ensures streams { self.new.channel.streams ≡ self.old.channel.streams }
+        ensures appends { result ≡ Ok true → length (line_past self.old) < length (line_past self.new) }
         ensures some { result ≡ Ok true → self.new.channel.out ≢ [] }
         ensures nothing { result ≡ Ok false → FindsNothingOwed self.old self.new × (line_past self.new ≡ line_past self.old) }
         ensures looked { LoadsOwn self.old self.new }
@@ -92,9 +96,11 @@ impl<E: End, M: MapWriter> Line<E, M> {
         requires some { self.old.channel.out ≢ [] }
         ensures quiet { StaysQuiet E.means M.pair self.old self.new }
         ensures came { OnOk result (LeavesNothing self.old.channel self.new.channel) }
+        ensures arrived { KeepsArrived self.old.channel self.new.channel }
         ensures written { (result ≢ Ok sent.Closed) × (result ≢ Ok sent.Nothing) }
         ensures full { result ≡ Ok sent.Full → FindsNoRoom E.means self.old.channel self.new.channel }
         ensures bytes { result ≡ Ok sent.Bytes → SendsBytes E.means (newest_place self.old.channel.streams) self.old.channel.streams.list self.new.channel.streams.list }
+        ensures less { result ≡ Ok sent.Bytes → length self.new.channel.out < length self.old.channel.out }
         ensures ended { result ≡ Ok sent.Ended → length (line_past self.old) < length (line_past self.new) }
         ensures spent { (entries : ℕ) → result ≡ Err (errors.Spent entries) → IsFull entries self.new }
     {

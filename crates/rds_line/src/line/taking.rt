@@ -1,4 +1,4 @@
-ghost use Rattle.std.specs.Prelude.{◌≡◌, ◌≢◌, ◌⊎◌, ◌+◌, ◌<◌, ℕ, true, false, Some, Ok, Err, OnErr, [], ◌∷◌, ◌++◌, length};
+ghost use Rattle.std.specs.Prelude.{◌≡◌, ◌≢◌, ◌⊎◌, ◌+◌, ◌<◌, ℕ, true, false, Some, Ok, Err, OnOk, OnErr, [], ◌∷◌, ◌++◌, length};
 ghost use Rattle.rds_mail.specs.Learning.{AllGot};
 ghost use Rattle.rds_model.specs.declared.journal.JournalError.TheVariants as errors;
 ghost use Rattle.rds_model.specs.declared.order.Order.TheVariants as orders;
@@ -9,6 +9,7 @@ ghost use Rattle.rds_line_channel.specs.Changes.{ShutsStream};
 ghost use Rattle.rds_line_channel.specs.Channel.{with_conn};
 ghost use Rattle.rds_line.specs.Line.{IsFull, IsOpenOrLast, line_past, pulls_in};
 ghost use Rattle.rds_line.specs.Stays.{LineStays};
+ghost use Rattle.rds_line.specs.Steps.{KeepsArrived, KeepsUnwritten};
 ghost use Rattle.rds_line.specs.Turns.{TakesOrder};
 
 use super::Line;
@@ -28,6 +29,8 @@ impl<E: End, M: MapWriter> Line<E, M> {
         ensures took { result ≡ Ok true → TakesOrder self.old.orders self.new.orders }
         ensures none { result ≡ Ok false → (self.new.orders ≡ self.old.orders) × AllGot self.new.orders }
         ensures still { result ≡ Ok false → (line_past self.new ≡ line_past self.old) × (self.new.channel.streams ≡ self.old.channel.streams) }
+        ensures arrived { OnOk result (KeepsArrived self.old.channel self.new.channel) }
+        ensures unwritten { OnOk result (KeepsUnwritten self.old.channel self.new.channel) }
         ensures err { OnErr result ((self.new.orders ≡ self.old.orders) × (line_past self.new ≡ line_past self.old)) }
         ensures spent { (entries : ℕ) → result ≡ Err (errors.Spent entries) → IsFull entries self.new }
     {

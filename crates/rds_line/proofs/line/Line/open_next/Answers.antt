@@ -1,9 +1,11 @@
-use Rattle.std.proofs.Common.{List, ◌∷◌, length, ap, refl, ◌∙◌, arith}
+use Rattle.std.proofs.Common.{List, ◌∷◌, length, sym, ap, subst, refl, ◌∙◌, arith}
 use Rattle.rds_model.specs.declared.entry.Entry.{Entry}
 use Rattle.rds_model.specs.declared.entry.Entry.TheVariants as entry
-use Rattle.rds_line_channel.specs.Channel.{ChannelView}
+use Rattle.rds_line_channel.specs.Channel.{ChannelView, arrived_bytes}
 use Rattle.rds_line.specs.Line.{LineView, line_past}
+use Rattle.rds_line.specs.Steps.{KeepsArrived, KeepsUnwritten}
 use Rattle.rds_line.proofs.Acting.{more_past, still_past}
+use Rattle.rds_line.proofs.Carrying.{appended_arrived, appended_unwritten, opened_longer, roomy_arrived, roomy_unwritten}
 use Rattle.rds_line.proofs.Fields.{view_in}
 use Rattle.rds_line.proofs.Keeping.{keeps_plain}
 use Rattle.rds_line.proofs.Quiet.{quiet_inside, quiet_of}
@@ -82,3 +84,49 @@ pub invariant_of-self : goal.invariant_of-self
 invariant_of-self g c =
     keeps_alike g.M.MapWriter.published c.self.inside.own_pulled (view_in c.self.inside) c.reserve.new.self (c.in_err-reserve.ensures {u = tt}).err
     c.self.invariant
+
+pub returns-then-open_next-clause-arrived : goal.returns-then-open_next-clause-arrived
+returns-then-open_next-clause-arrived g c =
+    let ready = c.reserve.new.self in
+    let new = c.open_next.new.self in
+    roomy_arrived c.self.view_is ready new (c.in_ok-reserve.ensures {u = tt}).ok
+    (appended_arrived ready new (opened_longer ready new ((c.if-open_next.ensures {u = tt}).opened refl)))
+
+pub returns-then-open_next-clause-unwritten : goal.returns-then-open_next-clause-unwritten
+returns-then-open_next-clause-unwritten g c =
+    let ready = c.reserve.new.self in
+    let new = c.open_next.new.self in
+    roomy_unwritten c.self.view_is ready new (c.in_ok-reserve.ensures {u = tt}).ok
+    (appended_unwritten ready new (opened_longer ready new ((c.if-open_next.ensures {u = tt}).opened refl)))
+
+pub returns-else-not-is_open-clause-arrived : goal.returns-else-not-is_open-clause-arrived
+returns-else-not-is_open-clause-arrived g c =
+    let now = c.args.self.now in
+    let ready = c.reserve.new.self in
+    let room = (c.in_ok-reserve.ensures {u = tt}).ok in
+    elim c.else-not-is_open.branch [
+      | else-not-is_open-via-then-not-is_open+else-open_next w ↦
+          let same = ((w.if-open_next.ensures {u = tt}).none refl).0 in
+          subst (λ (l : LineView g.row.E.Denot g.row.M.Denot). KeepsArrived now.channel l.channel) (sym w.self-is)
+          (roomy_arrived c.self.view_is ready w.open_next.new.self room
+          (λ _. ap (λ (k : ChannelView g.row.E.Denot). arrived_bytes k) same))
+      | else-not-is_open-via-else-not-is_open w ↦
+          subst (λ (l : LineView g.row.E.Denot g.row.M.Denot). KeepsArrived now.channel l.channel) (sym w.self-is)
+          (roomy_arrived c.self.view_is ready ready room (λ _. refl))
+    ]
+
+pub returns-else-not-is_open-clause-unwritten : goal.returns-else-not-is_open-clause-unwritten
+returns-else-not-is_open-clause-unwritten g c =
+    let now = c.args.self.now in
+    let ready = c.reserve.new.self in
+    let room = (c.in_ok-reserve.ensures {u = tt}).ok in
+    elim c.else-not-is_open.branch [
+      | else-not-is_open-via-then-not-is_open+else-open_next w ↦
+          let same = ((w.if-open_next.ensures {u = tt}).none refl).0 in
+          subst (λ (l : LineView g.row.E.Denot g.row.M.Denot). KeepsUnwritten now.channel l.channel) (sym w.self-is)
+          (roomy_unwritten c.self.view_is ready w.open_next.new.self room
+          (λ _. ap (λ (k : ChannelView g.row.E.Denot). k.out) same))
+      | else-not-is_open-via-else-not-is_open w ↦
+          subst (λ (l : LineView g.row.E.Denot g.row.M.Denot). KeepsUnwritten now.channel l.channel) (sym w.self-is)
+          (roomy_unwritten c.self.view_is ready ready room (λ _. refl))
+    ]

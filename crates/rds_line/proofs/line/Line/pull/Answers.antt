@@ -11,7 +11,7 @@ use Rattle.rds_line.specs.Line.{LineView}
 use Rattle.rds_line.specs.declared.line.Line.TheInside.{Inside}
 use Rattle.rds_line.proofs.Fields.{view_in}
 use Rattle.rds_line.proofs.Pulled.{ReadsOwn, reads_of}
-use Rattle.rds_line.proofs.PulledFrames.{PullsOwed, owed_of_map, owed_of_last, same_channel, keeps_failed, failed_stays, keeps_pulled, pulled_stays, pulled_leaves, pulled_some, pulled_nothing, failed_looked, failed_pulls, pulled_looked, pulled_owed}
+use Rattle.rds_line.proofs.PulledFrames.{PullsOwed, owed_of_map, owed_of_last, same_channel, keeps_failed, failed_stays, keeps_pulled, pulled_stays, pulled_arrived, pulled_leaves, pulled_longer, pulled_some, pulled_nothing, failed_arrived, failed_looked, failed_pulls, pulled_looked, pulled_owed}
 use Rattle.rds_line.proofs.line.Line.pull.Given as given
 use Rattle.rds_line.proofs.line.Line.pull.Goals as goal
 use Rattle.rds_line.proofs.line.Line.pull.Goals.{then-self, else-self}
@@ -161,3 +161,20 @@ pub returns-in-Err-clause-pulls : goal.returns-in-Err-clause-pulls
 returns-in-Err-clause-pulls g c =
     let new = view_in c.if-self.self-inside in
     failed_pulls c.self.inside.own_pulled (first g c) (second g c) (reads_too g c) new (failed g c).0
+
+pub returns-in-Ok-clause-arrived : goal.returns-in-Ok-clause-arrived
+returns-in-Ok-clause-arrived g c =
+    pulled_arrived c.self.inside.own_pulled (start g c) (middle g c) (reads g c) (end g c) c.in-Ok.pulled (is g c)
+    (owed g c)
+
+pub returns-in-Ok-clause-appends : goal.returns-in-Ok-clause-appends
+returns-in-Ok-clause-appends g c same =
+    let frame : c.ne.result ≡ true = cc in
+    pulled_longer c.self.inside.own_pulled (start g c) (middle g c) (reads g c) (end g c) c.in-Ok.pulled (is g c)
+    (owed g c)
+    (differs_true the_type c.in-Ok.pulled pulled.Nothing (sym c.ne.ensures ∙ frame))
+
+pub returns-in-Err-clause-arrived : goal.returns-in-Err-clause-arrived
+returns-in-Err-clause-arrived g c =
+    let new = view_in c.if-self.self-inside in
+    failed_arrived c.self.inside.own_pulled (first g c) (second g c) (reads_too g c) new (failed g c).0

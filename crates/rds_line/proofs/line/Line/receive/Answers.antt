@@ -7,6 +7,7 @@ use Rattle.rds_line_channel.specs.Channel.{ChannelView}
 use Rattle.rds_line.specs.Line.{LineView, line_past}
 use Rattle.rds_line.specs.Turns.{GetsBytes}
 use Rattle.rds_line.proofs.Acting.{more_past, still_past}
+use Rattle.rds_line.proofs.Carrying.{appended_unwritten, more_before, read_more, read_unwritten, unwritten_through}
 use Rattle.rds_line.proofs.Fields.{view_in}
 use Rattle.rds_line.proofs.Longer.{longer}
 use Rattle.rds_line.proofs.Quiet.{quiet_channel, quiet_inside, quiet_same, quiet_through}
@@ -27,6 +28,8 @@ returns-then-not-is_open g c = record {
   nothing = λ e. absurd (cc);
   on = λ e. absurd (cc);
   bytes = λ e. absurd (cc);
+  more = λ e. absurd (cc);
+  unwritten = λ _. refl;
   ended = λ e. absurd (cc);
   spent = λ entries e. absurd (cc);
 }
@@ -41,6 +44,8 @@ returns-then-not-branch g c = record {
   nothing = λ e. absurd (cc);
   on = λ e. absurd (cc);
   bytes = λ e. absurd (cc);
+  more = λ e. absurd (cc);
+  unwritten = c.in_ok-pass_all.ensures.unwritten;
   ended = λ _. c.in_ok-pass_all.ensures.refused (ap Ok c.if-not-branch.true);
   spent = λ entries e. absurd (cc);
 }
@@ -79,6 +84,8 @@ returns-in-Nothing g c =
           ∙ sym (ap (λ (v : LineView g.row.E.Denot g.row.M.Denot). v.channel.streams.is_open) c.self.view_is)
           ∙ sym c.is_open.ensures ∙ c.if-not-is_open.false;
       bytes = λ e. absurd (cc);
+      more = λ e. absurd (cc);
+      unwritten = read_unwritten c.self-2.view_is ready new room did.rest start.channel c.in_ok-pass_all.ensures.unwritten;
       ended = λ e. absurd (cc);
       spent = λ entries e. absurd (cc);
     }
@@ -133,6 +140,8 @@ returns-in-Over g c =
       nothing = λ e. absurd (cc);
       on = λ e. absurd (cc);
       bytes = λ e. absurd (cc);
+      more = λ e. absurd (cc);
+      unwritten = appended_unwritten start.channel new (omega (arith, more, long));
       ended = λ _. omega (arith, more, long);
       spent = λ entries e. absurd (cc);
     }
@@ -147,6 +156,7 @@ returns-in_err-pass_all-in-Bytes-clause-quiet g c =
 pub returns-in_ok-pass_all-in-Bytes : goal.returns-in_ok-pass_all-in-Bytes
 returns-in_ok-pass_all-in-Bytes g c =
     let m = g.E.End.means in
+    let start = c.args.self.now in
     let ready = c.reserve.new.self in
     let new = c.receive.new.self in
     let later = c.pass_all-in-Bytes.new.self in
@@ -156,12 +166,13 @@ returns-in_ok-pass_all-in-Bytes g c =
     let count = did.count n refl in
     let some : 1 ≤ length new.piece = omega (arith, count.0, count.1) in
     let place = newest_place ready.streams in
-    let further = c.pass_all-in-Bytes.ensures.quiet.stays.channel.streams in
+    let first = c.in_ok-pass_all.ensures in
+    let so_far = reads_line m g.M.MapWriter.pair start c.pass_all.new.self (view_in c.self-2.inside) ready new (got.Bytes n)
+    c.self-2.view_is c.pass_all.ensures.quiet room did.received did.rest in
+    let rest = c.pass_all-in-Bytes.ensures.quiet in
+    let further = rest.stays.channel.streams in
     record {
-      quiet =
-          quiet_through
-          (reads_line m g.M.MapWriter.pair c.args.self.now c.pass_all.new.self (view_in c.self-2.inside) ready new (got.Bytes n)
-          c.self-2.view_is c.pass_all.ensures.quiet room did.received did.rest) c.pass_all-in-Bytes.ensures.quiet;
+      quiet = quiet_through so_far rest;
       closed = λ e. absurd (cc);
       nothing = λ e. absurd (cc);
       on = λ e. absurd (cc);
@@ -171,6 +182,14 @@ returns-in_ok-pass_all-in-Bytes g c =
           (gets_still m place ready.streams.list new.streams.list later.channel.streams.list
           (gets_bytes m place (got.Bytes n) new.piece ready.streams.list new.streams.list some did.received) further.numbers
           further.further);
+      more = λ _.
+          more_before start.channel new later.channel so_far.stays.channel.past rest.stays.channel.past
+          (read_more c.self-2.view_is ready new room did.rest start.channel first.arrived
+          (first.none_left (ap Ok c.if-not-branch.false)) some) c.in_ok-pass_all-in-Bytes.ensures.arrived;
+      unwritten =
+          unwritten_through start.channel new later.channel so_far.stays.channel.past rest.stays.channel.past
+          (read_unwritten c.self-2.view_is ready new room did.rest start.channel first.unwritten)
+          c.in_ok-pass_all-in-Bytes.ensures.unwritten;
       ended = λ e. absurd (cc);
       spent = λ entries e. absurd (cc);
     }

@@ -1,9 +1,11 @@
-use Rattle.std.proofs.Common.{◌≡◌, inl, refl, sym, ap, subst, ◌∙◌, arith}
+use Rattle.std.proofs.Common.{◌≡◌, ◌<◌, inl, Ok, length, refl, sym, ap, subst, ◌∙◌, arith}
 use Rattle.rds_line_streams.specs.Streams.{StreamsView, newest_place}
 use Rattle.rds_line_channel.specs.Channel.{ChannelView}
 use Rattle.rds_line.specs.Line.{LineView, line_past}
 use Rattle.rds_line.specs.Stays.{LineStays}
+use Rattle.rds_line.specs.Steps.{KeepsArrived, KeepsUnwritten}
 use Rattle.rds_line.specs.Turns.{SendsBytes}
+use Rattle.rds_line.proofs.Carrying.{appended_less, arrived_through, less_after, roomy_arrived, roomy_unwritten, same_arrived}
 use Rattle.rds_line.proofs.Fields.{view_in}
 use Rattle.rds_line.proofs.Longer.{longer}
 use Rattle.rds_line.proofs.Looking.{LeavesOwn, leaves_same, loads_wider, pulls_wider, roomy_leaves}
@@ -20,6 +22,7 @@ returns-then-not-is_open g c = record {
   stays = line_same g.E.End.means g.M.MapWriter.pair c.args.self.now;
   orders = refl;
   came = λ none left. (none, left);
+  arrived = λ _. refl;
   closed = λ _. (
     sym (ap (λ (v : LineView g.row.E.Denot g.row.M.Denot). v.channel.streams.is_open) c.self.view_is) ∙ sym c.is_open.ensures
         ∙ c.if-not-is_open.true,
@@ -29,6 +32,7 @@ returns-then-not-is_open g c = record {
   nothing = λ e. absurd (cc);
   full = λ e. absurd (cc);
   bytes = λ e. absurd (cc);
+  less = λ e. absurd (cc);
   looked = λ e. absurd (cc);
   pulls = inl refl;
   ended = λ e. absurd (cc);
@@ -183,3 +187,55 @@ pub invariant_of-self : goal.invariant_of-self
 invariant_of-self g c =
     keeps_alike g.M.MapWriter.published c.self.inside.own_pulled (view_in c.self.inside) c.reserve.new.self c.in_err-reserve.ensures.err
     c.self.invariant
+
+pub returns-in_err-reserve-clause-arrived : goal.returns-in_err-reserve-clause-arrived
+returns-in_err-reserve-clause-arrived g c =
+    same_arrived c.self.view_is c.reserve.new.self c.in_err-reserve.ensures.err
+
+pub returns-in_err-pull-clause-arrived : goal.returns-in_err-pull-clause-arrived
+returns-in_err-pull-clause-arrived g c =
+    roomy_arrived c.self.view_is c.reserve.new.self c.pull.new.self.channel c.in_ok-reserve.ensures.ok c.pull.ensures.arrived
+
+pub returns-then-not-branch-clause-arrived : goal.returns-then-not-branch-clause-arrived
+returns-then-not-branch-clause-arrived g c =
+    roomy_arrived c.self.view_is c.reserve.new.self c.pull.new.self.channel c.in_ok-reserve.ensures.ok c.pull.ensures.arrived
+
+pub returns-clause-arrived : goal.returns-clause-arrived
+returns-clause-arrived g c =
+    let now = c.args.self.now in
+    let middle = c.else-unwritten-eq0.self in
+    let room = c.in_ok-reserve.ensures.ok in
+    let first : KeepsArrived now.channel middle.channel = elim c.else-unwritten-eq0.branch [
+      | else-unwritten-eq0-via-then-unwritten-eq0+in_ok-pull+else-not-branch w ↦
+          subst (λ (v : LineView g.row.E.Denot g.row.M.Denot). KeepsArrived now.channel v.channel) (sym w.self-is)
+          (roomy_arrived c.self.view_is c.reserve.new.self w.pull.new.self.channel room w.pull.ensures.arrived)
+      | else-unwritten-eq0-via-else-unwritten-eq0 w ↦
+          subst (λ (v : LineView g.row.E.Denot g.row.M.Denot). KeepsArrived now.channel v.channel) (sym w.self-is)
+          (roomy_arrived c.self.view_is c.reserve.new.self c.reserve.new.self room (λ _. refl))
+    ] in
+    arrived_through now.channel middle.channel c.write.new.self.channel (middle_stays g c).channel.past
+    c.write.ensures.quiet.stays.channel.past first c.write.ensures.arrived
+
+pub returns-clause-less : goal.returns-clause-less
+returns-clause-less g c is =
+    let now = c.args.self.now in
+    let middle = c.else-unwritten-eq0.self in
+    let new = c.write.new.self in
+    let room = c.in_ok-reserve.ensures.ok in
+    let last = c.write.ensures.quiet.stays.channel.past in
+    let fewer = c.write.ensures.less is in
+    elim c.else-unwritten-eq0.branch [
+      | else-unwritten-eq0-via-then-unwritten-eq0+in_ok-pull+else-not-branch w ↦
+          let first = longer (line_past now) (line_past (ready g c)) (ready_stays g c).channel.past in
+          let appended : length (line_past (ready g c)) < length (line_past w.pull.new.self) =
+          w.in_ok-pull.ensures.appends (ap Ok w.if-not-branch.false) in
+          let written = longer (line_past middle) (line_past new) last in
+          let same : length (line_past middle) ≡ length (line_past w.pull.new.self) =
+          ap (λ (v : LineView g.row.E.Denot g.row.M.Denot). length (line_past v)) w.self-is in
+          appended_less now.channel new.channel (omega (arith, first, appended, written, same))
+      | else-unwritten-eq0-via-else-unwritten-eq0 w ↦
+          less_after now.channel middle.channel new.channel (middle_stays g c).channel.past last
+          (subst (λ (v : LineView g.row.E.Denot g.row.M.Denot). KeepsUnwritten now.channel v.channel) (sym w.self-is)
+          (roomy_unwritten c.self.view_is c.reserve.new.self c.reserve.new.self room (λ _. refl)))
+          (λ _. fewer)
+    ]

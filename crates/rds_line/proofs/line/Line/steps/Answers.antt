@@ -1,12 +1,14 @@
 use Rattle.std.proofs.Common.{inr, Ok, ap, ◌∙◌}
+use Rattle.rds_line_streams.specs.Streams.{newest_place}
 use Rattle.rds_line.specs.declared.outcome.Done.{Done}
 use Rattle.rds_line.specs.declared.outcome.Sent.TheVariants as sent
 use Rattle.rds_line.specs.Line.{LineView}
+use Rattle.rds_line.proofs.Carrying.{arrived_through, less_after, less_before, more_after, more_before, unwritten_through}
 use Rattle.rds_line.proofs.Looking.{leaves_of, leaves_none, leaves_same, leaves_through, loads_wider, pulls_wider}
 use Rattle.rds_line.proofs.Ordering.{at_most_one}
 use Rattle.rds_line.proofs.Quiet.{leaves_quiet}
 use Rattle.rds_line.proofs.Staying.{line_through}
-use Rattle.rds_line.proofs.Stepping.{StepsDid, did_idle, did_none, did_took, gets_wider, sends_wider, moment_back, moment_longer, same_sent}
+use Rattle.rds_line.proofs.Stepping.{StepsDid, did_idle, did_none, did_took, gets_wider, sends_wider, moment_back, moment_longer, relieved_arrived, relieved_unwritten, same_sent}
 use Rattle.rds_line.proofs.line.Line.steps.Goals as goal
 
 pub returns-in_err-took-clause-stays : goal.returns-in_err-took-clause-stays
@@ -90,11 +92,39 @@ returns-clause-did g c =
     } in
     let to_taken = line_through m pair first opened taken opening.quiet.stays taking.stays in
     let to_came = line_through m pair first taken came to_taken hearing.quiet.stays in
-    let from_came = line_through m pair came went last sending.stays c.relieve.ensures.quiet.stays in record {
+    let relieving = c.relieve.ensures.quiet.stays in
+    let to_went = line_through m pair first came went to_came sending.stays in
+    let from_came = line_through m pair came went last sending.stays relieving in
+    let arrived_taken = arrived_through first.channel opened.channel taken.channel opening.quiet.stays.channel.past
+    taking.stays.channel.past opening.arrived taking.arrived in
+    let unwritten_taken = unwritten_through first.channel opened.channel taken.channel opening.quiet.stays.channel.past
+    taking.stays.channel.past opening.unwritten taking.unwritten in
+    let unwritten_came = unwritten_through first.channel taken.channel came.channel to_taken.channel.past
+    hearing.quiet.stays.channel.past unwritten_taken hearing.unwritten in
+    let arrived_last = arrived_through came.channel went.channel last.channel sending.stays.channel.past relieving.channel.past
+    sending.arrived (relieved_arrived c.relieve.ensures.alone) in record {
       took = λ e. did_took steps (taking.took (ap Ok e));
       none = did_none steps;
-      got = λ e. (_, gets_wider m _ first.channel.streams taken.channel.streams came.channel.streams last.channel.streams to_taken.channel.streams (hearing.bytes (ap Ok e)) from_came.channel.streams);
-      sent = λ e. (_, sends_wider m _ first.channel.streams came.channel.streams went.channel.streams last.channel.streams to_came.channel.streams (sending.bytes (ap Ok e)) c.relieve.ensures.quiet.stays.channel.streams);
+      got = λ e. record {
+        place = newest_place taken.channel.streams;
+        gets =
+            gets_wider m _ first.channel.streams taken.channel.streams came.channel.streams last.channel.streams to_taken.channel.streams
+            (hearing.bytes (ap Ok e)) from_came.channel.streams;
+        more =
+            more_before first.channel came.channel last.channel to_came.channel.past from_came.channel.past
+            (more_after first.channel taken.channel came.channel to_taken.channel.past hearing.quiet.stays.channel.past
+            arrived_taken (hearing.more (ap Ok e))) arrived_last;
+      };
+      sent = λ e. record {
+        place = newest_place came.channel.streams;
+        sends =
+            sends_wider m _ first.channel.streams came.channel.streams went.channel.streams last.channel.streams to_came.channel.streams
+            (sending.bytes (ap Ok e)) relieving.channel.streams;
+        less =
+            less_before first.channel went.channel last.channel to_went.channel.past relieving.channel.past
+            (less_after first.channel came.channel went.channel to_came.channel.past sending.stays.channel.past unwritten_came
+            (sending.less (ap Ok e))) (relieved_unwritten c.relieve.ensures.alone);
+      };
       idle = λ not_taken no_bytes none_sent past left. did_idle steps not_taken past no_bytes none_sent left;
     }
 

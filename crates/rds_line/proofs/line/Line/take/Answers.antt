@@ -1,6 +1,7 @@
 use Rattle.std.proofs.Common.{ap}
 use Rattle.rds_line_channel.specs.Channel.{ChannelView}
 use Rattle.rds_line.proofs.Acting.{past_through, still_past}
+use Rattle.rds_line.proofs.Carrying.{roomy_arrived, roomy_unwritten, same_arrived, same_unwritten, taken_arrived, taken_unwritten}
 use Rattle.rds_line.proofs.Feeding.{keeps_fed, taken_past}
 use Rattle.rds_line.proofs.Fields.{view_in}
 use Rattle.rds_line.proofs.Quiet.{quiet_inside}
@@ -41,3 +42,25 @@ pub invariant_of-self : goal.invariant_of-self
 invariant_of-self g c =
     keeps_alike g.M.MapWriter.published c.self.inside.own_pulled (view_in c.self.inside) c.reserve.new.self c.in_err-reserve.ensures.err
     c.self.invariant
+
+pub returns-in_err-reserve-clause-arrived : goal.returns-in_err-reserve-clause-arrived
+returns-in_err-reserve-clause-arrived g c =
+    same_arrived c.self.view_is c.reserve.new.self c.in_err-reserve.ensures.err
+
+pub returns-in_err-reserve-clause-unwritten : goal.returns-in_err-reserve-clause-unwritten
+returns-in_err-reserve-clause-unwritten g c =
+    same_unwritten c.self.view_is c.reserve.new.self c.in_err-reserve.ensures.err
+
+pub returns-clause-arrived : goal.returns-clause-arrived
+returns-clause-arrived g c =
+    let did = c.take.ensures in
+    let ready = c.reserve.new.self in
+    roomy_arrived c.self.view_is ready c.take.new.self c.in_ok-reserve.ensures.ok
+    (taken_arrived g.E.End.means c.take.result ready c.take.new.self did.frame did.part did.refused did.err)
+
+pub returns-clause-unwritten : goal.returns-clause-unwritten
+returns-clause-unwritten g c =
+    let did = c.take.ensures in
+    let ready = c.reserve.new.self in
+    roomy_unwritten c.self.view_is ready c.take.new.self c.in_ok-reserve.ensures.ok
+    (taken_unwritten g.E.End.means c.take.result ready c.take.new.self did.frame did.part did.refused did.err)

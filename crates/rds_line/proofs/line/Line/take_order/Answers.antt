@@ -1,4 +1,4 @@
-use Rattle.std.proofs.Common.{◌≡◌, sym, ap, subst, ◌∙◌}
+use Rattle.std.proofs.Common.{◌≡◌, refl, sym, ap, subst, ◌∙◌}
 use Rattle.rds_model.specs.declared.order.Order.{Order}
 use Rattle.rds_mail.specs.Learning.{AllGot}
 use Rattle.rds_mail.specs.Passes.{Getter, after_get}
@@ -8,7 +8,7 @@ use Rattle.rds_line.specs.Line.{LineView, line_past, pulls_in}
 use Rattle.rds_line.proofs.Acting.{still_acts}
 use Rattle.rds_line.proofs.Fields.{view_in}
 use Rattle.rds_line.proofs.Taking.{stays_taken}
-use Rattle.rds_line.proofs.Obeying.{Obeys, asked_allowed, cut_room, keeps_roomy, pulled_roomy, roomy_past, roomy_stays, roomy_streams, keeps_obeyed, obeyed_past, obeyed_stays}
+use Rattle.rds_line.proofs.Obeying.{Obeys, asked_allowed, cut_room, keeps_roomy, pulled_roomy, roomy_past, roomy_stays, roomy_streams, room_arrived, room_unwritten, keeps_obeyed, obeyed_arrived, obeyed_past, obeyed_stays, obeyed_unwritten}
 use Rattle.rds_line.proofs.Staying.{channel_of, channel_same, line_inside, line_of, line_shown, line_stays, line_through}
 use Rattle.rds_line.proofs.Unlogged.{keeps_alike}
 use Rattle.rds_line.proofs.line.Line.take_order.Given as given
@@ -47,6 +47,8 @@ returns-then-is_err g c =
       took = λ e. absurd (cc);
       none = λ e. absurd (cc);
       still = λ e. absurd (cc);
+      arrived = tt;
+      unwritten = tt;
       err = (
         ap (λ (l : LineView g.row.E.Denot g.row.M.Denot). l.orders) c.self.view_is,
         past ∙ ap (λ (l : LineView g.row.E.Denot g.row.M.Denot). line_past l) c.self.view_is,
@@ -82,6 +84,8 @@ returns-in_default g c =
         past ∙ ap (λ (l : LineView g.row.E.Denot g.row.M.Denot). line_past l) c.self.view_is,
         roomy_streams v c.reserve.new.self room first second ∙ ap (λ (l : LineView g.row.E.Denot g.row.M.Denot). l.channel.streams) c.self.view_is,
       );
+      arrived = room_arrived v c.reserve.new.self room first second c.self.view_is room (λ _. refl);
+      unwritten = room_unwritten v c.reserve.new.self room first second c.self.view_is room (λ _. refl);
       err = tt;
       spent = λ entries e. absurd (cc);
     }
@@ -148,6 +152,12 @@ returns g c =
       took = λ _. (got.0, o, got.1 ∙ ap (λ (w : LineView g.row.E.Denot g.row.M.Denot). after_get w.orders got.0 o) c.self.view_is);
       none = λ e. absurd (cc);
       still = λ e. absurd (cc);
+      arrived =
+          room_arrived v c.reserve.new.self mid.channel first (second g c) c.self.view_is channel
+          (obeyed_arrived m mid channel getter got.0 o got.1 (obeys g c));
+      unwritten =
+          room_unwritten v c.reserve.new.self mid.channel first (second g c) c.self.view_is channel
+          (obeyed_unwritten m mid channel getter got.0 o got.1 (obeys g c));
       err = tt;
       spent = λ entries e. absurd (cc);
     }

@@ -7,6 +7,7 @@ use Rattle.rds_line_channel.specs.Channel.{ChannelView}
 use Rattle.rds_line.specs.Line.{LineView, line_past}
 use Rattle.rds_line.specs.Turns.{SendsBytes}
 use Rattle.rds_line.proofs.Acting.{more_past, past_through, still_past}
+use Rattle.rds_line.proofs.Carrying.{appended_arrived, same_arrived, written_arrived, written_less}
 use Rattle.rds_line.proofs.Fields.{view_in}
 use Rattle.rds_line.proofs.Quiet.{quiet_inside}
 use Rattle.rds_line.proofs.Staying.{channel_of, channel_same, channel_through}
@@ -40,12 +41,14 @@ returns-in-Took g c =
           (wrote_on m i ready new (put.Took n) (take n ready.out) (drop n ready.out) room did.sent did.rest)
           (still_past (written_past i ready new (drop n ready.out) room did.rest));
       came = leaves_written ready new (drop n ready.out) c.self.view_is room did.rest;
+      arrived = written_arrived c.self.view_is ready new room (drop n ready.out) did.rest;
       written = (λ e. absurd (cc), λ e. absurd (cc));
       full = λ e. absurd (cc);
       bytes = λ _.
           subst (λ (s : StreamsView g.row.E.Denot). SendsBytes m (newest_place s) s.list new.streams.list)
           (streams_shown ready c.self.view_is room)
           (sends_bytes m (newest_place ready.streams) n ready.out ready.streams.list new.streams.list count.0 count.1 did.sent);
+      less = λ _. written_less c.self.view_is ready new room (drop n ready.out) did.rest n refl count.0 count.1;
       ended = λ e. absurd (cc);
       spent = λ entries e. absurd (cc);
     }
@@ -64,9 +67,11 @@ returns-in-Full g c =
           (wrote_on m i ready new put.Full [] ready.out room did.sent did.rest)
           (still_past (written_past i ready new ready.out room did.rest));
       came = leaves_written ready new ready.out c.self.view_is room did.rest;
+      arrived = written_arrived c.self.view_is ready new room ready.out did.rest;
       written = (λ e. absurd (cc), λ e. absurd (cc));
       full = λ _. found_full m ready new c.self.view_is room did.sent did.rest c.requires.open c.requires.some;
       bytes = λ e. absurd (cc);
+      less = λ e. absurd (cc);
       ended = λ e. absurd (cc);
       spent = λ entries e. absurd (cc);
     }
@@ -104,6 +109,9 @@ returns-in-Over g c =
     let room = c.in_ok-reserve.ensures.ok in
     let did = c.in-Over.ensures in
     let shuts = c.end_over.ensures.shut (one g c).0 (one g c).1 in
+    let more : length (line_past c.args.self.now) < length new.conn.log.past =
+    subst (λ (v : LineView g.row.E.Denot g.row.M.Denot). length (line_past v) < length new.conn.log.past) c.self.view_is
+    (more_entries m (view_in c.self.inside) middle new (one g c).0 shuts (conn g c)) in
     record {
       quiet =
           quiet_inside (view_in c.self.inside) c.args.self.now c.self.view_is new
@@ -112,12 +120,12 @@ returns-in-Over g c =
           (past_through (still_past (written_past i ready middle ready.out room did.rest))
           (more_past (Shut (one g c).0) tt (ap (λ (k : Connection). k.log.past) shuts.conn)));
       came = λ none left. (ap (λ (v : Connection). v.waiting) shuts.conn, shuts.piece);
+      arrived = appended_arrived c.args.self.now.channel new more;
       written = (λ e. absurd (cc), λ e. absurd (cc));
       full = λ e. absurd (cc);
       bytes = λ e. absurd (cc);
-      ended = λ _.
-          subst (λ (v : LineView g.row.E.Denot g.row.M.Denot). length (line_past v) < length new.conn.log.past) c.self.view_is
-          (more_entries m (view_in c.self.inside) middle new (one g c).0 shuts (conn g c));
+      less = λ e. absurd (cc);
+      ended = λ _. more;
       spent = λ entries e. absurd (cc);
     }
 
@@ -141,3 +149,7 @@ invariant_of-self-in-Full g c =
     ∙ ap (λ (v : ChannelView g.row.E.Denot). v.conn) c.in_ok-reserve.ensures.ok)
     (ap (λ (v : ChannelView g.row.E.Denot). v.cuts) c.write.ensures.rest
     ∙ ap (λ (v : ChannelView g.row.E.Denot). v.cuts) c.in_ok-reserve.ensures.ok) c.self.invariant
+
+pub returns-in_err-reserve-clause-arrived : goal.returns-in_err-reserve-clause-arrived
+returns-in_err-reserve-clause-arrived g c =
+    same_arrived c.self.view_is c.reserve.new.self c.in_err-reserve.ensures.err
