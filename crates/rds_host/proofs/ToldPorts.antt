@@ -4,19 +4,19 @@ use Rattle.std.proofs.lemmas.Bool.{cases_eq}
 use Rattle.std.proofs.lemmas.List.{map_push}
 use Rattle.std.proofs.lemmas.Option.{same_Some, slice_get_within}
 use Rattle.rds_bindtab.specs.declared.view.Telling.{Telling}
-use Rattle.rds_bindtab.specs.Seats.{PortSeat, joined, knowing, note_of, telling_of}
+use Rattle.rds_bindtab.specs.Seats.{PortSeat, telling_of}
 use Rattle.rds_fmap.specs.Readers.{ReaderView, WriterView}
 use Rattle.rds_line_streams.specs.PlaceLaws.{at_set, beside_set}
 use Rattle.rds_socket.specs.Holding.{Holding}
 use Rattle.rds_line.specs.Line.{LineView}
-use Rattle.rds_host.specs.Settled.{AreLinesToldMore}
+use Rattle.rds_host.specs.Settled.{AreLinesToldMore, knowing_ports}
 use Rattle.rds_host.specs.Telling.{ArePortsTold, IsPortTold}
 use Rattle.rds_host.proofs.Kept.{beside}
 use Rattle.rds_host.proofs.Knowing.{ports_begin}
 use Rattle.rds_host.proofs.Told.{appended_at, has_last, has_more, only_at, taken_set}
 
--- a seat that took a note of another's port
-pub port_heard : (seat : PortSeat) (holder : PortSeat) → IsPortTold (knowing seat (joined seat.view (note_of holder.view))) holder
+-- a seat that was told of another's port
+pub port_heard : (seat : PortSeat) (holder : PortSeat) → IsPortTold (knowing_ports seat (telling_of holder.view ∷ [])) holder
 port_heard seat holder = has_last (λ (t : Telling). t ≡ telling_of holder.view) seat.view.told (telling_of holder.view) refl
 
 module _ {E : Type 0} where

@@ -1,10 +1,11 @@
-//! What the slots and the lines of a host are told of each other once its sockets have ended and its lines turn no more.
+//! What the slots and the lines of a host are told of each other while its lines do not turn: before they turn, and once its sockets have
+//! ended.
 ghost use Rattle.std.specs.Prelude.{◌≡◌, ◌<◌, ◌∷◌, ℕ, [], All, Some, length, map, slice_get};
 ghost use Rattle.rds_fmap.specs.Readers.{ReaderView, WriterView};
 ghost use Rattle.rds_socket.specs.Holding.{Holding};
 ghost use Rattle.rds_line.specs.Line.{LineView};
 ghost use Rattle.rds_host.specs.Keeping.{LinesKeep, SlotsKeep};
-ghost use Rattle.rds_host.specs.Settled.{AreLinesToldMore, AreSameSockets, AreSettled, AreSlotsToldMore, CanTell, IsSameSocket, ports_of};
+ghost use Rattle.rds_host.specs.Settled.{AreLinesToldMore, AreSameSockets, AreSettled, AreSlotsToldMore, CanTell, IsSameSocket, knowing_ports, ports_of};
 ghost use Rattle.rds_host.specs.Telling.{AreBoxesTold, AreOrdersTold, ArePortsTold, slots_of};
 ghost use Rattle.rds_host.specs.Ties.{AreOfHost};
 
@@ -76,9 +77,19 @@ fn settle_socket<E: End>(socket: &mut Socket<Reader>, lines: &mut [Line<E, Write
     for i in 0..lines.len() {
         let line = &mut lines[i];
         line.hear_orders(socket.order_note(i));
-        line.hear_port(socket.port_note());
+        tell_port(socket, line);
         socket.hear(line.inbox_note(slot));
     }
+}
+
+// Tells a line's seat at the port table the port of a socket.
+#[tactic(auto, using(crate::proofs::Knowing::knowing_note))]
+fn tell_port<E: End>(socket: &mut Socket<Reader>, line: &mut Line<E, Writer>)
+    requires { socket.old.own.ports.table ≡ line.old.ports.table }
+    ensures same { socket.new ≡ socket.old }
+    ensures told { line.new ≡ record line.old { ports = knowing_ports line.old.ports (ports_of (socket.old ∷ [])) } }
+{
+    line.hear_port(socket.port_note());
 }
 
 fn settle_slot<E: End>(slot: u16, closed: &mut Closed<Reader>, lines: &mut [Line<E, Writer>])
