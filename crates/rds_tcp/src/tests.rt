@@ -82,9 +82,11 @@ fn alone<R: Wait + Net<Listener = TcpListener, Stream = TcpStream>>(
     let Ok((tcp, _)) = dial(rt) else {
         return None;
     };
-    let (Ok(pipe), Ok((near, _)), Ok((standing, _))) =
-        (Pipe::new(alloc, tcp), rings(alloc), Standing::pair(alloc))
-    else {
+    let (Ok(pipe), Ok((near, _)), Ok((standing, _))) = (
+        Pipe::new(alloc, tcp),
+        rings(alloc),
+        Standing::pair(alloc),
+    ) else {
         return None;
     };
     let Ok(shared) = pipe.share() else {
@@ -146,25 +148,26 @@ fn a_join_waits_for_the_end_of_a_thread(rt: HostRuntime) -> Result<(), Fail> {
     Ok(())
 }
 
-// Whether the threads of two ends that were dropped have let go of all that they held once the wire is finished.
-fn leaves_none<R: Threads + Wait + Net>(rt: &R, mut wire: TcpWire) -> bool {
-    let Ok((a, b)) = wire.open(rt, 1, 2, 1) else {
-        wire.finish(rt);
-        return false;
-    };
-    let shares = (a.pipe.share(), b.pipe.share());
-    drop(a);
-    drop(b);
-    wire.finish(rt);
-    match shares {
-        (Ok(one), Ok(other)) => Arc::strong_count(&one) == 1 && Arc::strong_count(&other) == 1,
-        _ => false,
-    }
+// Lets go of two ends late.
+fn let_go_late<R: Wait>(rt: &R, ends: (TcpEnd, TcpEnd), is_done: &AtomicBool) {
+    dawdle(rt, is_done);
+    drop(ends);
 }
 
 #[test]
-fn a_wire_that_is_finished_has_left_no_thread(rt: HostRuntime) {
-    for _ in 0..20 {
-        assert!(rt; leaves_none(&rt, TcpWire::new(&rt, rt.alloc())));
-    }
+fn a_wire_is_finished_only_once_all_threads_have_ended(rt: HostRuntime) -> Result<(), Fail> {
+    let is_done = Arc::new(rt.alloc(), AtomicBool::new(false))?;
+    let flag = Arc::try_clone(&is_done)?;
+    let mut wire = TcpWire::new(&rt, rt.alloc());
+    let Ok(ends) = wire.open(&rt, 1, 2, 1) else {
+        panic!(rt; "no stream")
+    };
+    let Ok(thread) = thread::spawn(&rt, move || let_go_late(&rt, ends, &flag)) else {
+        panic!(rt; "no thread")
+    };
+    wire.finish(&rt);
+    let was_late = is_done.load(Ordering::SeqCst);
+    thread.join(&rt);
+    assert!(rt; was_late);
+    Ok(())
 }

@@ -6,8 +6,7 @@ pub returns-in-Err-clause-front : goal.returns-in-Err-clause-front
 returns-in-Err-clause-front g c =
     let (taken, grown, appended) = c.loop.invariant.2 in
     let (front, rest, split, more) = c.write_all.ensures.front in
-    let piece = take c.pop_partial_slice-count.result c.pop_partial_slice-count.new.slice in
-    (
+    let piece = take c.pop_partial_slice-count.result c.pop_partial_slice-count.new.slice in (
       taken ++ piece,
       c.pop_partial_slice-count.ensures.received.1 ∙ ap (λ l. l ++ piece) grown ∙ append_assoc _ taken piece,
       (
