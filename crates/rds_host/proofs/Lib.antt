@@ -4,6 +4,8 @@ pub mod ColumnLines
 pub mod Drawn
 pub mod Kept
 pub mod Staying
+pub mod Knowing
+pub mod Sockets
 pub mod Told
 pub mod ToldLines
 pub mod ToldPorts

@@ -4,11 +4,10 @@ use Rattle.std.proofs.lemmas.Bool.{cases_eq}
 use Rattle.std.proofs.lemmas.List.{length-set, map_push, take_more, drop_more, drop-set-lt}
 use Rattle.std.proofs.lemmas.Option.{same_Some, slice_get_within, slice_get-get_or, get_or_from_slice_get}
 use Rattle.rds_model.specs.Honest.{Begins}
-use Rattle.rds_model.specs.SumLaws.{same_list}
 use Rattle.rds_model.specs.declared.order.Datagram.{Datagram}
 use Rattle.rds_model.specs.declared.order.Order.{Order}
-use Rattle.rds_meter.specs.Grounds.{seats_of}
 use Rattle.rds_mail.specs.Passes.{Putter, account_of, after_note}
+use Rattle.rds_bindtab.specs.declared.view.Telling.{Telling}
 use Rattle.rds_bindtab.specs.Seats.{PortSeat}
 use Rattle.rds_fmap.specs.Readers.{ReaderView, WriterView}
 use Rattle.rds_parts.specs.Lanes.{IsLaneAt, Lane}
@@ -16,71 +15,15 @@ use Rattle.rds_line_parts.specs.Boxes.{IsBoxOf}
 use Rattle.rds_line_streams.specs.PlaceLaws.{at_set, beside_set}
 use Rattle.rds_socket.specs.Holding.{Holding}
 use Rattle.rds_line.specs.Line.{LineView}
-use Rattle.rds_line.specs.Stays.{AreSameBoxes}
-use Rattle.rds_host.specs.Keeping.{LineKeeps, LinesKeep}
-use Rattle.rds_host.specs.Settled.{AreLinesToldMore, AreSettled, CanTell, IsLineToldMore, IsToldMore}
+use Rattle.rds_host.specs.Keeping.{LinesKeep}
+use Rattle.rds_host.specs.Settled.{AreSettled, CanTell, IsToldMore, knowing_ports}
 use Rattle.rds_host.specs.Telling.{IsTold}
 use Rattle.rds_host.proofs.Pushing.{all_at}
 use Rattle.rds_host.proofs.Kept.{beside, host_kept, slots_same}
-use Rattle.rds_host.proofs.Staying.{begins_through, boxes_same}
+use Rattle.rds_host.proofs.Knowing.{LinesUpTo, all_lines, lines_told_same, lines_told_through, next_line}
 use Rattle.rds_host.proofs.Told.{told_still, told_now, appended_at, ahead, behind, same_at, taken_set, only_at, heard, slot_told_same, slot_told_through, none_slots, slots_append}
 
 module _ {E : Type 0} where
-  line_told_same : (line : LineView E WriterView) → IsLineToldMore line line
-  line_told_same line = record { rest = refl; told = same_list line.orders.told; table = refl; ports = same_list line.ports.view.told }
-
-  line_told_through : (old middle new : LineView E WriterView) → IsLineToldMore old middle → IsLineToldMore middle new → IsLineToldMore old new
-  line_told_through old middle new first second = record {
-    rest = second.rest ∙ ap (λ (l : LineView E WriterView). record l { orders = record l.orders { told = new.orders.told }; ports = new.ports }) first.rest;
-    told = begins_through old.orders.told middle.orders.told new.orders.told first.told second.told;
-    table = second.table ∙ first.table;
-    ports = begins_through old.ports.view.told middle.ports.view.told new.ports.view.told first.ports second.ports;
-  }
-
-  pub lines_told_same : (lines : List (LineView E WriterView)) → AreLinesToldMore lines lines
-  lines_told_same lines = record {
-    count = refl;
-    each = λ place line after stood stands. subst (IsLineToldMore line) (same_Some line after (sym stood ∙ stands)) (line_told_same line);
-  }
-
-  lines_told_through : (old middle new : List (LineView E WriterView)) → AreLinesToldMore old middle → AreLinesToldMore middle new → AreLinesToldMore old new
-  lines_told_through old middle new first second = record {
-    count = second.count ∙ first.count;
-    each = λ place line after stood stands.
-        let between = beside middle old line place (sym first.count) stood in
-        line_told_through line between.0 after (first.each place line between.0 stood between.1) (second.each place between.0 after between.1 stands);
-  }
-
-  -- one line of them was told more
-  lines_told_set : (lines : List (LineView E WriterView)) (n : ℕ) (line told : LineView E WriterView) → slice_get lines n ≡ Some line → IsLineToldMore line told → AreLinesToldMore lines (set lines n told)
-  lines_told_set lines n line told at more = record {
-    count = length-set lines n told;
-    each = λ place before after stood stands.
-        ⊎_elim
-        (λ (here : place ≡ n).
-        let was : line ≡ before = same_Some line before (sym at ∙ (ap (slice_get lines) (sym here) ∙ stood)) in
-        let is : told ≡ after = same_Some told after (sym (at_set lines n told (slice_get_within lines n line at)) ∙ (ap (slice_get (set lines n told)) (sym here) ∙ stands)) in
-        subst (λ (l : LineView E WriterView). IsLineToldMore l after) was (subst (IsLineToldMore line) is more))
-        (λ (other : place ≡ n → ⊥).
-        subst (IsLineToldMore before) (same_Some before after (sym stood ∙ (sym (beside_set lines n place told other) ∙ stands))) (line_told_same before))
-        (cases_eq place n);
-  }
-
-  line_keeps : (old new : LineView E WriterView) → IsLineToldMore old new → LineKeeps old new
-  line_keeps old new more = record {
-    peer = ap (λ (l : LineView E WriterView). l.channel.conn.peer) more.rest;
-    mail = ap (λ (l : LineView E WriterView). l.orders.mail) more.rest;
-    joined = ap (λ (l : LineView E WriterView). l.orders.joined) more.rest;
-    boxes = subst (AreSameBoxes old.boxes) (sym (ap (λ (l : LineView E WriterView). l.boxes) more.rest)) (boxes_same old.boxes);
-    ports = more.table;
-    words = ap (λ (l : LineView E WriterView). l.words.table) more.rest;
-    seats = ap (λ (l : LineView E WriterView). seats_of l.words.view) more.rest;
-    pair = ap (λ (l : LineView E WriterView). l.map.pair) more.rest;
-  }
-
-  pub lines_keep_told : (old new : List (LineView E WriterView)) → AreLinesToldMore old new → LinesKeep old new
-  lines_keep_told old new more = record { count = more.count; each = λ place line after stood stands. line_keeps line after (more.each place line after stood stands) }
-
   -- those that are among slots that can be told
   pub can_few : (slots few : List (Holding ReaderView)) (lines : List (LineView E WriterView)) → ((k : ℕ) (h : Holding ReaderView) → slice_get few k ≡ Some h → (slot : ℕ) × (slice_get slots slot ≡ Some h))
       → CanTell slots lines → CanTell few lines
@@ -125,29 +68,30 @@ module _ {E : Type 0} where
         omega (arith, count, few);
   }
 
-  -- a slot and the lines up to one were told of each other
-  pub record ToldUpTo (n : ℕ) (old h : Holding ReaderView) (lines told : List (LineView E WriterView)) : Type 0 where
+  -- a slot and the lines up to one were told of each other, and these lines of these ports
+  pub record ToldUpTo (n : ℕ) (ports : List Telling) (old h : Holding ReaderView) (lines told : List (LineView E WriterView)) : Type 0 where
     pub slot : IsToldMore old h
-    pub lines_stay : AreLinesToldMore lines told
+    pub lines_stay : LinesUpTo n ports lines told
     pub orders : (place : ℕ) (line : LineView E WriterView) (lane : Lane ReaderView) → place < n → slice_get told place ≡ Some line → IsLaneAt h.routes place lane → IsTold line.orders.told lane.pass
     pub boxes : (place : ℕ) (line : LineView E WriterView) (box : Putter Datagram) → place < n → slice_get told place ≡ Some line → IsBoxOf line.boxes h.words.slot box → IsTold h.inbox.get.told box
 
-  pub none_told : (h : Holding ReaderView) (lines : List (LineView E WriterView)) → ToldUpTo 0 h h lines lines
-  none_told h lines = record {
+  pub none_told : (ports : List Telling) (h : Holding ReaderView) (lines : List (LineView E WriterView)) → ToldUpTo 0 ports h h lines lines
+  none_told ports h lines = record {
     slot = slot_told_same h;
-    lines_stay = lines_told_same lines;
+    lines_stay = record { count = refl; each = λ place line after small stood stands. absurd (omega (arith, small)); left = λ place line past at. at };
     orders = λ place line lane small at at_lane. absurd (omega (arith, small));
     boxes = λ place line box small at at_box. absurd (omega (arith, small));
   }
 
-  pub all_told : (n : ℕ) (old h : Holding ReaderView) (lines told : List (LineView E WriterView)) → length told ≤ n → ToldUpTo n old h lines told → AreSettled (old ∷ []) (h ∷ []) lines told
-  all_told n old h lines told all up = record {
+  pub all_told : (n : ℕ) (ports : List Telling) (old h : Holding ReaderView) (lines told : List (LineView E WriterView)) → length told ≤ n → ToldUpTo n ports old h lines told
+      → AreSettled ports (old ∷ []) (h ∷ []) lines told
+  all_told n ports old h lines told all up = record {
     slots_stay = record {
       count = refl;
       each = λ slot before after stood stands.
           subst (λ (x : Holding ReaderView). IsToldMore x after) (only_at old before slot stood) (subst (IsToldMore old) (only_at h after slot stands) up.slot);
     };
-    lines_stay = up.lines_stay;
+    lines_stay = all_lines n ports lines told all up.lines_stay;
     orders = λ place line at slot other lane at_slot at_lane.
         let small = slice_get_within told place line at in
         up.orders place line lane (omega (arith, small, all)) at (subst (λ (x : Holding ReaderView). IsLaneAt x.routes place lane) (sym (only_at h other slot at_slot)) at_lane);
@@ -158,53 +102,47 @@ module _ {E : Type 0} where
   }
 
   -- what the next line and the slot need, to be told of each other
-  module _ (n : ℕ) (old h : Holding ReaderView) (lines told : List (LineView E WriterView)) (can : CanTell (old ∷ []) lines) (up : ToldUpTo n old h lines told)
-      (place : ℕ) (line : LineView E WriterView) (at : slice_get told place ≡ Some line) where
-    was : (before : LineView E WriterView) × (slice_get lines place ≡ Some before) × IsLineToldMore before line
-    was = let before = beside lines told line place up.lines_stay.count at in (before.0, before.1, up.lines_stay.each place before.0 line before.1 at)
+  module _ (n : ℕ) (ports : List Telling) (old h : Holding ReaderView) (lines told : List (LineView E WriterView)) (can : CanTell (old ∷ []) lines) (up : ToldUpTo n ports old h lines told)
+      (line : LineView E WriterView) (at : slice_get told n ≡ Some line) where
+    was : slice_get lines n ≡ Some line
+    was = up.lines_stay.left n line (omega arith) at
 
-    pub fit_route : place < length h.routes
+    pub fit_route : n < length h.routes
     fit_route =
         let count : length old.routes ≡ length lines = can.routes 0 old (omega arith) in
         let same : length h.routes ≡ length old.routes = ap (λ (x : Holding ReaderView). length x.routes) up.slot.rest in
-        let size = up.lines_stay.count in
-        let small = slice_get_within told place line at in
-        omega (arith, count, same, size, small)
+        let small = slice_get_within lines n line was in
+        omega (arith, count, same, small)
 
-    pub fit_orders : (lane : Lane ReaderView) → IsLaneAt h.routes place lane → lane.pass.mail ≡ line.orders.mail
+    pub fit_orders : (lane : Lane ReaderView) → IsLaneAt h.routes n lane → lane.pass.mail ≡ line.orders.mail
     fit_orders lane at_lane =
-        (can.host.routes 0 place old lane was.0 refl (subst (λ (l : List (Lane ReaderView)). IsLaneAt l place lane) (ap (λ (x : Holding ReaderView). x.routes) up.slot.rest) at_lane) was.1).1
-        ∙ sym (ap (λ (l : LineView E WriterView). l.orders.mail) was.2.rest)
+        (can.host.routes 0 n old lane line refl (subst (λ (l : List (Lane ReaderView)). IsLaneAt l n lane) (ap (λ (x : Holding ReaderView). x.routes) up.slot.rest) at_lane) was).1
 
     pub fit_port : h.ports.table ≡ line.ports.table
-    fit_port = ap (λ (x : Holding ReaderView). x.ports.table) up.slot.rest ∙ (can.host.ports 0 place old was.0 refl was.1 ∙ sym was.2.table)
+    fit_port = ap (λ (x : Holding ReaderView). x.ports.table) up.slot.rest ∙ can.host.ports 0 n old line refl was
 
     pub fit_box : old.words.slot < length line.boxes
-    fit_box =
-        subst (λ (b : List (Putter Datagram)). old.words.slot < length b) (sym (ap (λ (l : LineView E WriterView). l.boxes) was.2.rest))
-        (all_at (λ (l : LineView E WriterView). old.words.slot < length l.boxes) lines was.0 place (can.boxes 0 old (omega arith)) was.1)
+    fit_box = all_at (λ (l : LineView E WriterView). old.words.slot < length l.boxes) lines line n (can.boxes 0 old (omega arith)) was
 
     pub fit_hear : (box : Putter Datagram) → IsBoxOf line.boxes old.words.slot box → box.mail ≡ h.inbox.get.mail
-    fit_hear box at_box =
-        can.host.boxes 0 place old was.0 box refl was.1 (subst (λ (b : List (Putter Datagram)). IsBoxOf b old.words.slot box) (ap (λ (l : LineView E WriterView). l.boxes) was.2.rest) at_box)
-        ∙ sym (ap (λ (x : Holding ReaderView). x.inbox.get.mail) up.slot.rest)
+    fit_hear box at_box = can.host.boxes 0 n old line box refl was at_box ∙ sym (ap (λ (x : Holding ReaderView). x.inbox.get.mail) up.slot.rest)
 
   -- a line that was told of this putter of orders, with this seat
   abbrev pub noted : LineView E WriterView → Putter Order → PortSeat → LineView E WriterView
   noted line pass seat = record line { orders = after_note line.orders pass; ports = seat }
 
   -- the next line and the slot are told of each other
-  told_next : (n : ℕ) (old h : Holding ReaderView) (lines told : List (LineView E WriterView)) (line : LineView E WriterView) (lane : Lane ReaderView) (box : Putter Datagram) (seat : PortSeat)
-      → slice_get told n ≡ Some line → IsLaneAt h.routes n lane → IsBoxOf line.boxes h.words.slot box → seat.table ≡ line.ports.table
-      → Begins line.ports.view.told seat.view.told
-      → ToldUpTo n old h lines told → ToldUpTo (n + 1) old (heard h box) lines (set told n (noted line lane.pass seat))
-  told_next n old h lines told line lane box seat at at_lane at_box table ports up =
+  told_next : (n : ℕ) (ports : List Telling) (old h : Holding ReaderView) (lines told : List (LineView E WriterView)) (line : LineView E WriterView) (lane : Lane ReaderView)
+      (box : Putter Datagram) (seat : PortSeat)
+      → slice_get told n ≡ Some line → IsLaneAt h.routes n lane → IsBoxOf line.boxes h.words.slot box → seat ≡ knowing_ports line.ports ports
+      → ToldUpTo n ports old h lines told → ToldUpTo (n + 1) ports old (heard h box) lines (set told n (noted line lane.pass seat))
+  told_next n ports old h lines told line lane box seat at at_lane at_box knows up =
       let new = noted line lane.pass seat in
       let stands = at_set told n new (slice_get_within told n line at) in
       let longer : Begins h.inbox.get.told (h.inbox.get.told ++ account_of box ∷ []) = (account_of box ∷ [], refl) in
       record {
         slot = slot_told_through old h (heard h box) up.slot (record { rest = refl; told = longer });
-        lines_stay = lines_told_through lines told (set told n new) up.lines_stay (lines_told_set told n line new at (record { rest = refl; told = (account_of lane.pass ∷ [], refl); table = table; ports = ports }));
+        lines_stay = next_line n ports lines told line new at (record { rest = ap (noted line lane.pass) knows; told = (account_of lane.pass ∷ [], refl) }) up.lines_stay;
         orders = λ place other route small at_place at_route.
             ⊎_elim
             (λ (here : place ≡ n).
@@ -229,26 +167,26 @@ module _ {E : Type 0} where
             (cases_eq place n);
       }
 
-  pub told_more : (n : ℕ) (old h after : Holding ReaderView) (lines told : List (LineView E WriterView)) (line new : LineView E WriterView) (lane : Lane ReaderView) (box : Putter Datagram)
-      → slice_get told n ≡ Some line → IsLaneAt h.routes n lane → IsBoxOf line.boxes h.words.slot box → new.ports.table ≡ line.ports.table
-      → Begins line.ports.view.told new.ports.view.told → new ≡ noted line lane.pass new.ports → after ≡ heard h box
-      → ToldUpTo n old h lines told → ToldUpTo (n + 1) old after lines (set told n new)
-  told_more n old h after lines told line new lane box at at_lane at_box table ports is_line is_slot up =
-      subst (λ (x : Holding ReaderView). ToldUpTo (n + 1) old x lines (set told n new)) (sym is_slot)
-      (subst (λ (l : LineView E WriterView). ToldUpTo (n + 1) old (heard h box) lines (set told n l)) (sym is_line)
-      (told_next n old h lines told line lane box new.ports at at_lane at_box table ports up))
+  pub told_more : (n : ℕ) (ports : List Telling) (old h after : Holding ReaderView) (lines told : List (LineView E WriterView)) (line new : LineView E WriterView) (lane : Lane ReaderView)
+      (box : Putter Datagram)
+      → slice_get told n ≡ Some line → IsLaneAt h.routes n lane → IsBoxOf line.boxes h.words.slot box → new.ports ≡ knowing_ports line.ports ports
+      → new ≡ noted line lane.pass new.ports → after ≡ heard h box
+      → ToldUpTo n ports old h lines told → ToldUpTo (n + 1) ports old after lines (set told n new)
+  told_more n ports old h after lines told line new lane box at at_lane at_box knows is_line is_slot up =
+      subst (λ (x : Holding ReaderView). ToldUpTo (n + 1) ports old x lines (set told n new)) (sym is_slot)
+      (subst (λ (l : LineView E WriterView). ToldUpTo (n + 1) ports old (heard h box) lines (set told n l)) (sym is_line)
+      (told_next n ports old h lines told line lane box new.ports at at_lane at_box knows up))
 
   -- what the calls on a line leave it with
   pub line_noted : (line first second new : LineView E WriterView) (note pass : Putter Order) (seat : PortSeat) → note ≡ pass → first ≡ record line { orders = after_note line.orders note }
-      → second ≡ record first { ports = seat } → seat.table ≡ first.ports.table → new ≡ second
-      → (new ≡ noted line pass new.ports) × ((new.ports.table ≡ line.ports.table) × (new.ports ≡ seat))
-  line_noted line first second new note pass seat is heard_first heard_second table same =
+      → second ≡ record first { ports = seat } → new ≡ second → (new ≡ noted line pass new.ports) × (new.ports ≡ seat)
+  line_noted line first second new note pass seat is heard_first heard_second same =
       let full : new ≡ noted line pass seat =
       same ∙ (heard_second ∙ (ap (λ (l : LineView E WriterView). record l { ports = seat }) heard_first ∙ ap (λ (p : Putter Order). noted line p seat) is)) in
       let ports : new.ports ≡ seat = ap (λ (l : LineView E WriterView). l.ports) full in
-      (full ∙ ap (noted line pass) (sym ports), (ap (λ (p : PortSeat). p.table) ports ∙ (table ∙ ap (λ (l : LineView E WriterView). l.ports.table) heard_first), ports))
+      (full ∙ ap (noted line pass) (sym ports), ports)
 
-  pub none_settled : (lines : List (LineView E WriterView)) → AreSettled [] [] lines lines
+  pub none_settled : (lines : List (LineView E WriterView)) → AreSettled [] [] [] lines lines
   none_settled lines = record {
     slots_stay = none_slots;
     lines_stay = lines_told_same lines;
@@ -257,11 +195,11 @@ module _ {E : Type 0} where
   }
 
   -- some slots after others
-  pub settled_more : (old new more later : List (Holding ReaderView)) (lines middle told : List (LineView E WriterView)) → AreSettled old new lines middle → AreSettled more later middle told
-      → AreSettled (old ++ more) (new ++ later) lines told
-  settled_more old new more later lines middle told first second = record {
+  pub settled_more : (ports others : List Telling) (old new more later : List (Holding ReaderView)) (lines middle told : List (LineView E WriterView)) → AreSettled ports old new lines middle
+      → AreSettled others more later middle told → AreSettled (ports ++ others) (old ++ more) (new ++ later) lines told
+  settled_more ports others old new more later lines middle told first second = record {
     slots_stay = slots_append old new more later first.slots_stay second.slots_stay;
-    lines_stay = lines_told_through lines middle told first.lines_stay second.lines_stay;
+    lines_stay = lines_told_through ports others lines middle told first.lines_stay second.lines_stay;
     orders = λ place line at slot h lane at_slot at_lane.
         ⊎_elim
         (λ (was : slice_get new slot ≡ Some h).
@@ -281,12 +219,12 @@ module _ {E : Type 0} where
   }
 
   -- a loop that tells one after another
-  pub settled_set : {X : Type 0} (own : X → Holding ReaderView) (old new : List X) (i : ℕ) (s after : X) (lines middle told : List (LineView E WriterView))
+  pub settled_set : {X : Type 0} (own : X → Holding ReaderView) (ports others : List Telling) (old new : List X) (i : ℕ) (s after : X) (lines middle told : List (LineView E WriterView))
       → length new ≡ length old → drop i new ≡ drop i old → slice_get new i ≡ Some s
-      → AreSettled (map own (take i old)) (map own (take i new)) lines middle → AreSettled (own s ∷ []) (own after ∷ []) middle told
+      → AreSettled ports (map own (take i old)) (map own (take i new)) lines middle → AreSettled others (own s ∷ []) (own after ∷ []) middle told
       → (length (set new i after) ≡ length old) × (drop (i + 1) (set new i after) ≡ drop (i + 1) old)
-      × AreSettled (map own (take (i + 1) old)) (map own (take (i + 1) (set new i after))) lines told
-  settled_set own old new i s after lines middle told count same at before now =
+      × AreSettled (ports ++ others) (map own (take (i + 1) old)) (map own (take (i + 1) (set new i after))) lines told
+  settled_set own ports others old new i s after lines middle told count same at before now =
       let small = slice_get_within new i s at in
       let within : i < length old = omega (arith, count, small) in
       let stood : get_or old i s ≡ s = get_or_from_slice_get old i s s (same_at new old i s same at) in
@@ -300,7 +238,7 @@ module _ {E : Type 0} where
       sym (map_push own (take i new) after) ∙ ap (map own) (sym (taken_set new i after small)) in (
         length-set new i after ∙ count,
         drop-set-lt (i + 1) new i after (omega arith) ∙ left,
-        subst (λ (l : List (Holding ReaderView)). AreSettled l (map own (take (i + 1) (set new i after))) lines told) taken
-            (subst (λ (l : List (Holding ReaderView)). AreSettled (map own (take i old) ++ own s ∷ []) l lines told) given
-            (settled_more (map own (take i old)) (map own (take i new)) (own s ∷ []) (own after ∷ []) lines middle told before now)),
+        subst (λ (l : List (Holding ReaderView)). AreSettled (ports ++ others) l (map own (take (i + 1) (set new i after))) lines told) taken
+            (subst (λ (l : List (Holding ReaderView)). AreSettled (ports ++ others) (map own (take i old) ++ own s ∷ []) l lines told) given
+            (settled_more ports others (map own (take i old)) (map own (take i new)) (own s ∷ []) (own after ∷ []) lines middle told before now)),
       )

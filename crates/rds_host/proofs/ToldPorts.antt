@@ -4,27 +4,20 @@ use Rattle.std.proofs.lemmas.Bool.{cases_eq}
 use Rattle.std.proofs.lemmas.List.{map_push}
 use Rattle.std.proofs.lemmas.Option.{same_Some, slice_get_within}
 use Rattle.rds_bindtab.specs.declared.view.Telling.{Telling}
-use Rattle.rds_bindtab.specs.Seats.{PortSeat, joined, knowing, note_of, telling_of}
+use Rattle.rds_bindtab.specs.Seats.{PortSeat, telling_of}
 use Rattle.rds_fmap.specs.Readers.{ReaderView, WriterView}
 use Rattle.rds_line_streams.specs.PlaceLaws.{at_set, beside_set}
-use Rattle.rds_model.specs.Honest.{Begins}
-use Rattle.rds_model.specs.SumLaws.{same_list}
 use Rattle.rds_socket.specs.Holding.{Holding}
 use Rattle.rds_line.specs.Line.{LineView}
-use Rattle.rds_host.specs.Settled.{AreLinesToldMore}
+use Rattle.rds_host.specs.Settled.{AreLinesToldMore, knowing_ports}
 use Rattle.rds_host.specs.Telling.{ArePortsTold, IsPortTold}
 use Rattle.rds_host.proofs.Kept.{beside}
+use Rattle.rds_host.proofs.Knowing.{ports_begin}
 use Rattle.rds_host.proofs.Told.{appended_at, has_last, has_more, only_at, taken_set}
 
--- a seat that took a note of another's port
-pub port_heard : (seat : PortSeat) (holder : PortSeat) → IsPortTold (knowing seat (joined seat.view (note_of holder.view))) holder
+-- a seat that was told of another's port
+pub port_heard : (seat : PortSeat) (holder : PortSeat) → IsPortTold (knowing_ports seat (telling_of holder.view ∷ [])) holder
 port_heard seat holder = has_last (λ (t : Telling). t ≡ telling_of holder.view) seat.view.told (telling_of holder.view) refl
-
-pub port_begins : (seat : PortSeat) (holder : PortSeat) → Begins seat.view.told (knowing seat (joined seat.view (note_of holder.view))).view.told
-port_begins seat holder = (telling_of holder.view ∷ [], refl)
-
-pub same_told : (old new : PortSeat) → new ≡ old → Begins old.view.told new.view.told
-same_told old new same = subst (λ (p : PortSeat). Begins old.view.told p.view.told) (sym same) (same_list old.view.told)
 
 module _ {E : Type 0} where
   -- the seats of the lines up to one were told of a port
@@ -56,10 +49,12 @@ module _ {E : Type 0} where
   none_ported lines slot place h line at at_line = absurd (let small = slice_get_within [] slot h at in omega arith)
 
   -- they stay told
-  pub ports_still : (slots : List (Holding ReaderView)) (lines told : List (LineView E WriterView)) → AreLinesToldMore lines told → ArePortsTold slots lines → ArePortsTold slots told
-  ports_still slots lines told more had slot place h line at at_line =
+  pub ports_still : (ports : List Telling) (slots : List (Holding ReaderView)) (lines told : List (LineView E WriterView)) → AreLinesToldMore ports lines told → ArePortsTold slots lines
+      → ArePortsTold slots told
+  ports_still ports slots lines told more had slot place h line at at_line =
       let before = beside lines told line place more.count at_line in
-      has_more (λ (t : Telling). t ≡ telling_of h.ports.view) before.0.ports.view.told line.ports.view.told (more.each place before.0 line before.1 at_line).ports
+      has_more (λ (t : Telling). t ≡ telling_of h.ports.view) before.0.ports.view.told line.ports.view.told
+      (ports_begin ports before.0 line (more.each place before.0 line before.1 at_line))
       (had slot place h before.0 at before.1)
 
   -- some slots after others
@@ -71,11 +66,11 @@ module _ {E : Type 0} where
       (appended_at slots more h slot at)
 
   -- a loop that tells one after another
-  pub ported_set : {X : Type 0} (own : X → Holding ReaderView) (new : List X) (i : ℕ) (after : X) (middle told : List (LineView E WriterView)) → i < length new →
-      AreLinesToldMore middle told → ArePortsTold (map own (take i new)) middle → ArePortsTold (own after ∷ []) told →
+  pub ported_set : {X : Type 0} (own : X → Holding ReaderView) (ports : List Telling) (new : List X) (i : ℕ) (after : X) (middle told : List (LineView E WriterView)) → i < length new →
+      AreLinesToldMore ports middle told → ArePortsTold (map own (take i new)) middle → ArePortsTold (own after ∷ []) told →
       ArePortsTold (map own (take (i + 1) (set new i after))) told
-  ported_set own new i after middle told small more before now =
+  ported_set own ports new i after middle told small more before now =
       let given : map own (take i new) ++ own after ∷ [] ≡ map own (take (i + 1) (set new i after)) =
       sym (map_push own (take i new) after) ∙ ap (map own) (sym (taken_set new i after small)) in
       subst (λ (l : List (Holding ReaderView)). ArePortsTold l told) given
-      (ports_append (map own (take i new)) (own after ∷ []) told (ports_still (map own (take i new)) middle told more before) now)
+      (ports_append (map own (take i new)) (own after ∷ []) told (ports_still ports (map own (take i new)) middle told more before) now)

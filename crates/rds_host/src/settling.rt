@@ -1,11 +1,11 @@
-//! What the slots and the lines of a host are told of each other once its sockets have ended and its lines turn no more.
+//! What the slots and the lines of a host are told of each other while its lines do not turn: before they turn, and once its sockets have
+//! ended.
 ghost use Rattle.std.specs.Prelude.{◌≡◌, ◌<◌, ◌∷◌, ℕ, [], All, Some, length, map, slice_get};
 ghost use Rattle.rds_fmap.specs.Readers.{ReaderView, WriterView};
-ghost use Rattle.rds_socket.specs.Calls.{with_own};
 ghost use Rattle.rds_socket.specs.Holding.{Holding};
 ghost use Rattle.rds_line.specs.Line.{LineView};
 ghost use Rattle.rds_host.specs.Keeping.{LinesKeep, SlotsKeep};
-ghost use Rattle.rds_host.specs.Settled.{AreLinesToldMore, AreSettled, AreSlotsToldMore, CanTell};
+ghost use Rattle.rds_host.specs.Settled.{AreLinesToldMore, AreSameSockets, AreSettled, AreSlotsToldMore, CanTell, IsSameSocket, knowing_ports, ports_of};
 ghost use Rattle.rds_host.specs.Telling.{AreBoxesTold, AreOrdersTold, ArePortsTold, slots_of};
 ghost use Rattle.rds_host.specs.Ties.{AreOfHost};
 
@@ -15,7 +15,8 @@ use rds_link::End;
 use rds_socket::{Closed, Socket};
 
 /// Tells each line all orders that these slots have put for it and each slot all datagrams that these lines have put into its
-/// mailbox. Each line's seat at the port table is told of the port of each socket. `numbers` are those of the closed slots.
+/// mailbox. Each line's seat at the port table is told of the port of each socket, in their order. Nothing else changes: a seat that
+/// had looked up no port still has looked up none. `numbers` are those of the closed slots.
 pub fn settle<E: End>(
     sockets: &mut [Socket<Reader>],
     closed: &mut [Closed<Reader>],
@@ -31,7 +32,8 @@ pub fn settle<E: End>(
     ensures ports { ArePortsTold (map (λ s. s.own) sockets.new) lines.new }
     ensures slots { AreSlotsToldMore (slots_of sockets.old closed.old) (slots_of sockets.new closed.new) }
     ensures slots_keep { SlotsKeep (slots_of sockets.old closed.old) (slots_of sockets.new closed.new) }
-    ensures lines { AreLinesToldMore lines.old lines.new }
+    ensures sockets { AreSameSockets sockets.old sockets.new }
+    ensures lines { AreLinesToldMore (ports_of sockets.old) lines.old lines.new }
     ensures lines_keep { LinesKeep lines.old lines.new }
 {
     settle_sockets(sockets, lines);
@@ -41,8 +43,9 @@ pub fn settle<E: End>(
 // Tells sockets and lines of each other.
 fn settle_sockets<E: End>(sockets: &mut [Socket<Reader>], lines: &mut [Line<E, Writer>])
     requires { CanTell (map (λ s. s.own) sockets.old) lines.old }
-    ensures told { AreSettled (map (λ s. s.own) sockets.old) (map (λ s. s.own) sockets.new) lines.old lines.new }
+    ensures told { AreSettled (ports_of sockets.old) (map (λ s. s.own) sockets.old) (map (λ s. s.own) sockets.new) lines.old lines.new }
     ensures ports { ArePortsTold (map (λ s. s.own) sockets.new) lines.new }
+    ensures same { AreSameSockets sockets.old sockets.new }
 {
     for i in 0..sockets.len() {
         settle_socket(&mut sockets[i], lines);
@@ -57,7 +60,7 @@ fn settle_closed<E: End>(
 )
     requires numbers { numbers.now ≡ map (λ h. h.words.slot) closed.old }
     requires tell { CanTell closed.old lines.old }
-    ensures { AreSettled closed.old closed.new lines.old lines.new }
+    ensures { AreSettled [] closed.old closed.new lines.old lines.new }
 {
     for i in 0..closed.len() {
         settle_slot(numbers[i], &mut closed[i], lines);
@@ -66,22 +69,33 @@ fn settle_closed<E: End>(
 
 fn settle_socket<E: End>(socket: &mut Socket<Reader>, lines: &mut [Line<E, Writer>])
     requires { CanTell (socket.old.own ∷ []) lines.old }
-    ensures told { AreSettled (socket.old.own ∷ []) (socket.new.own ∷ []) lines.old lines.new }
+    ensures told { AreSettled (ports_of (socket.old ∷ [])) (socket.old.own ∷ []) (socket.new.own ∷ []) lines.old lines.new }
     ensures ports { ArePortsTold (socket.new.own ∷ []) lines.new }
+    ensures same { IsSameSocket socket.old socket.new }
 {
     let slot = socket.slot();
     for i in 0..lines.len() {
         let line = &mut lines[i];
         line.hear_orders(socket.order_note(i));
-        line.hear_port(socket.port_note());
+        tell_port(socket, line);
         socket.hear(line.inbox_note(slot));
     }
+}
+
+// Tells a line's seat at the port table the port of a socket.
+#[tactic(auto, using(crate::proofs::Knowing::knowing_note))]
+fn tell_port<E: End>(socket: &mut Socket<Reader>, line: &mut Line<E, Writer>)
+    requires { socket.old.own.ports.table ≡ line.old.ports.table }
+    ensures same { socket.new ≡ socket.old }
+    ensures told { line.new ≡ record line.old { ports = knowing_ports line.old.ports (ports_of (socket.old ∷ [])) } }
+{
+    line.hear_port(socket.port_note());
 }
 
 fn settle_slot<E: End>(slot: u16, closed: &mut Closed<Reader>, lines: &mut [Line<E, Writer>])
     requires number { slot ≡ closed.old.words.slot }
     requires tell { CanTell (closed.old ∷ []) lines.old }
-    ensures { AreSettled (closed.old ∷ []) (closed.new ∷ []) lines.old lines.new }
+    ensures { AreSettled [] (closed.old ∷ []) (closed.new ∷ []) lines.old lines.new }
 {
     for i in 0..lines.len() {
         let line = &mut lines[i];

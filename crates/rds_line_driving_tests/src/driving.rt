@@ -1,7 +1,6 @@
-//! Two lines that are driven by a seed: datagrams both ways, turns, receipts, cancellations and a cut, in any order, over ends of which
-//! some calls fail.
-use rds_line_hosts::PORT;
-use rds_line_pair::{Both, NEW, Seed, Way, hosts, send_next, settle, take_next};
+//! Two lines that are driven by a seed: datagrams both ways, turns, receipts, cancellations and a cut by each host, in any order, over
+//! ends of which some calls fail.
+use rds_line_pair::{Both, NEW, Outcome, Seed, Way, cancel, hosts, send_next, settle, take_next};
 use rds_link::End;
 use rds_model::Order;
 use std::alloc::Global;
@@ -12,6 +11,9 @@ use std::thread::Threads;
 
 // How many steps a seed draws.
 const STEPS: u32 = 120;
+
+// Where no call of an end before this one fails, datagrams come both ways.
+const LATE: u32 = 40;
 
 // One step of those that the seed draws from.
 fn step<E: End>(
@@ -37,33 +39,26 @@ fn step<E: End>(
     }
 }
 
-// One of the hosts, which is drawn, cuts the stream.
-fn cut<E: End>(rt: &impl Wait, both: &mut Both<E>, drawn: u32) {
-    if drawn % 2 == 0 {
+// Each host cuts the stream before the step that was drawn for it.
+fn cut<E: End>(rt: &impl Wait, both: &mut Both<E>, at: u32, cuts: (u32, u32)) {
+    if at == cuts.0 {
         both.0.ask(rt, Order::Cut);
-    } else {
+    }
+    if at == cuts.1 {
         both.1.ask(rt, Order::Cut);
     }
 }
 
 // One of the hosts takes back what it sent, where that is drawn.
-fn cancel<E: End>(rt: &impl Wait, both: &mut Both<E>, drawn: u32) {
-    let order = Order::Cancel {
-        slot: 0,
-        dport: PORT,
-    };
+fn take_back<E: End>(rt: &impl Wait, both: &mut Both<E>, ways: &mut [Way; 2], drawn: u32) {
     match drawn % 32 {
-        0 => {
-            both.0.ask(rt, order);
-        }
-        1 => {
-            both.1.ask(rt, order);
-        }
+        0 => cancel(rt, &mut both.0, &mut ways[0]),
+        1 => cancel(rt, &mut both.1, &mut ways[1]),
         _ => {}
     }
 }
 
-// So many steps that the seed draws, and before one of them a cut, with cancellations between them or without.
+// So many steps that the seed draws, and two cuts before some of them, with cancellations between them or without.
 fn drive<E: End>(
     rt: &impl Wait,
     alloc: Global,
@@ -72,13 +67,11 @@ fn drive<E: End>(
     cancels: bool,
 ) -> [Way; 2] {
     let mut ways = [NEW; 2];
-    let cut_at = seed.draw() % STEPS;
+    let cuts = (seed.draw() % STEPS, seed.draw() % STEPS);
     for at in 0..STEPS {
-        if at == cut_at {
-            cut(rt, both, seed.draw());
-        }
+        cut(rt, both, at, cuts);
         if cancels {
-            cancel(rt, both, seed.draw());
+            take_back(rt, both, &mut ways, seed.draw());
         }
         let drawn = seed.draw();
         step(rt, alloc, both, &mut ways, drawn);
@@ -86,74 +79,55 @@ fn drive<E: End>(
     ways
 }
 
-// What both ways came to, where these calls of each end fail.
+// What a run comes to, where these calls of each end fail.
 fn run<R: Threads + Wait + Net>(
     rt: &R,
     alloc: Global,
     fail: Vec<u32>,
     seed: u32,
     cancels: bool,
-) -> Option<[Way; 2]> {
+) -> Option<Outcome> {
     let mut both = hosts(rt, alloc, fail)?;
-    let mut ways = drive(rt, alloc, &mut both, &mut Seed::new(seed), cancels);
-    settle(rt, &mut both, &mut ways);
-    Some(ways)
+    let ways = drive(rt, alloc, &mut both, &mut Seed::new(seed), cancels);
+    Some(settle(rt, &mut both, ways))
 }
 
-// Whether all that went both ways came, in order and each once.
-fn are_whole(ways: &[Way; 2]) -> bool {
-    ways[0].is_whole() && ways[1].is_whole()
-}
-
-// Whether what came both ways was sent, and came in order and each once.
-fn are_right(ways: &[Way; 2]) -> bool {
-    ways[0].is_right() && ways[1].is_right()
-}
-
-// Whether all that went came, where a seed draws what is done.
-fn all_come<R: Threads + Wait + Net>(rt: &R, alloc: Global, seed: u32) -> bool {
-    let Some(ways) = run(rt, alloc, Vec::new(alloc), seed, false) else {
+// Whether all came that was not taken back, where no call fails.
+fn all_come<R: Threads + Wait + Net>(rt: &R, alloc: Global, seed: u32, cancels: bool) -> bool {
+    let Some(outcome) = run(rt, alloc, Vec::new(alloc), seed, cancels) else {
         return false;
     };
-    are_whole(&ways)
+    outcome.is_whole()
 }
 
 #[test]
 fn all_that_went_comes_in_order(rt: HostRuntime) {
     for seed in 0..200 {
-        assert!(rt; all_come(&rt, rt.alloc(), seed));
+        assert!(rt; all_come(&rt, rt.alloc(), seed, false));
     }
-}
-
-// Whether what came is right, where cancellations are drawn too.
-fn the_rest_comes<R: Threads + Wait + Net>(rt: &R, alloc: Global, seed: u32) -> bool {
-    let Some(ways) = run(rt, alloc, Vec::new(alloc), seed, true) else {
-        return false;
-    };
-    are_right(&ways)
 }
 
 #[test]
 fn what_comes_beside_cancellations_is_in_order(rt: HostRuntime) {
     for seed in 0..200 {
-        assert!(rt; the_rest_comes(&rt, rt.alloc(), seed));
+        assert!(rt; all_come(&rt, rt.alloc(), seed, true));
     }
 }
 
-// Whether what came is right, where a call of each end fails.
-fn comes_in_order<R: Threads + Wait + Net>(rt: &R, alloc: Global, seed: u32) -> bool {
-    let Ok(fail) = Vec::from_array(alloc, [1 + seed % 60]) else {
+// Whether what came is right, where the call of each end with this number fails, and whether something came where that is late enough.
+fn comes_in_order<R: Threads + Wait + Net>(rt: &R, alloc: Global, seed: u32, failing: u32) -> bool {
+    let Ok(fail) = Vec::from_array(alloc, [failing]) else {
         return false;
     };
-    let Some(ways) = run(rt, alloc, fail, seed, true) else {
+    let Some(outcome) = run(rt, alloc, fail, seed, true) else {
         return false;
     };
-    are_right(&ways)
+    outcome.is_right() && (failing < LATE || outcome.has_come())
 }
 
 #[test]
 fn what_comes_over_failing_ends_is_in_order(rt: HostRuntime) {
     for seed in 0..200 {
-        assert!(rt; comes_in_order(&rt, rt.alloc(), seed));
+        assert!(rt; comes_in_order(&rt, rt.alloc(), seed, 1 + 3 * seed));
     }
 }

@@ -1,12 +1,14 @@
-//! Two hosts of one slot, put together by hand, with a line of two streams in memory between them: what the tests of lines have.
+//! Two hosts of one slot, put together by hand, with a line of three streams in memory between them: what the tests of lines have.
 #![tactic(auto)]
 
 ghost use Rattle.std.specs.Prelude.{◌≤◌, All, IfOk, IfSome, length};
 ghost use Rattle.rds_line_streams.specs.Streams.{AreNumbered, IsUnused};
 
+mod outcome;
 mod seed;
 mod ways;
 
+pub use outcome::{Outcome, settle};
 use rds_line::Turn;
 use rds_line_hosts::{LineHost, PORT};
 use rds_link::{End, MemEnd, MemWire, Wire};
@@ -17,7 +19,7 @@ use std::alloc::Global;
 use std::net::Net;
 use std::sync::Wait;
 use std::thread::Threads;
-pub use ways::{NEW, Way, send_next, settle, take_next};
+pub use ways::{NEW, Way, cancel, send_next, take_next};
 
 // How many entries a journal may have.
 const LIMIT: u32 = 100_000;
@@ -25,25 +27,35 @@ const LIMIT: u32 = 100_000;
 /// Two hosts and their lines.
 pub type Both<E> = (LineHost<E>, LineHost<E>);
 
-// The streams of a line, with the numbers 1 and 3.
-fn two<E: End>(alloc: Global, first: E, second: E) -> Result<Vec<(u32, E)>, Memory>
+// The streams of a line, with the numbers 1, 3 and 5.
+fn three<E: End>(alloc: Global, first: E, second: E, third: E) -> Result<Vec<(u32, E)>, Memory>
     requires first { IsUnused E.means first }
     requires second { IsUnused E.means second }
+    requires third { IsUnused E.means third }
     ensures numbered { IfOk result (λ streams. AreNumbered streams.items) }
     ensures unused { IfOk result (λ streams. All (λ stream. IsUnused E.means stream.1) streams.items) }
 {
-    let mut streams = Vec::with_capacity(alloc, 2)?;
+    let mut streams = Vec::with_capacity(alloc, 3)?;
     streams.push((1, first))?;
     streams.push((3, second))?;
+    streams.push((5, third))?;
     Ok(streams)
 }
 
-// A host with these ends of both streams.
-fn host<E: End>(alloc: Global, me: u32, peer: u32, first: E, second: E) -> Option<LineHost<E>>
+// A host with these ends of its three streams.
+fn host<E: End>(
+    alloc: Global,
+    me: u32,
+    peer: u32,
+    first: E,
+    second: E,
+    third: E,
+) -> Option<LineHost<E>>
     requires first { IsUnused E.means first }
     requires second { IsUnused E.means second }
+    requires third { IsUnused E.means third }
 {
-    let streams = two(alloc, first, second).ok()?;
+    let streams = three(alloc, first, second, third).ok()?;
     LineHost::new(alloc, me, peer, streams, LIMIT).ok()
 }
 
@@ -59,7 +71,7 @@ fn opened<W: Wire, R: Threads + Wait + Net>(
     wire.open(rt, 1, 2, number).ok()
 }
 
-// Two hosts over two streams of this wire.
+// Two hosts over three streams of this wire.
 fn joined<W: Wire, R: Threads + Wait + Net>(
     rt: &R,
     alloc: Global,
@@ -67,10 +79,11 @@ fn joined<W: Wire, R: Threads + Wait + Net>(
 ) -> Option<Both<W::End>> {
     let (a, b) = opened(rt, wire, 1)?;
     let (c, d) = opened(rt, wire, 3)?;
-    Some((host(alloc, 1, 2, a, c)?, host(alloc, 2, 1, b, d)?))
+    let (e, f) = opened(rt, wire, 5)?;
+    Some((host(alloc, 1, 2, a, c, e)?, host(alloc, 2, 1, b, d, f)?))
 }
 
-/// Two hosts over two streams in memory, of whose ends the calls with these numbers fail.
+/// Two hosts over three streams in memory, of whose ends the calls with these numbers fail.
 pub fn hosts<R: Threads + Wait + Net>(
     rt: &R,
     alloc: Global,

@@ -1,7 +1,8 @@
 //! What went each of the two ways, and what came.
-use crate::{Both, send, turns};
-use rds_line_hosts::LineHost;
+use crate::send;
+use rds_line_hosts::{LineHost, PORT};
 use rds_link::End;
+use rds_model::Order;
 use std::alloc::Global;
 use std::sync::Wait;
 
@@ -13,10 +14,14 @@ const MOST: u32 = 60_000;
 pub struct Way {
     /// So many went.
     pub sent: u32,
+    /// So many of them went before the last cancellation, which may have taken them back.
+    pub loose: u32,
     /// So many came.
     pub came: u32,
     /// The least number that may come next.
     pub next: u32,
+    /// From this number on, each below the next one came.
+    pub unbroken: u32,
     /// Whether each that came has a higher number than those before it.
     pub rises: bool,
 }
@@ -24,8 +29,10 @@ pub struct Way {
 /// A way on which nothing went yet.
 pub const NEW: Way = Way {
     sent: 0,
+    loose: 0,
     came: 0,
     next: 0,
+    unbroken: 0,
     rises: true,
 };
 
@@ -35,14 +42,18 @@ impl Way {
         self.rises && self.next <= self.sent
     }
 
-    /// Whether all that were sent came so.
+    /// Whether all came so that were sent after the last cancellation.
     pub fn is_whole(&self) -> bool {
-        self.is_right() && self.came == self.sent
+        self.is_right()
+            && (self.loose == self.sent || self.next == self.sent && self.unbroken <= self.loose)
     }
 
     // A datagram with this number came.
     fn note(&mut self, number: u32) {
         self.rises = self.rises && self.next <= number;
+        if self.next != number {
+            self.unbroken = number;
+        }
         self.next = number.saturating_add(1);
         self.came = self.came.saturating_add(1);
     }
@@ -52,6 +63,17 @@ impl Way {
 pub fn send_next<E: End>(rt: &impl Wait, alloc: Global, host: &mut LineHost<E>, way: &mut Way) {
     if way.sent < MOST && send(rt, alloc, host, &way.sent.to_be_bytes()) {
         way.sent += 1;
+    }
+}
+
+/// The host takes back all that it has sent and that is not acknowledged.
+pub fn cancel<E: End>(rt: &impl Wait, host: &mut LineHost<E>, way: &mut Way) {
+    let order = Order::Cancel {
+        slot: 0,
+        dport: PORT,
+    };
+    if host.ask(rt, order) {
+        way.loose = way.sent;
     }
 }
 
@@ -71,14 +93,5 @@ fn number_of(bytes: &[u8]) -> u32 {
     match bytes.first_chunk::<4>() {
         Some(number) if bytes.len() == 4 => u32::from_be_bytes(*number),
         _ => u32::MAX,
-    }
-}
-
-/// Both lines turn until all that can move has moved, and both hosts take all that came.
-pub fn settle<E: End>(rt: &impl Wait, both: &mut Both<E>, ways: &mut [Way; 2]) {
-    turns(rt, both, 400);
-    for _ in 0..200 {
-        take_next(rt, &mut both.1, &mut ways[0]);
-        take_next(rt, &mut both.0, &mut ways[1]);
     }
 }

@@ -39,14 +39,16 @@ fn a_datagram_goes_through_two_lines(rt: HostRuntime) {
     assert!(rt; told == Some(((Turn::Idle, Turn::Idle), true, 0)));
 }
 
-// What a cut leads to: the turns after it, and after a second one.
+// What cuts lead to: what the last turns answer after the second of them, and after the third.
 fn cut<E: End>(rt: &impl Wait, both: &mut Both<E>) -> Option<((Turn, Turn), (Turn, Turn))> {
     let asked = both.0.ask(rt, Order::Cut);
-    let first = turns(rt, both, 8);
+    turns(rt, both, 8);
     let again = both.1.ask(rt, Order::Cut);
     let second = turns(rt, both, 8);
-    if asked && again {
-        Some((first, second))
+    let at_last = both.0.ask(rt, Order::Cut);
+    let third = turns(rt, both, 8);
+    if asked && again && at_last {
+        Some((second, third))
     } else {
         None
     }

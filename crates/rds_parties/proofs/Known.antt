@@ -1,5 +1,5 @@
 -- What is known of each two hosts, while their streams are opened.
-use Rattle.std.proofs.Common.{◌≡◌, ◌-◌, ⊎_elim, ℕ, suc, ◌+◌, Bool, true, List, Vec, [], ◌∷◌, ◌++◌, Option, Some, length, option_and_then, set, slice_get, unwrap_or, refl, sym, ap, subst, ◌∙◌, arith}
+use Rattle.std.proofs.Common.{◌≡◌, ◌≤◌, ◌-◌, ⊎_elim, ℕ, zero, suc, ◌+◌, Bool, true, false, List, Vec, [], ◌∷◌, ◌++◌, Option, Some, length, option_and_then, set, slice_get, unwrap_or, refl, sym, ap, subst, ◌∙◌, arith}
 use Rattle.std.specs.Global.{Global}
 use Rattle.std.proofs.lemmas.List.{length-set, length_push, map-append}
 use Rattle.std.proofs.lemmas.Option.{slice_get_within}
@@ -13,20 +13,47 @@ use Rattle.rds_parties.specs.Preparing.{AreAllKnown}
 use Rattle.rds_parties.specs.Streams.{AreAllUnlessLacking, IsKnown, cuts_between}
 use Rattle.rds_parties.proofs.At.{at_both_set, at_both_snoc, stood_at}
 
--- once a stream is said to be missing, nothing is said of those that are there
-pub said_to_lack : (count : ℕ) (lacks : Bool) (list : List ℕ) → lacks ≡ true → AreAllUnlessLacking count lacks list
-said_to_lack count lacks list said whole = absurd (cc)
+-- there are so many numbers from 1 to this one
+count_up : (n : ℕ) → length (up_to n) ≡ n
+count_up zero = refl
+count_up (suc n) =
+    let rest = count_up n in
+    let more = length_push (up_to n) (suc n) in
+    omega (arith, rest, more)
+
+-- no more streams are there than were to be opened
+no_more : (count : ℕ) (lacks : Bool) (list : List ℕ) → AreAllUnlessLacking count lacks list → length list ≤ count
+no_more count true list are = let fewer = are.short refl in omega (arith, fewer)
+no_more count false list are = let all = ap length (are.whole refl) ∙ count_up count in omega (arith, all)
+
+-- before any was to be opened
+pub none_lacks : AreAllUnlessLacking 0 false []
+none_lacks = record { whole = λ calm. refl; short = λ lacks. absurd (cc) }
+
+-- one more was refused, and so it is said that one is missing
+pub one_refused : (count : ℕ) (lacks : Bool) (list : List ℕ) → AreAllUnlessLacking count lacks list → AreAllUnlessLacking (count + 1) true list
+one_refused count lacks list are = record {
+  whole = λ calm. absurd (cc);
+  short = λ said. let most = no_more count lacks list are in omega (arith, most);
+}
 
 module _ {E : Type 0} where
   -- one more was opened
   pub all_one_more : (n : ℕ) (lacks : Bool) (list : List (ℕ × E)) (end : E) → AreAllUnlessLacking n lacks (numbers list) →
       AreAllUnlessLacking (n + 1) lacks (numbers (list ++ (n + 1, end) ∷ []))
-  all_one_more n lacks list end whole calm =
+  all_one_more n lacks list end are =
       let next : n + 1 ≡ suc n = omega arith in
-      map-append (λ (s : ℕ × E). s.0) list ((n + 1, end) ∷ [])
-      ∙ ap (λ (ns : List ℕ). ns ++ (n + 1) ∷ []) (whole calm)
-      ∙ ap (λ (k : ℕ). up_to n ++ k ∷ []) next
-      ∙ ap up_to (sym next)
+      let grown = map-append (λ (s : ℕ × E). s.0) list ((n + 1, end) ∷ []) in record {
+        whole = λ calm.
+            grown
+            ∙ ap (λ (ns : List ℕ). ns ++ (n + 1) ∷ []) (are.whole calm)
+            ∙ ap (λ (k : ℕ). up_to n ++ k ∷ []) next
+            ∙ ap up_to (sym next);
+        short = λ said.
+            let fewer = are.short said in
+            let size = ap length grown ∙ length_push (numbers list) (n + 1) in
+            omega (arith, fewer, size);
+      }
 
 module _ {E : Type 0} (commands : List Placed) where
   -- a host has streams to one more, and it is known of that one
@@ -99,7 +126,7 @@ known_alike : (some commands : List Placed) (low high : ℕ) (w : Wanted) (list 
     IsKnown some low high w list → IsKnown commands low high w list
 known_alike some commands low high w list alike known = record {
   cuts = known.cuts ∙ alike;
-  whole = subst (λ (n : ℕ). AreAllUnlessLacking (n + 3) w.lacks list) alike known.whole;
+  streams = subst (λ (n : ℕ). AreAllUnlessLacking (n + 3) w.lacks list) alike known.streams;
 }
 
 -- so what the last rounds know is true of all hosts

@@ -1,5 +1,5 @@
 -- How many streams are prepared for a run. Source: this project's own.
-use Rattle.std.specs.Prelude.{◌≡◌, ◌≤◌, ◌+◌, ◌-◌, ◌*◌, ◌==◌, ◌&&◌, ◌||◌, ℕ, Bool, false, List, ◌∷◌, All, filter, length, sum_by}
+use Rattle.std.specs.Prelude.{◌≡◌, ◌≤◌, ◌<◌, ◌+◌, ◌-◌, ◌*◌, ◌==◌, ◌&&◌, ◌||◌, ℕ, Bool, true, false, List, ◌∷◌, All, filter, length, sum_by}
 use Rattle.std.specs.List.{range_with_len}
 use Rattle.std.specs.List.Sorted.{IsStrictlyIncreasing}
 use Rattle.rds_link.specs.Streaming.{HasRisen, HasRisenBy}
@@ -49,12 +49,13 @@ pub record AreNumbersOf (count before after : ℕ) (list : List ℕ) : Type 0 wh
 abbrev pub AreMissing : (streams ends before after : ℕ) → Type 0
 AreMissing streams ends before after = (missing : ℕ) × (streams * 2 ≤ ends + missing * 2) × HasRisenBy missing before after
 
--- the numbers of all of so many streams, unless some are said to be missing
-abbrev pub AreAllUnlessLacking : (count : ℕ) (lacks : Bool) → List ℕ → Type 0
-AreAllUnlessLacking count lacks list = lacks ≡ false → list ≡ up_to count
+-- These are the numbers of all of so many streams where none is said to be missing, and of fewer where some are.
+pub record AreAllUnlessLacking (count : ℕ) (lacks : Bool) (list : List ℕ) : Type 0 where
+  pub whole : lacks ≡ false → list ≡ up_to count
+  pub short : lacks ≡ true → length list < count
 
 -- This is known of two hosts, whose streams have these numbers: how many of the commands are cuts between the two. And where no stream is said
--- to be missing, all that were to be prepared were opened.
+-- to be missing, all that were to be prepared were opened; where some are said to be, fewer were.
 pub record IsKnown (commands : List Placed) (low high : ℕ) (known : Wanted) (list : List ℕ) : Type 0 where
   pub cuts : known.cuts ≡ cuts_between low high commands
-  pub whole : AreAllUnlessLacking (streams_between low high commands) known.lacks list
+  pub streams : AreAllUnlessLacking (streams_between low high commands) known.lacks list

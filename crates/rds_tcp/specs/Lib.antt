@@ -1,1 +1,3 @@
 pub mod Tcp
+pub mod Threads
+pub mod Pumps

@@ -1,20 +1,22 @@
 //! The thread that starts the threads of all ends of a wire and joins them. The handle of a thread can't move, and an end does; so
 //! no end holds those of its own threads.
-ghost use Rattle.std.specs.Prelude.{◌≡◌, ◌↔◌};
+ghost use Rattle.std.specs.Prelude.{◌≡◌, ◌↔◌, ◌+◌, IfOk, OnOk};
 ghost use Rattle.std.specs.IoError.{error_kind};
+ghost use Rattle.rds_tcp.specs.Threads.{HaveEnded, unjoined};
 
 use crate::dialing::dial;
+use crate::handles::Handles;
 use crate::pipe::Pipe;
-use crate::pumps::{read_on, write_on};
+use crate::pumps::{reads, writes};
 use crate::rings::Far;
 use crossbeam_channel::{Receiver, SendError, Sender, bounded};
 use rds_link::WireError;
 use std::alloc::Global;
+use std::io;
 use std::io::ErrorKind;
 use std::net::{Net, TcpListener, TcpStream};
 use std::sync::Wait;
-use std::thread::{JoinHandle, Threads};
-use std::{io, thread};
+use std::thread::Threads;
 
 /// What the threads of the two ends of a stream are to hold.
 type Job = (Far, Far);
@@ -25,7 +27,7 @@ type Answer = Result<(Pipe, Pipe), WireError>;
 pub(crate) struct Crew {
     jobs: Sender<Job>,
     answers: Receiver<Answer>,
-    thread: JoinHandle<()>,
+    thread: Handles,
 }
 
 impl Crew {
@@ -36,15 +38,19 @@ impl Crew {
     /// Where there is no memory for the channels to it, or the thread is refused, which is a fault.
     pub(crate) fn new<
         R: Threads + Wait + Net<Listener = TcpListener, Stream = TcpStream> + Copy + Send + 'static,
-    >(rt: &R, alloc: Global) -> Result<Crew, WireError> {
+    >(rt: &R, alloc: Global) -> Result<Crew, WireError>
+        ensures thread { IfOk result (λ crew. unjoined crew.thread ≡ 1) }
+    {
         let (Ok((jobs, orders)), Ok((replies, answers))) = (bounded(alloc, 1), bounded(alloc, 1))
         else {
             return Err(WireError::Memory);
         };
         let own = *rt;
-        let Ok(thread) = thread::spawn(rt, move || work(own, alloc, orders, replies)) else {
-            return Err(WireError::Fault);
-        };
+        let mut thread = Handles::new(alloc);
+        if let Err(cause) = thread.start(rt, move || work(own, alloc, orders, replies)) {
+            thread.join(rt);
+            return Err(cause);
+        }
         Ok(Crew {
             jobs,
             answers,
@@ -62,7 +68,9 @@ impl Crew {
     }
 
     /// Returns once all threads have ended.
-    pub(crate) fn finish<R: Threads>(self, rt: &R) {
+    pub(crate) fn finish<R: Threads>(self, rt: &R)
+        ensures ended { HaveEnded self.thread }
+    {
         let Crew {
             jobs,
             answers,
@@ -77,31 +85,31 @@ impl Crew {
 fn work<
     R: Threads + Wait + Net<Listener = TcpListener, Stream = TcpStream> + Copy + Send + 'static,
 >(rt: R, alloc: Global, jobs: Receiver<Job>, replies: Sender<Answer>) {
-    let mut handles = Vec::new(alloc);
+    let mut threads = Handles::new(alloc);
     for _ in rt.forever() {
         let Ok(job) = jobs.recv(&rt) else {
             break;
         };
-        let answer = open(rt, alloc, &mut handles, job);
+        let answer = open(rt, alloc, &mut threads, job);
         if replies.send(&rt, answer).is_err() {
             break;
         }
     }
-    for handle in handles {
-        handle.join(&rt);
-    }
+    threads.join(&rt);
 }
 
 fn open<
     R: Threads + Wait + Net<Listener = TcpListener, Stream = TcpStream> + Copy + Send + 'static,
->(rt: R, alloc: Global, handles: &mut Vec<JoinHandle<()>>, job: Job) -> Answer {
+>(rt: R, alloc: Global, threads: &mut Handles, job: Job) -> Answer
+    ensures started { OnOk result (unjoined threads.new ≡ unjoined threads.old + 4) }
+{
     let (low, high) = match dial(&rt) {
         Ok(streams) => streams,
         Err(error) => return Err(cause_of(&error)),
     };
     let (low_far, high_far) = job;
-    let low = attended(rt, alloc, handles, low, low_far)?;
-    let high = attended(rt, alloc, handles, high, high_far)?;
+    let low = attended(rt, alloc, threads, low, low_far)?;
+    let high = attended(rt, alloc, threads, high, high_far)?;
     Ok((low, high))
 }
 
@@ -120,10 +128,12 @@ fn cause_of(error: &io::Error) -> WireError
 fn attended<R: Threads + Wait + Copy + Send + 'static>(
     rt: R,
     alloc: Global,
-    handles: &mut Vec<JoinHandle<()>>,
+    threads: &mut Handles,
     tcp: TcpStream,
     far: Far,
-) -> Result<Pipe, WireError> {
+) -> Result<Pipe, WireError>
+    ensures started { OnOk result (unjoined threads.new ≡ unjoined threads.old + 2) }
+{
     let Ok(pipe) = Pipe::new(alloc, tcp) else {
         return Err(WireError::Memory);
     };
@@ -131,25 +141,7 @@ fn attended<R: Threads + Wait + Copy + Send + 'static>(
         return Err(WireError::Memory);
     };
     let Far { incoming, outgoing } = far;
-    start(&rt, handles, move || read_on(&rt, &one, incoming))?;
-    start(&rt, handles, move || write_on(&rt, &other, outgoing))?;
+    threads.start(&rt, move || reads(&rt, &one, incoming))?;
+    threads.start(&rt, move || writes(&rt, &other, outgoing))?;
     Ok(pipe)
-}
-
-// A thread that is refused is a fault, since the refusal doesn't tell its cause.
-fn start<R: Threads, F: FnOnce() + Send + Drop + 'static>(
-    rt: &R,
-    handles: &mut Vec<JoinHandle<()>>,
-    run: F,
-) -> Result<(), WireError>
-    requires { F.pre run }
-{
-    if handles.reserve(1).is_err() {
-        return Err(WireError::Memory);
-    }
-    let Ok(handle) = thread::spawn(rt, run) else {
-        return Err(WireError::Fault);
-    };
-    handles.push_reserved(handle);
-    Ok(())
 }

@@ -7,6 +7,7 @@ ghost use Rattle.rds_link.specs.declared.end.Put.TheVariants as put;
 ghost use Rattle.rds_link.specs.Ends.{Remains, SendsNothing, GetsNothing, RisesBy};
 ghost use Rattle.rds_link.specs.Standing.{standing as standing_of, Failed, IsOver, GoesOn};
 
+use crate::broken::Break;
 use crate::pipe::Pipe;
 use crate::rings::Near;
 use rds_link::{End, Got, Put, Standing};
@@ -80,7 +81,8 @@ impl TcpEnd {
     }
 
     // Counts the first fault, which shuts the end: the TCP stream had broken before the end found that neither end had shut.
-    fn fail(&mut self)
+    fn fail(&mut self, broken: Option<Break>)
+        requires broken { IsSome broken }
         requires shut { self.old.standing.stand.is_shut ≡ false }
         requires other { self.old.standing.stand.other_shut ≡ false }
         ensures same { self.new ≡ record self.old { standing = self.new.standing } }
@@ -111,7 +113,7 @@ impl End for TcpEnd {
         ensures fulls { tcp_means.fulls self.new ≡ tcp_means.fulls self.old }
         ensures meets { Remains tcp_means self.old self.new }
     {
-        let is_broken = self.pipe.is_broken();
+        let broken = self.pipe.broken();
         if self.standing.is_over() {
             return Got::Over;
         }
@@ -119,11 +121,11 @@ impl End for TcpEnd {
         if came > 0 {
             return Got::Bytes(came);
         }
-        if !is_broken {
+        if broken.is_none() {
             self.nothings = self.nothings.saturating_add(1);
             return Got::Nothing;
         }
-        self.fail();
+        self.fail(broken);
         Got::Over
     }
 
@@ -139,7 +141,7 @@ impl End for TcpEnd {
         ensures nothings { tcp_means.nothings self.new ≡ tcp_means.nothings self.old }
         ensures meets { Remains tcp_means self.old self.new }
     {
-        let is_broken = self.pipe.is_broken();
+        let broken = self.pipe.broken();
         if self.standing.is_over() {
             return Put::Over;
         }
@@ -147,12 +149,12 @@ impl End for TcpEnd {
         if taken > 0 {
             return Put::Took(taken);
         }
-        if !is_broken {
+        if broken.is_none() {
             self.pipe.note_full();
             self.fulls = self.fulls.saturating_add(1);
             return Put::Full;
         }
-        self.fail();
+        self.fail(broken);
         Put::Over
     }
 

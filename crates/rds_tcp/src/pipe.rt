@@ -1,14 +1,13 @@
 //! What an end shares with its two threads: the TCP stream, flags, and bells on which each of them sleeps.
 ghost use Rattle.std.specs.Prelude.{◌≡◌, true};
-ghost use Rattle.std.specs.Io.{ReadsAtMost};
+ghost use Rattle.std.specs.Arc.{arc_value};
 
+use crate::broken::Break;
 use rds_link::Standing;
 use std::alloc::{AllocError, Global};
-use std::io;
-use std::io::Read;
 use std::net::{Shutdown, TcpStream};
 use std::sync::atomic::{AtomicBool, Ordering};
-use std::sync::{Arc, Wait};
+use std::sync::{Arc, OnceLock, OnceToken, Wait};
 use std::thread::Parker;
 use std::time::Duration;
 
@@ -16,14 +15,14 @@ use std::time::Duration;
 #[derive(Drop)]
 pub(crate) struct Hand {
     bell: Parker,
-    has_ended: AtomicBool,
+    end: OnceLock<()>,
 }
 
 impl Hand {
     fn new() -> Hand {
         Hand {
             bell: Parker::new(),
-            has_ended: AtomicBool::new(false),
+            end: OnceLock::new(),
         }
     }
 
@@ -33,11 +32,18 @@ impl Hand {
     }
 }
 
+/// What shows that both threads have ended.
+#[derive(Drop)]
+pub(crate) struct Ended<'a> {
+    reader: OnceToken<'a, ()>,
+    writer: OnceToken<'a, ()>,
+}
+
 /// What an end, its reader and its writer share.
 #[derive(Drop)]
 pub(crate) struct Shared {
     tcp: TcpStream,
-    is_broken: AtomicBool,
+    broken: OnceLock<Break>,
     is_closing: AtomicBool,
     has_stopped: AtomicBool,
     wants_room: AtomicBool,
@@ -51,7 +57,7 @@ impl Shared {
     fn new(tcp: TcpStream) -> Shared {
         Shared {
             tcp,
-            is_broken: AtomicBool::new(false),
+            broken: OnceLock::new(),
             is_closing: AtomicBool::new(false),
             has_stopped: AtomicBool::new(false),
             wants_room: AtomicBool::new(false),
@@ -62,15 +68,8 @@ impl Shared {
         }
     }
 
-    pub(crate) fn read(&self, buf: &mut [u8]) -> io::Result<usize>
-        ensures { ReadsAtMost result buf.new }
-    {
-        let mut tcp = &self.tcp;
-        tcp.read(buf)
-    }
-
-    /// Where the writer writes.
-    pub(crate) fn writes(&self) -> &TcpStream {
+    /// Where the reader reads, and the writer writes.
+    pub(crate) fn stream(&self) -> &TcpStream {
         &self.tcp
     }
 
@@ -88,9 +87,9 @@ impl Shared {
         self.line.unpark();
     }
 
-    /// The TCP stream has ended, or a call on it failed.
-    pub(crate) fn note_broken(&self) {
-        self.is_broken.store(true, Ordering::SeqCst);
+    /// The TCP stream has ended, or a call on it failed. The first thread that finds it says so.
+    pub(crate) fn note_broken(&self, broken: Break) {
+        let _ = self.broken.try_set(broken);
         self.line.unpark();
     }
 
@@ -103,7 +102,7 @@ impl Shared {
 
     /// The last step of a thread.
     pub(crate) fn note_end(&self, hand: &Hand) {
-        hand.has_ended.store(true, Ordering::SeqCst);
+        let _ = hand.end.try_set(());
         self.closer.unpark();
     }
 
@@ -115,14 +114,17 @@ impl Shared {
         self.writer.bell.unpark();
     }
 
-    // Waits until the thread has ended.
-    fn await_end<R: Wait>(&self, rt: &R, hand: &Hand) {
+    // Waits until the thread has ended, and shows that it has noted so.
+    fn await_end<'a, R: Wait>(&self, rt: &R, hand: &'a Hand) -> OnceToken<'a, ()>
+        ensures { result.of ≡ hand.now.end.id }
+    {
         for _ in rt.forever() {
-            if hand.has_ended.load(Ordering::SeqCst) {
-                return;
+            if let Some(token) = hand.end.witness() {
+                return token;
             }
             self.closer.park(rt);
         }
+        unreachable!()
     }
 }
 
@@ -150,8 +152,9 @@ impl Pipe {
         Arc::try_clone(&self.shared)
     }
 
-    pub(crate) fn is_broken(&self) -> bool {
-        self.shared.is_broken.load(Ordering::SeqCst)
+    /// What shows that the TCP stream has broken, once it has.
+    pub(crate) fn broken(&self) -> Option<Break> {
+        self.shared.broken.get().copied()
     }
 
     /// There is room in the reader's ring.
@@ -189,9 +192,15 @@ impl Pipe {
         self.shared.await_end(rt, &self.shared.writer);
     }
 
-    /// Returns once both threads have ended.
-    pub(crate) fn await_threads<R: Wait>(&self, rt: &R) {
-        self.shared.await_end(rt, &self.shared.reader);
-        self.shared.await_end(rt, &self.shared.writer);
+    /// Returns once both threads have ended, which it shows.
+    pub(crate) fn await_threads<R: Wait>(&self, rt: &R) -> Ended<'_>
+        ensures reader { result.reader.of ≡ (arc_value self.now.shared).reader.end.id }
+        ensures writer { result.writer.of ≡ (arc_value self.now.shared).writer.end.id }
+    {
+        let shared = &*self.shared;
+        Ended {
+            reader: shared.await_end(rt, &shared.reader),
+            writer: shared.await_end(rt, &shared.writer),
+        }
     }
 }

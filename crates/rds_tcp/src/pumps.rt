@@ -1,12 +1,14 @@
 //! What the two threads of an end do.
-ghost use Rattle.std.specs.Prelude.{◌≡◌, ◌≤◌, ◌++◌, length, IfSome, IsTrue};
-ghost use Rattle.rtrb.specs.Ring.{sent};
-ghost use Rattle.std.specs.Io.KnownBytes.{Appends};
+ghost use Rattle.std.specs.Prelude.{◌≡◌, ◌≤◌, ◌++◌, length, take, IfOk, OnOk, OnErr, IsSome, IsNone, IsTrue};
+ghost use Rattle.rtrb.specs.Ring.{sent, received};
+ghost use Rattle.std.specs.Io.KnownBytes.{Appends, Consumes, Keeps};
+ghost use Rattle.rds_tcp.specs.Pumps.{GrowsByFront, AppendsFront, PutsAll, PutsFront, WritesAll, WritesFront};
 
+use crate::broken::Break;
 use crate::pipe::Shared;
 use rtrb::{Consumer, Producer};
 use std::io;
-use std::io::Write;
+use std::io::{Read, Write};
 use std::sync::Wait;
 
 /// How many bytes a thread moves at once at most.
@@ -15,35 +17,55 @@ const PIECE: usize = 16_384;
 /// How often the last bytes of an end wait for a peer that doesn't read, each time for as long as a write may wait.
 const PATIENCE: u32 = 20;
 
-/// Puts what comes into the ring, until the TCP stream breaks or the end stops.
-pub(crate) fn read_on<R: Wait>(rt: &R, shared: &Shared, mut ring: Producer<u8>) {
-    let mut piece = [0u8; PIECE];
-    for _ in rt.forever() {
-        let Some(count) = next_piece(shared, &mut piece) else {
-            break;
-        };
-        if !put_all(rt, shared, &mut ring, &piece[..count]) {
-            break;
-        }
+/// What the thread does that reads.
+pub(crate) fn reads<R: Wait>(rt: &R, shared: &Shared, mut ring: Producer<u8>) {
+    if let Some(broken) = read_on(rt, shared, &mut shared.stream(), &mut ring) {
+        shared.note_broken(broken);
     }
-    shared.note_broken();
     shared.note_end(&shared.reader);
 }
 
-// How many bytes came, none where a signal came first. Nothing where the TCP stream has ended or failed.
-fn next_piece(shared: &Shared, piece: &mut [u8]) -> Option<usize>
-    ensures { IfSome result (λ count. count ≤ length piece.new) }
+// Puts what the reader hands out into the ring, until that has ended or failed, of which it shows the latter two, or the end stops.
+fn read_on<R: Wait, S: Read>(
+    rt: &R,
+    shared: &Shared,
+    reader: &mut S,
+    ring: &mut Producer<u8>,
+) -> Option<Break>
+    ensures all { IsSome result → PutsAll (S.remaining reader.old) (S.remaining reader.new) (sent ring.old) (sent ring.new) }
+    ensures front { PutsFront (S.remaining reader.old) (S.remaining reader.new) (sent ring.old) (sent ring.new) }
 {
-    match shared.read(piece) {
-        Ok(count) if count > 0 => Some(count),
-        Err(error) if error.kind() == io::ErrorKind::Interrupted => Some(0),
-        _ => None,
+    let mut piece = [0u8; PIECE];
+    for _ in rt.forever() {
+        match next_piece(reader, &mut piece) {
+            Ok(count) => {
+                if !put_all(rt, shared, ring, &piece[..count]) {
+                    return None;
+                }
+            }
+            Err(broken) => return Some(broken),
+        }
+    }
+    unreachable!()
+}
+
+// How many bytes came, none where a signal came first, or what shows that the reader has ended or failed.
+fn next_piece<S: Read>(reader: &mut S, piece: &mut [u8]) -> Result<usize, Break>
+    ensures count { IfOk result (λ count. count ≤ length piece.new) }
+    ensures came { IfOk result (λ count. Consumes (S.remaining reader.old) (S.remaining reader.new) (take count piece.new)) }
+    ensures over { OnErr result (Keeps (S.remaining reader.old) (S.remaining reader.new)) }
+{
+    match reader.read(piece) {
+        Ok(count) if count > 0 => Ok(count),
+        Err(error) if error.kind() == io::ErrorKind::Interrupted => Ok(0),
+        call => Err(Break::by(&call)),
     }
 }
 
 // Puts the whole piece into the ring, and sleeps where there is no room. Whether it did: it doesn't where the end stops.
 fn put_all<R: Wait>(rt: &R, shared: &Shared, ring: &mut Producer<u8>, piece: &[u8]) -> bool
-    ensures { IsTrue result → sent ring.new ≡ sent ring.old ++ piece.now }
+    ensures all { IsTrue result → sent ring.new ≡ sent ring.old ++ piece.now }
+    ensures front { GrowsByFront (sent ring.old) (sent ring.new) piece.now }
 {
     let mut rest = piece;
     for _ in rt.forever() {
@@ -64,43 +86,64 @@ fn put_all<R: Wait>(rt: &R, shared: &Shared, ring: &mut Producer<u8>, piece: &[u
     unreachable!()
 }
 
-/// Writes what stands in the ring, until the TCP stream breaks, the end stops, or it closes and nothing waits any more.
-pub(crate) fn write_on<R: Wait>(rt: &R, shared: &Shared, mut ring: Consumer<u8>) {
+/// What the thread does that writes.
+pub(crate) fn writes<R: Wait>(rt: &R, shared: &Shared, mut ring: Consumer<u8>) {
+    if let Some(broken) = write_on(rt, shared, &mut shared.stream(), &mut ring) {
+        shared.note_broken(broken);
+    }
+    shared.note_end(&shared.writer);
+}
+
+// Writes what stands in the ring, until the writer fails, which it shows, the end stops, or it closes and nothing waits any more.
+fn write_on<R: Wait, W: Write>(
+    rt: &R,
+    shared: &Shared,
+    writer: &mut W,
+    ring: &mut Consumer<u8>,
+) -> Option<Break>
+    ensures all { IsNone result → WritesAll (W.contents writer.old) (W.contents writer.new) (received ring.old) (received ring.new) }
+    ensures front { WritesFront (W.contents writer.old) (W.contents writer.new) (received ring.old) (received ring.new) }
+{
     let mut piece = [0u8; PIECE];
     for _ in rt.forever() {
         let is_last = shared.is_closing() || shared.has_stopped();
         let count = ring.pop_partial_slice(&mut piece);
         if count > 0 {
             shared.note_room();
-            if !write_all(rt, shared, &mut shared.writes(), &piece[..count]) {
-                shared.note_broken();
-                break;
+            if let Err(broken) = write_all(rt, shared, writer, &piece[..count]) {
+                return Some(broken);
             }
         } else if is_last {
-            break;
+            return None;
         } else {
             shared.writer.sleep(rt);
         }
     }
-    shared.note_end(&shared.writer);
+    unreachable!()
 }
 
-// Writes the whole piece. Whether it did: a closing end waits for its peer only so often.
-fn write_all<R: Wait, W: Write>(rt: &R, shared: &Shared, writer: &mut W, piece: &[u8]) -> bool
-    ensures { IsTrue result → Appends (W.contents writer.old) (W.contents writer.new) piece.now }
+// Writes the whole piece, or shows that a write failed: a closing end waits for its peer only so often.
+fn write_all<R: Wait, W: Write>(
+    rt: &R,
+    shared: &Shared,
+    writer: &mut W,
+    piece: &[u8],
+) -> Result<(), Break>
+    ensures all { OnOk result (Appends (W.contents writer.old) (W.contents writer.new) piece.now) }
+    ensures front { AppendsFront (W.contents writer.old) (W.contents writer.new) piece.now }
 {
     let mut rest = piece;
     let mut patience = PATIENCE;
     for _ in rt.forever() {
         if rest.is_empty() {
-            return true;
+            return Ok(());
         }
         match writer.write(rest) {
             Ok(count) if count > 0 => rest = &rest[count..],
             Err(error) if may_go_on(&error) && patience > 0 => {
                 patience = patience_after(shared, patience);
             }
-            _ => return false,
+            call => return Err(Break::by(&call)),
         }
     }
     unreachable!()

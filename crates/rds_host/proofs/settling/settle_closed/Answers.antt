@@ -4,8 +4,9 @@ use Rattle.std.proofs.lemmas.Option.{get_or_from_slice_get, slice_get-get_or, sl
 use Rattle.rds_fmap.specs.Readers.{ReaderView}
 use Rattle.rds_socket.specs.Holding.{Holding}
 use Rattle.rds_host.specs.Settled.{AreSettled}
+use Rattle.rds_host.proofs.Knowing.{lines_keep_told}
 use Rattle.rds_host.proofs.Told.{same_at}
-use Rattle.rds_host.proofs.ToldLines.{can_one, can_still, lines_keep_told, none_settled, settled_set}
+use Rattle.rds_host.proofs.ToldLines.{can_one, can_still, none_settled, settled_set}
 use Rattle.rds_host.proofs.settling.settle_closed.Goals as goal
 
 abbrev own : Holding ReaderView → Holding ReaderView
@@ -31,7 +32,7 @@ settle_slot-requires-clause-tell g c =
     let s = get_or new i c.index-closed-i.result in
     let at : slice_get new i ≡ Some s = slice_get-get_or new i c.index-closed-i.result (omega arith) in
     let stood = same_at new c.args.closed.now i s inv.1 at in
-    can_still (s ∷ []) c.args.lines.now c.loop-i.lines (lines_keep_told _ _ inv.2.lines_stay) (can_one c.args.closed.now c.args.lines.now i s stood c.requires.tell)
+    can_still (s ∷ []) c.args.lines.now c.loop-i.lines (lines_keep_told _ _ _ inv.2.lines_stay) (can_one c.args.closed.now c.args.lines.now i s stood c.requires.tell)
 
 pub loop-i-init : goal.loop-i-init
 loop-i-init g c = (refl, refl, none_settled c.args.lines.now)
@@ -43,11 +44,11 @@ loop-i-preserved g c =
     let i = c.loop-i.i in
     let s = get_or new i c.index-closed-i.result in
     let at : slice_get new i ≡ Some s = slice_get-get_or new i c.index-closed-i.result (omega arith) in
-    settled_set own c.args.closed.now new i s c.settle_slot.new.closed c.args.lines.now c.loop-i.lines c.settle_slot.new.lines inv.0 inv.1 at inv.2 c.settle_slot.ensures
+    settled_set own [] [] c.args.closed.now new i s c.settle_slot.new.closed c.args.lines.now c.loop-i.lines c.settle_slot.new.lines inv.0 inv.1 at inv.2 c.settle_slot.ensures
 
 pub returns : goal.returns
 returns g c =
     let inv = c.loop-i.invariant in
-    subst (λ (l : List (Holding ReaderView)). AreSettled c.args.closed.now l c.args.lines.now c.loop-i.lines) (map-id (take c.loop-i.i c.loop-i.closed) ∙ take_all c.loop-i.i c.loop-i.closed (omega arith))
-    (subst (λ (l : List (Holding ReaderView)). AreSettled l (map own (take c.loop-i.i c.loop-i.closed)) c.args.lines.now c.loop-i.lines)
+    subst (λ (l : List (Holding ReaderView)). AreSettled [] c.args.closed.now l c.args.lines.now c.loop-i.lines) (map-id (take c.loop-i.i c.loop-i.closed) ∙ take_all c.loop-i.i c.loop-i.closed (omega arith))
+    (subst (λ (l : List (Holding ReaderView)). AreSettled [] l (map own (take c.loop-i.i c.loop-i.closed)) c.args.lines.now c.loop-i.lines)
     (map-id (take c.loop-i.i c.args.closed.now) ∙ take_all c.loop-i.i c.args.closed.now (omega arith)) inv.2)

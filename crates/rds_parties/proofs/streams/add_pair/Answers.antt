@@ -104,7 +104,7 @@ returns-clause-known g c =
     ∙ ap (set (rows_of wanted) low) c.in_ok-push.ensures.items in
     let is : IsKnown commands low high w (numbers opened.low.items) = record {
       cuts = c.cuts_between-cuts.ensures.count;
-      whole = subst (λ n. AreAllUnlessLacking n opened.lacks (numbers opened.low.items)) (ap (λ n. n + 3) c.cuts_between-cuts.ensures.count) c.in_ok-opened.ensures.lacks;
+      streams = subst (λ n. AreAllUnlessLacking n opened.lacks (numbers opened.low.items)) (ap (λ n. n + 3) c.cuts_between-cuts.ensures.count) c.in_ok-opened.ensures.lacks;
     } in
     let next : IsKnown commands low (suc (length stood.items)) w (numbers opened.low.items) =
     subst (λ n. IsKnown commands low n w (numbers opened.low.items)) (sym (c.requires.below stood.items at)) is in

@@ -3,6 +3,7 @@ use Rattle.rds_line_streams.specs.Streams.{numbers}
 use Rattle.rds_parties.specs.Preparing.{ArePrepared}
 use Rattle.rds_parties.specs.Streams.{AreAllUnlessLacking, AreAllUnlessRisen, AreNumbersOf}
 use Rattle.rds_parties.proofs.Counted.{numbers_of}
+use Rattle.rds_parties.proofs.Known.{none_lacks}
 use Rattle.rds_parties.proofs.Preparing.{none_prepared}
 use Rattle.rds_parties.proofs.streams.open_all.Goals as goal
 
@@ -15,7 +16,7 @@ loop-before-init g c =
       prepared =
           subst (λ (l : List (ℕ × g.row.W-End.Denot)). ArePrepared m 0 l c.new-2.result.items) (sym low)
           (subst (λ (h : List (ℕ × g.row.W-End.Denot)). ArePrepared m 0 [] h) (sym high) (none_prepared m));
-      lacks = subst (λ (l : List (ℕ × g.row.W-End.Denot)). AreAllUnlessLacking 0 false (numbers l)) (sym low) (λ calm. refl);
+      lacks = subst (λ (l : List (ℕ × g.row.W-End.Denot)). AreAllUnlessLacking 0 false (numbers l)) (sym low) none_lacks;
       whole =
           subst (λ (l : List (ℕ × g.row.W-End.Denot)). AreAllUnlessRisen 0 (g.W.Wire.faults c.args.wire.now) (g.W.Wire.faults c.args.wire.now) (numbers l)) (sym low)
           (λ calm. refl);

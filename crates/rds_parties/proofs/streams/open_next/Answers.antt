@@ -1,10 +1,10 @@
-use Rattle.std.proofs.Common.{rules, ℕ, ◌+◌, ◌-◌, length, List, [], ◌∷◌, ◌++◌, refl, sym, subst}
+use Rattle.std.proofs.Common.{rules, ℕ, ◌+◌, ◌-◌, length, List, [], ◌∷◌, ◌++◌, sym, subst}
 use Rattle.rds_parties.specs.Preparing.{ArePrepared}
 use Rattle.rds_link.specs.Streaming.{HasRisen, HasRisenBy}
 use Rattle.rds_line_streams.specs.Streams.{numbers}
 use Rattle.rds_parties.specs.Streams.{AreAllUnlessLacking, AreAllUnlessRisen}
 use Rattle.rds_parties.proofs.Counted.{all_more, all_refused}
-use Rattle.rds_parties.proofs.Known.{all_one_more, said_to_lack}
+use Rattle.rds_parties.proofs.Known.{all_one_more, one_refused}
 use Rattle.rds_parties.proofs.Missing.{missing_more, missing_refused}
 use Rattle.rds_parties.proofs.Preparing.{prepared_less, prepared_more}
 use Rattle.rds_parties.proofs.streams.open_next.Goals as goal
@@ -36,15 +36,15 @@ returns-in-Err-Fault-clause-whole g c = λ first least whole.
     all_refused c.args.before first before after (numbers c.args.opened.now.low.items) least risen
 
 pub returns-in_ok-add-in-Ok-clause-lacks : goal.returns-in_ok-add-in-Ok-clause-lacks
-returns-in_ok-add-in-Ok-clause-lacks g c = λ whole.
+returns-in_ok-add-in-Ok-clause-lacks g c = λ are.
     let n = c.args.before + 1 in
     subst (λ (l : List (ℕ × g.row.W-End.Denot)). AreAllUnlessLacking n c.add.new.self.lacks (numbers l)) (sym c.in_ok-add-in-Ok.ensures.low)
     (subst (λ b. AreAllUnlessLacking n b (numbers (c.args.opened.now.low.items ++ (n, c.in-Ok.first) ∷ []))) (sym c.add.ensures.lacks)
-    (all_one_more c.args.before c.args.opened.now.lacks c.args.opened.now.low.items c.in-Ok.first whole))
+    (all_one_more c.args.before c.args.opened.now.lacks c.args.opened.now.low.items c.in-Ok.first are))
 
 -- refused where a stream is left out and it isn't said that one is missing
 pub returns-in-Err-Fault-clause-lacks : goal.returns-in-Err-Fault-clause-lacks
-returns-in-Err-Fault-clause-lacks g c = λ whole. said_to_lack (c.args.before + 1) _ (numbers c.args.opened.now.low.items) refl
+returns-in-Err-Fault-clause-lacks g c = λ are. one_refused c.args.before c.args.opened.now.lacks (numbers c.args.opened.now.low.items) are
 
 pub returns-in_ok-add-in-Ok-clause-missing : goal.returns-in_ok-add-in-Ok-clause-missing
 returns-in_ok-add-in-Ok-clause-missing g c = λ first small risen.
