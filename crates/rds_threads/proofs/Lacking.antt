@@ -9,6 +9,7 @@ use Rattle.rds_model.specs.Honest.{Begins}
 use Rattle.rds_model.specs.Past.{newest_stream, open_stream}
 use Rattle.rds_model.specs.Sums.{opens}
 use Rattle.rds_line_streams.specs.Streams.{numbers}
+use Rattle.rds_line_channel.specs.Carried.{shuts}
 use Rattle.rds_fmap.specs.Readers.{WriterView}
 use Rattle.rds_line.specs.Line.{LineView, line_past}
 use Rattle.rds_callers.specs.Places.{CallerView}
@@ -16,13 +17,14 @@ use Rattle.rds_script.specs.declared.script.Command.{Command}
 use Rattle.rds_script.specs.declared.script.Command.TheVariants.{Bind, BindAny, Send, Recv, Cancel, Close, Open, Move, Cut, Drain}
 use Rattle.rds_script.specs.declared.script.Placed.{Placed}
 use Rattle.rds_parties.specs.Preparing.{HaveCounted, HaveNumbered}
-use Rattle.rds_parties.specs.Streams.{AreNumbersOf, cuts_between, is_cut_between, streams_between}
-use Rattle.rds_rounds.specs.Causes.{HostsMissStream, LacksStream}
+use Rattle.rds_parties.specs.Streams.{AreNumbersOf, IsKnown, cuts_between, is_cut_between, streams_between}
+use Rattle.rds_rounds.specs.Causes.{LacksStream, MissesStream, ShouldHaveStream, known_of, refusals}
 use Rattle.rds_rounds.specs.Done.{AreDone}
 use Rattle.rds_rounds.specs.Grid.{AreRows, IsAt, peer_at}
 use Rattle.rds_rounds.specs.Sound.{AreSoundJournals}
 use Rattle.rds_rounds.specs.declared.verdict.Wanted.{Wanted}
-use Rattle.rds_threads.specs.Causes.{AreLackingStream, HasNoneLeft, IsFilledAlone, IsOfCommands, OpenedAmong}
+use Rattle.rds_threads.specs.Causes.{AreLackingStream, HasNoneLeft, IsFilledAlone, IsOfCommands, MissesOne, OpenedAmong, ShouldHaveOne}
+use Rattle.rds_threads.specs.Known.{MissByCommands}
 use Rattle.rds_threads.specs.Settled.{HaveDoneSpared}
 use Rattle.rds_threads.specs.Taking.{HasOrders, HaveSameStreams, HaveTied, IsGroundedAt, IsJournalOf, IsJournalOfLine}
 use Rattle.rds_threads.proofs.FilledAlone.{filled_alone}
@@ -76,12 +78,36 @@ module _ {E M : Type 0} where
         (of_other.opened.1 ∙ ap (take of_other.opened.0) (same ∙ sym (ap opens of_own.is ∙ lacks.all)));
   }
 
+  -- two hosts that should have a stream by what is known of them should have one by the commands
+  should_have : (tells : Bool) (w : Wanted) (low high : ℕ) (commands : List Placed) (line : LineView E M) (other : List Entry) →
+      IsKnown commands low high w (numbers line.channel.streams.list) → LacksStream line → ShouldHaveStream tells w (line_past line) other →
+      ShouldHaveOne tells low high commands (line_past line) other
+  should_have tells w low high commands line other known lacks (inl telling) = inl telling
+  should_have tells w low high commands line other known lacks (inr (inl missing)) =
+      inr (inl (subst (λ (l : List ℕ). length l < streams_between low high commands) (sym lacks.all) (known.streams.short missing)))
+  should_have tells w low high commands line other known lacks (inr (inr more)) =
+      inr (inr (subst (λ (n : ℕ). n + refusals other < shuts (line_past line)) known.cuts more))
+
+  -- so the journal of a line that misses a stream has none left where they should have one
+  misses_one : (tells : Bool) (w : Wanted) (low high : ℕ) (commands : List Placed) (line back : LineView E M) (own other : List Entry) →
+      IsKnown commands low high w (numbers line.channel.streams.list) → MissesStream tells w line back → IsJournalOfLine line own →
+      IsJournalOfLine back other → numbers back.channel.streams.list ≡ numbers line.channel.streams.list → MissesOne tells low high commands own other
+  misses_one tells w low high commands line back own other known misses of_own of_other same = record {
+    none_left = none_left line back own other misses.0 of_own of_other same;
+    should =
+        subst (λ (p : List Entry). ShouldHaveOne tells low high commands p other) (sym of_own.is)
+        (subst (λ (p : List Entry). ShouldHaveOne tells low high commands (line_past line) p) (sym of_other.is)
+        (should_have tells w low high commands line (line_past back) known misses.0 misses.1));
+  }
+
   lacking_of : (m : Means E) (limit hosts : ℕ) (rows : List (List (LineView E M))) → AreDone m limit hosts rows → HaveSameStreams rows →
-      (wanted : List (List Wanted)) (low high : ℕ) → HostsMissStream m.tells wanted low high rows → (commands : List Placed) (before after : ℕ) → HaveCounted commands before after rows → (own other : List Entry) →
+      (commands : List Placed) (low high : ℕ) → MissByCommands m.tells commands low high rows → (before after : ℕ) → HaveCounted commands before after rows → (own other : List Entry) →
       IsJournalOf rows low high own → IsJournalOf rows high low other → IsOfCommands hosts low high commands own →
       IsOfCommands hosts high low commands other → (hosts ≡ 2 → IsFilledAlone low high commands own) → (hosts ≡ 2 → IsFilledAlone high low commands other) →
       AreLackingStream m.tells hosts commands low high (newest_stream own) own other
-  lacking_of m limit hosts rows done streams wanted low high lack commands before after counted own other is_own is_other own_sent other_sent own_filled other_filled =
+  lacking_of m limit hosts rows done streams commands low high missed before after counted own other is_own is_other own_sent other_sent own_filled other_filled =
+      let lack = missed.misses in
+      let w = known_of missed.wanted low high in
       let ordered = lack.ordered in
       let next = lack.next in
       let less : low < high = omega (arith, ordered, next) in
@@ -91,7 +117,10 @@ module _ {E M : Type 0} where
       let same = streams low lack.place lack.one lack.other ordered lack.one_at there in
       let both =
       subst (λ (n : ℕ). HaveNumbered commands before after low n lack.one.channel.streams.list lack.other.channel.streams.list) (sym next)
-      (counted low lack.place lack.one lack.other ordered lack.one_at there) in record {
+      (counted low lack.place lack.one lack.other ordered lack.one_at there) in
+      let known =
+      subst (λ (n : ℕ). IsKnown commands low n (known_of missed.wanted low n) (numbers lack.one.channel.streams.list)) (sym next)
+      (missed.known low lack.place lack.one lack.other ordered lack.one_at there) in record {
         ordered = less;
         known = host_within hosts rows done.shape high lack.other_at.0 lack.other_at.1;
         sound =
@@ -105,8 +134,9 @@ module _ {E M : Type 0} where
         own_opened = opened_among (streams_between low high commands) before after lack.one own both.0 of_own;
         other_opened = opened_among (streams_between low high commands) before after lack.other other both.1 of_other;
         lacks =
-            ⊎_elim (λ misses. inl (none_left lack.one lack.other own other misses.0 of_own of_other same))
-            (λ misses. inr (none_left lack.other lack.one other own misses.0 of_other of_own (sym same))) lack.misses;
+            ⊎_elim (λ misses. inl (misses_one m.tells w low high commands lack.one lack.other own other known misses of_own of_other same))
+            (λ misses. inr (misses_one m.tells w low high commands lack.other lack.one other own
+            (subst (λ (l : List ℕ). IsKnown commands low high w l) (sym same) known) misses of_other of_own (sym same))) lack.misses;
         newest = refl;
       }
 
@@ -136,16 +166,16 @@ module _ {E M : Type 0} where
 module _ {E : Type 0} (m : Means E) (limit hosts : ℕ) (callers : List CallerView) (rows : List (List (LineView E WriterView))) (done : AreDone m limit hosts rows)
     (tied : HaveTied callers rows) (commands : List Placed) (did : HaveDoneSpared hosts commands callers rows) where
   -- so it is of the two journals that were taken out of what all hosts have
-  pub lacking_in_run : (before after : ℕ) → HaveCounted commands before after rows → HaveSameStreams rows → (wanted : List (List Wanted)) (low high : ℕ) →
-      HostsMissStream m.tells wanted low high rows → low < high → high < length rows → (own other : List Entry) → IsJournalOf rows low high own → IsJournalOf rows high low other →
+  pub lacking_in_run : (before after : ℕ) → HaveCounted commands before after rows → HaveSameStreams rows → (low high : ℕ) →
+      MissByCommands m.tells commands low high rows → low < high → high < length rows → (own other : List Entry) → IsJournalOf rows low high own → IsJournalOf rows high low other →
       ((caller : CallerView) → slice_get callers low ≡ Some caller → HasOrders low high caller.places own) →
       ((caller : CallerView) → slice_get callers high ≡ Some caller → HasOrders high low caller.places other) →
       IsGroundedAt callers rows low → IsGroundedAt callers rows high → AreLackingStream m.tells hosts commands low high (newest_stream own) own other
-  lacking_in_run before after counted streams wanted low high lacks less known own other is is_other own_orders other_orders own_grounded other_grounded =
+  lacking_in_run before after counted streams low high missed less known own other is is_other own_orders other_orders own_grounded other_grounded =
       let count = done.shape.count in
       let first : low < hosts = omega (arith, less, known, count) in
       let second : high < hosts = omega (arith, known, count) in
-      lacking_of m limit hosts rows done streams wanted low high lacks commands before after counted own other is is_other
+      lacking_of m limit hosts rows done streams commands low high missed before after counted own other is is_other
       (of_commands_at hosts commands callers rows (omega (arith, less, second)) did tied low high (omega (arith, less, known)) own own_orders)
       (of_commands_at hosts commands callers rows (omega (arith, less, second)) did tied high low known other other_orders)
       (filled_alone m limit hosts callers rows done tied commands did low high first second (λ same. omega (arith, same, less)) own is own_grounded)

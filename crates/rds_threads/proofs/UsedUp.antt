@@ -15,17 +15,19 @@ use Rattle.rds_line.specs.Line.{LineView, line_past}
 use Rattle.rds_final.specs.Hosts.{address_of}
 use Rattle.rds_script.specs.declared.script.Placed.{Placed}
 use Rattle.rds_gather.specs.Cuts.{AreCutsDone}
-use Rattle.rds_rounds.specs.Causes.{AreClosed, AreLeftWell, IsLeftWell, known_of, refusals}
+use Rattle.rds_rounds.specs.Causes.{AreClosed, AreLeftWell, HostsMissStream, IsLeftWell, known_of, refusals}
 use Rattle.rds_rounds.specs.Connection.{AreHosts, AreSameConnections}
 use Rattle.rds_rounds.specs.Done.{AreDone}
 use Rattle.rds_rounds.specs.Grid.{EachRow, IsAt, OfEachPair, peer_at}
 use Rattle.rds_rounds.specs.Quiet.{LinesGoOn}
+use Rattle.rds_rounds.specs.declared.rounds.Rounds.{Rounds}
+use Rattle.rds_rounds.specs.declared.rounds.Rounds.TheVariants as rounds
 use Rattle.rds_rounds.specs.declared.verdict.Wanted.{Wanted}
 use Rattle.rds_parties.specs.Preparing.{AreAllKnown, HaveStreamsOf}
 use Rattle.rds_parties.specs.Streams.{IsKnown, cuts_between, streams_between}
 use Rattle.rds_threads.specs.Counted.{HaveUsedUp}
 use Rattle.rds_threads.specs.Cuts.{HasLostNoCut}
-use Rattle.rds_threads.specs.Known.{AreKnownOf, AreOpenOrUsed, HasUsedAll, IsOpenOrUsed}
+use Rattle.rds_threads.specs.Known.{AreKnownOf, AreOpenOrUsed, HasUsedAll, IsOpenOrUsed, MissAtFault}
 use Rattle.rds_threads.specs.Outcome.{cuts_to}
 use Rattle.rds_threads.specs.Taking.{HaveSameStreams}
 use Rattle.rds_threads.proofs.At.{all_at}
@@ -109,7 +111,7 @@ module _ {E : Type 0} where
             let cuts = is.cuts in
             inr (record {
               closed = lacks.0.closed;
-              opened = lacks.0.all ∙ is.whole (false_from_ne_true known.lacks (λ lacking. lacks.1 (inr (inl lacking))));
+              opened = lacks.0.all ∙ is.streams.whole (false_from_ne_true known.lacks (λ lacking. lacks.1 (inr (inl lacking))));
               few = omega (arith, few, cuts);
             })
       ]
@@ -147,7 +149,17 @@ module _ {E : Type 0} where
   known_in_end wanted commands rows told after kept goes known =
       known_keep LinesGoOn told after goes went_on wanted commands (known_keep AreSameConnections rows told kept same_connections wanted commands known)
 
-  -- so in the end each line has a stream open, or has used all that were to be prepared
+  -- so two hosts that miss a stream do by these commands
+  pub missed_in_end : (tells : Bool) (wanted : List (List Wanted)) (commands : List Placed) (end : Rounds) (rows told after : List (List (LineView E WriterView))) →
+      EachRow AreSameConnections rows told → EachRow LinesGoOn told after → AreKnownOf wanted commands rows →
+      ((low high : ℕ) → end ≡ rounds.Fault low high → HostsMissStream tells wanted low high after) → MissAtFault tells commands end after
+  missed_in_end tells wanted commands end rows told after kept goes known missed low high is = record {
+    wanted = wanted;
+    known = known_in_end wanted commands rows told after kept goes known;
+    misses = missed low high is;
+  }
+
+  -- and in the end each line has a stream open, or has used all that were to be prepared
   pub open_in_end : (m : Means E) (limit hosts : ℕ) (wanted : List (List Wanted)) (commands : List Placed) (rows told after : List (List (LineView E WriterView))) →
       AreHosts m limit hosts rows → EachRow AreSameConnections rows told → EachRow LinesGoOn told after → AreKnownOf wanted commands rows →
       AreLeftWell m.tells wanted after → AreOpenOrUsed commands after

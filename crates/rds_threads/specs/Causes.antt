@@ -1,5 +1,5 @@
 -- Why a run ended otherwise than well. Source: this project's own.
-use Rattle.std.specs.Prelude.{◌≡◌, ◌≢◌, ◌⊎◌, ◌≤◌, ◌<◌, ◌+◌, ℕ, Bool, false, List, [], ◌∷◌, All, None, Some, length, slice_get, sum_by}
+use Rattle.std.specs.Prelude.{◌≡◌, ◌≢◌, ◌⊎◌, ◌≤◌, ◌<◌, ◌+◌, ℕ, Bool, true, false, List, [], ◌∷◌, All, None, Some, length, slice_get, sum_by}
 use Rattle.rds_fmap.specs.Readers.{ReaderView}
 use Rattle.rds_model.specs.declared.entry.Entry.{Entry}
 use Rattle.rds_model.specs.Alive.{alive_numbers}
@@ -10,14 +10,16 @@ use Rattle.rds_final.specs.FinalState.{FinalHost, FinalJournal}
 use Rattle.rds_final.specs.Hosts.{address_of}
 use Rattle.rds_script.specs.declared.script.Placed.{Placed}
 use Rattle.rds_parts.specs.Lanes.{IsLaneAt, Lane}
+use Rattle.rds_line_channel.specs.Carried.{shuts}
 use Rattle.rds_line.specs.Keeps.{uncut}
 use Rattle.rds_line.specs.Seats.{HasPulled}
 use Rattle.rds_gather.specs.Joined.{orders_of}
 use Rattle.rds_callers.specs.Places.{Place, holding_of}
+use Rattle.rds_rounds.specs.Causes.{refusals}
 use Rattle.rds_rounds.specs.Grid.{peer_at}
 use Rattle.rds_rounds.specs.Sound.{AreSoundJournals}
 use Rattle.rds_parties.specs.Obeyed.{HasDone}
-use Rattle.rds_parties.specs.Streams.{streams_between}
+use Rattle.rds_parties.specs.Streams.{cuts_between, streams_between}
 use Rattle.rds_threads.specs.Outcome.{IsFilled}
 
 -- each stream that the journal opened is among those that were to be prepared, of which there are so many
@@ -53,9 +55,22 @@ pub record HasNoneLeft (own other : List Entry) : Type 0 where
   pub closed : open_stream own ≡ None
   pub all : Begins (opens other) (opens own)
 
+-- Two hosts should have a stream left, by the journal of one of them and that of the other: always over ends that tell their bytes; else where
+-- the journal opened fewer streams than were to be prepared between the two, or where it shut more than there are cuts between the two among
+-- the commands and headers that the other journal refused.
+abbrev pub ShouldHaveOne : (tells : Bool) (low high : ℕ) → List Placed → (own other : List Entry) → Type 0
+ShouldHaveOne tells low high commands own other =
+    (tells ≡ true) ⊎ ((length (opens own) < streams_between low high commands) ⊎ (cuts_between low high commands + refusals other < shuts own))
+
+-- the journal of one of two hosts has no stream left, and the two should have one
+pub record MissesOne (tells : Bool) (low high : ℕ) (commands : List Placed) (own other : List Entry) : Type 0 where
+  pub none_left : HasNoneLeft own other
+  pub should : ShouldHaveOne tells low high commands own other
+
 -- Two hosts of so many, the lower one first, lack a stream. Their journals are sound and of the script's commands, neither opened a stream that
--- wasn't to be prepared for these, and one of them has none left. Where there are no other hosts, each pulled a map with a port only where it
--- delivered more than a receive buffer holds. The lower host's journal opened this stream last, or none where it is 0.
+-- wasn't to be prepared for these, and one of them has none left though the two should have one. Where there are no other hosts, each pulled a
+-- map with a port only where it delivered more than a receive buffer holds. The lower host's journal opened this stream last, or none where it
+-- is 0.
 pub record AreLackingStream (tells : Bool) (hosts : ℕ) (commands : List Placed) (low high stream : ℕ) (own other : List Entry) : Type 0 where
   pub ordered : low < high
   pub known : high < hosts
@@ -66,7 +81,7 @@ pub record AreLackingStream (tells : Bool) (hosts : ℕ) (commands : List Placed
   pub other_sent : IsOfCommands hosts high low commands other
   pub own_filled : hosts ≡ 2 → IsFilledAlone low high commands own
   pub other_filled : hosts ≡ 2 → IsFilledAlone high low commands other
-  pub lacks : HasNoneLeft own other ⊎ HasNoneLeft other own
+  pub lacks : MissesOne tells low high commands own other ⊎ MissesOne tells low high commands other own
   pub newest : stream ≡ newest_stream own
 
 -- how many numbers are alive in the journals of hosts

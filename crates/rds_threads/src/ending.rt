@@ -2,20 +2,19 @@
 ghost use Rattle.std.specs.Prelude.{◌≡◌, ◌<◌, ◌-◌, ◌^◌, ℕ, Bool, List, All, IfOk, OnErr, length, true, false};
 ghost use Rattle.rds_host.specs.Held.{ends_of_all};
 ghost use Rattle.rds_parties.specs.Preparing.{HaveCounted};
-ghost use Rattle.rds_rounds.specs.Causes.{AreClosed, AreUnacked, HostsMissStream, OweNothing, alive_in_rows};
+ghost use Rattle.rds_rounds.specs.Causes.{AreClosed, AreUnacked, OweNothing, alive_in_rows};
 ghost use Rattle.rds_rounds.specs.Connection.{IsFullHost};
 ghost use Rattle.rds_rounds.specs.Done.{AreDone};
 ghost use Rattle.rds_rounds.specs.Drained.{AreDrainedLines};
 ghost use Rattle.rds_rounds.specs.Grid.{rows_of};
 ghost use Rattle.rds_rounds.specs.Quiet.{IsQuietEnd};
 ghost use Rattle.rds_rounds.specs.declared.rounds.Rounds.TheVariants as rounds;
-ghost use Rattle.rds_rounds.specs.declared.verdict.Wanted.{Wanted};
 ghost use Rattle.rds_script.specs.declared.script.Placed.{Placed};
 ghost use Rattle.rds_threads.specs.Begun.{BeginsAtFault};
 ghost use Rattle.rds_threads.specs.Counted.{IsCountedEnd};
 ghost use Rattle.rds_threads.specs.Cuts.{IsCutEnd};
 ghost use Rattle.rds_threads.specs.Ends.{IsEndOfRun};
-ghost use Rattle.rds_threads.specs.Known.{AreOpenOrUsed};
+ghost use Rattle.rds_threads.specs.Known.{AreOpenOrUsed, MissAtFault};
 ghost use Rattle.rds_threads.specs.Settled.{HaveDoneSpared, HaveSettled};
 ghost use Rattle.rds_threads.specs.Taking.{HaveSameStreams, HaveTied};
 
@@ -51,8 +50,6 @@ pub(crate) fn end_run<K: Sink, W: Wire, R: Threads + Wait + Sync>(
     requires drained { W.End.means.tells ≡ true → end ≡ rounds.Done → AreDrainedLines (rows_of lines.items) }
     requires acknowledged { end ≡ rounds.Done → alive_in_rows (rows_of lines.items) ≡ 0 }
     requires fault { (low high : ℕ) → end ≡ rounds.Fault low high → (low < high) × (high < length lines.items) }
-    requires misses { (low high : ℕ) → end ≡ rounds.Fault low high →
-        (wanted : List (List Wanted)) × HostsMissStream W.End.means.tells wanted low high (rows_of lines.items) }
     requires streams { HaveSameStreams (rows_of lines.items) }
     requires unacked { (count : ℕ) (unwritten connected : Bool) → end ≡ rounds.Unfinished count unwritten connected →
         AreUnacked W.End.means.tells count (rows_of lines.items) }
@@ -60,16 +57,19 @@ pub(crate) fn end_run<K: Sink, W: Wire, R: Threads + Wait + Sync>(
     requires closed { (count : ℕ) (unwritten : Bool) → end ≡ rounds.Unfinished count unwritten false → All AreClosed (rows_of lines.items) }
     requires spent { (host peer entries : ℕ) → end ≡ rounds.Spent host peer entries → IsFullHost host peer entries (rows_of lines.items) }
     ensures end { (limit hosts : ℕ) (commands : List Placed) (before after : ℕ) → AreDone W.End.means limit hosts (rows_of lines.items) →
-        HaveDoneSpared hosts commands callers.items (rows_of lines.items) → HaveCounted commands before after (rows_of lines.items) → IfOk result (IsEndOfRun form W.End.means.tells limit hosts commands
+        HaveDoneSpared hosts commands callers.items (rows_of lines.items) → HaveCounted commands before after (rows_of lines.items) →
+        MissAtFault W.End.means.tells commands end (rows_of lines.items) → IfOk result (IsEndOfRun form W.End.means.tells limit hosts commands
         record { held_before = K.held sink.old; held_after = K.held sink.new; faults_before = K.faults sink.old; faults_after = K.faults sink.new }) }
     ensures counted { (commands : List Placed) → (IsQuietEnd end → AreOpenOrUsed commands (rows_of lines.items)) →
         IfOk result (IsCountedEnd W.End.means.tells (start.can_fail ≡ true) start.budget commands start.counts
         record { faults = W.faults wire.new; nothings = W.nothings wire.new; fulls = W.fulls wire.new }) }
     ensures cut { (limit hosts : ℕ) (commands : List Placed) (before : ℕ) → AreDone W.End.means limit hosts (rows_of lines.items) →
         HaveDoneSpared hosts commands callers.items (rows_of lines.items) → HaveCounted commands before (W.faults wire.old) (rows_of lines.items) →
+        MissAtFault W.End.means.tells commands end (rows_of lines.items) →
         (IsQuietEnd end → AreOpenOrUsed commands (rows_of lines.items)) → before < 2 ^ 64 → IfOk result (IsCutEnd commands before (W.faults wire.new)) }
     ensures begun { (limit hosts : ℕ) (commands : List Placed) (before : ℕ) → AreDone W.End.means limit hosts (rows_of lines.items) →
         HaveDoneSpared hosts commands callers.items (rows_of lines.items) → HaveCounted commands before (W.faults wire.old) (rows_of lines.items) →
+        MissAtFault W.End.means.tells commands end (rows_of lines.items) →
         (IsQuietEnd end → AreOpenOrUsed commands (rows_of lines.items)) → before < 2 ^ 64 →
         IfOk result (BeginsAtFault form W.End.means.tells limit hosts commands
         (IsCountedEnd W.End.means.tells (start.can_fail ≡ true) start.budget commands start.counts

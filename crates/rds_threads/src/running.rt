@@ -137,7 +137,8 @@ fn finish<K: Sink, W: Wire, R: Threads + Wait + Sync>(
     requires hosts { (limit hosts : ℕ) × AreHosts W.End.means limit hosts (rows_of lines.items) }
     requires parties { (hosts : ℕ) × (2 ≤ hosts) × AreParties hosts callers.items (rows_of lines.items) }
     ensures end { (limit hosts : ℕ) (commands : List Placed) (before after : ℕ) → AreHosts W.End.means limit hosts (rows_of lines.items) →
-        HaveDoneLed hosts commands callers.items (rows_of lines.items) → HaveCounted commands before after (rows_of lines.items) → IfOk result (IsEndOfRun form W.End.means.tells limit hosts commands
+        HaveDoneLed hosts commands callers.items (rows_of lines.items) → HaveCounted commands before after (rows_of lines.items) →
+        AreKnownOf (rows_of wanted.now) commands (rows_of lines.items) → IfOk result (IsEndOfRun form W.End.means.tells limit hosts commands
         record { held_before = K.held sink.old; held_after = K.held sink.new; faults_before = K.faults sink.old; faults_after = K.faults sink.new }) }
     ensures counted { (commands : List Placed) → AreKnownOf (rows_of wanted.now) commands (rows_of lines.items) →
         IfOk result (IsCountedEnd W.End.means.tells (start.can_fail ≡ true) start.budget commands start.counts

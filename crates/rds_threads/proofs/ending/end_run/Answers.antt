@@ -36,7 +36,7 @@ end_by_spent-requires-clause-peer g c =
     two.few_peers
 
 pub returns-in_ok-own-in-Spent-clause-end : goal.returns-in_ok-own-in-Spent-clause-end
-returns-in_ok-own-in-Spent-clause-end g c = λ limit hosts commands before after done did counted.
+returns-in_ok-own-in-Spent-clause-end g c = λ limit hosts commands before after done did counted missed.
     let host = c.in-Spent.host in
     let peer = c.in-Spent.peer in
     let entries = c.in-Spent.entries in
@@ -61,7 +61,7 @@ returns-in_ok-own-in-Spent-clause-end g c = λ limit hosts commands before after
     c.end_by_spent.ensures.end
 
 pub returns-in_ok-ends-in-Done-clause-end : goal.returns-in_ok-ends-in-Done-clause-end
-returns-in_ok-ends-in-Done-clause-end g c = λ limit hosts commands before after done did counted.
+returns-in_ok-ends-in-Done-clause-end g c = λ limit hosts commands before after done did counted missed.
     let ends = c.in_ok-ends-in-Done.ends in
     let text = text_of c.args.form (host_views ends.items) in
     let sink : Written = record {
@@ -79,7 +79,7 @@ returns-in_ok-ends-in-Done-clause-end g c = λ limit hosts commands before after
     )) c.end_by_report.ensures.end
 
 pub returns-else-not-has_waited-clause-end : goal.returns-else-not-has_waited-clause-end
-returns-else-not-has_waited-clause-end g c = λ limit hosts commands before after done did counted.
+returns-else-not-has_waited-clause-end g c = λ limit hosts commands before after done did counted missed.
     let ends = c.in_ok-ends-in-Unfinished.ends in
     let count = c.in-Unfinished.count in
     let alive = c.requires.unacked count c.in-Unfinished.unwritten c.in-Unfinished.connected c.in-Unfinished.is in
@@ -97,18 +97,18 @@ returns-else-not-has_waited-clause-end g c = λ limit hosts commands before afte
     (c.in_ok-ends-in-Unfinished.ensures.ends limit hosts commands done did, unacked, refl)) c.end_unfinished.ensures.end
 
 pub returns-else-not-has_faulted-clause-end : goal.returns-else-not-has_faulted-clause-end
-returns-else-not-has_faulted-clause-end g c = λ limit hosts commands before after done did counted.
+returns-else-not-has_faulted-clause-end g c = λ limit hosts commands before after done did counted missed.
     let low = c.in-Fault.low in
     let high = c.in-Fault.high in
     let own = c.in_ok-one-in-Fault.one in
     let other = c.in_ok-one-in-Fault.other in
     let stream = newest_stream own.past in
     let found_hosts = c.requires.fault low high c.in-Fault.is in
-    let misses = c.requires.misses low high c.in-Fault.is in
+    let misses = missed low high c.in-Fault.is in
     let known : high < length (rows_of c.args.lines.items) = omega (arith, found_hosts.1, rows_count c.args.lines.items) in
     let lacking =
     lacking_in_run g.W.End.End.means limit hosts c.args.callers.items (rows_of c.args.lines.items) done c.requires.tied commands did before after counted
-    c.requires.streams misses.0 low high misses.1 found_hosts.0 known own.past other.past c.in_ok-one-in-Fault.ensures.own
+    c.requires.streams low high misses found_hosts.0 known own.past other.past c.in_ok-one-in-Fault.ensures.own
     c.in_ok-one-in-Fault.ensures.other c.in_ok-one-in-Fault.ensures.own_orders c.in_ok-one-in-Fault.ensures.other_orders
     c.in_ok-one-in-Fault.ensures.own_grounded c.in_ok-one-in-Fault.ensures.other_grounded in
     let sink : Written = record {
@@ -203,7 +203,7 @@ returns-else-not-has_waited-clause-counted g c = λ commands used.
     ) c.end_unfinished.ensures.end
 
 pub returns-in_ok-ends-in-Done-clause-begun : goal.returns-in_ok-ends-in-Done-clause-begun
-returns-in_ok-ends-in-Done-clause-begun g c = λ limit hosts commands before done did counted used fits.
+returns-in_ok-ends-in-Done-clause-begun g c = λ limit hosts commands before done did counted missed used fits.
     let ends = c.in_ok-ends-in-Done.ends in
     let wire = c.host_ends.new.wire in
     let now : WireCounts = record { faults = g.W.Wire.faults wire; nothings = g.W.Wire.nothings wire; fulls = g.W.Wire.fulls wire } in
@@ -223,7 +223,7 @@ returns-in_ok-ends-in-Done-clause-begun g c = λ limit hosts commands before don
     ) tt (c.in_ok-ends-in-Done.ensures.cut limit hosts commands done did (used (quiet_done c.args.end c.in-Done.is))) c.end_by_report.result c.end_by_report.ensures.end
 
 pub returns-in_ok-own-in-Spent-clause-begun : goal.returns-in_ok-own-in-Spent-clause-begun
-returns-in_ok-own-in-Spent-clause-begun g c = λ limit hosts commands before done did counted used fits.
+returns-in_ok-own-in-Spent-clause-begun g c = λ limit hosts commands before done did counted missed used fits.
     let host = c.in-Spent.host in
     let peer = c.in-Spent.peer in
     let entries = c.in-Spent.entries in
@@ -250,18 +250,18 @@ returns-in_ok-own-in-Spent-clause-begun g c = λ limit hosts commands before don
 
 -- refused where the line of another cause is begun
 pub returns-else-not-has_faulted-clause-begun : goal.returns-else-not-has_faulted-clause-begun
-returns-else-not-has_faulted-clause-begun g c = λ limit hosts commands before done did counted used fits.
+returns-else-not-has_faulted-clause-begun g c = λ limit hosts commands before done did counted missed used fits.
     let low = c.in-Fault.low in
     let high = c.in-Fault.high in
     let own = c.in_ok-one-in-Fault.one in
     let other = c.in_ok-one-in-Fault.other in
     let stream = newest_stream own.past in
     let found_hosts = c.requires.fault low high c.in-Fault.is in
-    let misses = c.requires.misses low high c.in-Fault.is in
+    let misses = missed low high c.in-Fault.is in
     let known : high < length (rows_of c.args.lines.items) = omega (arith, found_hosts.1, rows_count c.args.lines.items) in
     let lacking =
     lacking_in_run g.W.End.End.means limit hosts c.args.callers.items (rows_of c.args.lines.items) done c.requires.tied commands did before (g.W.Wire.faults c.args.wire.now) counted
-    c.requires.streams misses.0 low high misses.1 found_hosts.0 known own.past other.past c.in_ok-one-in-Fault.ensures.own
+    c.requires.streams low high misses found_hosts.0 known own.past other.past c.in_ok-one-in-Fault.ensures.own
     c.in_ok-one-in-Fault.ensures.other c.in_ok-one-in-Fault.ensures.own_orders c.in_ok-one-in-Fault.ensures.other_orders
     c.in_ok-one-in-Fault.ensures.own_grounded c.in_ok-one-in-Fault.ensures.other_grounded in
     let wire = c.journals.new.wire in
@@ -279,7 +279,7 @@ returns-else-not-has_faulted-clause-begun g c = λ limit hosts commands before d
     } in
     let fits_now : c.counts-in-Fault.result.faults < 2 ^ 64 = search rules in
     let short =
-    short_of (rows_of c.args.lines.items) c.requires.streams g.W.End.End.means.tells misses.0 low high misses.1 commands before
+    short_of (rows_of c.args.lines.items) c.requires.streams g.W.End.End.means.tells misses.wanted low high misses.misses commands before
     (g.W.Wire.faults c.args.wire.now) (g.W.Wire.faults c.journals.new.wire) counted
     (subst (λ (w : WireCounts). w.faults < 2 ^ 64) c.counts-in-Fault.ensures fits_now) c.journals.ensures.risen own.past other.past
     c.in_ok-one-in-Fault.ensures.own c.in_ok-one-in-Fault.ensures.other in
@@ -287,7 +287,7 @@ returns-else-not-has_faulted-clause-begun g c = λ limit hosts commands before d
     (fault_line low high stream) (ended.WireFault low high stream own other) (lacking, refl) found short c.end_by_fault.result c.end_by_fault.ensures.end
 
 pub returns-else-not-has_waited-clause-begun : goal.returns-else-not-has_waited-clause-begun
-returns-else-not-has_waited-clause-begun g c = λ limit hosts commands before done did counted used fits.
+returns-else-not-has_waited-clause-begun g c = λ limit hosts commands before done did counted missed used fits.
     let ends = c.in_ok-ends-in-Unfinished.ends in
     let count = c.in-Unfinished.count in
     let unwritten = c.in-Unfinished.unwritten in
@@ -322,7 +322,7 @@ returns-else-not-has_waited-clause-begun g c = λ limit hosts commands before do
 
 -- refused where a line's cuts are lost
 pub returns-in_ok-ends-in-Done-clause-cut : goal.returns-in_ok-ends-in-Done-clause-cut
-returns-in_ok-ends-in-Done-clause-cut g c = λ limit hosts commands before done did counted used fits.
+returns-in_ok-ends-in-Done-clause-cut g c = λ limit hosts commands before done did counted missed used fits.
     let ends = c.in_ok-ends-in-Done.ends in
     let sink : Written = record {
       held_before = g.K.Sink.held c.args.sink.now;
@@ -335,7 +335,7 @@ returns-in_ok-ends-in-Done-clause-cut g c = λ limit hosts commands before done 
 
 -- refused where a line's cuts are lost
 pub returns-else-not-has_waited-clause-cut : goal.returns-else-not-has_waited-clause-cut
-returns-else-not-has_waited-clause-cut g c = λ limit hosts commands before done did counted used fits.
+returns-else-not-has_waited-clause-cut g c = λ limit hosts commands before done did counted missed used fits.
     let ends = c.in_ok-ends-in-Unfinished.ends in
     let count = c.in-Unfinished.count in
     let sink : Written = record {
@@ -348,7 +348,7 @@ returns-else-not-has_waited-clause-cut g c = λ limit hosts commands before done
     (c.in_ok-ends-in-Unfinished.ensures.cut limit hosts commands done did (used (quiet_of c.args.end count c.in-Unfinished.unwritten c.in-Unfinished.connected c.in-Unfinished.is))) c.end_unfinished.ensures.end
 
 pub returns-else-not-has_faulted-clause-cut : goal.returns-else-not-has_faulted-clause-cut
-returns-else-not-has_faulted-clause-cut g c = λ limit hosts commands before done did counted used fits.
+returns-else-not-has_faulted-clause-cut g c = λ limit hosts commands before done did counted missed used fits.
     let low = c.in-Fault.low in
     let high = c.in-Fault.high in
     let own = c.in_ok-one-in-Fault.one in
@@ -360,17 +360,17 @@ returns-else-not-has_faulted-clause-cut g c = λ limit hosts commands before don
       faults_before = g.K.Sink.faults c.args.sink.now;
       faults_after = g.K.Sink.faults c.end_by_fault.new.sink;
     } in
-    let misses = c.requires.misses low high c.in-Fault.is in
+    let misses = missed low high c.in-Fault.is in
     let fits_now : c.counts-in-Fault.result.faults < 2 ^ 64 = search rules in
     let short =
-    short_of (rows_of c.args.lines.items) c.requires.streams g.W.End.End.means.tells misses.0 low high misses.1 commands before
+    short_of (rows_of c.args.lines.items) c.requires.streams g.W.End.End.means.tells misses.wanted low high misses.misses commands before
     (g.W.Wire.faults c.args.wire.now) (g.W.Wire.faults c.journals.new.wire) counted
     (subst (λ (w : WireCounts). w.faults < 2 ^ 64) c.counts-in-Fault.ensures fits_now) c.journals.ensures.risen own.past other.past
     c.in_ok-one-in-Fault.ensures.own c.in_ok-one-in-Fault.ensures.other in
     cut_ok commands before _ sink (fault_line low high stream) (ended.WireFault low high stream own other) c.end_by_fault.result short c.end_by_fault.ensures.end
 
 pub returns-in_ok-own-in-Spent-clause-cut : goal.returns-in_ok-own-in-Spent-clause-cut
-returns-in_ok-own-in-Spent-clause-cut g c = λ limit hosts commands before done did counted used fits.
+returns-in_ok-own-in-Spent-clause-cut g c = λ limit hosts commands before done did counted missed used fits.
     let own = c.in_ok-own-in-Spent.own in
     let other = c.in_ok-own-in-Spent.other in
     let sink : Written = record {

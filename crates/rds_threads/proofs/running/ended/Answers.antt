@@ -33,6 +33,9 @@ returns-clause-end g c =
     (c.play-callers.ensures.hosts c.args.limit hosts c.in_ok-callers.ensures.hosts)
     (all_done hosts commands _ _ _ c.in_ok-callers.ensures.new obeyed led)
     (c.play-callers.ensures.counted commands before after (c.in_ok-callers.ensures.counted commands before after c.in_ok-streams.ensures.counted))
+    (subst (λ (l : List (Vec Wanted Global)). AreKnownOf (rows_of l) commands (rows_of c.play-callers.result.1.items)) (sym c.as_slice-wanted.ensures.value)
+    (known_of_lines commands (rows_of c.in_ok-streams.field-0.wanted.items) (rows_of c.in_ok-streams.field-0.streams.items) (rows_of c.play-callers.result.1.items)
+    c.in_ok-streams.ensures.wanted (c.play-callers.ensures.numbered (rows_of c.in_ok-streams.field-0.streams.items) c.in_ok-callers.ensures.numbered)))
 
 pub returns-clause-counted : goal.returns-clause-counted
 returns-clause-counted g c =

@@ -4,7 +4,7 @@ use Rattle.rds_parties.specs.HeldLaws.{going_as_many, kept_as_many}
 use Rattle.rds_threads.proofs.Finished.{all_settled, all_tied, done_spared}
 use Rattle.rds_threads.proofs.Keeping.{rows_same}
 use Rattle.rds_threads.proofs.SameStreams.{streams_end}
-use Rattle.rds_threads.proofs.UsedUp.{open_in_end}
+use Rattle.rds_threads.proofs.UsedUp.{missed_in_end, open_in_end}
 use Rattle.rds_threads.proofs.running.finish.Goals as goal
 
 pub last_rounds-end-requires : goal.last_rounds-end-requires
@@ -70,7 +70,7 @@ pub end_run-requires-clause-acknowledged : goal.end_run-requires-clause-acknowle
 end_run-requires-clause-acknowledged g c = λ κs within. c.last_rounds-end.ensures.acknowledged
 
 pub returns-clause-end : goal.returns-clause-end
-returns-clause-end g c = λ limit hosts commands before after are did counted.
+returns-clause-end g c = λ limit hosts commands before after are did counted known.
     let old = rows_of c.args.lines.items in
     let told = rows_of c.tell_all.new.lines.items in
     let callers = c.requires.parties.2.callers_count in
@@ -83,6 +83,8 @@ returns-clause-end g c = λ limit hosts commands before after are did counted.
     c.last_rounds-end.ensures.rows did)
     (c.counted_keeps.ensures.goes commands before after told (rows_of c.last_rounds-end.new.lines.items)
     (c.counted_keeps.ensures.same commands before after old told counted kept) c.last_rounds-end.ensures.rows)
+    (missed_in_end g.W.End.End.means.tells (rows_of c.args.wanted.now) commands c.last_rounds-end.result old told (rows_of c.last_rounds-end.new.lines.items) kept
+    c.last_rounds-end.ensures.rows known c.last_rounds-end.ensures.misses)
 
 -- refused where a run is unfinished with no cause
 pub returns-clause-counted : goal.returns-clause-counted
@@ -115,6 +117,8 @@ returns-clause-begun g c = λ limit hosts commands are did counted known.
     c.last_rounds-end.ensures.rows did)
     (c.counted_keeps.ensures.goes commands before middle told (rows_of c.last_rounds-end.new.lines.items)
     (c.counted_keeps.ensures.same commands before middle old told counted kept) c.last_rounds-end.ensures.rows)
+    (missed_in_end g.W.End.End.means.tells (rows_of c.args.wanted.now) commands c.last_rounds-end.result old told (rows_of c.last_rounds-end.new.lines.items) kept
+    c.last_rounds-end.ensures.rows known c.last_rounds-end.ensures.misses)
     (λ quiet.
     open_in_end g.W.End.End.means limit hosts (rows_of c.args.wanted.now) commands old told (rows_of c.last_rounds-end.new.lines.items) are kept
     c.last_rounds-end.ensures.rows known (c.last_rounds-end.ensures.left quiet))
@@ -133,9 +137,6 @@ end_run-requires-clause-streams g c = λ κs within.
 
 pub end_run-requires-clause-owe : goal.end_run-requires-clause-owe
 end_run-requires-clause-owe g c = λ κs within. c.last_rounds-end.ensures.owes
-
-pub end_run-requires-clause-misses : goal.end_run-requires-clause-misses
-end_run-requires-clause-misses g c = λ κs within low high is. (rows_of c.args.wanted.now, c.last_rounds-end.ensures.misses low high is)
 
 pub end_run-requires-clause-closed : goal.end_run-requires-clause-closed
 end_run-requires-clause-closed g c = λ κs within. c.last_rounds-end.ensures.closed
@@ -168,6 +169,8 @@ returns-clause-cut g c = λ limit hosts commands are did counted known.
     c.last_rounds-end.ensures.rows did)
     (c.counted_keeps.ensures.goes commands before middle told (rows_of c.last_rounds-end.new.lines.items)
     (c.counted_keeps.ensures.same commands before middle old told counted kept) c.last_rounds-end.ensures.rows)
+    (missed_in_end g.W.End.End.means.tells (rows_of c.args.wanted.now) commands c.last_rounds-end.result old told (rows_of c.last_rounds-end.new.lines.items) kept
+    c.last_rounds-end.ensures.rows known c.last_rounds-end.ensures.misses)
     (λ quiet.
     open_in_end g.W.End.End.means limit hosts (rows_of c.args.wanted.now) commands old told (rows_of c.last_rounds-end.new.lines.items) are kept
     c.last_rounds-end.ensures.rows known (c.last_rounds-end.ensures.left quiet))
