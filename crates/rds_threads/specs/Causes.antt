@@ -49,8 +49,7 @@ pub record IsOfCommands (hosts host peer : ℕ) (commands : List Placed) (past :
 abbrev pub IsFilledAlone : (host peer : ℕ) → List Placed → List Entry → Type 0
 IsFilledAlone host peer commands past = (port : ℕ) → port < 65536 → HasPulled port past → IsFilled host commands (record { peer = address_of peer; past = past } ∷ []) port
 
--- The journal has no stream left: none is open in it, and it opened each that was prepared, so that the other journal of the connection
--- opened a beginning of the same.
+-- The journal has no stream left: none is open in it, and the other journal of the connection opened none that it didn't open before.
 pub record HasNoneLeft (own other : List Entry) : Type 0 where
   pub closed : open_stream own ≡ None
   pub all : Begins (opens other) (opens own)
