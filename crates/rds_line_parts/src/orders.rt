@@ -2,7 +2,7 @@
 ghost use Rattle.std.specs.Prelude.{◌≡◌, IfSome, IfNone};
 ghost use Rattle.std.specs.Arc.{arc_value};
 ghost use Rattle.rds_mail.specs.Numbers.{Number};
-ghost use Rattle.rds_mail.specs.Passes.{after_get, after_note};
+ghost use Rattle.rds_mail.specs.Passes.{after_get, after_none, after_note};
 ghost use Rattle.rds_mail.specs.Learning.{AllGot};
 ghost use Rattle.rds_mail.specs.Orders.{IsAsked};
 
@@ -49,15 +49,15 @@ impl LineOrders {
         (orders, get)
     }
 
-    /// Takes the first order. `None` where its own step found the queue empty, which shows that all orders that it was told of
-    /// were got.
+    /// Takes the first order. `None` where its own step found the queue empty, which is counted, and which shows that all orders
+    /// that it was told of were got.
     pub fn take_order<W: Wait>(&mut self, rt: &W) -> Option<Order>
         ensures got { IfSome result (λ order. (number : Number) × (self.new ≡ after_get self.old number order)) }
         ensures asked { IfSome result IsAsked }
-        ensures same { IfNone result (self.new ≡ self.old) }
+        ensures counted { IfNone result (self.new ≡ after_none self.old) }
         ensures empty { IfNone result (AllGot self.old) }
     {
-        let asked = self.orders.get(rt, &mut self.get)?;
+        let asked = self.orders.get_counted(rt, &mut self.get)?;
         Some(asked.order())
     }
 

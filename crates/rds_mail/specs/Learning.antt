@@ -13,6 +13,6 @@ pub record AllGot {T : Type 0} (g : Getter T) : Type 0 where
 -- the getter is one of the passes of a queue that keeps the rule
 pub record IsRuled {T : Type 0} (g : Getter T) : Type 0 where
   pub view : View T
-  pub is : g ≡ getter_of g.mail view
+  pub is : g ≡ getter_of g.mail view g.empties
   pub gets : view.gets ≡ true
   pub known : IsKnown view

@@ -1,5 +1,5 @@
 -- The numbers of putters, and what a list has of each. This project's own.
-use Rattle.std.specs.Prelude.{◌≡◌, ℕ, ◌==◌, Bool, true, false, if◌then◌else◌, List, [], ◌∷◌, ◌++◌}
+use Rattle.std.specs.Prelude.{ℕ, ◌==◌, Bool, true, false, if◌then◌else◌, List, [], ◌∷◌}
 
 -- a putter's number is a path: that of the first is empty, and that of the k-th putter split off p is k before p's
 abbrev pub Number : Type 0

@@ -1,5 +1,5 @@
 -- What contracts see of a mailbox and of its passes. This project's own.
-use Rattle.std.specs.Prelude.{ℕ, List, [], ◌∷◌, ◌++◌, Option}
+use Rattle.std.specs.Prelude.{ℕ, ◌+◌, ◌-◌, ◌^◌, min, List, [], ◌∷◌, ◌++◌, Option}
 use Rattle.std.specs.Global.{Global}
 use Rattle.atomic_blocks.specs.declared.web.Seat.{Seat}
 use Rattle.crossbeam_queue.specs.SegTies.{SegId}
@@ -25,12 +25,17 @@ pub record Putter (T : Type 0) : Type 0 where
   pub splits : ℕ
   pub put : List T
 
--- the getter of a queue
+-- the getter of a queue, and how many of its counted gets have found the queue empty
 pub record Getter (T : Type 0) : Type 0 where
   pub mail : QueueId
   pub got : List (Numbered T)
   pub told : List (Account T)
   pub joined : List (Account T)
+  pub empties : ℕ
+
+-- one more, which goes no further than the last value of a u64
+abbrev pub next_empty : ℕ → ℕ
+next_empty empties = min (empties + 1) (2 ^ 64 - 1)
 
 -- a pass of the queue itself
 abbrev pub Pass : Type 0 → Type 0
@@ -43,14 +48,14 @@ module _ {T : Type 0} where
   abbrev pub putter_of : QueueId → Account T → Putter T
   putter_of mail a = record { mail = mail; number = a.number; splits = a.splits; put = a.put }
 
-  abbrev pub getter_of : QueueId → View T → Getter T
-  getter_of mail v = record { mail = mail; got = v.got; told = v.told; joined = v.joined }
+  abbrev pub getter_of : QueueId → View T → ℕ → Getter T
+  getter_of mail v empties = record { mail = mail; got = v.got; told = v.told; joined = v.joined; empties = empties }
 
   abbrev pub putter : Pass T → Putter T
   putter p = putter_of (queue_of p) p.me.view.client.account
 
-  abbrev pub getter : Pass T → Getter T
-  getter p = getter_of (queue_of p) p.me.view.client
+  abbrev pub getter : Pass T → ℕ → Getter T
+  getter p empties = getter_of (queue_of p) p.me.view.client empties
 
   abbrev pub account_of : Putter T → Account T
   account_of p = record { number = p.number; splits = p.splits; put = p.put }
@@ -61,13 +66,17 @@ module _ {T : Type 0} where
 
   -- the getter of a new mailbox
   abbrev pub first_getter : QueueId → Getter T
-  first_getter mail = record { mail = mail; got = []; told = []; joined = [] }
+  first_getter mail = record { mail = mail; got = []; told = []; joined = []; empties = 0 }
 
   abbrev pub after_put : Putter T → T → Putter T
   after_put p item = record p { put = p.put ++ item ∷ [] }
 
   abbrev pub after_get : Getter T → Number → T → Getter T
   after_get g number item = record g { got = g.got ++ (number, item) ∷ [] }
+
+  -- the getter once one more counted get found the queue empty
+  abbrev pub after_none : Getter T → Getter T
+  after_none g = record g { empties = next_empty g.empties }
 
   -- a putter once one more was split off
   abbrev pub split_from : Putter T → Putter T

@@ -1,6 +1,6 @@
 //! The mailbox, and the steps of its putters and of its getter.
 ghost use Rattle.std.specs.Prelude.{◌≡◌, IfOk, IfErr, OnOk, IfSome, IfNone};
-ghost use Rattle.rds_mail.specs.Passes.{first_putter, first_getter, after_put, after_get, split_from, new_from};
+ghost use Rattle.rds_mail.specs.Passes.{first_putter, first_getter, after_put, after_get, after_none, split_from, new_from};
 ghost use Rattle.rds_mail.specs.Learning.{AllGot};
 ghost use Rattle.rds_mail.specs.Numbers.{Number};
 
@@ -46,7 +46,10 @@ impl<T: Drop> Mail<T> {
         Ok((
             Mail { queue, bell },
             PutPass { pass },
-            GetPass { pass: get },
+            GetPass {
+                pass: get,
+                empties: 0,
+            },
         ))
     }
 
@@ -86,6 +89,21 @@ impl<T: Drop> Mail<T> {
         ensures empty { IfNone result (AllGot get.old) }
     {
         self.queue.pop_as::<Getting, R>(rt, &mut get.pass)
+    }
+
+    /// Takes the first item, as `get` does, and counts each `None`. Nothing else raises the count, so a count that was raised
+    /// shows that the queue was looked at and found empty. It stands still at the end of its type.
+    pub fn get_counted<R: Wait>(&self, rt: &R, get: &mut GetPass<T>) -> Option<T>
+        requires { get.old.mail ≡ self.now.line }
+        ensures got { IfSome result (λ item. (number : Number) × (get.new ≡ after_get get.old number item)) }
+        ensures counted { IfNone result (get.new ≡ after_none get.old) }
+        ensures empty { IfNone result (AllGot get.old) }
+    {
+        let item = self.get(rt, get);
+        if item.is_none() {
+            get.empties = get.empties.saturating_add(1);
+        }
+        item
     }
 
     /// The bell of this mailbox.

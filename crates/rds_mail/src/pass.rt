@@ -20,11 +20,13 @@ impl<T> Model for PutPass<T> {
     ghost invariant = { λ p. (p.pass.me.hand ≡ None) × (p.pass.me.spare ≡ None) × (p.pass.me.view.client.puts ≡ true) };
 }
 
-/// The right to get from one mailbox. Contracts see which mailbox, what was got, what notes told, and which putters were
-/// joined into it.
+/// The right to get from one mailbox. Contracts see which mailbox, what was got, what notes told, which putters were
+/// joined into it, and how many of its counted gets have found the queue empty.
 #[derive(Drop)]
 pub struct GetPass<T> {
     pub(crate) pass: SegPass<T, View<T>>,
+    // How often a counted get found the queue empty.
+    pub(crate) empties: u64,
 }
 
 impl<T> Model for GetPass<T> {
@@ -33,7 +35,7 @@ impl<T> Model for GetPass<T> {
 
     ghost Value = { Getter T };
 
-    ghost view = { λ g. getter g.pass };
+    ghost view = { λ g. getter g.pass g.empties };
 
     ghost invariant = { λ g. (g.pass.me.hand ≡ None) × (g.pass.me.spare ≡ None) × (g.pass.me.view.client.gets ≡ true) };
 }
