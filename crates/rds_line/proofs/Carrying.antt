@@ -1,5 +1,6 @@
 -- What came and what is to be written, over steps that appended no entry.
 use Rattle.std.proofs.Common.{◌≡◌, ℕ, ◌-◌, ◌<◌, ◌≤◌, Bool, true, false, Option, Some, None, Result, Ok, Err, OnErr, List, [], ◌++◌, append_assoc, drop, length, length-append, take, refl, sym, ap, subst, ◌∙◌, arith}
+use Rattle.std.proofs.lemmas.Bool.{false≢true}
 use Rattle.std.proofs.lemmas.List.{length-drop, take-append-drop}
 use Rattle.rds_link.specs.Ends.{Means}
 use Rattle.rds_wire.specs.declared.frame.Frame.{Frame}
@@ -12,13 +13,13 @@ use Rattle.rds_model.specs.Reading.{verdict_of}
 use Rattle.rds_conn.specs.declared.conn.Found.{Found}
 use Rattle.rds_conn.specs.Connection.{Connection, taken_bytes, with_room}
 use Rattle.rds_conn.specs.Passing.{Passes, outcome_of}
-use Rattle.rds_line_streams.specs.Streams.{with_list}
+use Rattle.rds_line_streams.specs.Streams.{StreamsView, with_list}
 use Rattle.rds_line_channel.specs.Channel.{ChannelView, arrived_bytes, with_conn}
-use Rattle.rds_line_channel.specs.Changes.{EndsRefused, OpensNext, ShutsStream, TakesBytes}
+use Rattle.rds_line_channel.specs.Changes.{EndsRefused, EndsStream, OpensNext, ShutsStream, TakesBytes}
 use Rattle.rds_line_channel.specs.declared.channel.Taken.{Taken}
 use Rattle.rds_line_channel.specs.declared.channel.Taken.TheVariants as taken
 use Rattle.rds_line.specs.Line.{LineView, line_past}
-use Rattle.rds_line.specs.Steps.{KeepsArrived, KeepsUnwritten}
+use Rattle.rds_line.specs.Steps.{KeepsArrived, KeepsOut, KeepsUnwritten}
 use Rattle.rds_line.specs.Turns.{HasLessToWrite, HoldsMore}
 use Rattle.rds_line.proofs.Longer.{longer}
 use Rattle.rds_line.proofs.Passing.{passes_reads, read_past}
@@ -60,6 +61,17 @@ module _ {E : Type 0} where
   appended_less old new more same =
       let as_long : length new.conn.log.past ≡ length old.conn.log.past = ap (λ (l : List Entry). length l) same in
       absurd (omega (arith, more, as_long))
+
+  -- where the stream ended, none is open
+  pub ended_out : (m : Means E) (old new : ChannelView E) → EndsStream m old.streams new.streams → KeepsOut old new
+  ended_out m old new ends on = absurd (false≢true (sym (ap (λ (s : StreamsView E). s.is_open) ends.is) ∙ on))
+
+  -- where streams are open or not as they were, and nothing was written
+  pub still_out : (old new : ChannelView E) → new.streams.is_open ≡ old.streams.is_open → new.out ≡ old.out → KeepsOut old new
+  still_out old new still out on = (sym still ∙ on, out)
+
+  pub out_through : (a b c : ChannelView E) → KeepsOut a b → KeepsOut b c → KeepsOut a c
+  out_through a b c one two on = let later = two on in let sooner = one later.0 in (sooner.0, later.1 ∙ sooner.1)
 
   -- one step after the other
   module _ (a b c : ChannelView E) (first : Moment a.conn.log.past b.conn.log.past) (second : Moment b.conn.log.past c.conn.log.past) where
@@ -121,6 +133,17 @@ module _ {E : Type 0} where
   taken_unwritten m (Ok taken.Refused) old new frame part refused err = appended_unwritten old new (refused_longer m old new (refused refl))
   taken_unwritten m (Err why) old new frame part refused err = λ _. ap (λ (c : ChannelView E). c.out) err
 
+  pub taken_out : (m : Means E) (came : Result Taken Memory) (old new : ChannelView E) → (came ≡ Ok taken.Frame → TakesBytes true old new) →
+      (came ≡ Ok taken.Part → TakesBytes false old new × (new.piece ≡ [])) → (came ≡ Ok taken.Refused → EndsRefused m old new) →
+      OnErr came (new ≡ old) → KeepsOut old new
+  taken_out m (Ok taken.Frame) old new frame part refused err =
+      still_out old new (ap (λ (c : ChannelView E). c.streams.is_open) (frame refl).is) (ap (λ (c : ChannelView E). c.out) (frame refl).is)
+  taken_out m (Ok taken.Part) old new frame part refused err =
+      still_out old new (ap (λ (c : ChannelView E). c.streams.is_open) (part refl).0.is) (ap (λ (c : ChannelView E). c.out) (part refl).0.is)
+  taken_out m (Ok taken.Refused) old new frame part refused err = ended_out m old new (refused refl).streams
+  taken_out m (Err why) old new frame part refused err =
+      still_out old new (ap (λ (c : ChannelView E). c.streams.is_open) err) (ap (λ (c : ChannelView E). c.out) err)
+
   -- the next stream was opened
   pub opened_longer : (old new : ChannelView E) → OpensNext old new → length old.conn.log.past < length new.conn.log.past
   opened_longer old new opens =
@@ -143,6 +166,11 @@ module _ {E M : Type 0} {inside shown : LineView E M} (is : inside ≡ shown) wh
   pub same_unwritten : (new : ChannelView E) → new ≡ inside.channel → KeepsUnwritten shown.channel new
   same_unwritten new same _ = ap (λ (c : ChannelView E). c.out) same ∙ ap (λ (l : LineView E M). l.channel.out) is
 
+  pub same_out : (new : ChannelView E) → new ≡ inside.channel → KeepsOut shown.channel new
+  same_out new same =
+      still_out shown.channel new (ap (λ (c : ChannelView E). c.streams.is_open) same ∙ ap (λ (l : LineView E M). l.channel.streams.is_open) is)
+      (ap (λ (c : ChannelView E). c.out) same ∙ ap (λ (l : LineView E M). l.channel.out) is)
+
   -- where it got room for entries first
   module _ (ready new : ChannelView E) (room : ready ≡ with_conn inside.channel (with_room inside.channel.conn)) where
     pub roomy_arrived : KeepsArrived ready new → KeepsArrived shown.channel new
@@ -157,6 +185,13 @@ module _ {E M : Type 0} {inside shown : LineView E M} (is : inside ≡ shown) wh
         subst (λ (v : LineView E M). KeepsUnwritten v.channel new) is
         (λ same.
         keeps (same ∙ sym (ap (λ (c : ChannelView E). c.conn.log.past) room)) ∙ ap (λ (c : ChannelView E). c.out) room)
+
+    pub roomy_out : KeepsOut ready new → KeepsOut shown.channel new
+    roomy_out keeps =
+        out_through shown.channel ready new
+        (still_out shown.channel ready
+        (ap (λ (c : ChannelView E). c.streams.is_open) room ∙ ap (λ (l : LineView E M). l.channel.streams.is_open) is)
+        (ap (λ (c : ChannelView E). c.out) room ∙ ap (λ (l : LineView E M). l.channel.out) is)) keeps
 
     -- and then was written to
     module _ (out : List ℕ) (rest : new ≡ record ready { out = out; streams = with_list ready.streams new.streams.list }) where
@@ -183,6 +218,12 @@ module _ {E M : Type 0} {inside shown : LineView E M} (is : inside ≡ shown) wh
           ap (λ (c : ChannelView E). c.out) rest
           ∙ (ap (λ (c : ChannelView E). c.out) room
           ∙ (ap (λ (l : LineView E M). l.channel.out) is ∙ keeps (sym past_now ∙ same)))
+
+      pub read_out : KeepsOut start shown.channel → KeepsOut start new
+      read_out keeps =
+          out_through start shown.channel new keeps
+          (roomy_out
+          (still_out ready new (ap (λ (c : ChannelView E). c.streams.is_open) rest) (ap (λ (c : ChannelView E). c.out) rest)))
 
       pub read_more : KeepsArrived start shown.channel → shown.channel.piece ≡ [] → 1 ≤ length new.piece → HoldsMore start new
       read_more keeps empty some same =

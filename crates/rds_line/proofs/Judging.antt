@@ -143,8 +143,7 @@ module _ {E M : Type 0} (m : Means E) (old new : LineView E M) (done : Done) (co
   over_of within cases =
       let all = ltb-false new.channel.streams.opened (length new.channel.streams.list) cases.2 in
       record {
-        orders = (did.none cases.0).0;
-        all_got = (did.none cases.0).1;
+        orders = did.none cases.0;
         closed = cases.1;
         last = omega (arith, within, all);
       }

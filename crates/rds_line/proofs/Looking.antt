@@ -1,5 +1,5 @@
 -- Where the host's own map was looked at stays so over the other steps of a turn.
-use Rattle.std.proofs.Common.{◌≡◌, ◌⊎◌, inl, inr, suc, List, [], ◌∷◌, ◌++◌, append_assoc, refl, sym, ap, subst, ◌∙◌}
+use Rattle.std.proofs.Common.{◌≡◌, ◌⊎◌, inl, inr, suc, Bool, true, false, List, [], ◌∷◌, ◌++◌, append_assoc, refl, sym, ap, subst, ◌∙◌, arith}
 use Rattle.rds_model.specs.declared.entry.Entry.{Entry}
 use Rattle.rds_model.specs.declared.entry.Entry.TheVariants.{Pull}
 use Rattle.rds_model.specs.Honest.{Begins}
@@ -12,6 +12,7 @@ use Rattle.rds_line_parts.specs.Own.{Own, IsRefresh}
 use Rattle.rds_line_channel.specs.Channel.{ChannelView, with_conn}
 use Rattle.rds_line.specs.Line.{LineView, line_past, pulls_in}
 use Rattle.rds_line.specs.Stays.{LineStays}
+use Rattle.rds_line.specs.Steps.{KeepsOut}
 use Rattle.rds_line.specs.Turns.{LoadsOwn, PullsOwn}
 use Rattle.rds_line.proofs.Same.{begins_through, moment_of, moment_through}
 
@@ -55,6 +56,12 @@ module _ {E M : Type 0} where
         steps = same_list inside.words.view.steps;
       })
 
+  -- and nothing waited to be written then, where nothing waits now
+  pub ready_none : {inside shown : LineView E M} → inside ≡ shown → (channel : ChannelView E) →
+      channel ≡ with_conn inside.channel (with_room inside.channel.conn) → channel.out ≡ [] → shown.channel.out ≡ []
+  ready_none {inside} {shown} is channel room none =
+      sym (ap (λ (v : LineView E M). v.channel.out) is) ∙ (sym (ap (λ (c : ChannelView E). c.out) room) ∙ none)
+
   -- a frame was pulled as it has to be, or none was
   abbrev pub PullsOrNone : LineView E M → LineView E M → Type 0
   PullsOrNone old new = (pulls_in (line_past new) ≡ pulls_in (line_past old)) ⊎ PullsOwn old new
@@ -74,11 +81,12 @@ module _ {E M : Type 0} where
           begins_through loads.seat_after.view.steps c.words.view.steps d.words.view.steps loads.goes_on last.steps;
     }
 
-    pulls_own_wider : PullsOwn b c → PullsOwn a d
-    pulls_own_wider pulls =
+    pulls_own_wider : a.channel.out ≡ [] → PullsOwn b c → PullsOwn a d
+    pulls_own_wider none pulls =
         let more = newer_part last.past in
         record {
           loads = loads_wider pulls.loads;
+          none_waited = none;
           one = last.pulls ∙ pulls.one ∙ ap suc first.pulls;
           stream = pulls.stream;
           frame = pulls.frame;
@@ -91,9 +99,29 @@ module _ {E M : Type 0} where
           owed = ap (λ (o : Own). owed_frame pulls.stream pulls.past o.map) last.own ∙ pulls.owed;
         }
 
-    pub pulls_wider : PullsOrNone b c → PullsOrNone a d
-    pulls_wider (inl none) = inl (last.pulls ∙ none ∙ first.pulls)
-    pulls_wider (inr pulls) = inr (pulls_own_wider pulls)
+    -- nothing waited to be written before the first step, either
+    pub pulls_wider : (PullsOwn b c → a.channel.out ≡ []) → PullsOrNone b c → PullsOrNone a d
+    pulls_wider empty (inl none) = inl (last.pulls ∙ none ∙ first.pulls)
+    pulls_wider empty (inr pulls) = inr (pulls_own_wider (empty pulls) pulls)
+
+  -- a frame is pulled only where a stream is open
+  pub pulls_open : (old new : LineView E M) → (old.channel.streams.is_open ≡ false → new ≡ old) → PullsOwn old new → old.channel.streams.is_open ≡ true
+  pulls_open old new closed pulls = go old.channel.streams.is_open refl
+    where
+      go : (b : Bool) → old.channel.streams.is_open ≡ b → old.channel.streams.is_open ≡ true
+      go true on = on
+      go false off =
+          let same : pulls_in (line_past new) ≡ pulls_in (line_past old) = ap (λ (v : LineView E M). pulls_in (line_past v)) (closed off) in
+          let one = pulls.one in
+          absurd (omega (arith, same, one))
+
+  -- and nothing waited to be written before the steps that came first
+  pub none_first : (first opened taken came went : LineView E M) → opened.channel.out ≡ first.channel.out → KeepsOut opened.channel taken.channel →
+      KeepsOut taken.channel came.channel → (came.channel.streams.is_open ≡ false → went ≡ came) → PullsOwn came went → first.channel.out ≡ []
+  none_first first opened taken came went opening taking hearing closed pulls =
+      let later = hearing (pulls_open came went closed pulls) in
+      let sooner = taking later.0 in
+      sym opening ∙ (sym sooner.1 ∙ (sym later.1 ∙ pulls.none_waited))
 
   pub leaves_none : (old new : LineView E M) → LeavesOwn old new → PullsOrNone old new
   leaves_none old new leaves = inl leaves.pulls

@@ -20,9 +20,9 @@ use Rattle.rds_line_channel.specs.Changes.{ShutsStream}
 use Rattle.rds_line.specs.Keeps.{KeepsLine, IsPulled}
 use Rattle.rds_line.specs.Line.{LineView, line_past}
 use Rattle.rds_line.specs.Stays.{ChannelStays}
-use Rattle.rds_line.specs.Steps.{KeepsArrived, KeepsUnwritten}
+use Rattle.rds_line.specs.Steps.{KeepsArrived, KeepsOut, KeepsUnwritten}
 use Rattle.rds_line.proofs.Acting.{IsQuietPast}
-use Rattle.rds_line.proofs.Carrying.{appended_arrived, appended_unwritten, roomy_arrived, roomy_unwritten, shut_longer}
+use Rattle.rds_line.proofs.Carrying.{appended_arrived, appended_unwritten, ended_out, out_through, roomy_arrived, roomy_out, roomy_unwritten, shut_longer, still_out}
 use Rattle.rds_line.proofs.Keeping.{keeps_still, pulled_off, pulled_still}
 use Rattle.rds_line.proofs.Staying.{channel_of, channel_through, order_stays, room_stays, streams_same}
 use Rattle.rds_line.proofs.Taking.{uncut_of, TakesCut, cut_past, takes_cut, orders_past, cut_off, cut_stays, keeps_cut, keeps_ordered, pulled_ordered}
@@ -65,6 +65,11 @@ module _ {E M : Type 0} (v : LineView E M) (roomy new : ChannelView E) (first : 
     pub room_unwritten : (later : ChannelView E) → KeepsUnwritten new later → KeepsUnwritten shown.channel later
     room_unwritten later keeps = roomy_unwritten is roomy later first (λ same.
         keeps (same ∙ sym (ap (λ (c : ChannelView E). c.conn.log.past) second)) ∙ ap (λ (c : ChannelView E). c.out) second)
+
+    pub room_out : (later : ChannelView E) → KeepsOut new later → KeepsOut shown.channel later
+    room_out later keeps = roomy_out is roomy later first
+        (out_through roomy new later
+        (still_out roomy new (ap (λ (c : ChannelView E). c.streams.is_open) second) (ap (λ (c : ChannelView E). c.out) second)) keeps)
 
   pub keeps_roomy : (published : M → List (List ℕ)) → KeepsLine published v → KeepsLine published (record v { channel = new })
   keeps_roomy published k = keeps_still published v new roomy_past
@@ -111,30 +116,37 @@ module _ {E M : Type 0} (m : Means E) (v : LineView E M) (channel : ChannelView 
     cut_of : o ≡ order.Cut → TakesCut v channel getter number m
     cut_of cut = takes_cut v channel getter number m (did.shut cut) (did.late cut) did.tie
 
-    -- what came and what is to be written is the same, or an entry was appended
-    obeyed_bytes : KeepsArrived v.channel channel × KeepsUnwritten v.channel channel
+    -- what came and what is to be written is the same, or an entry was appended; where no stream is open any more, it was shut
+    obeyed_bytes : KeepsArrived v.channel channel × KeepsUnwritten v.channel channel × KeepsOut v.channel channel
     obeyed_bytes = go (cut_or_not o)
       where
         late : o ≡ order.Cut → stream_of v.channel.conn ≡ None → (b : Bool) → v.channel.streams.is_open ≡ b →
-            KeepsArrived v.channel channel × KeepsUnwritten v.channel channel
+            KeepsArrived v.channel channel × KeepsUnwritten v.channel channel × KeepsOut v.channel channel
         late cut none true on = absurd (false≢true (sym (ap is_some none) ∙ did.tie.0 on))
-        late cut none false off =
-            (λ _. ap (λ (c : ChannelView E). arrived_bytes c) (did.late cut off), λ _. ap (λ (c : ChannelView E). c.out) (did.late cut off))
+        late cut none false off = (
+          λ _. ap (λ (c : ChannelView E). arrived_bytes c) (did.late cut off),
+          λ _. ap (λ (c : ChannelView E). c.out) (did.late cut off),
+          still_out v.channel channel (ap (λ (c : ChannelView E). c.streams.is_open) (did.late cut off))
+              (ap (λ (c : ChannelView E). c.out) (did.late cut off)),
+        )
 
         shut : o ≡ order.Cut → (n : Option ℕ) → stream_of v.channel.conn ≡ n →
-            KeepsArrived v.channel channel × KeepsUnwritten v.channel channel
+            KeepsArrived v.channel channel × KeepsUnwritten v.channel channel × KeepsOut v.channel channel
         shut cut (Some n) on =
-            let more = shut_longer m n v.channel channel (did.shut cut n on).0 in
-            (appended_arrived v.channel channel more, appended_unwritten v.channel channel more)
+            let shuts = (did.shut cut n on).0 in
+            let more = shut_longer m n v.channel channel shuts in
+            (appended_arrived v.channel channel more, appended_unwritten v.channel channel more, ended_out m v.channel channel shuts.streams)
         shut cut None none = late cut none v.channel.streams.is_open refl
 
-        go : (o ≡ order.Cut) ⊎ (o ≢ order.Cut) → KeepsArrived v.channel channel × KeepsUnwritten v.channel channel
+        go : (o ≡ order.Cut) ⊎ (o ≢ order.Cut) → KeepsArrived v.channel channel × KeepsUnwritten v.channel channel × KeepsOut v.channel channel
         go (inl cut) = shut cut (stream_of v.channel.conn) refl
         go (inr other) = (
           λ _.
               ap (λ (c : ChannelView E). arrived_bytes c) (did.entry other)
               ∙ ap (λ (l : List ℕ). l ++ v.channel.piece) (ordered_taken o v.channel.conn),
           λ _. ap (λ (c : ChannelView E). c.out) (did.entry other),
+          still_out v.channel channel (ap (λ (c : ChannelView E). c.streams.is_open) (did.entry other))
+              (ap (λ (c : ChannelView E). c.out) (did.entry other)),
         )
 
     pub obeyed_arrived : KeepsArrived v.channel channel
@@ -142,6 +154,9 @@ module _ {E M : Type 0} (m : Means E) (v : LineView E M) (channel : ChannelView 
 
     pub obeyed_unwritten : KeepsUnwritten v.channel channel
     obeyed_unwritten = obeyed_bytes.1
+
+    pub obeyed_out : KeepsOut v.channel channel
+    obeyed_out = obeyed_bytes.2
 
     pub keeps_obeyed : (published : M → List (List ℕ)) (pulled : Bool) → IsAsked o → KeepsLine published v × IsPulled pulled v →
         KeepsLine published (record v { channel = channel; orders = getter }) × IsPulled pulled (record v { channel = channel; orders = getter })

@@ -201,8 +201,8 @@ module _ {E M : Type 0} (noted : Bool) (v w : LineView E M) (reads : ReadsOwn no
     pub pulled_looked : LoadsOwn v u
     pulled_looked = looked u same_own (ap (λ (l : LineView E M). l.words) is)
 
-    pub pulled_owed : PullsOrNone v u
-    pulled_owed = go (owed_frame p.stream (line_past w) w.own.map) refl p.pulls
+    pub pulled_owed : v.channel.out ≡ [] → PullsOrNone v u
+    pulled_owed empty = go (owed_frame p.stream (line_past w) w.own.map) refl p.pulls
       where
         past : line_past w ≡ line_past v
         past = ap (λ (c : ChannelView E). c.conn.log.past) same_channel
@@ -213,6 +213,7 @@ module _ {E M : Type 0} (noted : Bool) (v w : LineView E M) (reads : ReadsOwn no
         go (Some f) owes did =
             inr (record {
               loads = pulled_looked;
+              none_waited = empty;
               one = ap (λ (c : Connection). pulls_in c.log.past) did.entry ∙ ap (λ (l : List Entry). suc (pulls_in l)) past;
               stream = p.stream;
               frame = f;

@@ -6,12 +6,9 @@ use Rattle.rds_link.specs.declared.end.Got.TheVariants as got
 use Rattle.rds_link.specs.declared.end.Put.TheVariants as put
 use Rattle.rds_link.specs.Ends.{Means}
 use Rattle.rds_model.specs.declared.entry.Entry.{Entry}
-use Rattle.rds_model.specs.declared.order.Order.{Order}
 use Rattle.rds_model.specs.Honest.{Begins}
 use Rattle.rds_model.specs.Owed.{owed_frame}
 use Rattle.rds_model.specs.Past.{Moment, now, before}
-use Rattle.rds_mail.specs.Learning.{AllGot}
-use Rattle.rds_mail.specs.Passes.{Getter, after_get}
 use Rattle.rds_conn.specs.Connection.{Connection, stream_of, taken_bytes}
 use Rattle.rds_line_streams.specs.Changes.{ChangesAt, Receives, Sends}
 use Rattle.rds_line_streams.specs.ChangeLaws.{same_length}
@@ -26,7 +23,8 @@ use Rattle.rds_line.specs.Doing.{IsRelieved}
 use Rattle.rds_line.specs.Line.{LineView, IsOpenOrLast, line_past}
 use Rattle.rds_line.specs.Stays.{StreamsStay}
 use Rattle.rds_line.specs.Steps.{KeepsArrived, KeepsUnwritten}
-use Rattle.rds_line.specs.Turns.{FindsNoRoom, GetsBytes, HearsNothing, IsIdleTurn, LeavesNothing, LoadsOwn, FindsNothingOwed, SendsBytes, TakesOrder, is_bytes_heard, is_bytes_sent}
+use Rattle.rds_line.specs.Turns.{FindsNoOrder, FindsNoRoom, GetsBytes, HearsNothing, IsIdleTurn, LeavesNothing, LoadsOwn, FindsNothingOwed, SendsBytes, TakesOrder, is_bytes_heard, is_bytes_sent}
+use Rattle.rds_line.proofs.Ordering.{finds_wider, takes_wider}
 
 -- a journal is at least as long as it was
 pub moment_longer : {p q : List Entry} → Moment p q → length p ≤ length q
@@ -137,7 +135,7 @@ pub record StepsDid {E M : Type 0} (m : Means E) (a b c d e f : LineView E M) (d
   pub open_orders : b.orders ≡ a.orders
   pub open_last : IsOpenOrLast b
   pub back : length (line_past b) ≤ length (line_past a) → line_past b ≡ line_past a
-  pub none : done.took ≡ false → (c.orders ≡ b.orders) × AllGot c.orders
+  pub none : done.took ≡ false → FindsNoOrder b.orders c.orders
   pub still : done.took ≡ false → c.channel.streams ≡ b.channel.streams
   pub hear_orders : d.orders ≡ c.orders
   pub hear_closed : done.heard ≡ heard.Closed → (c.channel.streams.is_open ≡ false) × (d ≡ c)
@@ -159,12 +157,10 @@ module _ {E M : Type 0} {m : Means E} {a b c d e f : LineView E M} {done : Done}
   orders_after = relieved_orders s.relieved ∙ (s.send_orders ∙ s.hear_orders)
 
   pub did_took : (TakesOrder b.orders c.orders) → TakesOrder a.orders f.orders
-  did_took took = (took.0, took.1, orders_after ∙ (took.2 ∙ ap (λ (h : Getter Order). after_get h took.0 took.1) s.open_orders))
+  did_took took = takes_wider s.open_orders orders_after took
 
-  pub did_none : done.took ≡ false → (f.orders ≡ a.orders) × AllGot f.orders
-  did_none not_taken =
-      let was = s.none not_taken in
-      (orders_after ∙ (was.0 ∙ s.open_orders), subst (λ (h : Getter Order). AllGot h) (sym orders_after) was.1)
+  pub did_none : done.took ≡ false → FindsNoOrder a.orders f.orders
+  did_none not_taken = finds_wider s.open_orders orders_after (s.none not_taken)
 
   module _ (not_taken : done.took ≡ false) (past : line_past f ≡ line_past a) where
     as_long : length (line_past f) ≡ length (line_past a)
@@ -196,8 +192,7 @@ module _ {E M : Type 0} {m : Means E} {a b c d e f : LineView E M} {done : Done}
     idle_quiet : HearsNothing m c.channel d.channel → d.channel.streams.is_open ≡ true → f.channel.streams.is_open ≡ true → (FindsNothingOwed d f × LoadsOwn a f) ⊎ FindsNoRoom m d.channel f.channel → IsIdleTurn m a f
     idle_quiet hears on_d on sends =
         let quiet = relieved_nothing s.relieved (s.send_came hears.none_waits hears.none_left) in record {
-          orders = (did_none not_taken).0;
-          all_got = (did_none not_taken).1;
+          orders = did_none not_taken;
           past = past;
           on = on;
           middle = d;

@@ -8,12 +8,13 @@ use Rattle.rds_model.specs.declared.entry.TheConstants.{MAX_SLOTS, NO_SLOT}
 use Rattle.rds_model.specs.declared.order.Order.{Order}
 use Rattle.rds_model.specs.declared.order.Order.TheVariants as order
 use Rattle.rds_model.specs.Owed.{last_map}
+use Rattle.rds_model.specs.Honest.{Begins}
 use Rattle.rds_model.specs.Past.{Moment, now, open_stream}
 use Rattle.rds_model.specs.Sums.{orders}
 use Rattle.rds_model.specs.SumLaws.{same_list}
 use Rattle.rds_mail.specs.Numbers.{Number, Numbered, bare_items}
 use Rattle.rds_mail.specs.Orders.{IsAsked}
-use Rattle.rds_mail.specs.Passes.{Getter, after_get}
+use Rattle.rds_mail.specs.Passes.{Getter, after_get, after_none}
 use Rattle.rds_conn.specs.Connection.{Connection, freed_bytes_of, stream_of}
 use Rattle.rds_conn.specs.Orders.{after_order}
 use Rattle.rds_conn.specs.Released.{released_bytes}
@@ -27,7 +28,7 @@ use Rattle.rds_line.specs.Stays.{StreamsStay, ChannelStays, LineStays}
 use Rattle.rds_line.proofs.Acting.{ActsOn, IsQuietPast, more_past, past_through, still_past}
 use Rattle.rds_line.proofs.Keeping.{HasSameSums, sums_same, sums_of, sums_more, held_same, keeps_taken, pulled_still, plain_released}
 use Rattle.rds_line.proofs.Staying.{shutting_stays, streams_same}
-use Rattle.rds_line.proofs.Same.{boxes_same}
+use Rattle.rds_line.proofs.Same.{begins_of, boxes_same}
 
 -- one order more
 more_bare : (got : List (Numbered Order)) (number : Number) (o : Order) → bare_items (got ++ (number, o) ∷ []) ≡ bare_items got ++ o ∷ []
@@ -215,24 +216,38 @@ pub orders_past : {E : Type 0} (o : Order) (old new : ChannelView E) →
 orders_past {E} o old new is =
     past_through (order_past o old.conn) (still_past (ap (λ (c : ChannelView E). c.conn.log.past) is))
 
--- a line whose channel is the same, and whose getter got one order more
-pub stays_taken : {E M Name : Type 0} (m : Means E) (pair : M → Name) (v : LineView E M) (channel : ChannelView E) (getter : Getter Order) (number : Number) (o : Order) → getter ≡ after_get v.orders number o
-    → ChannelStays m v.channel channel → ActsOn (line_past v) channel.conn.log.past → LineStays m pair v (record v { channel = channel; orders = getter })
-stays_taken m pair v channel getter number o is stays acts = record {
-  channel = stays;
-  mail = ap (λ (h : Getter Order). h.mail) is;
-  told = ap (λ (h : Getter Order). h.told) is;
-  joined = ap (λ (h : Getter Order). h.joined) is;
-  got = ((number, o) ∷ [], ap (λ (h : Getter Order). h.got) is);
-  boxes = boxes_same v.boxes;
-  ports = refl;
-  port_view = refl;
-  looks = same_list v.ports.view.steps;
-  always = λ telling was. was;
-  words = refl;
-  slot = refl;
-  meter_view = refl;
-  steps = same_list v.words.view.steps;
-  acts = acts (acted v) (acted v) refl nothing;
-  map = refl;
-}
+-- a line whose channel stayed, and whose getter may have got more
+module _ {E M Name : Type 0} (m : Means E) (pair : M → Name) (v : LineView E M) (channel : ChannelView E) (getter : Getter Order)
+    (stays : ChannelStays m v.channel channel) (acts : ActsOn (line_past v) channel.conn.log.past) where
+  stays_got : getter.mail ≡ v.orders.mail → getter.told ≡ v.orders.told → getter.joined ≡ v.orders.joined → Begins v.orders.got getter.got →
+      LineStays m pair v (record v { channel = channel; orders = getter })
+  stays_got mail told joined got = record {
+    channel = stays;
+    mail = mail;
+    told = told;
+    joined = joined;
+    got = got;
+    boxes = boxes_same v.boxes;
+    ports = refl;
+    port_view = refl;
+    looks = same_list v.ports.view.steps;
+    always = λ telling was. was;
+    words = refl;
+    slot = refl;
+    meter_view = refl;
+    steps = same_list v.words.view.steps;
+    acts = acts (acted v) (acted v) refl nothing;
+    map = refl;
+  }
+
+  -- it got one order more
+  pub stays_taken : (number : Number) (o : Order) → getter ≡ after_get v.orders number o → LineStays m pair v (record v { channel = channel; orders = getter })
+  stays_taken number o is =
+      stays_got (ap (λ (h : Getter Order). h.mail) is) (ap (λ (h : Getter Order). h.told) is) (ap (λ (h : Getter Order). h.joined) is)
+      ((number, o) ∷ [], ap (λ (h : Getter Order). h.got) is)
+
+  -- it found no order
+  pub stays_none : getter ≡ after_none v.orders → LineStays m pair v (record v { channel = channel; orders = getter })
+  stays_none is =
+      stays_got (ap (λ (h : Getter Order). h.mail) is) (ap (λ (h : Getter Order). h.told) is) (ap (λ (h : Getter Order). h.joined) is)
+      (begins_of v.orders.got getter.got (ap (λ (h : Getter Order). h.got) is))

@@ -2,10 +2,9 @@
 -- turn answers for it. Source: this project's own.
 use Rattle.std.specs.Prelude.{◌≡◌, ◌⊎◌, ◌<◌, ◌||◌, ◌&&◌, not, if◌then◌else◌, Bool, true, false, length}
 use Rattle.rds_link.specs.Ends.{Means}
-use Rattle.rds_mail.specs.Learning.{AllGot}
 use Rattle.rds_line_channel.specs.Channel.{with_conn}
 use Rattle.rds_line.specs.Line.{LineView, line_past}
-use Rattle.rds_line.specs.Turns.{BytesCame, BytesWent, IsIdleTurn, TakesOrder, is_bytes_heard, is_bytes_sent}
+use Rattle.rds_line.specs.Turns.{BytesCame, BytesWent, FindsNoOrder, IsIdleTurn, TakesOrder, is_bytes_heard, is_bytes_sent}
 use Rattle.rds_line.specs.declared.outcome.Done.{Done}
 use Rattle.rds_line.specs.declared.outcome.Heard.TheVariants as heard
 use Rattle.rds_line.specs.declared.outcome.Sent.TheVariants as sent
@@ -29,7 +28,7 @@ module _ {E M : Type 0} where
   -- what the steps of a turn did that came to its end
   pub record Did (m : Means E) (old new : LineView E M) (done : Done) : Type 0 where
     pub took : done.took ≡ true → TakesOrder old.orders new.orders
-    pub none : done.took ≡ false → (new.orders ≡ old.orders) × AllGot new.orders
+    pub none : done.took ≡ false → FindsNoOrder old.orders new.orders
     pub got : done.heard ≡ heard.Bytes → BytesCame m old.channel new.channel
     pub sent : done.sent ≡ sent.Bytes → BytesWent m old.channel new.channel
     -- where nothing was taken, came or went, no entry was appended, and a stream is open or left, there was nothing to do

@@ -1,6 +1,6 @@
 -- Private: it serves the contracts of the private steps of a turn, and their proofs. What most of them leave as it was,
 -- and what they do with the frames that came. Source: this project's own.
-use Rattle.std.specs.Prelude.{◌≡◌, ℕ, ◌+◌, ◌*◌, ◌/◌, ◌%◌, ◌<◌, ◌==◌, if◌then◌else◌, List, Some, is_some, length}
+use Rattle.std.specs.Prelude.{◌≡◌, ℕ, ◌+◌, ◌*◌, ◌/◌, ◌%◌, ◌<◌, ◌==◌, if◌then◌else◌, true, List, Some, is_some, length}
 use Rattle.std.specs.Int.{bit_at}
 use Rattle.rds_wire.specs.declared.frame.Frame.{Frame}
 use Rattle.rds_model.specs.declared.entry.Verdict.{Verdict}
@@ -38,6 +38,10 @@ module _ {E : Type 0} where
   -- where no entry was appended, the bytes that are to be written are the same
   abbrev pub KeepsUnwritten : ChannelView E → ChannelView E → Type 0
   KeepsUnwritten old new = new.conn.log.past ≡ old.conn.log.past → new.out ≡ old.out
+
+  -- where a stream is open it was open before, and the bytes that are to be written to it are the same
+  abbrev pub KeepsOut : ChannelView E → ChannelView E → Type 0
+  KeepsOut old new = new.streams.is_open ≡ true → (old.streams.is_open ≡ true) × (new.out ≡ old.out)
 
   -- how much is left of what came: it falls with each frame that is passed
   abbrev pub left_to_take : ChannelView E → ℕ

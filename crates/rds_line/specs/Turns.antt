@@ -12,7 +12,7 @@ use Rattle.rds_model.specs.Owed.{owed_frame}
 use Rattle.rds_model.specs.Past.{Moment}
 use Rattle.rds_mail.specs.Learning.{AllGot}
 use Rattle.rds_mail.specs.Numbers.{Number}
-use Rattle.rds_mail.specs.Passes.{Getter, after_get}
+use Rattle.rds_mail.specs.Passes.{Getter, after_get, after_none}
 use Rattle.rds_meter.specs.Seats.{MeterSeat}
 use Rattle.rds_conn.specs.Connection.{stream_of}
 use Rattle.rds_line_parts.specs.Own.{IsRefresh}
@@ -43,6 +43,14 @@ is_bytes_sent sent.Closed = false
 -- one order was taken
 abbrev pub TakesOrder : Getter Order → Getter Order → Type 0
 TakesOrder old new = (number : Number) × (order : Order) × (new ≡ after_get old number order)
+
+-- No order was there. One look at the queue, which was counted, found it empty, so all orders that the getter was told of were got.
+abbrev pub FindsNoOrder : Getter Order → Getter Order → Type 0
+FindsNoOrder old new = (new ≡ after_none old) × AllGot new
+
+-- the queue of orders was looked at once: one order was taken, or none was there
+abbrev pub LooksForOrder : Getter Order → Getter Order → Type 0
+LooksForOrder old new = TakesOrder old new ⊎ FindsNoOrder old new
 
 module _ {E : Type 0} where
   -- where no frame waits and no byte that came is left, that stays
@@ -109,10 +117,11 @@ module _ {E M : Type 0} where
     pub grown : Begins old.words.view.steps seat_before.view.steps
     pub goes_on : Begins seat_after.view.steps new.words.view.steps
 
-  -- One frame was pulled. The host's own map was looked at in this turn, and the frame is the one that was owed with the map as
-  -- it stands since.
+  -- One frame was pulled, where nothing waited to be written. The host's own map was looked at in this turn, and the frame is the
+  -- one that was owed with the map as it stands since.
   pub record PullsOwn (old new : LineView E M) : Type 0 where
     pub loads : LoadsOwn old new
+    pub none_waited : old.channel.out ≡ []
     pub one : pulls_in (line_past new) ≡ suc (pulls_in (line_past old))
     -- the frame, and the journal before and after it
     pub stream : ℕ
@@ -131,17 +140,15 @@ module _ {E M : Type 0} where
 
   -- there was no order, no stream is open, and none is left
   pub record IsOverTurn (old new : LineView E M) : Type 0 where
-    pub orders : new.orders ≡ old.orders
-    pub all_got : AllGot new.orders
+    pub orders : FindsNoOrder old.orders new.orders
     pub closed : new.channel.streams.is_open ≡ false
     pub last : new.channel.streams.opened ≡ length new.channel.streams.list
 
   module _ (m : Means E) where
-    -- There was nothing to do: the queue of orders was empty, nothing came, nothing went, and no entry was appended. Either no
+    -- There was nothing to do: the queue of orders was found empty, nothing came, nothing went, and no entry was appended. Either no
     -- frame is owed, for which the host's own map was looked at, or there is no room for what is to be written.
     pub record IsIdleTurn (old new : LineView E M) : Type 0 where
-      pub orders : new.orders ≡ old.orders
-      pub all_got : AllGot new.orders
+      pub orders : FindsNoOrder old.orders new.orders
       pub past : line_past new ≡ line_past old
       pub on : new.channel.streams.is_open ≡ true
       pub middle : LineView E M

@@ -16,6 +16,7 @@ impl<E: End, M: MapWriter> Line<E, M> {
         ensures streams { line_past self.new ≡ line_past self.old → self.new.channel.streams ≡ self.old.channel.streams }
         ensures arrived { OnOk result (KeepsArrived self.old.channel self.new.channel) }
         ensures unwritten { OnOk result (KeepsUnwritten self.old.channel self.new.channel) }
+        ensures out { OnOk result (self.new.channel.out ≡ self.old.channel.out) }
         ensures open { OnOk result (IsOpenOrLast self.new) }
         ensures same { OnErr result (self.new ≡ self.old) }
         ensures spent { (entries : ℕ) → result ≡ Err (errors.Spent entries) → IsFull entries self.new }

@@ -5,7 +5,7 @@ ghost use Rattle.rds_conn.specs.Connection.{IsReady};
 ghost use Rattle.rds_line_streams.specs.Streams.{newest_place};
 ghost use Rattle.rds_line_channel.specs.declared.channel.Taken.TheVariants as taken;
 ghost use Rattle.rds_line.specs.Line.{IsFull, line_past};
-ghost use Rattle.rds_line.specs.Steps.{IsWaiting, KeepsArrived, KeepsUnwritten, PassesOne, StaysQuiet, left_to_take};
+ghost use Rattle.rds_line.specs.Steps.{IsWaiting, KeepsArrived, KeepsOut, KeepsUnwritten, PassesOne, StaysQuiet, left_to_take};
 ghost use Rattle.rds_line.specs.Turns.{GetsBytes, HearsNothing, HoldsMore};
 ghost use Rattle.rds_line.specs.declared.outcome.Heard.TheVariants as heard;
 
@@ -28,6 +28,7 @@ impl<E: End, M: MapWriter> Line<E, M> {
         ensures bytes { result ≡ Ok heard.Bytes → GetsBytes E.means (newest_place self.old.channel.streams) self.old.channel.streams.list self.new.channel.streams.list }
         ensures more { result ≡ Ok heard.Bytes → HoldsMore self.old.channel self.new.channel }
         ensures unwritten { OnOk result (KeepsUnwritten self.old.channel self.new.channel) }
+        ensures out { OnOk result (KeepsOut self.old.channel self.new.channel) }
         ensures ended { result ≡ Ok heard.Ended → length (line_past self.old) < length (line_past self.new) }
         ensures spent { (entries : ℕ) → result ≡ Err (errors.Spent entries) → IsFull entries self.new }
     {
@@ -62,6 +63,7 @@ impl<E: End, M: MapWriter> Line<E, M> {
         ensures none_left { result ≡ Ok true → self.new.channel.piece ≡ [] }
         ensures arrived { OnOk result (KeepsArrived self.old.channel self.new.channel) }
         ensures unwritten { OnOk result (KeepsUnwritten self.old.channel self.new.channel) }
+        ensures out { OnOk result (KeepsOut self.old.channel self.new.channel) }
         ensures refused { result ≡ Ok false → length (line_past self.old) < length (line_past self.new) }
         ensures spent { (entries : ℕ) → result ≡ Err (errors.Spent entries) → IsFull entries self.new }
     {
@@ -83,6 +85,7 @@ impl<E: End, M: MapWriter> Line<E, M> {
         ensures streams { result ≢ Ok taken.Refused → self.new.channel.streams ≡ self.old.channel.streams }
         ensures arrived { KeepsArrived self.old.channel self.new.channel }
         ensures unwritten { KeepsUnwritten self.old.channel self.new.channel }
+        ensures out { KeepsOut self.old.channel self.new.channel }
         ensures refused { result ≡ Ok taken.Refused → length (line_past self.old) < length (line_past self.new) }
         ensures fewer { result ≡ Ok taken.Frame → 2 * length self.new.channel.piece < left_to_take self.old.channel }
         ensures spent { (entries : ℕ) → result ≡ Err (errors.Spent entries) → IsFull entries self.new }

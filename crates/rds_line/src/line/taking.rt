@@ -1,5 +1,4 @@
 ghost use Rattle.std.specs.Prelude.{◌≡◌, ◌≢◌, ◌⊎◌, ◌+◌, ◌<◌, ℕ, true, false, Some, Ok, Err, OnOk, OnErr, [], ◌∷◌, ◌++◌, length};
-ghost use Rattle.rds_mail.specs.Learning.{AllGot};
 ghost use Rattle.rds_model.specs.declared.journal.JournalError.TheVariants as errors;
 ghost use Rattle.rds_model.specs.declared.order.Order.TheVariants as orders;
 ghost use Rattle.rds_conn.specs.Connection.{IsReady, freed_bytes_of, stream_of};
@@ -9,8 +8,8 @@ ghost use Rattle.rds_line_channel.specs.Changes.{ShutsStream};
 ghost use Rattle.rds_line_channel.specs.Channel.{with_conn};
 ghost use Rattle.rds_line.specs.Line.{IsFull, IsOpenOrLast, line_past, pulls_in};
 ghost use Rattle.rds_line.specs.Stays.{LineStays};
-ghost use Rattle.rds_line.specs.Steps.{KeepsArrived, KeepsUnwritten};
-ghost use Rattle.rds_line.specs.Turns.{TakesOrder};
+ghost use Rattle.rds_line.specs.Steps.{KeepsArrived, KeepsOut, KeepsUnwritten};
+ghost use Rattle.rds_line.specs.Turns.{FindsNoOrder, TakesOrder};
 
 use super::Line;
 use rds_fmap::MapWriter;
@@ -20,17 +19,19 @@ use rds_model::{JournalError, Order};
 use std::sync::Wait;
 
 impl<E: End, M: MapWriter> Line<E, M> {
-    // Takes the first order, and answers whether there was one. Room for what it does is made before it is taken.
+    // Takes the first order, and answers whether there was one. Room for what it does is made before it is taken. Where the answer
+    // is that there was none, the queue was looked at, and that look was counted.
     pub(super) fn take_order<W: Wait>(&mut self, rt: &W) -> Result<bool, JournalError>
         requires last { IsOpenOrLast self.old }
         ensures stays { LineStays E.means M.pair self.old self.new }
         ensures own { self.new.own ≡ self.old.own }
         ensures pulls { pulls_in (line_past self.new) ≡ pulls_in (line_past self.old) }
         ensures took { result ≡ Ok true → TakesOrder self.old.orders self.new.orders }
-        ensures none { result ≡ Ok false → (self.new.orders ≡ self.old.orders) × AllGot self.new.orders }
+        ensures none { result ≡ Ok false → FindsNoOrder self.old.orders self.new.orders }
         ensures still { result ≡ Ok false → (line_past self.new ≡ line_past self.old) × (self.new.channel.streams ≡ self.old.channel.streams) }
         ensures arrived { OnOk result (KeepsArrived self.old.channel self.new.channel) }
         ensures unwritten { OnOk result (KeepsUnwritten self.old.channel self.new.channel) }
+        ensures out { OnOk result (KeepsOut self.old.channel self.new.channel) }
         ensures err { OnErr result ((self.new.orders ≡ self.old.orders) × (line_past self.new ≡ line_past self.old)) }
         ensures spent { (entries : ℕ) → result ≡ Err (errors.Spent entries) → IsFull entries self.new }
     {

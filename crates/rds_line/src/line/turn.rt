@@ -1,10 +1,9 @@
 ghost use Rattle.std.specs.Prelude.{◌≡◌, ◌⊎◌, ◌<◌, ◌+◌, nat_lt, ℕ, true, Err, IfOk, OnOk, length, sum};
 ghost use Rattle.rds_model.specs.declared.journal.JournalError.TheVariants as errors;
-ghost use Rattle.rds_mail.specs.Learning.{AllGot};
 ghost use Rattle.rds_line.specs.Line.{IsFull, line_past, pulls_in};
 ghost use Rattle.rds_line.specs.Stays.{LineStays};
 ghost use Rattle.rds_line.specs.Steps.{StaysQuiet};
-ghost use Rattle.rds_line.specs.Turns.{HasMoved, IsIdleTurn, IsOverTurn, PullsOwn, TakesOrder};
+ghost use Rattle.rds_line.specs.Turns.{HasMoved, IsIdleTurn, IsOverTurn, LooksForOrder, PullsOwn, TakesOrder};
 ghost use Rattle.rds_line.specs.Doing.{Did, IsRelieved, answer_of};
 ghost use Rattle.rds_line.specs.declared.outcome.Turn.TheVariants as turn;
 
@@ -18,16 +17,15 @@ use std::sync::Wait;
 impl<E: End, M: MapWriter> Line<E, M> {
     /// Does what there is to do, once: opens the next stream where none is open, takes one order, reads at most 65,536 bytes and
     /// passes every whole frame, writes what is to be written or else pulls a frame and writes that, and counts all freed bytes.
-    /// After `Spent` and `Memory` nothing is lost.
+    /// It answers `Moved`, `Idle` or `Over` only where it looked at the queue of orders. After `Spent` and `Memory` nothing is lost.
     pub fn turn<W: Wait>(&mut self, rt: &W) -> Turn
         ensures stays { LineStays E.means M.pair self.old self.new }
         ensures pulls { (pulls_in (line_past self.new) ≡ pulls_in (line_past self.old)) ⊎ PullsOwn self.old self.new }
         ensures moved { result ≡ turn.Moved → HasMoved E.means self.old self.new }
         ensures idle { result ≡ turn.Idle → IsIdleTurn E.means self.old self.new }
         ensures over { result ≡ turn.Over → IsOverTurn self.old self.new }
-        ensures ordered { (result ≡ turn.Moved) ⊎ ((result ≡ turn.Idle) ⊎ (result ≡ turn.Over)) →
-            TakesOrder self.old.orders self.new.orders ⊎ ((self.new.orders ≡ self.old.orders) × AllGot self.new.orders) }
-        ensures at_most { TakesOrder self.old.orders self.new.orders ⊎ (self.new.orders ≡ self.old.orders) }
+        ensures ordered { (result ≡ turn.Moved) ⊎ ((result ≡ turn.Idle) ⊎ (result ≡ turn.Over)) → LooksForOrder self.old.orders self.new.orders }
+        ensures at_most { LooksForOrder self.old.orders self.new.orders ⊎ (self.new.orders ≡ self.old.orders) }
         ensures goes_on { (result ≡ turn.Moved) ⊎ (result ≡ turn.Idle) →
             TakesOrder self.old.orders self.new.orders ⊎ ((self.new.channel.streams.is_open ≡ true)
             ⊎ (self.new.channel.streams.opened < length self.new.channel.streams.list)) }
@@ -51,7 +49,7 @@ impl<E: End, M: MapWriter> Line<E, M> {
         ensures stays { LineStays E.means M.pair self.old self.new }
         ensures pulls { (pulls_in (line_past self.new) ≡ pulls_in (line_past self.old)) ⊎ PullsOwn self.old self.new }
         ensures did { IfOk result (Did E.means self.old self.new) }
-        ensures at_most { TakesOrder self.old.orders self.new.orders ⊎ (self.new.orders ≡ self.old.orders) }
+        ensures at_most { LooksForOrder self.old.orders self.new.orders ⊎ (self.new.orders ≡ self.old.orders) }
         ensures spent { (entries : ℕ) → result ≡ Err (errors.Spent entries) → IsFull entries self.new }
         ensures full { self.old.channel.conn.log.limit < length (line_past self.old) + 2 → result ≡ Err (errors.Spent (length (line_past self.old))) }
         ensures freed { OnOk result (sum self.new.channel.conn.freed ≡ 0) }

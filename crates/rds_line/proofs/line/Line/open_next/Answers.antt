@@ -1,4 +1,4 @@
-use Rattle.std.proofs.Common.{List, ◌∷◌, length, sym, ap, subst, refl, ◌∙◌, arith}
+use Rattle.std.proofs.Common.{◌≡◌, List, ◌∷◌, length, sym, ap, subst, refl, ◌∙◌, arith}
 use Rattle.rds_model.specs.declared.entry.Entry.{Entry}
 use Rattle.rds_model.specs.declared.entry.Entry.TheVariants as entry
 use Rattle.rds_line_channel.specs.Channel.{ChannelView, arrived_bytes}
@@ -129,4 +129,22 @@ returns-else-not-is_open-clause-unwritten g c =
       | else-not-is_open-via-else-not-is_open w ↦
           subst (λ (l : LineView g.row.E.Denot g.row.M.Denot). KeepsUnwritten now.channel l.channel) (sym w.self-is)
           (roomy_unwritten c.self.view_is ready ready room (λ _. refl))
+    ]
+
+pub returns-then-open_next-clause-out : goal.returns-then-open_next-clause-out
+returns-then-open_next-clause-out g c =
+    ap (λ (k : ChannelView g.row.E.Denot). k.out) ((c.if-open_next.ensures {u = tt}).opened refl).is
+    ∙ (ap (λ (k : ChannelView g.row.E.Denot). k.out) (c.in_ok-reserve.ensures {u = tt}).ok
+    ∙ ap (λ (l : LineView g.row.E.Denot g.row.M.Denot). l.channel.out) c.self.view_is)
+
+pub returns-else-not-is_open-clause-out : goal.returns-else-not-is_open-clause-out
+returns-else-not-is_open-clause-out g c =
+    let ready : c.reserve.new.self.out ≡ c.args.self.now.channel.out =
+    ap (λ (k : ChannelView g.row.E.Denot). k.out) (c.in_ok-reserve.ensures {u = tt}).ok
+    ∙ ap (λ (l : LineView g.row.E.Denot g.row.M.Denot). l.channel.out) c.self.view_is in
+    elim c.else-not-is_open.branch [
+      | else-not-is_open-via-then-not-is_open+else-open_next w ↦
+          ap (λ (l : LineView g.row.E.Denot g.row.M.Denot). l.channel.out) w.self-is
+          ∙ (ap (λ (k : ChannelView g.row.E.Denot). k.out) ((w.if-open_next.ensures {u = tt}).none refl).0 ∙ ready)
+      | else-not-is_open-via-else-not-is_open w ↦ ap (λ (l : LineView g.row.E.Denot g.row.M.Denot). l.channel.out) w.self-is ∙ ready
     ]

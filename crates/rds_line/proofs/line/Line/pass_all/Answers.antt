@@ -4,7 +4,7 @@ use Rattle.rds_line_channel.specs.contracts.channel.Taken.{the_type}
 use Rattle.rds_line_channel.specs.declared.channel.Taken.TheVariants as taken
 use Rattle.rds_line_channel.specs.Channel.{ChannelView}
 use Rattle.rds_line.specs.Line.{line_past}
-use Rattle.rds_line.proofs.Carrying.{appended_arrived, appended_unwritten, passed_longer}
+use Rattle.rds_line.proofs.Carrying.{appended_arrived, appended_unwritten, out_through, passed_longer, still_out}
 use Rattle.rds_line.proofs.Longer.{longer}
 use Rattle.rds_line.proofs.Quiet.{quiet_through}
 use Rattle.rds_line.proofs.line.Line.pass_all.Goals as goal
@@ -41,6 +41,12 @@ loop-taken-preserved g c =
       part = λ e. took.part (ap Ok e);
       arrived = appended_arrived start.channel new.channel appended;
       unwritten = appended_unwritten start.channel new.channel appended;
+      out =
+          out_through start.channel middle.channel new.channel
+          (out_through start.channel c.loop-taken.self.channel middle.channel was.out
+          (still_out c.loop-taken.self.channel middle.channel
+          (ap (λ (v : ChannelView g.row.E.Denot). v.streams.is_open) c.in_ok-pass.ensures.passed.rest)
+          (ap (λ (v : ChannelView g.row.E.Denot). v.out) c.in_ok-pass.ensures.passed.rest))) took.out;
       refused = λ e.
           let more = took.refused (ap Ok e) in
           let long = longer (line_past start) (line_past middle) passed.stays.channel.past in

@@ -3,7 +3,7 @@ use Rattle.rds_conn.specs.Connection.{IsReady}
 use Rattle.rds_line_channel.specs.declared.channel.Taken.{Taken}
 use Rattle.rds_line_channel.specs.declared.channel.Taken.TheVariants as taken
 use Rattle.rds_line.specs.Line.{line_past}
-use Rattle.rds_line.specs.Steps.{KeepsArrived, KeepsUnwritten, StaysQuiet}
+use Rattle.rds_line.specs.Steps.{KeepsArrived, KeepsOut, KeepsUnwritten, StaysQuiet}
 use Rattle.rds_line.proofs.line.Line.pass_all.Given as goal
 
 -- how much is left of what came, where a frame is to be passed
@@ -21,6 +21,7 @@ invariant-loop-taken g l = record {
   part : l.taken ≡ taken.Part → (l.self.channel.conn.waiting ≡ None) × (l.self.channel.piece ≡ []);
   arrived : KeepsArrived l.fn.self.channel l.self.channel;
   unwritten : KeepsUnwritten l.fn.self.channel l.self.channel;
+  out : KeepsOut l.fn.self.channel l.self.channel;
   refused : l.taken ≡ taken.Refused → length (line_past l.fn.self) < length (line_past l.self);
 }
 

@@ -106,7 +106,7 @@ returns-in-Ok-clause-looked g c =
 pub returns-in-Ok-clause-pulls : goal.returns-in-Ok-clause-pulls
 returns-in-Ok-clause-pulls g c =
     pulled_owed c.self.inside.own_pulled (start g c) (middle g c) (reads g c) (end g c) c.in-Ok.pulled (is g c)
-    (owed g c)
+    (owed g c) c.requires.none
 
 module _ (g : given.Over) (c : goal.In-Err g) where
   abbrev first : LineView g.row.E.Denot g.row.M.Denot

@@ -1,4 +1,5 @@
 use Rattle.std.proofs.Common.{◌≡◌, ◌<◌, ◌≤◌, ℕ, Some, true, Ok, length, sym, ap, subst, ◌∙◌, refl, arith}
+use Rattle.std.proofs.lemmas.Bool.{false≢true}
 use Rattle.rds_link.specs.declared.end.Got.TheVariants as got
 use Rattle.rds_model.specs.declared.entry.Entry.TheVariants.{Shut}
 use Rattle.rds_conn.specs.Connection.{Connection, stream_of, with_room}
@@ -7,7 +8,7 @@ use Rattle.rds_line_channel.specs.Channel.{ChannelView}
 use Rattle.rds_line.specs.Line.{LineView, line_past}
 use Rattle.rds_line.specs.Turns.{GetsBytes}
 use Rattle.rds_line.proofs.Acting.{more_past, still_past}
-use Rattle.rds_line.proofs.Carrying.{appended_unwritten, more_before, read_more, read_unwritten, unwritten_through}
+use Rattle.rds_line.proofs.Carrying.{appended_unwritten, more_before, out_through, read_more, read_out, read_unwritten, unwritten_through}
 use Rattle.rds_line.proofs.Fields.{view_in}
 use Rattle.rds_line.proofs.Longer.{longer}
 use Rattle.rds_line.proofs.Quiet.{quiet_channel, quiet_inside, quiet_same, quiet_through}
@@ -30,6 +31,7 @@ returns-then-not-is_open g c = record {
   bytes = λ e. absurd (cc);
   more = λ e. absurd (cc);
   unwritten = λ _. refl;
+  out = λ on. (on, refl);
   ended = λ e. absurd (cc);
   spent = λ entries e. absurd (cc);
 }
@@ -46,6 +48,7 @@ returns-then-not-branch g c = record {
   bytes = λ e. absurd (cc);
   more = λ e. absurd (cc);
   unwritten = c.in_ok-pass_all.ensures.unwritten;
+  out = c.in_ok-pass_all.ensures.out;
   ended = λ _. c.in_ok-pass_all.ensures.refused (ap Ok c.if-not-branch.true);
   spent = λ entries e. absurd (cc);
 }
@@ -86,6 +89,7 @@ returns-in-Nothing g c =
       bytes = λ e. absurd (cc);
       more = λ e. absurd (cc);
       unwritten = read_unwritten c.self-2.view_is ready new room did.rest start.channel c.in_ok-pass_all.ensures.unwritten;
+      out = read_out c.self-2.view_is ready new room did.rest start.channel c.in_ok-pass_all.ensures.out;
       ended = λ e. absurd (cc);
       spent = λ entries e. absurd (cc);
     }
@@ -142,6 +146,7 @@ returns-in-Over g c =
       bytes = λ e. absurd (cc);
       more = λ e. absurd (cc);
       unwritten = appended_unwritten start.channel new (omega (arith, more, long));
+      out = λ on. absurd (false≢true (sym (ap (λ (s : StreamsView g.row.E.Denot). s.is_open) shuts.streams.is) ∙ on));
       ended = λ _. omega (arith, more, long);
       spent = λ entries e. absurd (cc);
     }
@@ -190,6 +195,9 @@ returns-in_ok-pass_all-in-Bytes g c =
           unwritten_through start.channel new later.channel so_far.stays.channel.past rest.stays.channel.past
           (read_unwritten c.self-2.view_is ready new room did.rest start.channel first.unwritten)
           c.in_ok-pass_all-in-Bytes.ensures.unwritten;
+      out =
+          out_through start.channel new later.channel
+          (read_out c.self-2.view_is ready new room did.rest start.channel first.out) c.in_ok-pass_all-in-Bytes.ensures.out;
       ended = λ e. absurd (cc);
       spent = λ entries e. absurd (cc);
     }

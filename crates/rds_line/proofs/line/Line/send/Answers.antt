@@ -8,7 +8,7 @@ use Rattle.rds_line.specs.Turns.{SendsBytes}
 use Rattle.rds_line.proofs.Carrying.{appended_less, arrived_through, less_after, roomy_arrived, roomy_unwritten, same_arrived}
 use Rattle.rds_line.proofs.Fields.{view_in}
 use Rattle.rds_line.proofs.Longer.{longer}
-use Rattle.rds_line.proofs.Looking.{LeavesOwn, leaves_same, loads_wider, pulls_wider, roomy_leaves}
+use Rattle.rds_line.proofs.Looking.{LeavesOwn, leaves_same, loads_wider, pulls_wider, ready_none, roomy_leaves}
 use Rattle.rds_line.proofs.Quiet.{leaves_quiet}
 use Rattle.rds_line.proofs.Staying.{channel_of, channel_same, line_inside, line_same, line_through}
 use Rattle.rds_line.proofs.Written.{made_room}
@@ -130,7 +130,7 @@ returns-then-not-branch-clause-pulls g c =
     let new = c.pull.new.self in
     pulls_wider now ready new new
     (roomy_leaves (view_in c.self.inside) now c.reserve.new.self c.self.view_is c.in_ok-reserve.ensures.ok) (leaves_same new)
-    c.pull.ensures.pulls
+    (λ pulls. ready_none c.self.view_is c.reserve.new.self c.in_ok-reserve.ensures.ok pulls.none_waited) c.pull.ensures.pulls
 
 pub returns-then-not-branch-clause-orders : goal.returns-then-not-branch-clause-orders
 returns-then-not-branch-clause-orders g c =
@@ -152,7 +152,7 @@ returns-in_err-pull-clause-pulls g c =
     let new = c.pull.new.self in
     pulls_wider now ready new new
     (roomy_leaves (view_in c.self.inside) now c.reserve.new.self c.self.view_is c.in_ok-reserve.ensures.ok) (leaves_same new)
-    c.pull.ensures.pulls
+    (λ pulls. ready_none c.self.view_is c.reserve.new.self c.in_ok-reserve.ensures.ok pulls.none_waited) c.pull.ensures.pulls
 
 pub returns-then-not-branch-clause-looked : goal.returns-then-not-branch-clause-looked
 returns-then-not-branch-clause-looked g c same =
@@ -176,11 +176,12 @@ returns-clause-pulls g c =
       | else-unwritten-eq0-via-then-unwritten-eq0+in_ok-pull+else-not-branch w ↦
           let pulled = w.pull.new.self in
           pulls_wider now (ready g c) pulled new first
-          (subst (λ (v : LineView g.row.E.Denot g.row.M.Denot). LeavesOwn v new) w.self-is last) w.pull.ensures.pulls
+          (subst (λ (v : LineView g.row.E.Denot g.row.M.Denot). LeavesOwn v new) w.self-is last)
+          (λ pulls. ready_none c.self.view_is c.reserve.new.self c.in_ok-reserve.ensures.ok pulls.none_waited) w.pull.ensures.pulls
       | else-unwritten-eq0-via-else-unwritten-eq0 w ↦
           pulls_wider now (ready g c) (ready g c) new first
           (subst (λ (v : LineView g.row.E.Denot g.row.M.Denot). LeavesOwn v new) w.self-is last)
-          (inl refl)
+          (λ pulls. ready_none c.self.view_is c.reserve.new.self c.in_ok-reserve.ensures.ok pulls.none_waited) (inl refl)
     ]
 
 pub invariant_of-self : goal.invariant_of-self

@@ -4,7 +4,7 @@ use Rattle.rds_line.specs.declared.outcome.Done.{Done}
 use Rattle.rds_line.specs.declared.outcome.Sent.TheVariants as sent
 use Rattle.rds_line.specs.Line.{LineView}
 use Rattle.rds_line.proofs.Carrying.{arrived_through, less_after, less_before, more_after, more_before, unwritten_through}
-use Rattle.rds_line.proofs.Looking.{leaves_of, leaves_none, leaves_same, leaves_through, loads_wider, pulls_wider}
+use Rattle.rds_line.proofs.Looking.{leaves_of, leaves_none, leaves_same, leaves_through, loads_wider, none_first, pulls_wider}
 use Rattle.rds_line.proofs.Ordering.{at_most_one}
 use Rattle.rds_line.proofs.Quiet.{leaves_quiet}
 use Rattle.rds_line.proofs.Staying.{line_through}
@@ -171,6 +171,9 @@ returns-in_err-sent-clause-pulls g c =
     (leaves_of m pair opened taken c.take_order.ensures.stays c.take_order.ensures.own c.take_order.ensures.pulls)
     (leaves_quiet c.receive.ensures.quiet)))
     (leaves_same went)
+    (λ pulls.
+    none_first first opened taken came went (c.in_ok-open_next.ensures {u = tt}).out (c.in_ok-took.ensures {u = tt}).out
+    (c.in_ok-heard.ensures {u = tt}).out (λ off. (c.send.ensures.closed (c.send.ensures.shut off)).1) pulls)
     c.send.ensures.pulls
 
 pub returns-clause-pulls : goal.returns-clause-pulls
@@ -190,6 +193,9 @@ returns-clause-pulls g c =
     (leaves_of m pair opened taken c.take_order.ensures.stays c.take_order.ensures.own c.take_order.ensures.pulls)
     (leaves_quiet c.receive.ensures.quiet)))
     (leaves_quiet c.relieve.ensures.quiet)
+    (λ pulls.
+    none_first first opened taken came went (c.in_ok-open_next.ensures {u = tt}).out (c.in_ok-took.ensures {u = tt}).out
+    (c.in_ok-heard.ensures {u = tt}).out (λ off. (c.send.ensures.closed (c.send.ensures.shut off)).1) pulls)
     c.send.ensures.pulls
 
 pub returns-in_err-open_next-clause-at_most : goal.returns-in_err-open_next-clause-at_most
@@ -203,22 +209,19 @@ returns-in_err-took-clause-at_most g c =
 pub returns-in_err-heard-clause-at_most : goal.returns-in_err-heard-clause-at_most
 returns-in_err-heard-clause-at_most g c =
     let taking = c.in_ok-took.ensures {u = tt} in
-    at_most_one c.in_ok-took.took
-    (ap (λ (v : LineView g.row.E.Denot g.row.M.Denot). v.orders) c.open_next.ensures.alone)
-    (λ e. taking.took (ap Ok e)) (λ e. taking.none (ap Ok e)) c.receive.ensures.quiet.orders
+    at_most_one (ap (λ (v : LineView g.row.E.Denot g.row.M.Denot). v.orders) c.open_next.ensures.alone) c.receive.ensures.quiet.orders
+    c.in_ok-took.took (λ e. taking.took (ap Ok e)) (λ e. taking.none (ap Ok e))
 
 pub returns-in_err-sent-clause-at_most : goal.returns-in_err-sent-clause-at_most
 returns-in_err-sent-clause-at_most g c =
     let taking = c.in_ok-took.ensures {u = tt} in
-    at_most_one c.in_ok-took.took
-    (ap (λ (v : LineView g.row.E.Denot g.row.M.Denot). v.orders) c.open_next.ensures.alone)
-    (λ e. taking.took (ap Ok e)) (λ e. taking.none (ap Ok e))
+    at_most_one (ap (λ (v : LineView g.row.E.Denot g.row.M.Denot). v.orders) c.open_next.ensures.alone)
     (c.send.ensures.orders ∙ c.receive.ensures.quiet.orders)
+    c.in_ok-took.took (λ e. taking.took (ap Ok e)) (λ e. taking.none (ap Ok e))
 
 pub returns-clause-at_most : goal.returns-clause-at_most
 returns-clause-at_most g c =
     let taking = c.in_ok-took.ensures {u = tt} in
-    at_most_one c.in_ok-took.took
-    (ap (λ (v : LineView g.row.E.Denot g.row.M.Denot). v.orders) c.open_next.ensures.alone)
-    (λ e. taking.took (ap Ok e)) (λ e. taking.none (ap Ok e))
+    at_most_one (ap (λ (v : LineView g.row.E.Denot g.row.M.Denot). v.orders) c.open_next.ensures.alone)
     (c.relieve.ensures.quiet.orders ∙ (c.send.ensures.orders ∙ c.receive.ensures.quiet.orders))
+    c.in_ok-took.took (λ e. taking.took (ap Ok e)) (λ e. taking.none (ap Ok e))

@@ -1,7 +1,7 @@
 use Rattle.std.proofs.Common.{ap}
 use Rattle.rds_line_channel.specs.Channel.{ChannelView}
 use Rattle.rds_line.proofs.Acting.{past_through, still_past}
-use Rattle.rds_line.proofs.Carrying.{roomy_arrived, roomy_unwritten, same_arrived, same_unwritten, taken_arrived, taken_unwritten}
+use Rattle.rds_line.proofs.Carrying.{roomy_arrived, roomy_out, roomy_unwritten, same_arrived, same_out, same_unwritten, taken_arrived, taken_out, taken_unwritten}
 use Rattle.rds_line.proofs.Feeding.{keeps_fed, taken_past}
 use Rattle.rds_line.proofs.Fields.{view_in}
 use Rattle.rds_line.proofs.Quiet.{quiet_inside}
@@ -64,3 +64,13 @@ returns-clause-unwritten g c =
     let ready = c.reserve.new.self in
     roomy_unwritten c.self.view_is ready c.take.new.self c.in_ok-reserve.ensures.ok
     (taken_unwritten g.E.End.means c.take.result ready c.take.new.self did.frame did.part did.refused did.err)
+
+pub returns-in_err-reserve-clause-out : goal.returns-in_err-reserve-clause-out
+returns-in_err-reserve-clause-out g c = same_out c.self.view_is c.reserve.new.self c.in_err-reserve.ensures.err
+
+pub returns-clause-out : goal.returns-clause-out
+returns-clause-out g c =
+    let did = c.take.ensures in
+    let ready = c.reserve.new.self in
+    roomy_out c.self.view_is ready c.take.new.self c.in_ok-reserve.ensures.ok
+    (taken_out g.E.End.means c.take.result ready c.take.new.self did.frame did.part did.refused did.err)

@@ -1,15 +1,15 @@
-use Rattle.std.proofs.Common.{◌≡◌, refl, sym, ap, subst, ◌∙◌}
+use Rattle.std.proofs.Common.{◌≡◌, refl, ap, ◌∙◌}
 use Rattle.rds_model.specs.declared.order.Order.{Order}
-use Rattle.rds_mail.specs.Learning.{AllGot}
 use Rattle.rds_mail.specs.Passes.{Getter, after_get}
 use Rattle.rds_line_channel.specs.Channel.{ChannelView}
-use Rattle.rds_line.specs.Keeps.{IsPulled, KeepsLine}
 use Rattle.rds_line.specs.Line.{LineView, line_past, pulls_in}
 use Rattle.rds_line.proofs.Acting.{still_acts}
 use Rattle.rds_line.proofs.Fields.{view_in}
-use Rattle.rds_line.proofs.Taking.{stays_taken}
-use Rattle.rds_line.proofs.Obeying.{Obeys, asked_allowed, cut_room, keeps_roomy, pulled_roomy, roomy_past, roomy_stays, roomy_streams, room_arrived, room_unwritten, keeps_obeyed, obeyed_arrived, obeyed_past, obeyed_stays, obeyed_unwritten}
-use Rattle.rds_line.proofs.Staying.{channel_of, channel_same, line_inside, line_of, line_shown, line_stays, line_through}
+use Rattle.rds_line.proofs.Keeping.{keeps_told}
+use Rattle.rds_line.proofs.Ordering.{found_none}
+use Rattle.rds_line.proofs.Taking.{stays_none, stays_taken}
+use Rattle.rds_line.proofs.Obeying.{Obeys, asked_allowed, cut_room, keeps_roomy, pulled_roomy, roomy_past, roomy_stays, roomy_streams, room_arrived, room_out, room_unwritten, keeps_obeyed, obeyed_arrived, obeyed_out, obeyed_past, obeyed_stays, obeyed_unwritten}
+use Rattle.rds_line.proofs.Staying.{channel_of, channel_same, line_inside, line_shown, line_stays, line_through}
 use Rattle.rds_line.proofs.Unlogged.{keeps_alike}
 use Rattle.rds_line.proofs.line.Line.take_order.Given as given
 use Rattle.rds_line.proofs.line.Line.take_order.Goals as goal
@@ -49,6 +49,7 @@ returns-then-is_err g c =
       still = λ e. absurd (cc);
       arrived = tt;
       unwritten = tt;
+      out = tt;
       err = (
         ap (λ (l : LineView g.row.E.Denot g.row.M.Denot). l.orders) c.self.view_is,
         past ∙ ap (λ (l : LineView g.row.E.Denot g.row.M.Denot). line_past l) c.self.view_is,
@@ -70,22 +71,18 @@ returns-in_default g c =
     record {
       stays =
           line_shown m pair v c.args.self.now new c.self.view_is
-          (line_of m pair v new (record v { channel = room })
-          (ap (λ (h : Getter Order). record v { channel = room; orders = h }) none.same)
-          (line_stays m pair v room (roomy_stays v c.reserve.new.self room first second m) (still_acts _ _ past)));
+          (stays_none m pair v room c.take_order.new.self (roomy_stays v c.reserve.new.self room first second m) (still_acts _ _ past) none.counted);
       own = ap (λ (l : LineView g.row.E.Denot g.row.M.Denot). l.own) c.self.view_is;
       pulls = ap pulls_in past ∙ ap (λ (l : LineView g.row.E.Denot g.row.M.Denot). pulls_in (line_past l)) c.self.view_is;
       took = λ e. absurd (cc);
-      none = λ e. (
-        none.same ∙ ap (λ (l : LineView g.row.E.Denot g.row.M.Denot). l.orders) c.self.view_is,
-        subst (λ (h : Getter Order). AllGot h) (sym none.same) none.empty,
-      );
+      none = λ e. found_none (ap (λ (l : LineView g.row.E.Denot g.row.M.Denot). l.orders) c.self.view_is) none.counted none.empty;
       still = λ e. (
         past ∙ ap (λ (l : LineView g.row.E.Denot g.row.M.Denot). line_past l) c.self.view_is,
         roomy_streams v c.reserve.new.self room first second ∙ ap (λ (l : LineView g.row.E.Denot g.row.M.Denot). l.channel.streams) c.self.view_is,
       );
       arrived = room_arrived v c.reserve.new.self room first second c.self.view_is room (λ _. refl);
       unwritten = room_unwritten v c.reserve.new.self room first second c.self.view_is room (λ _. refl);
+      out = room_out v c.reserve.new.self room first second c.self.view_is room (λ on. (on, refl));
       err = tt;
       spent = λ entries e. absurd (cc);
     }
@@ -144,7 +141,7 @@ returns g c =
           line_shown m pair v c.args.self.now new c.self.view_is
           (line_through m pair v mid new
           (line_stays m pair v mid.channel (roomy_stays v c.reserve.new.self mid.channel first (second g c) m) (still_acts _ _ past))
-          (stays_taken m pair mid channel getter got.0 o got.1 (obeyed_stays m mid channel getter got.0 o got.1 (obeys g c)) obeyed.acts));
+          (stays_taken m pair mid channel getter (obeyed_stays m mid channel getter got.0 o got.1 (obeys g c)) obeyed.acts got.0 o got.1));
       own = ap (λ (l : LineView g.row.E.Denot g.row.M.Denot). l.own) c.self.view_is;
       pulls =
           obeyed.pulls ∙ ap pulls_in past
@@ -158,6 +155,9 @@ returns g c =
       unwritten =
           room_unwritten v c.reserve.new.self mid.channel first (second g c) c.self.view_is channel
           (obeyed_unwritten m mid channel getter got.0 o got.1 (obeys g c));
+      out =
+          room_out v c.reserve.new.self mid.channel first (second g c) c.self.view_is channel
+          (obeyed_out m mid channel getter got.0 o got.1 (obeys g c));
       err = tt;
       spent = λ entries e. absurd (cc);
     }
@@ -185,8 +185,8 @@ invariant_of-self-in_default g c =
     let made = cut_room c.reserve.new.self new c.reserve_cut.result c.reserve_cut.ensures.ok c.reserve_cut.ensures.err in
     let none = c.in_default.ensures {u = tt} in
     let pulled = c.self.inside.own_pulled in
-    let with : Getter Order → LineView g.row.E.Denot g.row.M.Denot = λ (h : Getter Order). record v { channel = new; orders = h } in
-    subst (λ (h : Getter Order). KeepsLine g.M.MapWriter.published (with h) × IsPulled pulled (with h)) (sym none.same) (
-      keeps_roomy v c.reserve.new.self new first made g.M.MapWriter.published c.self.invariant.0,
+    let roomy : LineView g.row.E.Denot g.row.M.Denot = record v { channel = new } in (
+      keeps_told g.M.MapWriter.published roomy c.take_order.new.self (ap (λ (h : Getter Order). h.got) none.counted)
+          (keeps_roomy v c.reserve.new.self new first made g.M.MapWriter.published c.self.invariant.0),
       pulled_roomy v c.reserve.new.self new first made pulled c.self.invariant.1,
     )
