@@ -1,5 +1,5 @@
 //! One datagram goes over TCP.
-use rds_link::{MemSink, MemSource, OpenGate};
+use rds_link::{MemSink, MemSource, OpenGate, Wire};
 use rds_run::rds_main;
 use rds_tcp::TcpWire;
 use std::alloc::Global;
@@ -22,7 +22,7 @@ fn add_words(alloc: Global, words: &mut Vec<String>) -> Result<(), Fail> {
     Ok(())
 }
 
-// Whether the program answers these words and the bytes of the script by the report.
+// Whether the program answers these words and the bytes of the script by the report, and ends of the wire were read in vain.
 fn is_answered<R: Threads + Wait + Net + Sync>(
     rt: &R,
     alloc: Global,
@@ -33,7 +33,7 @@ fn is_answered<R: Threads + Wait + Net + Sync>(
     let mut source = MemSource::new(script, Vec::new(alloc));
     let mut sink = MemSink::new(alloc, Vec::new(alloc));
     let status = rds_main(rt, alloc, words, &mut source, &mut sink, wire, &OpenGate);
-    status == 0 && sink.held() == REPORT.as_bytes()
+    status == 0 && sink.held() == REPORT.as_bytes() && wire.counts().nothings > 0
 }
 
 #[test]

@@ -1,7 +1,7 @@
 use crate::expected::push_line;
 use std::alloc::{AllocError, Global};
 
-/// A script and the whole text that playing it prints.
+/// A script and the whole texts, one of which is printed of it: more than one where threads decide.
 #[derive(Drop)]
 pub struct Case {
     /// What the script shows.
@@ -9,9 +9,7 @@ pub struct Case {
     /// How many entries a journal may hold, where that isn't the program's own limit.
     pub limits: Option<Limits>,
     pub script: String,
-    pub expected: String,
-    // Whether the lines that come belong to the text.
-    is_text: bool,
+    pub texts: Vec<String>,
 }
 
 /// The limits with which a script prints one text: each number from `least` to `most`.
@@ -22,22 +20,22 @@ pub struct Limits {
 }
 
 /// The cases of a file. Each begins with a line `== NAME`, `== NAME LIMIT` or `== NAME LEAST-MOST`; its script follows, then
-/// a line `--`, then the text. What stands before the first case is a remark.
+/// each of its texts behind a line `--`. What stands before the first case is a remark.
 pub fn cases(alloc: Global, text: &str) -> anyhow::Result<Vec<Case>> {
     let mut found = Vec::new(alloc);
     for line in text.lines() {
         match line.strip_prefix("== ") {
             Some(head) => found.push(Case::named(alloc, head)?)?,
-            None => add_line(&mut found, line)?,
+            None => add_line(alloc, &mut found, line)?,
         }
     }
     Ok(found)
 }
 
 // A further line of the last case.
-fn add_line(cases: &mut Vec<Case>, line: &str) -> Result<(), AllocError> {
+fn add_line(alloc: Global, cases: &mut Vec<Case>, line: &str) -> Result<(), AllocError> {
     match cases.last_mut() {
-        Some(case) => case.add(line),
+        Some(case) => case.add(alloc, line),
         None => Ok(()),
     }
 }
@@ -64,18 +62,22 @@ impl Case {
             name: String::from_str(alloc, name)?,
             limits,
             script: String::new(alloc),
-            expected: String::new(alloc),
-            is_text: false,
+            texts: Vec::new(alloc),
         })
     }
 
-    fn add(&mut self, line: &str) -> Result<(), AllocError> {
-        if self.is_text {
-            return push_line(&mut self.expected, line);
-        }
+    /// Whether what was printed is one of the texts.
+    pub fn expects(&self, found: &[u8]) -> bool {
+        self.texts.iter().any(|text| found == text.as_bytes())
+    }
+
+    // A further line of the script or of its last text.
+    fn add(&mut self, alloc: Global, line: &str) -> Result<(), AllocError> {
         if line == "--" {
-            self.is_text = true;
-            return Ok(());
+            return self.texts.push(String::new(alloc));
+        }
+        if let Some(text) = self.texts.last_mut() {
+            return push_line(text, line);
         }
         self.script.push_str(line)?;
         self.script.push('\n')

@@ -1,6 +1,8 @@
-//! Plays the scripts of `data/`, and compares what is printed with the whole text that stands beside each of them.
+//! Plays the scripts of `data/`, and compares what is printed with the whole text that stands beside each of them. Those of
+//! `runs.cases` are run by threads, and more than one text may be right there; those of `lacking.cases` are run over a wire that opens no
+//! stream.
 //!
-//! The texts were made by another program, from the documents of the script language alone.
+//! The texts of what is played were made by another program, from the documents of the script language alone.
 #![tactic(auto)]
 
 mod case;
@@ -38,6 +40,16 @@ const FILES: [&str; 14] = [
     "refused_texts.cases",
 ];
 
+/// Scripts that are run by threads, and how often each is.
+const RUNS: &str = "runs.cases";
+
+const TIMES: u32 = 5;
+
+/// Scripts that are run over a wire that opens no stream. None of them has more streams than this.
+const LACKING: &str = "lacking.cases";
+
+const STREAMS: u32 = 96;
+
 /// The examples, each a script `NAME.rds` with its printed text `NAME.txt`.
 const EXAMPLES: [&str; 7] = [
     "hello",
@@ -54,6 +66,8 @@ fn main(rt: HostRuntime) -> anyhow::Result<ExitCode> {
     for file in FILES {
         try_cases(&rt, rt.alloc(), file, &mut tally)?;
     }
+    try_runs(&rt, rt.alloc(), &mut tally)?;
+    try_lacking(&rt, rt.alloc(), &mut tally)?;
     for name in EXAMPLES {
         try_example(&rt, rt.alloc(), name, &mut tally)?;
     }
@@ -89,15 +103,58 @@ fn try_case<R: Files + Print + Threads + Wait + Net + Sync>(
 where
     R: AllocGlobal,
 {
-    let (script, expected) = (case.script.as_bytes(), case.expected.as_str());
+    let script = case.script.as_bytes();
     let Some(limits) = case.limits else {
-        let found = answer_to(rt, alloc, script)?;
-        return tally.count(rt, file, case.name.as_str(), &found, expected);
+        let found = answer_to(rt, alloc, &["play"], Vec::new(alloc), script)?;
+        return tally.count(rt, file, case.name.as_str(), case.expects(&found));
     };
     for limit in u64::from(limits.least)..=u64::from(limits.most) {
         let found = played_within(alloc, script, u32::try_from(limit).unwrap_or(u32::MAX))?;
         let name = format!(in alloc; "{} {limit}", case.name)?;
-        tally.count(rt, file, name.as_str(), &found, expected)?;
+        tally.count(rt, file, name.as_str(), case.expects(&found))?;
+    }
+    Ok(())
+}
+
+// Runs each case of the file of runs, several times.
+fn try_runs<R: Files + Print + Threads + Wait + Net + Sync>(
+    rt: &R,
+    alloc: Global,
+    tally: &mut Tally,
+) -> anyhow::Result<()>
+where
+    R: AllocGlobal,
+{
+    let text = fs::read_to_string(rt, RUNS)?;
+    for case in cases(alloc, text.as_str())? {
+        for _ in 0..TIMES {
+            let found = answer_to(rt, alloc, &["run"], Vec::new(alloc), case.script.as_bytes())?;
+            tally.count(rt, RUNS, case.name.as_str(), case.expects(&found))?;
+        }
+    }
+    Ok(())
+}
+
+// Runs each case of the file of scripts that lack their streams.
+fn try_lacking<R: Files + Print + Threads + Wait + Net + Sync>(
+    rt: &R,
+    alloc: Global,
+    tally: &mut Tally,
+) -> anyhow::Result<()>
+where
+    R: AllocGlobal,
+{
+    let text = fs::read_to_string(rt, LACKING)?;
+    for case in cases(alloc, text.as_str())? {
+        let fail = (1..=STREAMS).collect(alloc)?;
+        let found = answer_to(
+            rt,
+            alloc,
+            &["run", "--wire", "tcp"],
+            fail,
+            case.script.as_bytes(),
+        )?;
+        tally.count(rt, LACKING, case.name.as_str(), case.expects(&found))?;
     }
     Ok(())
 }
@@ -114,6 +171,6 @@ where
 {
     let script = fs::read_to_string(rt, format!(in alloc; "examples/{name}.rds")?)?;
     let expected = fs::read_to_string(rt, format!(in alloc; "examples/{name}.txt")?)?;
-    let found = answer_to(rt, alloc, script.as_bytes())?;
-    tally.count(rt, "examples", name, &found, expected.as_str())
+    let found = answer_to(rt, alloc, &["play"], Vec::new(alloc), script.as_bytes())?;
+    tally.count(rt, "examples", name, found == expected.as_bytes())
 }

@@ -11,17 +11,19 @@ use std::net::Net;
 use std::sync::Wait;
 use std::thread::Threads;
 
-/// What `rds play` prints where a script comes on its input.
+/// What `rds` prints with these words, where a script comes on its input. In place of TCP it has streams in memory, of which the openings
+/// with these numbers fail.
 pub fn answer_to<R: Threads + Wait + Net + Sync>(
     rt: &R,
     alloc: Global,
+    words: &[&str],
+    fail_open: Vec<u32>,
     script: &[u8],
 ) -> anyhow::Result<Vec<u8>> {
-    let mut words = Vec::new(alloc);
-    words.push(String::from_str(alloc, "play")?)?;
+    let words = owned(alloc, words)?;
     let mut source = MemSource::new(script.to_vec(alloc)?, Vec::new(alloc));
     let mut sink = MemSink::new(alloc, Vec::new(alloc));
-    let mut tcp = MemWire::new(alloc, Vec::new(alloc), Vec::new(alloc));
+    let mut tcp = MemWire::new(alloc, fail_open, Vec::new(alloc));
     let status = rds_main(
         rt,
         alloc,
@@ -32,6 +34,15 @@ pub fn answer_to<R: Threads + Wait + Net + Sync>(
         &OpenGate,
     );
     told(alloc, &sink, status == 6)
+}
+
+// The words, each as a text of its own.
+fn owned(alloc: Global, words: &[&str]) -> anyhow::Result<Vec<String>> {
+    let mut all = Vec::new(alloc);
+    for word in words {
+        all.push(String::from_str(alloc, word)?)?;
+    }
+    Ok(all)
 }
 
 /// What `play` prints where a journal holds at most so many entries.

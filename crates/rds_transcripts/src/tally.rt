@@ -16,10 +16,9 @@ impl Tally {
         rt: &R,
         file: &str,
         name: &str,
-        found: &[u8],
-        expected: &str,
+        is_expected: bool,
     ) -> anyhow::Result<()> {
-        if found == expected.as_bytes() {
+        if is_expected {
             self.same = self.same.saturating_add(1);
             return Ok(());
         }
