@@ -31,6 +31,22 @@ module _ {E M : Type 0} (m : Means E) where
     };
   }
 
+  -- and where the first one alone stays
+  pub connected_first : {Name : Type 0} (pair : M → Name) (limit low high : ℕ) (one other one_after : LineView E M) → AreConnected m limit low high one other →
+      LineStays m pair one one_after → AreConnected m limit low high one_after other
+  connected_first pair limit low high one other one_after c first = record {
+    hosts = record {
+      one_limit = first.channel.limit ∙ c.hosts.one_limit;
+      other_limit = c.hosts.other_limit;
+      one_peer = first.channel.peer ∙ c.hosts.one_peer;
+      other_peer = c.hosts.other_peer;
+    };
+    streams = record {
+      same = c.streams.same ∙ sym first.channel.streams.numbers;
+      pairs = first.channel.streams.paired.forth other.channel.streams.list c.streams.pairs;
+    };
+  }
+
   connected_same : (limit low high : ℕ) (one other one_after other_after : LineView E M) → AreConnected m limit low high one other →
       IsSameConnection one one_after → IsSameConnection other other_after → AreConnected m limit low high one_after other_after
   connected_same limit low high one other one_after other_after c first second = record {

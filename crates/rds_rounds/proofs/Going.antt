@@ -1,19 +1,24 @@
 -- A line that turned goes on, and so does one that goes on twice.
-use Rattle.std.proofs.Common.{◌≡◌, ℕ, zero, suc, List, [], ◌∷◌, ◌++◌, Some, append_assoc, length, slice_get, refl, sym, ap, subst, ◌∙◌, arith}
+use Rattle.std.proofs.Common.{◌≡◌, ◌≤◌, ℕ, zero, suc, List, [], ◌∷◌, ◌++◌, Some, append_assoc, length, slice_get, refl, sym, ap, subst, ◌∙◌, arith}
 use Rattle.std.proofs.lemmas.Option.{same_Some}
 use Rattle.rds_link.specs.Ends.{Means}
 use Rattle.rds_fmap.specs.Readers.{WriterView}
 use Rattle.rds_meter.specs.Grounds.{seats_of}
 use Rattle.rds_mail.specs.Passes.{Putter}
+use Rattle.rds_model.specs.declared.entry.Entry.{Entry}
 use Rattle.rds_model.specs.declared.order.Datagram.{Datagram}
 use Rattle.rds_model.specs.Honest.{Begins}
+use Rattle.rds_model.specs.Past.{Moment, now, before}
 use Rattle.rds_model.specs.SumLaws.{same_list}
+use Rattle.rds_line_streams.specs.Streams.{numbers, with_list}
 use Rattle.rds_line.specs.Line.{LineView}
 use Rattle.rds_line.specs.Stays.{AreSameBoxes, LineStays}
 use Rattle.rds_host.specs.Keeping.{LineKeeps}
 use Rattle.rds_host.specs.Lines.{pair_of}
+use Rattle.rds_rounds.specs.Causes.{HasRoomForTwo}
 use Rattle.rds_rounds.specs.Grid.{EachRow}
 use Rattle.rds_rounds.specs.Quiet.{LineGoesOn, LinesGoOn}
+use Rattle.rds_rounds.specs.Rest.{HasMet}
 
 -- what stands at a place of a list stood there in one that is as long
 pub stood_at : {T : Type 0} (old new : List T) (place : ℕ) (x : T) → length new ≡ length old → slice_get new place ≡ Some x → (y : T) × (slice_get old place ≡ Some y)
@@ -49,9 +54,18 @@ boxes_through old middle new first second = record {
       (two.0 ∙ one.0, two.1 ∙ one.1, two.2 ∙ one.2);
 }
 
+-- an earlier time of an earlier time, and how long a journal was then
+moment_through : {p q j : List Entry} → Moment p q → Moment q j → Moment p j
+moment_through first now = first
+moment_through first (before later) = before (moment_through first later)
+
+moment_longer : {p j : List Entry} → Moment p j → length p ≤ length j
+moment_longer now = omega arith
+moment_longer (before later) = let shorter = moment_longer later in omega (arith, shorter)
+
 module _ {E : Type 0} where
   pub goes_same : (line : LineView E WriterView) → LineGoesOn line line
-  goes_same line = record { keeps = line_keeps_same line; told = refl; got = same_list line.orders.got; numbers = refl; always = λ telling was. was }
+  goes_same line = record { keeps = line_keeps_same line; told = refl; got = same_list line.orders.got; numbers = refl; limit = refl; past = now; always = λ telling was. was }
 
   pub goes_through : (a b c : LineView E WriterView) → LineGoesOn a b → LineGoesOn b c → LineGoesOn a c
   goes_through a b c one two = record {
@@ -69,7 +83,16 @@ module _ {E : Type 0} where
     got = begins_through a.orders.got b.orders.got c.orders.got one.got two.got;
     always = λ telling was. two.always telling (one.always telling was);
     numbers = two.numbers ∙ one.numbers;
+    limit = two.limit ∙ one.limit;
+    past = moment_through one.past two.past;
   }
+
+  -- a journal that has room had room before
+  pub had_room : (x y : LineView E WriterView) → LineGoesOn x y → HasRoomForTwo y → HasRoomForTwo x
+  had_room x y goes room =
+      let same = goes.limit in
+      let longer = moment_longer goes.past in
+      omega (arith, room, same, longer)
 
   -- a line that turned goes on
   pub goes_of_stays : (m : Means E) (line after : LineView E WriterView) → LineStays m pair_of line after → LineGoesOn line after
@@ -88,7 +111,39 @@ module _ {E : Type 0} where
     got = stays.got;
     always = stays.always;
     numbers = stays.channel.streams.numbers;
+    limit = stays.channel.limit;
+    past = stays.channel.past;
   }
+
+  -- a line that met another, at which only the ends of its streams may be others, goes on
+  pub has_met : (line after : LineView E WriterView) → numbers after.channel.streams.list ≡ numbers line.channel.streams.list →
+      after ≡ record line { channel = record line.channel { streams = with_list line.channel.streams after.channel.streams.list } } → HasMet line after
+  has_met line after same is =
+      subst (HasMet line) (sym is)
+      (record {
+        goes = record {
+          keeps = record {
+            peer = refl;
+            mail = refl;
+            joined = refl;
+            boxes = boxes_same line.boxes;
+            ports = refl;
+            words = refl;
+            seats = refl;
+            pair = refl;
+          };
+          told = refl;
+          got = same_list line.orders.got;
+          always = λ telling was. was;
+          numbers = same;
+          limit = refl;
+          past = now;
+        };
+        past = refl;
+        orders = refl;
+        out = refl;
+        full = λ entries full. record { count = full.count; most = full.most };
+      })
 
   pub lines_through : (a b c : List (LineView E WriterView)) → LinesGoOn a b → LinesGoOn b c → LinesGoOn a c
   lines_through a b c one two = record {

@@ -1,5 +1,5 @@
 -- A round of one pair of lines.
-use Rattle.std.proofs.Common.{◌≡◌, ◌⊎◌, inl, inr, ℕ, suc, ◌<◌, ◌≤◌, ◌-◌, List, length, set, Some, slice_get, refl, sym, ap, subst, ◌∙◌, arith}
+use Rattle.std.proofs.Common.{◌≡◌, ◌⊎◌, inl, inr, ℕ, suc, ◌<◌, ◌≤◌, ◌-◌, List, length, max, min, set, Some, slice_get, refl, sym, ap, subst, ◌∙◌, arith}
 use Rattle.std.proofs.lemmas.Bool.{cases_eq}
 use Rattle.std.proofs.lemmas.Option.{slice_get_within}
 use Rattle.rds_fmap.specs.Readers.{WriterView}
@@ -9,11 +9,11 @@ use Rattle.rds_line_streams.specs.PlaceLaws.{beside_set}
 use Rattle.rds_rounds.specs.Causes.{known_of}
 use Rattle.rds_rounds.specs.Connection.{IsFullAt}
 use Rattle.rds_rounds.specs.Grid.{EachRow, IsAt}
-use Rattle.rds_rounds.specs.Sweep.{AreSwept, GoOnTogether, GoesOn, HasAsMany, HaveHadRound, IsAmong, IsPair, MissByOrder, MissStreamAt, PairAfter, Passed, RowsHadRound}
+use Rattle.rds_rounds.specs.Sweep.{AreSwept, GoOnTogether, GoesOn, HasAsMany, HaveGoneOn, HaveHadRound, IsAmong, IsPair, MissStreamAt, PairAfter, Passed, RowsHadRound}
 use Rattle.rds_rounds.specs.declared.verdict.Round.{Round}
 use Rattle.rds_rounds.specs.declared.verdict.Round.TheVariants as verdict
 use Rattle.rds_rounds.specs.declared.verdict.Wanted.{Wanted}
-use Rattle.rds_rounds.proofs.Passing.{not_before}
+use Rattle.rds_rounds.proofs.Passing.{full_pair, not_before}
 use Rattle.rds_rounds.proofs.Places.{at_other, at_there, length_through, same_at, set_lengths}
 use Rattle.rds_rounds.proofs.Sweeps.{pair_same}
 
@@ -70,7 +70,9 @@ module _ {E : Type 0} (m : Means E) (wanted : List (List Wanted)) where
         goes (verdict.Fault first second) is passed =
             let found = had.fault first second is in
             absurd (not_before low high first second found.0 found.1 passed)
-        goes (verdict.Spent host peer entries) is passed = passed
+        goes (verdict.Spent host peer entries) is passed =
+            let named = full_pair host peer entries low high had.one_after had.other_after less (had.spent host peer entries is) in
+            absurd (not_before low high (min host peer) (max host peer) named.0 named.1 passed)
         goes verdict.Memory is passed = passed
 
         here : (Holds : (first second : ℕ) → (x y : LineView E WriterView) → Type 0) → Holds low high had.one_after had.other_after →
@@ -113,11 +115,11 @@ module _ {E : Type 0} (m : Means E) (wanted : List (List Wanted)) where
                   (subst (λ (l : LineView E WriterView). GoOnTogether m low high l other had.one_after had.other_after) one_is
                   (subst (λ (l : LineView E WriterView). GoOnTogether m low high had.one l had.one_after had.other_after) other_is had.together)));
               round = λ among. subst (λ (w : Wanted). HaveHadRound m w (came ≡ verdict.Idle) had.one_after had.other_after) known had.round;
-              by_order = λ among passed.
-                  subst (λ (w : Wanted). MissByOrder m.tells w one other had.one_after had.other_after) known
-                  (subst (λ (l : LineView E WriterView). MissByOrder m.tells (known_of wanted low high) l other had.one_after had.other_after) one_is
-                  (subst (λ (l : LineView E WriterView). MissByOrder m.tells (known_of wanted low high) had.one l had.one_after had.other_after) other_is
-                  (had.by_order (goes came refl (subst (λ (n : ℕ). Passed came low n) next (subst (λ (n : ℕ). Passed came n (suc place)) same passed))))));
+              gone_on = λ among passed.
+                  subst (λ (w : Wanted). HaveGoneOn m.tells w one other had.one_after had.other_after) known
+                  (subst (λ (l : LineView E WriterView). HaveGoneOn m.tells (known_of wanted low high) l other had.one_after had.other_after) one_is
+                  (subst (λ (l : LineView E WriterView). HaveGoneOn m.tells (known_of wanted low high) had.one l had.one_after had.other_after) other_is
+                  (had.gone_on (goes came refl (subst (λ (n : ℕ). Passed came low n) next (subst (λ (n : ℕ). Passed came n (suc place)) same passed))))));
               one_same = λ out. absurd (out (same, next));
               other_same = λ out. absurd (out (same, next));
             }

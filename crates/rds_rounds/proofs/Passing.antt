@@ -1,6 +1,9 @@
 -- What several rounds come to, and which hosts it passes.
-use Rattle.std.proofs.Common.{◌≡◌, ◌⊎◌, inl, inr, ℕ, suc, sym, subst, arith}
+use Rattle.std.proofs.Common.{◌≡◌, ◌⊎◌, inl, inr, ℕ, suc, ◌<◌, max, min, sym, subst, arith}
+use Rattle.rds_fmap.specs.Readers.{WriterView}
+use Rattle.rds_line.specs.Line.{LineView}
 use Rattle.rds_rounds.specs.Causes.{IsBefore}
+use Rattle.rds_rounds.specs.Connection.{IsFullAt}
 use Rattle.rds_rounds.specs.Sweep.{ComesTo, GoesOn, IsPair, IsPairBelow, IsPairOf, Passed, Stops}
 use Rattle.rds_rounds.specs.declared.verdict.Round.{Round}
 use Rattle.rds_rounds.specs.declared.verdict.Round.TheVariants as verdict
@@ -34,6 +37,16 @@ both_go first second came (inr it) goes = (it.1, subst GoesOn it.0 goes)
 pub one_of : (came first second : Round) → ComesTo came first second → (came ≡ first) ⊎ (came ≡ second)
 one_of came first second (inl it) = inl it.0
 one_of came first second (inr it) = inr it.0
+
+-- the host and the peer of a full journal are the two hosts, whichever is the lower one
+pub full_pair : {E : Type 0} (host peer entries low high : ℕ) (one other : LineView E WriterView) → low < high →
+    IsFullAt host peer entries low high one other → (min host peer ≡ low) × (max host peer ≡ high)
+full_pair host peer entries low high one other less (inl full) =
+    let at = full.0 in
+    let to = full.1 in (grind (arith, less, at, to), grind (arith, less, at, to))
+full_pair host peer entries low high one other less (inr full) =
+    let at = full.0 in
+    let to = full.1 in (grind (arith, less, at, to), grind (arith, less, at, to))
 
 -- no two hosts come before themselves
 pub not_before : (low high first second : ℕ) → first ≡ low → second ≡ high → IsBefore low high first second → ⊥

@@ -1,5 +1,5 @@
 -- Rounds of several pairs of lines, and of none.
-use Rattle.std.proofs.Common.{◌≡◌, ◌⊎◌, inl, inr, ℕ, suc, ◌<◌, ◌≤◌, ◌+◌, List, length, refl, sym, subst, ◌∙◌, arith}
+use Rattle.std.proofs.Common.{◌≡◌, ◌⊎◌, inl, inr, ℕ, suc, ◌<◌, ◌≤◌, ◌+◌, List, length, min, refl, sym, subst, ◌∙◌, arith}
 use Rattle.std.proofs.lemmas.Bool.{cases_lt}
 use Rattle.std.proofs.lemmas.Option.{slice_get_within}
 use Rattle.rds_fmap.specs.Readers.{WriterView}
@@ -8,12 +8,12 @@ use Rattle.rds_line.specs.Line.{LineView}
 use Rattle.rds_rounds.specs.Causes.{IsBefore, known_of}
 use Rattle.rds_rounds.specs.Connection.{IsFullAt}
 use Rattle.rds_rounds.specs.Grid.{IsAt}
-use Rattle.rds_rounds.specs.Sweep.{AreSwept, ComesTo, GoOnTogether, HaveHadRound, IsAmong, IsPair, IsPairBelow, IsPairOf, MissByOrder, MissStreamAt, PairAfter, Passed, Stops}
+use Rattle.rds_rounds.specs.Sweep.{AreSwept, ComesTo, GoOnTogether, HaveGoneOn, HaveHadRound, IsAmong, IsPair, IsPairBelow, IsPairOf, MissStreamAt, PairAfter, Passed, Stops}
 use Rattle.rds_rounds.specs.declared.verdict.Round.{Round}
 use Rattle.rds_rounds.specs.declared.verdict.Round.TheVariants as verdict
 use Rattle.rds_rounds.specs.declared.verdict.Wanted.{Wanted}
 use Rattle.rds_rounds.proofs.Going.{goes_same, goes_through}
-use Rattle.rds_rounds.proofs.Passing.{goes_past, late_host, late_pair, one_of}
+use Rattle.rds_rounds.proofs.Passing.{full_pair, goes_past, late_host, late_pair, one_of}
 use Rattle.rds_rounds.proofs.Places.{length_through, same_length}
 
 module _ {E : Type 0} (m : Means E) where
@@ -39,7 +39,7 @@ module _ {E : Type 0} (m : Means E) (w : Wanted) where
     other_at = other_at;
     together = together_same m low (suc place) one other;
     round = λ among. absurd (out among);
-    by_order = λ among. absurd (out among);
+    gone_on = λ among. absurd (out among);
     one_same = λ none. refl;
     other_same = λ none. refl;
   }
@@ -98,7 +98,13 @@ module _ {E : Type 0} (m : Means E) (wanted : List (List Wanted)) where
           late low place found.low found.place found.among later
           (subst (λ (n : ℕ). IsBefore low (suc place) n (suc found.place)) found.holds.0
           (subst (λ (n : ℕ). IsBefore low (suc place) lower n) found.holds.1 passed))
-      stopped (verdict.Spent host peer entries) is stops low place later passed = passed
+      stopped (verdict.Spent host peer entries) is stops low place later passed =
+          let found = one.spent host peer entries is in
+          let ordered = found.ordered in
+          let named = full_pair host peer entries found.low (suc found.place) found.one found.other (omega (arith, ordered)) found.holds in
+          late low place found.low found.place found.among later
+          (subst (λ (n : ℕ). IsBefore low (suc place) n (suc found.place)) named.0
+          (subst (λ (n : ℕ). IsBefore low (suc place) (min host peer) n) named.1 passed))
       stopped verdict.Memory is stops low place later passed = passed
 
       -- and the second does where the pair is among its own
@@ -130,16 +136,16 @@ module _ {E : Type 0} (m : Means E) (wanted : List (List Wanted)) where
                   | inr later ↦
                       weaker m (known_of wanted low (suc place)) (second ≡ verdict.Idle) (came ≡ verdict.Idle) is.one_after is.other_after (λ none. (idle none).1) (is.round later)
                 ];
-            by_order = λ among passed.
+            gone_on = λ among passed.
                 elim among [
                   | inl earlier ↦
-                      subst (λ (l : LineView E WriterView). MissByOrder m.tells (known_of wanted low (suc place)) x y l is.other_after) (sym (is.one_same (apart low place ordered earlier)))
-                      (subst (λ (l : LineView E WriterView). MissByOrder m.tells (known_of wanted low (suc place)) x y was.one_after l) (sym (is.other_same (apart low place ordered earlier)))
-                      (was.by_order earlier (first_passed low (suc place) passed)))
+                      subst (λ (l : LineView E WriterView). HaveGoneOn m.tells (known_of wanted low (suc place)) x y l is.other_after) (sym (is.one_same (apart low place ordered earlier)))
+                      (subst (λ (l : LineView E WriterView). HaveGoneOn m.tells (known_of wanted low (suc place)) x y was.one_after l) (sym (is.other_same (apart low place ordered earlier)))
+                      (was.gone_on earlier (first_passed low (suc place) passed)))
                   | inr later ↦
-                      subst (λ (l : LineView E WriterView). MissByOrder m.tells (known_of wanted low (suc place)) l y is.one_after is.other_after) (was.one_same (λ earlier. apart low place ordered earlier later))
-                      (subst (λ (l : LineView E WriterView). MissByOrder m.tells (known_of wanted low (suc place)) was.one_after l is.one_after is.other_after)
-                      (was.other_same (λ earlier. apart low place ordered earlier later)) (is.by_order later (second_passed low place later passed)))
+                      subst (λ (l : LineView E WriterView). HaveGoneOn m.tells (known_of wanted low (suc place)) l y is.one_after is.other_after) (was.one_same (λ earlier. apart low place ordered earlier later))
+                      (subst (λ (l : LineView E WriterView). HaveGoneOn m.tells (known_of wanted low (suc place)) was.one_after l is.one_after is.other_after)
+                      (was.other_same (λ earlier. apart low place ordered earlier later)) (is.gone_on later (second_passed low place later passed)))
                 ];
             one_same = λ out. is.one_same (λ later. out (inr later)) ∙ was.one_same (λ earlier. out (inl earlier));
             other_same = λ out. is.other_same (λ later. out (inr later)) ∙ was.other_same (λ earlier. out (inl earlier));
@@ -195,7 +201,7 @@ module _ {E : Type 0} (m : Means E) (wanted : List (List Wanted)) where
           other_at = after.other_at;
           together = after.together;
           round = λ among. after.round (back low place ordered within among);
-          by_order = λ among. after.by_order (back low place ordered within among);
+          gone_on = λ among. after.gone_on (back low place ordered within among);
           one_same = λ out. after.one_same (λ among. out (forth low place ordered within among));
           other_same = λ out. after.other_same (λ among. out (forth low place ordered within among));
         };

@@ -1,5 +1,5 @@
 -- What the lines of a run are after a round of each two hosts.
-use Rattle.std.proofs.Common.{◌≡◌, ◌⊎◌, inl, inr, ℕ, suc, ◌<◌, ◌≤◌, ◌-◌, Bool, true, List, [], length, length-append, Some, slice_get, sym, ap, subst, ◌∙◌, arith}
+use Rattle.std.proofs.Common.{◌≡◌, ◌⊎◌, inl, inr, ℕ, suc, ◌<◌, ◌≤◌, ◌-◌, Bool, true, List, [], length, length-append, max, min, Some, slice_get, sym, ap, subst, ◌∙◌, arith}
 use Rattle.std.proofs.lemmas.Option.{same_Some, slice_get_within}
 use Rattle.std.specs.List.{All}
 use Rattle.rds_fmap.specs.Readers.{WriterView}
@@ -7,17 +7,17 @@ use Rattle.rds_mail.specs.Learning.{AllGot}
 use Rattle.rds_model.specs.Honest.{Begins}
 use Rattle.rds_link.specs.Ends.{Means}
 use Rattle.rds_line.specs.Line.{LineView, line_past}
-use Rattle.rds_rounds.specs.Causes.{AreLeftWell, HostsMissStream, NoneMissBefore, OneMissesStream, OweNothing, OwesNothing, known_of}
+use Rattle.rds_rounds.specs.Causes.{AreLeftWell, HostsMissStream, IsBefore, NoneEndsBefore, OneMissesStream, OweNothing, OwesNothing, known_of}
 use Rattle.rds_rounds.specs.Connection.{AreConnected, AreHosts, IsFullAt, IsFullHost}
 use Rattle.rds_rounds.specs.Done.{AreDone}
 use Rattle.rds_rounds.specs.Drained.{AreDrainedLines}
 use Rattle.rds_rounds.specs.Grid.{AreRows, EachRow, IsAt, peer_at}
 use Rattle.rds_rounds.specs.Quiet.{AreQuiet, LineGoesOn, LinesGoOn}
-use Rattle.rds_rounds.specs.Sweep.{AreConnectedRows, AreSwept, AreWritten, GoOnTogether, HaveHadRound, IsAmong, IsPairBelow, MissByOrder, MissStreamAt, Passed}
+use Rattle.rds_rounds.specs.Sweep.{AreConnectedRows, AreSwept, AreWritten, GoOnTogether, HaveGoneOn, HaveHadRound, IsAmong, IsPairBelow, MissStreamAt, Passed}
 use Rattle.rds_rounds.specs.declared.verdict.Round.{Round}
 use Rattle.rds_rounds.specs.declared.verdict.Round.TheVariants as verdict
 use Rattle.rds_rounds.specs.declared.verdict.Wanted.{Wanted}
-use Rattle.rds_rounds.proofs.Going.{stood_at}
+use Rattle.rds_rounds.proofs.Going.{had_room, stood_at}
 use Rattle.rds_rounds.proofs.Partners.{all_at, all_of, has_partner, is_there, rows_keep}
 use Rattle.rds_rounds.proofs.Places.{same_at, was_at}
 
@@ -81,18 +81,43 @@ module _ {E : Type 0} (m : Means E) (wanted : List (List Wanted)) where
           was.together.connected limit (are.connected low place was.one was.other ordered was.one_at was.other_at);
     }
 
-    -- no line of hosts before two that lack a stream lacks one that they should have, but by an order
-    pub lowest_swept : (first second : ℕ) → came ≡ verdict.Fault first second →
-        ((low place : ℕ) → low ≤ place → suc place < length new → In low place) → NoneMissBefore m.tells wanted first second old new
-    lowest_swept first second is all low place one other one_after other_after ordered before one_at other_at one_now other_now =
-        let after = swept.pair low place one other ordered one_at other_at in
-        let w = known_of wanted low (suc place) in
-        let one_is = same_at new low place after.one_after one_after after.one_at one_now in
-        let other_is = same_at new (suc place) low after.other_after other_after after.other_at other_now in
-        subst (λ (l : LineView E WriterView). MissByOrder m.tells w one other l other_after) one_is
-        (subst (λ (l : LineView E WriterView). MissByOrder m.tells w one other after.one_after l) other_is
-        (after.by_order (all low place ordered (slice_get_within new (suc place) other_now.0 other_now.1))
-        (subst (λ (r : Round). Passed r low (suc place)) (sym is) before)))
+    -- no line of hosts before two at which the rounds stopped ended them
+    lowest_swept : (first second : ℕ) → ((low high : ℕ) → IsBefore low high first second → Passed came low high) →
+        ((low place : ℕ) → low ≤ place → suc place < length new → In low place) → NoneEndsBefore m.tells wanted first second old new
+    lowest_swept first second passed all = record {
+      miss = λ low place one other one_after other_after ordered before one_at other_at one_now other_now.
+          let after = swept.pair low place one other ordered one_at other_at in
+          let gone = gone_on low place one other ordered before one_at other_at in
+          let w = known_of wanted low (suc place) in
+          let one_is = same_at new low place after.one_after one_after after.one_at one_now in
+          let other_is = same_at new (suc place) low after.other_after other_after after.other_at other_now in
+          let both =
+          subst (λ (l : LineView E WriterView). HaveGoneOn m.tells w one other l other_after) one_is
+          (subst (λ (l : LineView E WriterView). HaveGoneOn m.tells w one other after.one_after l) other_is gone) in
+          (both.one_misses, both.other_misses);
+      full = λ low place one other ordered before one_at other_at.
+          let gone = gone_on low place one other ordered before one_at other_at in
+          (gone.one_room, gone.other_room);
+    }
+      where
+        gone_on : (low place : ℕ) (one other : LineView E WriterView) → (ordered : low ≤ place) → IsBefore low (suc place) first second →
+            (one_at : IsAt old low place one) → (other_at : IsAt old (suc place) low other) →
+            HaveGoneOn m.tells (known_of wanted low (suc place)) one other (swept.pair low place one other ordered one_at other_at).one_after
+            (swept.pair low place one other ordered one_at other_at).other_after
+        gone_on low place one other ordered before one_at other_at =
+            let after = swept.pair low place one other ordered one_at other_at in
+            after.gone_on (all low place ordered (slice_get_within new (suc place) after.other_at.0 after.other_at.1)) (passed low (suc place) before)
+
+    -- so it is where the rounds came to a fault, or to a full journal
+    pub lowest_fault : (first second : ℕ) → came ≡ verdict.Fault first second →
+        ((low place : ℕ) → low ≤ place → suc place < length new → In low place) → NoneEndsBefore m.tells wanted first second old new
+    lowest_fault first second is = lowest_swept first second (λ low high before. subst (λ (r : Round). Passed r low high) (sym is) before)
+
+    pub lowest_spent : (host peer entries : ℕ) → came ≡ verdict.Spent host peer entries →
+        ((low place : ℕ) → low ≤ place → suc place < length new → In low place) →
+        NoneEndsBefore m.tells wanted (min host peer) (max host peer) old new
+    lowest_spent host peer entries is =
+        lowest_swept (min host peer) (max host peer) (λ low high before. subst (λ (r : Round). Passed r low high) (sym is) before)
 
     -- each line goes on
     line_goes : (hosts : ℕ) → AreRows hosts new → (host place : ℕ) (line after : LineView E WriterView) → IsAt old host place line → IsAt new host place after →
@@ -257,13 +282,20 @@ module _ {E : Type 0} where
       let y = stood_at after.0 row place x (sym lines.count) at in
       (y.0, (after.0, after.1, y.1), lines.each place x y.0 at y.1)
 
-  -- an order that was taken since was taken since an earlier time
+  -- an order that was taken since was taken since an earlier time, and what had room had room before
   pub lowest_since : (tells : Bool) (wanted : List (List Wanted)) (first second : ℕ) (old middle new : List (List (LineView E WriterView))) →
-      EachRow LinesGoOn old middle → NoneMissBefore tells wanted first second middle new → NoneMissBefore tells wanted first second old new
-  lowest_since tells wanted first second old middle new goes none low place one other one_after other_after ordered before one_at other_at one_now other_now =
-      let x = goes_to old middle goes low place one one_at in
-      let y = goes_to old middle goes (suc place) low other other_at in
-      let miss = none low place x.0 y.0 one_after other_after ordered before x.1 y.1 one_now other_now in (
-        λ misses. no_longer one.orders.got x.0.orders.got (length one_after.orders.got) x.2.got (miss.0 misses),
-        λ misses. no_longer other.orders.got y.0.orders.got (length other_after.orders.got) y.2.got (miss.1 misses),
-      )
+      EachRow LinesGoOn old middle → NoneEndsBefore tells wanted first second middle new → NoneEndsBefore tells wanted first second old new
+  lowest_since tells wanted first second old middle new goes none = record {
+    miss = λ low place one other one_after other_after ordered before one_at other_at one_now other_now.
+        let x = goes_to old middle goes low place one one_at in
+        let y = goes_to old middle goes (suc place) low other other_at in
+        let miss = none.miss low place x.0 y.0 one_after other_after ordered before x.1 y.1 one_now other_now in (
+          λ misses. no_longer one.orders.got x.0.orders.got (length one_after.orders.got) x.2.got (miss.0 misses),
+          λ misses. no_longer other.orders.got y.0.orders.got (length other_after.orders.got) y.2.got (miss.1 misses),
+        );
+    full = λ low place one other ordered before one_at other_at.
+        let x = goes_to old middle goes low place one one_at in
+        let y = goes_to old middle goes (suc place) low other other_at in
+        let room = none.full low place x.0 y.0 ordered before x.1 y.1 in
+        (had_room one x.0 x.2 room.0, had_room other y.0 y.2 room.1);
+  }

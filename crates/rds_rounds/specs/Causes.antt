@@ -65,6 +65,16 @@ module _ {E M : Type 0} where
     abbrev pub MissesByOrder : (old own other : LineView E M) → Type 0
     MissesByOrder old own other = MissesStream own other → length old.orders.got < length own.orders.got
 
+  -- the journal of a line isn't full: with two more entries it is still within its limit
+  abbrev pub HasRoomForTwo : LineView E M → Type 0
+  HasRoomForTwo line = length (line_past line) + 2 ≤ line.channel.conn.log.limit
+
+  -- the journal of neither line of two hosts that come before these two is full
+  abbrev pub NoneFullBefore : (first second : ℕ) → List (List (LineView E M)) → Type 0
+  NoneFullBefore first second rows =
+      (low place : ℕ) (one other : LineView E M) → low ≤ place → IsBefore low (suc place) first second → IsAt rows low place one →
+      IsAt rows (suc place) low other → HasRoomForTwo one × HasRoomForTwo other
+
   module _ (tells : Bool) (wanted : List (List Wanted)) where
     -- the two lines of each two hosts are left well
     abbrev pub AreLeftWell : List (List (LineView E M)) → Type 0
@@ -79,6 +89,12 @@ module _ {E M : Type 0} where
         IsAt old low place one → IsAt old (suc place) low other → IsAt new low place one_after → IsAt new (suc place) low other_after →
         MissesByOrder tells (known_of wanted low (suc place)) one one_after other_after
         × MissesByOrder tells (known_of wanted low (suc place)) other other_after one_after
+
+    -- Neither line of two hosts that come before these two ended the rounds: neither lacks a stream that the two should have, unless it took
+    -- an order since, and neither was full.
+    pub record NoneEndsBefore (first second : ℕ) (old new : List (List (LineView E M))) : Type 0 where
+      pub miss : NoneMissBefore first second old new
+      pub full : NoneFullBefore first second old
 
     -- two hosts, the lower one first, have lines to each other, and one of these lacks a stream that the two should have
     pub record HostsMissStream (low high : ℕ) (rows : List (List (LineView E M))) : Type 0 where

@@ -1,10 +1,10 @@
 -- Private: it serves the contracts of the private functions that turn the lines of a run for the last time. Source: this project's own.
-use Rattle.std.specs.Prelude.{◌≡◌, ◌⊎◌, ◌≤◌, ◌<◌, ◌-◌, ℕ, suc, Bool, true, All, List, [], Some, length, slice_get, slice_set}
+use Rattle.std.specs.Prelude.{◌≡◌, ◌⊎◌, ◌≤◌, ◌<◌, ◌-◌, ℕ, suc, Bool, true, All, List, [], Some, length, max, min, slice_get, slice_set}
 use Rattle.rds_fmap.specs.Readers.{WriterView}
 use Rattle.rds_mail.specs.Learning.{AllGot}
 use Rattle.rds_link.specs.Ends.{Means}
 use Rattle.rds_line.specs.Line.{LineView, line_past}
-use Rattle.rds_rounds.specs.Causes.{IsBefore, IsLeftWell, MissesByOrder, OneMissesStream, OwesNothing, known_of}
+use Rattle.rds_rounds.specs.Causes.{HasRoomForTwo, IsBefore, IsLeftWell, MissesByOrder, OneMissesStream, OwesNothing, known_of}
 use Rattle.rds_rounds.specs.Connection.{AreConnected, IsFullAt}
 use Rattle.rds_rounds.specs.Drained.{AreDrained}
 use Rattle.rds_rounds.specs.Grid.{EachRow, IsAt}
@@ -50,12 +50,12 @@ Stops verdict.Memory = Unit {0}
 abbrev pub ComesTo : (came first second : Round) → Type 0
 ComesTo came first second = ((came ≡ first) × (Stops first ⊎ (second ≡ verdict.Idle))) ⊎ ((came ≡ second) × GoesOn first)
 
--- The rounds came to nothing that stopped them at these two hosts: to nothing at all, or to a fault of two that come later.
+-- The rounds came to nothing that stopped them at these two hosts: to nothing at all, or to a fault or a full journal of two that come later.
 abbrev pub Passed : Round → (low high : ℕ) → Type 0
 Passed verdict.Moved low high = Unit {0}
 Passed verdict.Idle low high = Unit {0}
 Passed (verdict.Fault first second) low high = IsBefore low high first second
-Passed (verdict.Spent host peer entries) low high = ⊥
+Passed (verdict.Spent host peer entries) low high = IsBefore low high (min host peer) (max host peer)
 Passed verdict.Memory low high = ⊥
 
 -- no line of a host has bytes that are to be written
@@ -67,9 +67,13 @@ module _ {E : Type 0} (tells : Bool) (w : Wanted) where
   abbrev pub MissStreamAt : (first second : ℕ) → (low high : ℕ) → (one other : LineView E WriterView) → Type 0
   MissStreamAt first second low high one other = (first ≡ low) × (second ≡ high) × OneMissesStream tells w one other
 
-  -- where a line of two hosts lacks a stream that they should have, it took an order since
-  abbrev pub MissByOrder : (one other one_after other_after : LineView E WriterView) → Type 0
-  MissByOrder one other one_after other_after = MissesByOrder tells w one one_after other_after × MissesByOrder tells w other other_after one_after
+  -- Two lines had a round that ended nothing: neither was full, and where one lacks a stream that the two hosts should have, it took an order
+  -- since.
+  pub record HaveGoneOn (one other one_after other_after : LineView E WriterView) : Type 0 where
+    pub one_room : HasRoomForTwo one
+    pub other_room : HasRoomForTwo other
+    pub one_misses : MissesByOrder tells w one one_after other_after
+    pub other_misses : MissesByOrder tells w other other_after one_after
 
 module _ {E : Type 0} (m : Means E) where
   -- the lines of two hosts go on, and stay connected
@@ -110,12 +114,12 @@ module _ {E : Type 0} (m : Means E) (w : Wanted) where
     pub higher_is : higher_after ≡ slice_set higher low other_after
     pub together : GoOnTogether m low high one other one_after other_after
     pub round : HaveHadRound (came ≡ verdict.Idle) one_after other_after
-    pub by_order : GoesOn came → MissByOrder m.tells w one other one_after other_after
+    pub gone_on : GoesOn came → HaveGoneOn m.tells w one other one_after other_after
     pub fault : (first second : ℕ) → came ≡ verdict.Fault first second → MissStreamAt m.tells w first second low high one_after other_after
     pub spent : (host peer entries : ℕ) → came ≡ verdict.Spent host peer entries → IsFullAt host peer entries low high one_after other_after
 
-  -- What became of the two lines of two hosts: they go on. They had a round where they are among those that had one, and lack no stream that
-  -- they should have but by an order that they took where the rounds passed them; they are the same where they aren't.
+  -- What became of the two lines of two hosts: they go on. They had a round where they are among those that had one, which ended nothing where
+  -- the rounds passed them; they are the same where they aren't.
   pub record PairAfter (In Idle Pass : Type 0) (low place : ℕ) (one other : LineView E WriterView) (new : List (List (LineView E WriterView))) : Type 0 where
     pub one_after : LineView E WriterView
     pub other_after : LineView E WriterView
@@ -123,7 +127,7 @@ module _ {E : Type 0} (m : Means E) (w : Wanted) where
     pub other_at : IsAt new (suc place) low other_after
     pub together : GoOnTogether m low (suc place) one other one_after other_after
     pub round : In → HaveHadRound Idle one_after other_after
-    pub by_order : In → Pass → MissByOrder m.tells w one other one_after other_after
+    pub gone_on : In → Pass → HaveGoneOn m.tells w one other one_after other_after
     pub one_same : (In → ⊥) → one_after ≡ one
     pub other_same : (In → ⊥) → other_after ≡ other
 

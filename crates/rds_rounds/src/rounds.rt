@@ -1,6 +1,6 @@
 //! The last rounds of a run, on one thread.
-ghost use Rattle.std.specs.Prelude.{◌≡◌, ◌≢◌, ◌≤◌, ◌<◌, ℕ, Bool, All, false, true, Some, length};
-ghost use Rattle.rds_rounds.specs.Causes.{AreClosed, AreLeftWell, AreUnacked, HostsMissStream, NoneMissBefore, OweNothing, alive_in_rows};
+ghost use Rattle.std.specs.Prelude.{◌≡◌, ◌≢◌, ◌≤◌, ◌<◌, ℕ, Bool, All, false, true, Some, length, max, min};
+ghost use Rattle.rds_rounds.specs.Causes.{AreClosed, AreLeftWell, AreUnacked, HostsMissStream, NoneEndsBefore, OweNothing, alive_in_rows};
 ghost use Rattle.rds_rounds.specs.Connection.{AreHosts, IsFullHost};
 ghost use Rattle.rds_rounds.specs.Done.{AreDone};
 ghost use Rattle.rds_rounds.specs.Drained.{AreDrainedLines};
@@ -53,8 +53,9 @@ pub enum Rounds {
 /// Turns all lines in rounds: in each the two lines of each two hosts meet, have a turn each, and meet again. Where the first one's
 /// turn ends the rounds, the second has none. Over ends that tell their bytes the rounds stop after an idle one that left nothing to be
 /// written. Over others they stop once rounds were quiet and all is acknowledged, or as many were quiet as the budget allows. Where the
-/// lines of several two hosts end them by a fault, a full journal or a lack of memory, the first in ascending order tells how; `lowest`
-/// says so of faults.
+/// lines of several two hosts end them by a fault, a full journal or a lack of memory, the first in ascending order tells how. `lowest`
+/// and `lowest_full` say so of faults and full journals: no line of two hosts that come before lacks a stream that they should have,
+/// unless it took an order in the call, and the journal of none was full when the call began.
 /// `wanted` has for each two hosts what is to be known of them, in the row of the lower one, at the place of the line between them.
 pub fn last_rounds<W: Wire, R: Wait>(
     rt: &R,
@@ -74,12 +75,14 @@ pub fn last_rounds<W: Wire, R: Wait>(
     ensures misses { (low high : ℕ) → result ≡ ended.Fault low high →
         HostsMissStream W.End.means.tells (rows_of wanted.now) low high (rows_of lines.new.items) }
     ensures lowest { (low high : ℕ) → result ≡ ended.Fault low high →
-        NoneMissBefore W.End.means.tells (rows_of wanted.now) low high (rows_of lines.old.items) (rows_of lines.new.items) }
+        NoneEndsBefore W.End.means.tells (rows_of wanted.now) low high (rows_of lines.old.items) (rows_of lines.new.items) }
     ensures unfinished { (count : ℕ) (unwritten connected : Bool) → result ≡ ended.Unfinished count unwritten connected →
         AreUnacked W.End.means.tells count (rows_of lines.new.items) }
     ensures owes { (count : ℕ) (connected : Bool) → result ≡ ended.Unfinished count false connected → All OweNothing (rows_of lines.new.items) }
     ensures closed { (count : ℕ) (unwritten : Bool) → result ≡ ended.Unfinished count unwritten false → All AreClosed (rows_of lines.new.items) }
     ensures spent { (host peer entries : ℕ) → result ≡ ended.Spent host peer entries → IsFullHost host peer entries (rows_of lines.new.items) }
+    ensures lowest_full { (host peer entries : ℕ) → result ≡ ended.Spent host peer entries →
+        NoneEndsBefore W.End.means.tells (rows_of wanted.now) (min host peer) (max host peer) (rows_of lines.old.items) (rows_of lines.new.items) }
 {
     let mut quiet = 0u64;
     for _ in rt.forever() {

@@ -6,7 +6,7 @@ ghost use Rattle.rds_rounds.specs.Causes.{IsLeftWell, OwesNothing};
 ghost use Rattle.rds_rounds.specs.Connection.{AreConnected, IsFullAt};
 ghost use Rattle.rds_rounds.specs.Drained.{AreDrained};
 ghost use Rattle.rds_rounds.specs.Rest.{AreMetLines};
-ghost use Rattle.rds_rounds.specs.Sweep.{ComesTo, GoOnTogether, GoesOn, HaveHadRound, MissByOrder, MissStreamAt};
+ghost use Rattle.rds_rounds.specs.Sweep.{ComesTo, GoOnTogether, GoesOn, HaveGoneOn, HaveHadRound, MissStreamAt};
 ghost use Rattle.rds_rounds.specs.declared.verdict.Round.TheVariants as verdict;
 
 use crate::laws::rested_are_drained;
@@ -31,7 +31,7 @@ pub(crate) fn round<W: Wire, R: Wait>(
     requires connected { (limit : ℕ) × AreConnected W.End.means limit low high one.old other.old }
     ensures together { GoOnTogether W.End.means low high one.old other.old one.new other.new }
     ensures had { HaveHadRound W.End.means wanted (result ≡ verdict.Idle) one.new other.new }
-    ensures by_order { GoesOn result → MissByOrder W.End.means.tells wanted one.old other.old one.new other.new }
+    ensures gone_on { GoesOn result → HaveGoneOn W.End.means.tells wanted one.old other.old one.new other.new }
     ensures fault { (first second : ℕ) → result ≡ verdict.Fault first second →
         MissStreamAt W.End.means.tells wanted first second low high one.new other.new }
     ensures spent { (host peer entries : ℕ) → result ≡ verdict.Spent host peer entries → IsFullAt host peer entries low high one.new other.new }
@@ -55,7 +55,7 @@ fn turn_both<E: End, R: Wait>(
     requires less { low < high }
     requires told { tells ≡ E.means.tells }
     ensures together { GoOnTogether E.means low high one.old other.old one.new other.new }
-    ensures by_order { GoesOn result → MissByOrder tells wanted one.old other.old one.new other.new }
+    ensures gone_on { GoesOn result → HaveGoneOn tells wanted one.old other.old one.new other.new }
     ensures left { result ≡ verdict.Idle → IsLeftWell tells wanted one.new other.new × IsLeftWell tells wanted other.new one.new }
     ensures idle { result ≡ verdict.Idle → AllGot one.new.orders × AllGot other.new.orders }
     ensures owes { result ≡ verdict.Idle →

@@ -8,7 +8,7 @@ ghost use Rattle.rds_line.specs.Line.{IsFull, line_past};
 ghost use Rattle.rds_line.specs.Stays.{LineStays};
 ghost use Rattle.rds_line.specs.Turns.{IsIdleTurn};
 ghost use Rattle.rds_host.specs.Lines.{pair_of};
-ghost use Rattle.rds_rounds.specs.Causes.{IsLeftWell, MissesByOrder, MissesStream, OwesNothing, ShouldHaveStream, refusals};
+ghost use Rattle.rds_rounds.specs.Causes.{HasRoomForTwo, IsLeftWell, MissesByOrder, MissesStream, OwesNothing, ShouldHaveStream, refusals};
 ghost use Rattle.rds_rounds.specs.Rest.{KeepsStreams};
 ghost use Rattle.rds_rounds.specs.Sweep.{GoesOn};
 ghost use Rattle.rds_rounds.specs.declared.verdict.Round.TheVariants as round;
@@ -134,6 +134,7 @@ pub(crate) fn turn<E: End, R: Wait>(
     ensures nothing { tells ≡ true → result ≡ round.Idle → IsIdleTurn E.means line.old line.new }
     ensures left { result ≡ round.Idle → IsLeftWell tells wanted line.new other.now }
     ensures by_order { GoesOn result → MissesByOrder tells wanted line.old line.new other.now }
+    ensures room { GoesOn result → HasRoomForTwo line.old }
     ensures owes { result ≡ round.Idle → line.new.channel.out ≡ [] → OwesNothing (line_past line.new) }
     ensures fault { (low high : ℕ) → result ≡ round.Fault low high → (low ≡ min host peer) × (high ≡ max host peer) }
     ensures misses { (low high : ℕ) → result ≡ round.Fault low high → MissesStream tells wanted line.new other.now }

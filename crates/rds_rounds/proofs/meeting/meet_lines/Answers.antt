@@ -1,7 +1,14 @@
 use Rattle.std.proofs.Common.{sym, ◌∙◌}
 use Rattle.rds_line.specs.Line.{line_past}
+use Rattle.rds_rounds.proofs.Going.{has_met}
 use Rattle.rds_rounds.proofs.Knowing.{know_each_other}
 use Rattle.rds_rounds.proofs.meeting.meet_lines.Goals as goal
+
+pub returns-clause-one : goal.returns-clause-one
+returns-clause-one g c = has_met c.args.one.now c.meet.new.a c.meet.ensures.one_numbers c.meet.ensures.one
+
+pub returns-clause-other : goal.returns-clause-other
+returns-clause-other g c = has_met c.args.other.now c.meet.new.b c.meet.ensures.other_numbers c.meet.ensures.other
 
 pub returns-clause-sound : goal.returns-clause-sound
 returns-clause-sound g c =

@@ -1,4 +1,4 @@
-use Rattle.std.proofs.Common.{◌≡◌, Some, false, ap, length, subst, ◌∙◌, arith}
+use Rattle.std.proofs.Common.{◌≡◌, Some, false, ap, length, max, min, subst, ◌∙◌, arith}
 use Rattle.rds_rounds.specs.Causes.{AreUnacked, alive_in_rows}
 use Rattle.rds_rounds.specs.Grid.{rows_of}
 use Rattle.rds_rounds.specs.Sweep.{IsPairBelow}
@@ -6,7 +6,7 @@ use Rattle.rds_rounds.specs.declared.rounds.Rounds.TheVariants as ended
 use Rattle.rds_rounds.proofs.Alive.{none_alive, told_or_not}
 use Rattle.rds_rounds.proofs.Going.{rows_same, rows_through}
 use Rattle.rds_rounds.proofs.Halves.{rows_count}
-use Rattle.rds_rounds.proofs.Swept.{all_pairs, done_swept, drained_swept, full_host, goes_swept, hosts_swept, left_swept, lowest_since, lowest_swept, missing_hosts, missing_within, owes_swept, quiet_swept}
+use Rattle.rds_rounds.proofs.Swept.{all_pairs, done_swept, drained_swept, full_host, goes_swept, hosts_swept, left_swept, lowest_fault, lowest_since, lowest_spent, missing_hosts, missing_within, owes_swept, quiet_swept}
 use Rattle.rds_rounds.proofs.rounds.last_rounds.Goals as goal
 
 pub loop-init : goal.loop-init
@@ -140,7 +140,20 @@ returns-in-Some-end_after-clause-lowest g c = λ low high fault.
     let swept = c.round_of_all-came.ensures in
     let is = c.in-Some-end_after.is ∙ ap Some fault in
     lowest_since m.tells (rows_of c.args.wanted.now) low high (rows_of c.args.lines.now.items) old new c.loop.invariant.1
-    (lowest_swept m (rows_of c.args.wanted.now) (IsPairBelow n n) came old new swept low high (c.end_after.ensures.fault low high is)
+    (lowest_fault m (rows_of c.args.wanted.now) (IsPairBelow n n) came old new swept low high (c.end_after.ensures.fault low high is)
+    (all_pairs m (rows_of c.args.wanted.now) n came old new swept (rows_count c.loop.lines.items)))
+
+pub returns-in-Some-end_after-clause-lowest_full : goal.returns-in-Some-end_after-clause-lowest_full
+returns-in-Some-end_after-clause-lowest_full g c = λ host peer entries spent.
+    let m = g.W.End.End.means in
+    let n = length c.loop.lines.items in
+    let old = rows_of c.loop.lines.items in
+    let new = rows_of c.round_of_all-came.new.lines.items in
+    let came = c.round_of_all-came.result in
+    let swept = c.round_of_all-came.ensures in
+    let is = c.in-Some-end_after.is ∙ ap Some spent in
+    lowest_since m.tells (rows_of c.args.wanted.now) (min host peer) (max host peer) (rows_of c.args.lines.now.items) old new c.loop.invariant.1
+    (lowest_spent m (rows_of c.args.wanted.now) (IsPairBelow n n) came old new swept host peer entries (c.end_after.ensures.spent host peer entries is)
     (all_pairs m (rows_of c.args.wanted.now) n came old new swept (rows_count c.loop.lines.items)))
 
 pub end_after-requires : goal.end_after-requires

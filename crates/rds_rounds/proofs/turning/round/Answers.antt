@@ -5,8 +5,8 @@ use Rattle.rds_line.specs.Line.{line_past}
 use Rattle.rds_rounds.specs.Causes.{IsLeftWell, OwesNothing}
 use Rattle.rds_rounds.specs.Connection.{IsFullAt}
 use Rattle.rds_rounds.specs.Drained.{AreDrained}
-use Rattle.rds_rounds.specs.Sweep.{MissByOrder, MissStreamAt}
-use Rattle.rds_rounds.proofs.Going.{goes_through}
+use Rattle.rds_rounds.specs.Sweep.{HaveGoneOn, MissStreamAt}
+use Rattle.rds_rounds.proofs.Going.{goes_through, had_room}
 use Rattle.rds_rounds.proofs.Lacking.{by_order_met, left_met, one_misses_met}
 use Rattle.rds_rounds.proofs.turning.round.Goals as goal
 
@@ -79,16 +79,21 @@ returns-clause-spent g c = λ host peer entries spent.
     (λ at_one. inl (at_one.0, at_one.1, c.meet_lines-2.ensures.one.full entries at_one.2))
     (λ at_other. inr (at_other.0, at_other.1, c.meet_lines-2.ensures.other.full entries at_other.2)) (c.turn_both-came.ensures.spent host peer entries spent)
 
-pub returns-clause-by_order : goal.returns-clause-by_order
-returns-clause-by_order g c = λ goes.
+pub returns-clause-gone_on : goal.returns-clause-gone_on
+returns-clause-gone_on g c = λ goes.
     let tells = c.tells.result in
     let w = c.args.wanted in
     let one = c.meet_lines-2.new.one in
     let other = c.meet_lines-2.new.other in
-    let both = c.turn_both-came.ensures.by_order goes in
-    subst (λ (t : Bool). MissByOrder t w c.args.one.now c.args.other.now one other) c.tells.ensures (
-      by_order_met tells w c.turn_both-came.new.one one c.turn_both-came.new.other other c.meet_lines-2.ensures.one c.meet_lines-2.ensures.other c.args.one.now
-          c.meet_lines.new.one c.meet_lines.ensures.one both.0,
-      by_order_met tells w c.turn_both-came.new.other other c.turn_both-came.new.one one c.meet_lines-2.ensures.other c.meet_lines-2.ensures.one
-          c.args.other.now c.meet_lines.new.other c.meet_lines.ensures.other both.1,
-    )
+    let both = c.turn_both-came.ensures.gone_on goes in
+    subst (λ (t : Bool). HaveGoneOn t w c.args.one.now c.args.other.now one other) c.tells.ensures
+    (record {
+      one_room = had_room c.args.one.now c.meet_lines.new.one c.meet_lines.ensures.one.goes both.one_room;
+      other_room = had_room c.args.other.now c.meet_lines.new.other c.meet_lines.ensures.other.goes both.other_room;
+      one_misses =
+          by_order_met tells w c.turn_both-came.new.one one c.turn_both-came.new.other other c.meet_lines-2.ensures.one c.meet_lines-2.ensures.other c.args.one.now
+          c.meet_lines.new.one c.meet_lines.ensures.one both.one_misses;
+      other_misses =
+          by_order_met tells w c.turn_both-came.new.other other c.turn_both-came.new.one one c.meet_lines-2.ensures.other c.meet_lines-2.ensures.one
+          c.args.other.now c.meet_lines.new.other c.meet_lines.ensures.other both.other_misses;
+    })

@@ -1,8 +1,8 @@
 use Rattle.std.proofs.Common.{⊎_elim, inr, sym, ◌∙◌}
 use Rattle.rds_host.specs.Lines.{pair_of}
 use Rattle.rds_rounds.specs.Sweep.{MissStreamAt}
-use Rattle.rds_rounds.proofs.Connected.{connected_stays}
-use Rattle.rds_rounds.proofs.Going.{goes_of_stays}
+use Rattle.rds_rounds.proofs.Connected.{connected_first, connected_stays}
+use Rattle.rds_rounds.proofs.Going.{goes_of_stays, goes_same}
 use Rattle.rds_rounds.proofs.Lacking.{by_order_grows, left_grows, named_high_too, named_low_too}
 use Rattle.rds_rounds.proofs.Passing.{both_go, never_goes}
 use Rattle.rds_rounds.proofs.turning.turn_both.Goals as goal
@@ -14,6 +14,15 @@ returns-clause-together g c = record {
   connected = λ limit connected.
       connected_stays g.E.End.means pair_of limit c.args.low c.args.high c.args.one.now c.args.other.now c.turn-first.new.line c.turn-second.new.line
       connected c.turn-first.ensures.stays c.turn-second.ensures.stays;
+}
+
+pub returns-then-not-goes_on-clause-together : goal.returns-then-not-goes_on-clause-together
+returns-then-not-goes_on-clause-together g c = record {
+  one_goes = goes_of_stays g.E.End.means c.args.one.now c.turn-first.new.line c.turn-first.ensures.stays;
+  other_goes = goes_same c.args.other.now;
+  connected = λ limit connected.
+      connected_first g.E.End.means pair_of limit c.args.low c.args.high c.args.one.now c.args.other.now c.turn-first.new.line connected
+      c.turn-first.ensures.stays;
 }
 
 pub returns-clause-owes : goal.returns-clause-owes
@@ -59,10 +68,14 @@ returns-clause-fault g c = λ first second fault.
     ))
     c.either.ensures.one
 
-pub returns-clause-by_order : goal.returns-clause-by_order
-returns-clause-by_order g c = λ goes.
-    let both = both_go c.turn-first.result c.turn-second.result c.either.result c.either.ensures.exact goes in (
-      by_order_grows c.args.tells c.args.wanted c.args.one.now c.turn-first.new.line c.args.other.now c.turn-second.new.line
-          c.turn-second.ensures.stays.channel.past (c.turn-first.ensures.by_order both.0),
-      c.turn-second.ensures.by_order both.1,
-    )
+pub returns-clause-gone_on : goal.returns-clause-gone_on
+returns-clause-gone_on g c = λ goes.
+    let both = both_go c.turn-first.result c.turn-second.result c.either.result c.either.ensures.exact goes in
+    record {
+      one_room = c.turn-first.ensures.room both.0;
+      other_room = c.turn-second.ensures.room both.1;
+      one_misses =
+          by_order_grows c.args.tells c.args.wanted c.args.one.now c.turn-first.new.line c.args.other.now c.turn-second.new.line
+          c.turn-second.ensures.stays.channel.past (c.turn-first.ensures.by_order both.0);
+      other_misses = c.turn-second.ensures.by_order both.1;
+    }

@@ -13,6 +13,12 @@ returns-in-Idle-clause-owes g c = λ idle written. idle_owes g.E.End.means c.arg
 pub returns-in-Spent-clause-spent : goal.returns-in-Spent-clause-spent
 returns-in-Spent-clause-spent g c = search rules
 
+pub returns-in-Spent-clause-by_order : goal.returns-in-Spent-clause-by_order
+returns-in-Spent-clause-by_order g c = search rules
+
+pub returns-in-Spent-clause-room : goal.returns-in-Spent-clause-room
+returns-in-Spent-clause-room g c = search rules
+
 pub returns-in-Moved-clause-misses : goal.returns-in-Moved-clause-misses
 returns-in-Moved-clause-misses g c = search rules
 
