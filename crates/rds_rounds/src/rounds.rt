@@ -54,8 +54,8 @@ pub enum Rounds {
 /// turn ends the rounds, the second has none. Over ends that tell their bytes the rounds stop after an idle one that left nothing to be
 /// written. Over others they stop once rounds were quiet and all is acknowledged, or as many were quiet as the budget allows. Where the
 /// lines of several two hosts end them by a fault, a full journal or a lack of memory, the first in ascending order tells how. `lowest`
-/// and `lowest_full` say so of faults and full journals: no line of two hosts that come before lacks a stream but by an order that it
-/// took in the call, and the journal of none was full when the call began.
+/// and `lowest_full` say so of faults and full journals: no line of two hosts that come before lacks a stream that they should have,
+/// unless it took an order in the call, and the journal of none was full when the call began.
 /// `wanted` has for each two hosts what is to be known of them, in the row of the lower one, at the place of the line between them.
 pub fn last_rounds<W: Wire, R: Wait>(
     rt: &R,
