@@ -83,10 +83,11 @@ fn puts_orders<R: Wait>(rt: &R, alloc: Global, mail: &Mail<Asked>, put: &mut Put
     is_put(rt, mail, put, hello) && is_put(rt, mail, put, Asked::new(Order::Cut))
 }
 
-fn gets_hello<R: Abort + Wait>(rt: &R, mail: &Mail<Asked>, get: &mut GetPass<Asked>)
+// Gets the order, then the cut, and then none, each by a counted get.
+fn gets_both<R: Abort + Wait>(rt: &R, mail: &Mail<Asked>, get: &mut GetPass<Asked>)
     requires { get.old.mail ≡ mail.now.line }
 {
-    let first = mail.get(rt, get).expect(rt, "an order").order();
+    let first = mail.get_counted(rt, get).expect(rt, "an order").order();
     assert!(rt;
         matches!(
             &first,
@@ -98,12 +99,14 @@ fn gets_hello<R: Abort + Wait>(rt: &R, mail: &Mail<Asked>, get: &mut GetPass<Ask
             }
         )
     );
+    let second = mail.get_counted(rt, get).expect(rt, "a cut").order();
+    assert!(rt; matches!(&second, Order::Cut) && mail.get_counted(rt, get).is_none());
 }
 
 #[test]
 fn orders_are_items(rt: HostRuntime) -> Result<(), Fail> {
     let (mail, mut put, mut get) = Mail::<Asked>::new(rt.alloc())?;
     assert!(rt; puts_orders(&rt, rt.alloc(), &mail, &mut put));
-    gets_hello(&rt, &mail, &mut get);
+    gets_both(&rt, &mail, &mut get);
     Ok(())
 }
