@@ -94,6 +94,13 @@ module _ {E : Type 0} where
       let longer = moment_longer goes.past in
       omega (arith, room, same, longer)
 
+  -- a line that met another has room where it had room
+  pub room_met : (old new : LineView E WriterView) → HasMet old new → HasRoomForTwo old → HasRoomForTwo new
+  room_met old new met room =
+      let same = met.goes.limit in
+      let count = ap (λ (past : List Entry). length past) met.past in
+      omega (arith, room, same, count)
+
   -- a line that turned goes on
   pub goes_of_stays : (m : Means E) (line after : LineView E WriterView) → LineStays m pair_of line after → LineGoesOn line after
   goes_of_stays m line after stays = record {

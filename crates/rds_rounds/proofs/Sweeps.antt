@@ -49,6 +49,7 @@ module _ {E : Type 0} (m : Means E) (w : Wanted) where
     sound = had.sound;
     left = λ idle. had.left (so idle);
     quiet = λ idle. had.quiet (so idle);
+    room = λ idle. had.room (so idle);
     owes = λ idle. had.owes (so idle);
     drained = λ tells idle. had.drained tells (so idle);
   }

@@ -7,7 +7,7 @@ use Rattle.rds_mail.specs.Learning.{AllGot}
 use Rattle.rds_model.specs.Honest.{Begins}
 use Rattle.rds_link.specs.Ends.{Means}
 use Rattle.rds_line.specs.Line.{LineView, line_past}
-use Rattle.rds_rounds.specs.Causes.{AreLeftWell, HostsMissStream, IsBefore, NoneEndsBefore, OneMissesStream, OweNothing, OwesNothing, known_of}
+use Rattle.rds_rounds.specs.Causes.{AreLeftWell, HasRoomForTwo, HaveRoom, HostsMissStream, IsBefore, NoneEndsBefore, OneMissesStream, OweNothing, OwesNothing, known_of}
 use Rattle.rds_rounds.specs.Connection.{AreConnected, AreHosts, IsFullAt, IsFullHost}
 use Rattle.rds_rounds.specs.Done.{AreDone}
 use Rattle.rds_rounds.specs.Drained.{AreDrainedLines}
@@ -177,6 +177,20 @@ module _ {E : Type 0} (m : Means E) (wanted : List (List Wanted)) where
 
       pub quiet_swept : came ≡ verdict.Idle → All AreQuiet new
       quiet_swept idle = all_of AreQuiet new (λ host row stands. λ place line at. line_quiet idle host place line (row, stands, at))
+
+      line_room : came ≡ verdict.Idle → (host place : ℕ) (x : LineView E WriterView) → IsAt new host place x → HasRoomForTwo x
+      line_room idle host place x at = by_partner (has_partner hosts new still_rows host place x at)
+        where
+          by_partner :
+              ((y : LineView E WriterView) × (host ≤ place) × IsAt new (suc place) host y)
+              ⊎ ((p : ℕ) × (y : LineView E WriterView) × (host ≡ suc p) × (place ≤ p) × IsAt new place p y) → HasRoomForTwo x
+          by_partner (inl found) = ((had_round host place x found.0 found.1 at found.2).room idle).0
+          by_partner (inr found) =
+              ((had_round place found.0 found.1 x found.3 found.4 (subst (λ (n : ℕ). IsAt new n place x) found.2 at)).room idle).1
+
+      pub room_swept : came ≡ verdict.Idle → All HaveRoom new
+      room_swept idle =
+          all_of HaveRoom new (λ host row stands. all_of HasRoomForTwo row (λ place line at. line_room idle host place line (row, stands, at)))
 
       -- what a line has to write, where all of it is written
       out_of : All AreWritten new → (host at : ℕ) (line : LineView E WriterView) → IsAt new host at line → line.channel.out ≡ []

@@ -130,3 +130,7 @@ module _ {E M : Type 0} where
   -- no stream is open in the journals of the lines of a host
   abbrev pub AreClosed : List (LineView E M) → Type 0
   AreClosed row = All (λ (line : LineView E M). open_stream (line_past line) ≡ None) row
+
+  -- no journal of the lines of a host is full
+  abbrev pub HaveRoom : List (LineView E M) → Type 0
+  HaveRoom row = All HasRoomForTwo row

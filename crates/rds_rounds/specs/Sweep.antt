@@ -93,12 +93,13 @@ module _ {E : Type 0} (m : Means E) where
 -- what is known of two hosts is this
 module _ {E : Type 0} (m : Means E) (w : Wanted) where
   -- The lines of two hosts after a round of theirs: what their journals have is sound. Where the round was idle, each is left well, got all
-  -- orders that it was told of, and owes nothing where it has nothing to write. Where moreover neither has over ends that tell their bytes,
-  -- the journals are drained.
+  -- orders that it was told of, isn't full, and owes nothing where it has nothing to write. Where moreover neither has over ends that tell
+  -- their bytes, the journals are drained.
   pub record HaveHadRound (Idle : Type 0) (one other : LineView E WriterView) : Type 0 where
     pub sound : AreSoundJournals m.tells (line_past one) (line_past other)
     pub left : Idle → IsLeftWell m.tells w one other × IsLeftWell m.tells w other one
     pub quiet : Idle → AllGot one.orders × AllGot other.orders
+    pub room : Idle → HasRoomForTwo one × HasRoomForTwo other
     pub owes : Idle → (one.channel.out ≡ [] → OwesNothing (line_past one)) × (other.channel.out ≡ [] → OwesNothing (line_past other))
     pub drained : m.tells ≡ true → Idle → one.channel.out ≡ [] → other.channel.out ≡ [] → AreDrained (line_past one) (line_past other)
 

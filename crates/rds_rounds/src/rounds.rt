@@ -1,6 +1,6 @@
 //! The last rounds of a run, on one thread.
 ghost use Rattle.std.specs.Prelude.{◌≡◌, ◌≢◌, ◌≤◌, ◌<◌, ℕ, Bool, All, false, true, Some, length, max, min};
-ghost use Rattle.rds_rounds.specs.Causes.{AreClosed, AreLeftWell, AreUnacked, HostsMissStream, NoneEndsBefore, OweNothing, alive_in_rows};
+ghost use Rattle.rds_rounds.specs.Causes.{AreClosed, AreLeftWell, AreUnacked, HaveRoom, HostsMissStream, NoneEndsBefore, OweNothing, alive_in_rows};
 ghost use Rattle.rds_rounds.specs.Connection.{AreHosts, IsFullHost};
 ghost use Rattle.rds_rounds.specs.Done.{AreDone};
 ghost use Rattle.rds_rounds.specs.Drained.{AreDrainedLines};
@@ -68,6 +68,7 @@ pub fn last_rounds<W: Wire, R: Wait>(
     ensures done { (limit hosts : ℕ) → AreHosts W.End.means limit hosts (rows_of lines.old.items) → AreDone W.End.means limit hosts (rows_of lines.new.items) }
     ensures rows { EachRow LinesGoOn (rows_of lines.old.items) (rows_of lines.new.items) }
     ensures quiet { IsQuietEnd result → All AreQuiet (rows_of lines.new.items) }
+    ensures room { IsQuietEnd result → All HaveRoom (rows_of lines.new.items) }
     ensures left { IsQuietEnd result → AreLeftWell W.End.means.tells (rows_of wanted.now) (rows_of lines.new.items) }
     ensures drained { W.End.means.tells ≡ true → result ≡ ended.Done → AreDrainedLines (rows_of lines.new.items) }
     ensures acknowledged { result ≡ ended.Done → alive_in_rows (rows_of lines.new.items) ≡ 0 }

@@ -2,7 +2,7 @@
 ghost use Rattle.std.specs.Prelude.{◌≡◌, ◌⊎◌, ◌<◌, ℕ, true, []};
 ghost use Rattle.rds_mail.specs.Learning.{AllGot};
 ghost use Rattle.rds_line.specs.Line.{line_past};
-ghost use Rattle.rds_rounds.specs.Causes.{IsLeftWell, OwesNothing};
+ghost use Rattle.rds_rounds.specs.Causes.{HasRoomForTwo, IsLeftWell, OwesNothing};
 ghost use Rattle.rds_rounds.specs.Connection.{AreConnected, IsFullAt};
 ghost use Rattle.rds_rounds.specs.Drained.{AreDrained};
 ghost use Rattle.rds_rounds.specs.Rest.{AreMetLines};
@@ -58,6 +58,7 @@ fn turn_both<E: End, R: Wait>(
     ensures gone_on { GoesOn result → HaveGoneOn tells wanted one.old other.old one.new other.new }
     ensures left { result ≡ verdict.Idle → IsLeftWell tells wanted one.new other.new × IsLeftWell tells wanted other.new one.new }
     ensures idle { result ≡ verdict.Idle → AllGot one.new.orders × AllGot other.new.orders }
+    ensures room { result ≡ verdict.Idle → HasRoomForTwo one.new × HasRoomForTwo other.new }
     ensures owes { result ≡ verdict.Idle →
         (one.new.channel.out ≡ [] → OwesNothing (line_past one.new)) × (other.new.channel.out ≡ [] → OwesNothing (line_past other.new)) }
     ensures drained { E.means.tells ≡ true → AreMetLines E.means one.old other.old → result ≡ verdict.Idle → one.new.channel.out ≡ [] →

@@ -117,7 +117,8 @@ fn is_fault<E: End>(
     shuts_in(line.journal()) > causes
 }
 
-/// One turn of a host's line, where `other` is the peer's line back, over ends that tell their bytes or don't.
+/// One turn of a host's line, where `other` is the peer's line back, over ends that tell their bytes or don't. A line that is over moved
+/// where its journal has more entries: it may be full now.
 pub(crate) fn turn<E: End, R: Wait>(
     rt: &R,
     host: u8,
@@ -135,11 +136,13 @@ pub(crate) fn turn<E: End, R: Wait>(
     ensures left { result ≡ round.Idle → IsLeftWell tells wanted line.new other.now }
     ensures by_order { GoesOn result → MissesByOrder tells wanted line.old line.new other.now }
     ensures room { GoesOn result → HasRoomForTwo line.old }
+    ensures still_room { result ≡ round.Idle → HasRoomForTwo line.new }
     ensures owes { result ≡ round.Idle → line.new.channel.out ≡ [] → OwesNothing (line_past line.new) }
     ensures fault { (low high : ℕ) → result ≡ round.Fault low high → (low ≡ min host peer) × (high ≡ max host peer) }
     ensures misses { (low high : ℕ) → result ≡ round.Fault low high → MissesStream tells wanted line.new other.now }
     ensures spent { (at to entries : ℕ) → result ≡ round.Spent at to entries → (at ≡ host) × (to ≡ peer) × IsFull entries line.new }
 {
+    let before = line.journal().len();
     line.known();
     let came = line.turn(rt);
     line.known();
@@ -150,6 +153,7 @@ pub(crate) fn turn<E: End, R: Wait>(
             low: host.min(peer),
             high: host.max(peer),
         },
+        Turn::Over if line.journal().len() > before => Round::Moved,
         Turn::Over => Round::Idle,
         Turn::Spent { entries } => Round::Spent {
             host,

@@ -30,8 +30,9 @@ ran_of seen form s sink result ends is end cut =
       acknowledged = ran.1.1;
       drained = λ told. (ran.1.2 told).0;
       none_pending = λ told. (ran.1.2 told).1;
+      none_full = ran.1.3;
       cut = subst (IsCutEnd s.commands seen.before.faults seen.after.faults) is cut;
-      written = subst (SinkGained sink.held_before sink.held_after) ran.1.3 ran.2;
+      written = subst (SinkGained sink.held_before sink.held_after) ran.1.4 ran.2;
     }
 
 -- and so for the other ends of a run
@@ -75,10 +76,11 @@ module _ (seen : WireSeen) (form : Form) (s : Meaning) (sink : Written) (result 
           ends = host_views ends.items;
           did = ran.1.0;
           unacknowledged = ran.1.1;
+          none_full = ran.1.2;
           full = why.0;
           waited = why.1;
           cut = subst (IsCutEnd s.commands seen.before.faults seen.after.faults) is cut;
-          written = subst (SinkGained sink.held_before sink.held_after) ran.1.2 ran.2;
+          written = subst (SinkGained sink.held_before sink.held_after) ran.1.3 ran.2;
         }
 
   pub filled_of : (host peer entries : ℕ) (own other : Log) → result ≡ ended.Spent host peer entries own other → IsEnd result →

@@ -11,7 +11,7 @@ use Rattle.rds_parties.specs.Streams.{prepared_streams, streams_between}
 use Rattle.rds_threads.specs.Causes.{AreLackingStream, AreUnacknowledged, IsFullJournal}
 use Rattle.rds_threads.specs.Counted.{EndsOweNothing, HaveAllUsedUp, IsCountedEnd}
 use Rattle.rds_threads.specs.Cuts.{AreCutsOfEnds, IsCutEnd, IsShortBy}
-use Rattle.rds_threads.specs.Ends.{AreAcknowledged, AreDrainedHosts, AreEnds, HasToWrite, NonePending}
+use Rattle.rds_threads.specs.Ends.{AreAcknowledged, AreDrainedHosts, AreEnds, HasToWrite, NoneFull, NonePending}
 use Rattle.rds_threads.specs.Texts.{fault_line, text_of, unfinished_line}
 use Rattle.rds_threads.specs.declared.form.Form.{Form}
 use Rattle.rds_threads.specs.declared.form.Form.TheVariants as form
@@ -50,14 +50,15 @@ seen_over wire.Memory tcp = memory_seen
 seen_over wire.Tcp tcp = tcp
 
 -- A run of the script came to its end over a wire that was seen so: its hosts did the script's commands, what they have then is sound, no
--- datagram is left unacknowledged, at least as many streams ended as the commands cut, and the sink took exactly the text of this form on it.
--- Where ends tell their bytes, nothing is left on its way between any two of the hosts, and no datagram is pending.
+-- datagram is left unacknowledged, no journal is full, at least as many streams ended as the commands cut, and the sink took exactly the text
+-- of this form on it. Where ends tell their bytes, nothing is left on its way between any two of the hosts, and no datagram is pending.
 pub record IsRan (seen : WireSeen) (form : Form) (s : Meaning) (held_before held_after : Option (List ℕ)) : Type 0 where
   pub ends : List FinalHost
   pub did : AreEnds seen.tells s.hosts s.commands ends
   pub acknowledged : AreAcknowledged ends
   pub drained : seen.tells ≡ true → AreDrainedHosts ends
   pub none_pending : seen.tells ≡ true → NonePending ends
+  pub none_full : NoneFull MAX_ENTRIES ends
   pub cut : AreCutsOfEnds s.commands ends
   pub written : SinkGained held_before held_after (text_of form ends)
 
@@ -89,15 +90,16 @@ pub record IsWireFault (seen : WireSeen) (s : Meaning) (held_before held_after :
       ⊎ IsShortBy (streams_between low high s.commands) seen.before.faults seen.after.faults other own
   pub written : SinkGained held_before held_after (fault_line low high stream)
 
--- The hosts did the script's commands, and what they have then is sound. So many datagrams aren't acknowledged, and the sink took the line
--- that says so. No journal owes anything to its open stream, or the wire counted in the call that there was no room; and it counted at least
--- 20,000,000 times that no bytes were there, or each two hosts have used up their streams, and the journals of the two refused at least three
--- headers together. At least as many streams ended as the commands cut.
+-- The hosts did the script's commands, and what they have then is sound. So many datagrams aren't acknowledged, no journal is full, and the
+-- sink took the line that says how many. No journal owes anything to its open stream, or the wire counted in the call that there was no room;
+-- and it counted at least 20,000,000 times that no bytes were there, or each two hosts have used up their streams, and the journals of the two
+-- refused at least three headers together. At least as many streams ended as the commands cut.
 pub record IsRunUnfinished (seen : WireSeen) (s : Meaning) (held_before held_after : Option (List ℕ)) : Type 0 where
   pub count : ℕ
   pub ends : List FinalHost
   pub did : AreEnds seen.tells s.hosts s.commands ends
   pub unacknowledged : AreUnacknowledged seen.tells count ends
+  pub none_full : NoneFull MAX_ENTRIES ends
   pub full : EndsOweNothing ends ⊎ HasRisen seen.before.fulls seen.after.fulls
   pub waited : HaveAllUsedUp s.commands ends ⊎ HasRisenBy 20000000 seen.before.nothings seen.after.nothings
   pub cut : AreCutsOfEnds s.commands ends

@@ -101,7 +101,7 @@ where
     ensures played { ArePlay words.now → result ≡ 0 →
         (s : Meaning) × IsSpelled (S.left source.old) s × IsPlayed s (K.held sink.old) (K.held sink.new) }
     // The source's bytes spell a script. It was run to its end, its hosts did its commands, at least as many streams ended as they cut, what
-    // the hosts have then is sound, and exactly the report on it was written.
+    // the hosts have then is sound, no journal is full, and exactly the report on it was written.
     ensures ran { AreRun words.now wires.Memory → result ≡ 0 →
         (s : Meaning) × IsSpelled (S.left source.old) s × IsRan memory_seen form.Report s (K.held sink.old) (K.held sink.new) }
     // The same over TCP, where no more streams were prepared for that script than may be. Proved is what the hosts did, what their journals
@@ -117,7 +117,7 @@ where
         }
         form.Report s (K.held sink.old) (K.held sink.new) }
     // The script of so many sends and this seed was run to its end, its hosts did its commands, at least as many streams ended as they cut,
-    // what the hosts have then is sound, and exactly the summary of it was written.
+    // what the hosts have then is sound, no journal is full, and exactly the summary of it was written.
     ensures summed { (sends seed : ℕ) → AreGen words.now sends seed → result ≡ 0 →
         IsRan memory_seen (form.Summary seed sends) (generated sends seed) (K.held sink.old) (K.held sink.new) }
     ensures written { ArePlay words.now → result ≡ 0 → (text : List ℕ) × SinkGained (K.held sink.old) (K.held sink.new) (text ++ end_line) }
@@ -149,9 +149,9 @@ where
         }
         s (K.held sink.old) (K.held sink.new)) }
     // Over TCP alone, and where its ends don't tell their bytes: some datagrams of the hosts of the script aren't acknowledged, at least as many
-    // streams ended as its commands cut, and exactly the line that says how many aren't was written. The wire counted in this call 20,000,000
-    // times that no bytes were there, or each two hosts have used up their streams and refused at least three headers together; and it counted
-    // that there was no room, or no journal owes anything to its open stream.
+    // streams ended as its commands cut, no journal is full, and exactly the line that says how many aren't was written. The wire counted in
+    // this call 20,000,000 times that no bytes were there, or each two hosts have used up their streams and refused at least three headers
+    // together; and it counted that there was no room, or no journal owes anything to its open stream.
     ensures unfinished { result ≡ 8 → AreRun words.now wires.Tcp × (W.End.means.tells ≡ false)
         × ((s : Meaning) × IsSpelled (S.left source.old) s × IsRunUnfinished
         record {

@@ -16,8 +16,8 @@ use Rattle.rds_rounds.specs.declared.rounds.Rounds.TheVariants as rounds
 use Rattle.rds_final.specs.FinalState.{FinalHost, FinalJournal}
 use Rattle.rds_final.specs.Views.{host_view, host_views}
 use Rattle.rds_final.specs.declared.final_state.HostEnd.{HostEnd}
-use Rattle.rds_threads.specs.Counted.{IsCountedEnd, OfEachJournal}
-use Rattle.rds_threads.specs.Ends.{Writes, Written}
+use Rattle.rds_threads.specs.Counted.{IsCountedEnd}
+use Rattle.rds_threads.specs.Ends.{OfEachJournal, Writes, Written}
 use Rattle.rds_threads.specs.Settled.{AreLeftOf}
 use Rattle.rds_threads.specs.declared.form.RunEnd.{RunEnd}
 use Rattle.rds_threads.specs.declared.form.RunEnd.TheVariants as ended

@@ -1,6 +1,7 @@
 pub mod At
 pub mod Rows
 pub mod Hosts
+pub mod Room
 pub mod HandedOut
 pub mod Receiving
 pub mod CutsPut

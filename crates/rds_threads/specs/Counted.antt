@@ -1,23 +1,19 @@
 -- What the counts of a wire say of how a run ended. Source: this project's own.
-use Rattle.std.specs.Prelude.{◌≡◌, ◌⊎◌, ◌≤◌, ◌+◌, ℕ, Bool, true, List, All, None}
+use Rattle.std.specs.Prelude.{◌≡◌, ◌⊎◌, ◌≤◌, ◌+◌, ℕ, Bool, true, List, None}
 use Rattle.rds_link.specs.Streaming.{HasRisen, HasRisenBy}
 use Rattle.rds_link.specs.declared.wire.WireCounts.{WireCounts}
 use Rattle.rds_model.specs.declared.entry.Entry.{Entry}
 use Rattle.rds_model.specs.Alive.{up_to}
 use Rattle.rds_model.specs.Past.{open_stream}
 use Rattle.rds_model.specs.Sums.{opens}
-use Rattle.rds_final.specs.FinalState.{FinalHost, FinalJournal}
+use Rattle.rds_final.specs.FinalState.{FinalHost}
 use Rattle.rds_final.specs.Views.{host_views}
 use Rattle.rds_script.specs.declared.script.Placed.{Placed}
 use Rattle.rds_rounds.specs.Causes.{OwesNothing, refusals}
 use Rattle.rds_parties.specs.Streams.{streams_between}
-use Rattle.rds_threads.specs.Ends.{OfEachJournals}
+use Rattle.rds_threads.specs.Ends.{OfEachJournal, OfEachJournals}
 use Rattle.rds_threads.specs.declared.form.RunEnd.{RunEnd}
 use Rattle.rds_threads.specs.declared.form.RunEnd.TheVariants as ended
-
--- this holds of each journal that hosts have in the end
-abbrev pub OfEachJournal : (List Entry → Type 0) → List FinalHost → Type 0
-OfEachJournal Holds ends = All (λ (end : FinalHost). All (λ (side : FinalJournal). Holds side.past) end.sides) ends
 
 -- no journal owes a frame to its open stream for the map that it pulled last
 abbrev pub EndsOweNothing : List FinalHost → Type 0

@@ -1,5 +1,5 @@
 -- What a run comes to: what its hosts have in the end, and what was written. Source: this project's own.
-use Rattle.std.specs.Prelude.{◌≡◌, ◌⊎◌, ◌≤◌, ℕ, suc, All, Bool, true, List, Some, length, map, Option, slice_get}
+use Rattle.std.specs.Prelude.{◌≡◌, ◌⊎◌, ◌≤◌, ◌+◌, ℕ, suc, All, Bool, true, List, Some, length, map, Option, slice_get}
 use Rattle.rds_link.specs.Streaming.{HasRisen, SinkGained, SinkGainedFront}
 use Rattle.rds_model.specs.declared.entry.Entry.{Entry}
 use Rattle.rds_model.specs.Honest.{IsHonest}
@@ -19,6 +19,14 @@ use Rattle.rds_threads.specs.Texts.{fault_line, text_of, unfinished_line}
 use Rattle.rds_threads.specs.declared.form.Form.{Form}
 use Rattle.rds_threads.specs.declared.form.RunEnd.{RunEnd}
 use Rattle.rds_threads.specs.declared.form.RunEnd.TheVariants as ended
+
+-- this holds of each journal that hosts have in the end
+abbrev pub OfEachJournal : (List Entry → Type 0) → List FinalHost → Type 0
+OfEachJournal Holds ends = All (λ (end : FinalHost). All (λ (side : FinalJournal). Holds side.past) end.sides) ends
+
+-- no journal is full: with two more entries each is still within the limit
+abbrev pub NoneFull : (limit : ℕ) → List FinalHost → Type 0
+NoneFull limit ends = OfEachJournal (λ past. length past + 2 ≤ limit) ends
 
 -- what holds of the journals of each two hosts, the lower host first
 abbrev pub OfEachJournals : ((low high : ℕ) → List Entry → List Entry → Type 0) → List FinalHost → Type 0
@@ -93,17 +101,19 @@ Writes sink text end result =
     ((result ≡ end) × SinkGained sink.held_before sink.held_after text)
     ⊎ ((result ≡ ended.WriteFault) × HasRisen sink.faults_before sink.faults_after × SinkGainedFront sink.held_before sink.held_after text)
 
--- what a run that came to this end has to write: the text of its form on what its hosts have in the end, which is sound, or its line
+-- What a run that came to this end has to write: the text of its form on what its hosts have in the end, which is sound, or its line. Where all
+-- is acknowledged, or some of it isn't, no journal is full.
 abbrev pub HasToWrite : (form : Form) (tells : Bool) (limit hosts : ℕ) (commands : List Placed) → RunEnd → List ℕ → Type 0
 HasToWrite form tells limit hosts commands (ended.Ok ends) text =
     AreEnds tells hosts commands (host_views ends.items) × AreAcknowledged (host_views ends.items)
-    × (tells ≡ true → AreSettledHosts (host_views ends.items)) × (text ≡ text_of form (host_views ends.items))
+    × (tells ≡ true → AreSettledHosts (host_views ends.items)) × NoneFull limit (host_views ends.items) × (text ≡ text_of form (host_views ends.items))
 HasToWrite form tells limit hosts commands (ended.WireFault low high stream own other) text =
     AreLackingStream tells hosts commands low high stream own.past other.past × (text ≡ fault_line low high stream)
 HasToWrite form tells limit hosts commands (ended.Spent host peer entries own other) text =
     IsFullJournal tells limit hosts commands host peer entries own.past other.past × (text ≡ spent_line host peer entries)
 HasToWrite form tells limit hosts commands (ended.Unfinished count ends) text =
-    AreEnds tells hosts commands (host_views ends.items) × AreUnacknowledged tells count (host_views ends.items) × (text ≡ unfinished_line count)
+    AreEnds tells hosts commands (host_views ends.items) × AreUnacknowledged tells count (host_views ends.items) × NoneFull limit (host_views ends.items)
+    × (text ≡ unfinished_line count)
 HasToWrite form tells limit hosts commands ended.WriteFault text = ⊥
 HasToWrite form tells limit hosts commands ended.Memory text = ⊥
 

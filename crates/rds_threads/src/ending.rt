@@ -2,7 +2,7 @@
 ghost use Rattle.std.specs.Prelude.{◌≡◌, ◌<◌, ◌-◌, ◌^◌, ℕ, Bool, List, All, IfOk, OnErr, length, true, false};
 ghost use Rattle.rds_host.specs.Held.{ends_of_all};
 ghost use Rattle.rds_parties.specs.Preparing.{HaveCounted};
-ghost use Rattle.rds_rounds.specs.Causes.{AreClosed, AreUnacked, OweNothing, alive_in_rows};
+ghost use Rattle.rds_rounds.specs.Causes.{AreClosed, AreUnacked, HaveRoom, OweNothing, alive_in_rows};
 ghost use Rattle.rds_rounds.specs.Connection.{IsFullHost};
 ghost use Rattle.rds_rounds.specs.Done.{AreDone};
 ghost use Rattle.rds_rounds.specs.Drained.{AreDrainedLines};
@@ -47,6 +47,7 @@ pub(crate) fn end_run<K: Sink, W: Wire, R: Threads + Wait + Sync>(
     requires done { (limit hosts : ℕ) × AreDone W.End.means limit hosts (rows_of lines.items) }
     requires tied { HaveTied callers.items (rows_of lines.items) }
     requires settled { IsQuietEnd end → HaveSettled callers.items (rows_of lines.items) }
+    requires room { IsQuietEnd end → All HaveRoom (rows_of lines.items) }
     requires drained { W.End.means.tells ≡ true → end ≡ rounds.Done → AreDrainedLines (rows_of lines.items) }
     requires acknowledged { end ≡ rounds.Done → alive_in_rows (rows_of lines.items) ≡ 0 }
     requires fault { (low high : ℕ) → end ≡ rounds.Fault low high → (low < high) × (high < length lines.items) }

@@ -5,7 +5,7 @@ ghost use Rattle.rds_host.specs.Held.{ends_in, ends_of_all};
 ghost use Rattle.rds_final.specs.declared.final_state.HostEnd.{HostEnd as EndView};
 ghost use Rattle.rds_final.specs.Hosts.{address_of};
 ghost use Rattle.rds_final.specs.Views.{AreFinalHosts, host_views};
-ghost use Rattle.rds_rounds.specs.Causes.{AreClosed, OweNothing, alive_in_rows};
+ghost use Rattle.rds_rounds.specs.Causes.{AreClosed, HaveRoom, OweNothing, alive_in_rows};
 ghost use Rattle.rds_rounds.specs.Done.{AreDone};
 ghost use Rattle.rds_rounds.specs.Drained.{AreDrainedLines};
 ghost use Rattle.rds_rounds.specs.Grid.{rows_of};
@@ -15,7 +15,7 @@ ghost use Rattle.rds_script.specs.declared.script.Placed.{Placed};
 ghost use Rattle.rds_threads.specs.Causes.{alive_in_ends};
 ghost use Rattle.rds_threads.specs.Counted.{EndsOweNothing, HaveAllUsedUp};
 ghost use Rattle.rds_threads.specs.Cuts.{AreCutsOfEnds};
-ghost use Rattle.rds_threads.specs.Ends.{AreAcknowledged, AreEnds, AreSettledHosts};
+ghost use Rattle.rds_threads.specs.Ends.{AreAcknowledged, AreEnds, AreSettledHosts, NoneFull};
 ghost use Rattle.rds_threads.specs.Known.{AreOpenOrUsed};
 ghost use Rattle.rds_threads.specs.Taking.{HaveTied};
 ghost use Rattle.rds_threads.specs.Settled.{AreLeftOf, HasEnded, HasHeard, HasSettled, HaveDoneSpared, HaveEnded, HaveHeardBelow, HaveSettled, IsLeftOf};
@@ -64,6 +64,8 @@ pub(crate) fn host_ends<W: Wire, R: Threads + Wait + Sync>(
         HaveDoneSpared hosts commands callers.items (rows_of lines.items) → alive_in_rows (rows_of lines.items) ≡ 0 →
         IfOk result (λ ends. AreAcknowledged (host_views ends.items)) }
     ensures alive { IfOk result (λ ends. alive_in_ends (host_views ends.items) ≡ alive_in_rows (rows_of lines.items)) }
+    ensures room { (limit hosts : ℕ) → AreDone W.End.means limit hosts (rows_of lines.items) → All HaveRoom (rows_of lines.items) →
+        IfOk result (λ ends. NoneFull limit (host_views ends.items)) }
     ensures owe { All OweNothing (rows_of lines.items) → IfOk result (λ ends. EndsOweNothing (host_views ends.items)) }
     ensures used { (commands : List Placed) → All AreClosed (rows_of lines.items) → AreOpenOrUsed commands (rows_of lines.items) →
         IfOk result (λ ends. HaveAllUsedUp commands (host_views ends.items)) }

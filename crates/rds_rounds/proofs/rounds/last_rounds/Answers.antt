@@ -6,7 +6,7 @@ use Rattle.rds_rounds.specs.declared.rounds.Rounds.TheVariants as ended
 use Rattle.rds_rounds.proofs.Alive.{none_alive, told_or_not}
 use Rattle.rds_rounds.proofs.Going.{rows_same, rows_through}
 use Rattle.rds_rounds.proofs.Halves.{rows_count}
-use Rattle.rds_rounds.proofs.Swept.{all_pairs, done_swept, drained_swept, full_host, goes_swept, hosts_swept, left_swept, lowest_fault, lowest_since, lowest_spent, missing_hosts, missing_within, owes_swept, quiet_swept}
+use Rattle.rds_rounds.proofs.Swept.{all_pairs, done_swept, drained_swept, full_host, goes_swept, hosts_swept, left_swept, lowest_fault, lowest_since, lowest_spent, missing_hosts, missing_within, owes_swept, quiet_swept, room_swept}
 use Rattle.rds_rounds.proofs.rounds.last_rounds.Goals as goal
 
 pub loop-init : goal.loop-init
@@ -59,6 +59,17 @@ returns-in-Some-end_after-clause-quiet g c = λ ends.
     let came = c.round_of_all-came.result in
     let swept = c.round_of_all-came.ensures in
     quiet_swept m (rows_of c.args.wanted.now) (IsPairBelow n n) came old new swept c.requires.0 c.requires.1 (c.loop.invariant.0 c.requires.0 c.requires.1 c.requires.2)
+    (all_pairs m (rows_of c.args.wanted.now) n came old new swept (rows_count c.loop.lines.items)) (c.end_after.ensures.quiet c.in-Some-end_after.end c.in-Some-end_after.is ends)
+
+pub returns-in-Some-end_after-clause-room : goal.returns-in-Some-end_after-clause-room
+returns-in-Some-end_after-clause-room g c = λ ends.
+    let m = g.W.End.End.means in
+    let n = length c.loop.lines.items in
+    let old = rows_of c.loop.lines.items in
+    let new = rows_of c.round_of_all-came.new.lines.items in
+    let came = c.round_of_all-came.result in
+    let swept = c.round_of_all-came.ensures in
+    room_swept m (rows_of c.args.wanted.now) (IsPairBelow n n) came old new swept c.requires.0 c.requires.1 (c.loop.invariant.0 c.requires.0 c.requires.1 c.requires.2)
     (all_pairs m (rows_of c.args.wanted.now) n came old new swept (rows_count c.loop.lines.items)) (c.end_after.ensures.quiet c.in-Some-end_after.end c.in-Some-end_after.is ends)
 
 pub returns-in-Some-end_after-clause-left : goal.returns-in-Some-end_after-clause-left

@@ -6,7 +6,7 @@ use Rattle.rds_rounds.specs.Causes.{IsLeftWell, OwesNothing}
 use Rattle.rds_rounds.specs.Connection.{IsFullAt}
 use Rattle.rds_rounds.specs.Drained.{AreDrained}
 use Rattle.rds_rounds.specs.Sweep.{HaveGoneOn, MissStreamAt}
-use Rattle.rds_rounds.proofs.Going.{goes_through, had_room}
+use Rattle.rds_rounds.proofs.Going.{goes_through, had_room, room_met}
 use Rattle.rds_rounds.proofs.Lacking.{by_order_met, left_met, one_misses_met}
 use Rattle.rds_rounds.proofs.turning.round.Goals as goal
 
@@ -52,6 +52,9 @@ returns-clause-had g c =
       quiet = λ idle.
           let got = c.turn_both-came.ensures.idle idle in
           (subst AllGot (sym one.orders) got.0, subst AllGot (sym other.orders) got.1);
+      room = λ idle.
+          let room = c.turn_both-came.ensures.room idle in
+          (room_met c.turn_both-came.new.one c.meet_lines-2.new.one one room.0, room_met c.turn_both-came.new.other c.meet_lines-2.new.other other room.1);
       owes = λ idle.
           let owes = c.turn_both-came.ensures.owes idle in
           (λ out. subst OwesNothing (sym one.past) (owes.0 (sym one.out ∙ out)), λ out. subst OwesNothing (sym other.past) (owes.1 (sym other.out ∙ out)));

@@ -25,6 +25,10 @@ returns-then-not-goes_on-clause-together g c = record {
       c.turn-first.ensures.stays;
 }
 
+pub returns-clause-room : goal.returns-clause-room
+returns-clause-room g c = λ idle.
+    let both = c.either.ensures.idle idle in (c.turn-first.ensures.still_room both.0, c.turn-second.ensures.still_room both.1)
+
 pub returns-clause-owes : goal.returns-clause-owes
 returns-clause-owes g c = λ idle. let both = c.either.ensures.idle idle in (c.turn-first.ensures.owes both.0, c.turn-second.ensures.owes both.1)
 

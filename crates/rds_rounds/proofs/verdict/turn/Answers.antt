@@ -52,8 +52,8 @@ returns-in-Over-clause-misses g c = λ low high fault.
       c.is_fault.ensures.0 c.if-is_fault.true,
     )
 
-pub returns-in-Over-2-clause-left : goal.returns-in-Over-2-clause-left
-returns-in-Over-2-clause-left g c = λ idle.
+pub returns-in-Over-3-clause-left : goal.returns-in-Over-3-clause-left
+returns-in-Over-3-clause-left g c = λ idle.
     let known = c.known-2.ensures in
     let over = c.turn-came.ensures.over c.in-Over.is in
     inr (
@@ -61,3 +61,7 @@ returns-in-Over-2-clause-left g c = λ idle.
           (record { carried = known.carried; streams = known.streams; whole = known.whole; partial = known.partial }) over.closed over.last,
       λ should. false≢true (sym c.if-is_fault.false ∙ c.is_fault.ensures.1 should),
     )
+
+-- refused where a line that has more entries is told as idle
+pub returns-in-Over-3-clause-still_room : goal.returns-in-Over-3-clause-still_room
+returns-in-Over-3-clause-still_room g c = search rules

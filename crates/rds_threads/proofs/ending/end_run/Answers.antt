@@ -75,6 +75,7 @@ returns-in_ok-ends-in-Done-clause-end g c = λ limit hosts commands before after
       c.in_ok-ends-in-Done.ensures.ends limit hosts commands done did,
       c.in_ok-ends-in-Done.ensures.acknowledged limit hosts commands done did (c.requires.acknowledged c.in-Done.is),
       λ tells. c.in_ok-ends-in-Done.ensures.settled limit hosts commands done did tells (c.requires.drained tells c.in-Done.is),
+      c.in_ok-ends-in-Done.ensures.room limit hosts done (c.requires.room (quiet_done c.args.end c.in-Done.is)),
       refl,
     )) c.end_by_report.ensures.end
 
@@ -85,6 +86,8 @@ returns-else-not-has_waited-clause-end g c = λ limit hosts commands before afte
     let alive = c.requires.unacked count c.in-Unfinished.unwritten c.in-Unfinished.connected c.in-Unfinished.is in
     let unacked : AreUnacknowledged g.W.End.End.means.tells count (host_views ends.items) =
     record { untold = alive.untold; some = alive.some; all = alive.all ∙ sym c.in_ok-ends-in-Unfinished.ensures.alive } in
+    let room = c.in_ok-ends-in-Unfinished.ensures.room limit hosts done
+    (c.requires.room (quiet_of c.args.end count c.in-Unfinished.unwritten c.in-Unfinished.connected c.in-Unfinished.is)) in
     let sink : Written = record {
       held_before = g.K.Sink.held c.args.sink.now;
       held_after = g.K.Sink.held c.end_unfinished.new.sink;
@@ -94,7 +97,7 @@ returns-else-not-has_waited-clause-end g c = λ limit hosts commands before afte
     on_ok (Writes sink (unfinished_line count) (ended.Unfinished count ends)) (IsEndOfRun c.args.form g.W.End.End.means.tells limit hosts commands sink)
     c.end_unfinished.result
     (end_written c.args.form g.W.End.End.means.tells limit hosts commands sink (unfinished_line count) (ended.Unfinished count ends)
-    (c.in_ok-ends-in-Unfinished.ensures.ends limit hosts commands done did, unacked, refl)) c.end_unfinished.ensures.end
+    (c.in_ok-ends-in-Unfinished.ensures.ends limit hosts commands done did, unacked, room, refl)) c.end_unfinished.ensures.end
 
 pub returns-else-not-has_faulted-clause-end : goal.returns-else-not-has_faulted-clause-end
 returns-else-not-has_faulted-clause-end g c = λ limit hosts commands before after done did counted missed.
@@ -219,6 +222,7 @@ returns-in_ok-ends-in-Done-clause-begun g c = λ limit hosts commands before don
       c.in_ok-ends-in-Done.ensures.ends limit hosts commands done did,
       c.in_ok-ends-in-Done.ensures.acknowledged limit hosts commands done did (c.requires.acknowledged c.in-Done.is),
       λ tells. c.in_ok-ends-in-Done.ensures.settled limit hosts commands done did tells (c.requires.drained tells c.in-Done.is),
+      c.in_ok-ends-in-Done.ensures.room limit hosts done (c.requires.room (quiet_done c.args.end c.in-Done.is)),
       refl,
     ) tt (c.in_ok-ends-in-Done.ensures.cut limit hosts commands done did (used (quiet_done c.args.end c.in-Done.is))) c.end_by_report.result c.end_by_report.ensures.end
 
@@ -296,6 +300,8 @@ returns-else-not-has_waited-clause-begun g c = λ limit hosts commands before do
     let alive = c.requires.unacked count unwritten connected c.in-Unfinished.is in
     let unacked : AreUnacknowledged g.W.End.End.means.tells count (host_views ends.items) =
     record { untold = alive.untold; some = alive.some; all = alive.all ∙ sym c.in_ok-ends-in-Unfinished.ensures.alive } in
+    let room = c.in_ok-ends-in-Unfinished.ensures.room limit hosts done
+    (c.requires.room (quiet_of c.args.end count c.in-Unfinished.unwritten c.in-Unfinished.connected c.in-Unfinished.is)) in
     let wire = c.host_ends-in-Unfinished.new.wire in
     let now : WireCounts = record { faults = g.W.Wire.faults wire; nothings = g.W.Wire.nothings wire; fulls = g.W.Wire.fulls wire } in
     let start = c.args.start in
@@ -308,7 +314,7 @@ returns-else-not-has_waited-clause-begun g c = λ limit hosts commands before do
       faults_after = g.K.Sink.faults c.end_unfinished.new.sink;
     } in
     begun_ok c.args.form g.W.End.End.means.tells limit hosts commands (start.can_fail ≡ true) start.budget start.counts now before now.faults sink
-    (unfinished_line count) (ended.Unfinished count ends) (c.in_ok-ends-in-Unfinished.ensures.ends limit hosts commands done did, unacked, refl) (
+    (unfinished_line count) (ended.Unfinished count ends) (c.in_ok-ends-in-Unfinished.ensures.ends limit hosts commands done did, unacked, room, refl) (
       as_tested (EndsOweNothing (host_views ends.items)) _ unwritten
           (λ off. c.in_ok-ends-in-Unfinished.ensures.owe
           (c.requires.owe count connected (c.in-Unfinished.is ∙ ap (λ (u : Bool). rounds.Unfinished count u connected) off)))

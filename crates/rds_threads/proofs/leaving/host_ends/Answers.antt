@@ -1,4 +1,4 @@
-use Rattle.std.proofs.Common.{◌≡◌, Vec, ◌∙◌, arith}
+use Rattle.std.proofs.Common.{◌≡◌, ◌≤◌, ◌+◌, Vec, length, ◌∙◌, arith}
 use Rattle.std.specs.Global.{Global}
 use Rattle.std.proofs.lemmas.List.{length-map}
 use Rattle.rds_final.specs.Views.{AreFinalHosts, host_views}
@@ -8,12 +8,13 @@ use Rattle.rds_rounds.specs.Grid.{rows_of}
 use Rattle.rds_threads.specs.Causes.{alive_in_ends}
 use Rattle.rds_threads.specs.Counted.{EndsOweNothing, HaveAllUsedUp, HaveUsedUp}
 use Rattle.rds_threads.specs.Cuts.{AreCutsOfEnds}
-use Rattle.rds_threads.specs.Ends.{AreAcknowledged, AreEnds, AreSettledHosts}
+use Rattle.rds_threads.specs.Ends.{AreAcknowledged, AreEnds, AreSettledHosts, NoneFull}
 use Rattle.rds_threads.specs.Settled.{AreLeftOf}
 use Rattle.rds_threads.proofs.NonePending.{none_pending, none_where_honest}
 use Rattle.rds_threads.proofs.Alive.{alive_left, silent_counted, silent_drained}
 use Rattle.rds_threads.proofs.Counted.{of_each_left}
 use Rattle.rds_threads.proofs.CutsOfRun.{cuts_of_ends}
+use Rattle.rds_threads.proofs.Room.{room_within}
 use Rattle.rds_threads.proofs.Sound.{drained_of, ends_of, final_of, pairs_of}
 use Rattle.rds_threads.proofs.UsedUp.{all_used_up}
 use Rattle.rds_threads.proofs.Written.{on_ok}
@@ -77,6 +78,16 @@ returns-clause-owe g c = λ owe.
     on_ok (λ (ends : Vec HostEnd Global). AreLeftOf c.args.callers.items (rows_of c.args.lines.items) ends.items)
     (λ (ends : Vec HostEnd Global). EndsOweNothing (host_views ends.items)) c.all_ends.result
     (λ ends left. of_each_left OwesNothing c.args.callers.items (rows_of c.args.lines.items) ends.items c.requires.settled.count left owe) c.all_ends.ensures.left
+
+-- refused where a full journal is kept
+pub returns-clause-room : goal.returns-clause-room
+returns-clause-room g c = λ limit hosts done room.
+    on_ok (λ (ends : Vec HostEnd Global). AreLeftOf c.args.callers.items (rows_of c.args.lines.items) ends.items)
+    (λ (ends : Vec HostEnd Global). NoneFull limit (host_views ends.items)) c.all_ends.result
+    (λ ends left.
+    of_each_left (λ past. length past + 2 ≤ limit) c.args.callers.items (rows_of c.args.lines.items) ends.items c.requires.settled.count left
+    (room_within g.W.End.End.means limit hosts (rows_of c.args.lines.items) done room))
+    c.all_ends.ensures.left
 
 pub returns-clause-used : goal.returns-clause-used
 returns-clause-used g c = λ commands closed used.

@@ -135,6 +135,9 @@ end_run-requires-clause-streams g c = λ κs within.
     streams_end g.W.End.End.means c.requires.hosts.0 c.requires.hosts.1 old told (rows_of c.last_rounds-end.new.lines.items) c.requires.hosts.2
     (rows_same c.args.callers.items c.tell_all.new.callers.items old told same c.tell_all.ensures) c.last_rounds-end.ensures.rows
 
+pub end_run-requires-clause-room : goal.end_run-requires-clause-room
+end_run-requires-clause-room g c = λ κs within. c.last_rounds-end.ensures.room
+
 pub end_run-requires-clause-owe : goal.end_run-requires-clause-owe
 end_run-requires-clause-owe g c = λ κs within. c.last_rounds-end.ensures.owes
 
