@@ -51,7 +51,7 @@ impl TcpEnd {
         }
     }
 
-    // Takes bytes that came from the ring, and tells the reader that there is room. Where they don't fill the buffer, the ring has no more.
+    // Takes bytes that came from the ring, and tells the reader that there is room. Where they don't fill the buffer, the ring had no more.
     fn pull(&mut self, buf: &mut [u8]) -> usize
         ensures same { self.new ≡ record self.old { inp = self.new.inp; there = self.new.there } }
         ensures count { result ≤ length buf.old }
@@ -71,7 +71,7 @@ impl TcpEnd {
         count
     }
 
-    // Puts bytes into the ring, and tells the writer. Where it doesn't take the whole piece, the ring has no room left.
+    // Puts bytes into the ring, and tells the writer. Where it doesn't take the whole piece, the ring had no room left.
     fn push(&mut self, piece: &[u8]) -> usize
         ensures same { self.new ≡ record self.old { out = self.new.out } }
         ensures count { result ≤ length piece.now }
