@@ -9,6 +9,7 @@ mod handles;
 mod pipe;
 mod pumps;
 mod rings;
+mod standing;
 mod wire;
 
 pub use end::TcpEnd;

@@ -3,7 +3,7 @@ ghost use Rattle.std.specs.Prelude.{◌≡◌, true};
 ghost use Rattle.std.specs.Arc.{arc_value};
 
 use crate::broken::Break;
-use rds_link::Standing;
+use crate::standing::TcpStanding;
 use std::alloc::{AllocError, Global};
 use std::net::{Shutdown, TcpStream};
 use std::sync::atomic::{AtomicBool, Ordering};
@@ -179,7 +179,7 @@ impl Pipe {
 
     /// Ends the TCP stream and both threads. An end calls it only once it has shut, so that a peer whose TCP stream ends finds the
     /// shut and counts no fault. Where an end is dropped without a shut, its peer counts one.
-    pub(crate) fn stop(&self, standing: &Standing)
+    pub(crate) fn stop(&self, standing: &TcpStanding)
         requires shut { standing.now.stand.is_shut ≡ true }
     {
         self.shared.stop();

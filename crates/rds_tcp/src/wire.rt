@@ -8,6 +8,7 @@ ghost use Rattle.rds_tcp.specs.Tcp.{tcp_means, new_wire, HasMovedNothing};
 use crate::crew::Crew;
 use crate::end::TcpEnd;
 use crate::rings::rings;
+use crate::standing::TcpStanding;
 use rds_link::{End, Standing, Wire, WireCounts, WireError};
 use rds_wire::Memory;
 use std::alloc::Global;
@@ -193,7 +194,7 @@ impl Wire for TcpWire {
     }
 
     fn meet(a: &mut TcpEnd, b: &mut TcpEnd) {
-        Standing::meet(&mut a.standing, &mut b.standing);
+        TcpStanding::meet(&mut a.standing, &mut b.standing);
     }
 
     fn give_back<R: Wait>(&mut self, rt: &R, end: TcpEnd) {
