@@ -107,6 +107,7 @@ in_memory_of before after form m sink status.Written never begun end = record {
   acknowledged = end.acknowledged;
   drained = end.drained;
   none_pending = end.none_pending;
+  none_full = end.none_full;
   cut = end.cut;
   written = end.written;
 }
