@@ -74,7 +74,8 @@ impl Case {
     // A further line of the script or of its last text.
     fn add(&mut self, alloc: Global, line: &str) -> Result<(), AllocError> {
         if line == "--" {
-            return self.texts.push(String::new(alloc));
+            self.texts.push(String::new(alloc))?;
+            return Ok(());
         }
         if let Some(text) = self.texts.last_mut() {
             return push_line(text, line);

@@ -172,5 +172,10 @@ where
     let script = fs::read_to_string(rt, format!(in alloc; "examples/{name}.rds")?)?;
     let expected = fs::read_to_string(rt, format!(in alloc; "examples/{name}.txt")?)?;
     let found = answer_to(rt, alloc, &["play"], Vec::new(alloc), script.as_bytes())?;
-    tally.count(rt, "examples", name, found == expected.as_bytes())
+    tally.count(
+        rt,
+        "examples",
+        name,
+        found.as_slice() == expected.as_bytes(),
+    )
 }
