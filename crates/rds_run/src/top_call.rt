@@ -105,8 +105,8 @@ where
     ensures ran { AreRun words.now wires.Memory → result ≡ 0 →
         (s : Meaning) × IsSpelled (S.left source.old) s × IsRan memory_seen form.Report s (K.held sink.old) (K.held sink.new) }
     // The same over TCP, where no more streams were prepared for that script than may be. Proved is what the hosts did, what their journals
-    // have, and what their sockets handed out of it, whatever the network does. Assumed is, where a clause says so (`AreReliable`), that each
-    // TCP stream gives a beginning of the bytes written to it.
+    // have, and what their sockets handed out of it, whatever the network does. Assumed is, where a clause has the premise `IsHonest`, that
+    // each TCP stream gives a beginning of the bytes written to it.
     ensures ran_over_tcp { AreRun words.now wires.Tcp → result ≡ 0 →
         (s : Meaning) × IsSpelled (S.left source.old) s × (prepared_streams s ≤ 96)
         × IsRan
