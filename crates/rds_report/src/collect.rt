@@ -40,8 +40,8 @@ pub fn items_of_host<'a>(
     Ok(items)
 }
 
-// About how many items the host at an address has of the pairs to it, and the senders too: what came to a socket was accepted.
-fn about(hosts: &[HostEnd], to: u32) -> usize {
+/// About how many items the host at an address has of the pairs to it, and the senders too: what came to a socket was accepted.
+pub fn about(hosts: &[HostEnd], to: u32) -> usize {
     for host in hosts {
         if host.addr == to {
             return came(&host.kept);

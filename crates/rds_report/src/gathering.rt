@@ -15,7 +15,11 @@ use std::thread::Threads;
 /// The items of so many hosts are collected beside one another. Of more, those to each host keep the processors busy.
 const FEW: usize = 4;
 
-/// The items of the port pairs to the host at an address. Where the hosts are few, each one's are collected by a thread of its own.
+/// Where fewer datagrams came to a host, its items are collected sooner than a thread begins.
+const MANY: usize = 2_048;
+
+/// The items of the port pairs to the host at an address. Where the hosts are few and many datagrams came to this one, each host's
+/// are collected by a thread of its own.
 pub fn items_to<'a, R: Threads + Sync>(
     rt: &R,
     alloc: Global,
@@ -24,7 +28,7 @@ pub fn items_to<'a, R: Threads + Sync>(
 ) -> Result<Vec<Item<'a>>, Memory>
     ensures { IfOk result (λ found. found.items ≡ items_of to (host_views hosts.now)) }
 {
-    if hosts.len() > FEW {
+    if hosts.len() > FEW || collect::about(hosts, to) < MANY {
         return collect::items_to(alloc, hosts, to);
     }
     let lists = lists_to(rt, alloc, hosts, to)?;

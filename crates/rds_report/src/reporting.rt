@@ -12,6 +12,7 @@ use crate::texts::Texts;
 use crate::{collect, gathering, print};
 use rayon::prelude::*;
 use rds_final::{HostEnd, address};
+use rds_model::Journal;
 use rds_text::MAX_HOSTS;
 use rds_wire::Memory;
 use std::alloc::Global;
@@ -36,13 +37,59 @@ pub fn report(alloc: Global, text: &mut String, hosts: &[HostEnd]) -> Result<(),
     Ok(())
 }
 
-/// The same report, in texts that are to be written one behind another. What went to each of the `MAX_HOSTS` hosts is printed by a
-/// thread of its own, and the lines of a port pair with many datagrams by several. The last text is the last line.
+/// A report on journals with fewer entries in all is made on the calling thread: other threads would take longer to begin.
+const FEW_ENTRIES: u64 = 8_192;
+
+/// The same report, in texts that are to be written one behind another. Where journals have many entries, what went to each of the
+/// `MAX_HOSTS` hosts is printed by a thread of its own, and the lines of a port pair with many datagrams by several.
 ///
 /// # Errors
 ///
 /// Where there is no memory.
 pub fn report_parts<R: Threads + Sync>(
+    rt: &R,
+    alloc: Global,
+    hosts: &[HostEnd],
+) -> Result<Vec<String>, Memory>
+    ensures { AreFinalHosts (host_views hosts.now) →
+        IfOk result (λ texts. flat_map string_bytes texts.items ≡ text_of (host_views hosts.now)) }
+{
+    if entry_count(hosts) < FEW_ENTRIES {
+        return one_text(alloc, hosts);
+    }
+    parts_beside(rt, alloc, hosts)
+}
+
+// How many entries the journals of all hosts have.
+fn entry_count(hosts: &[HostEnd]) -> u64 {
+    let mut count = 0u64;
+    for host in hosts {
+        count = count.saturating_add(entries_of(&host.journals));
+    }
+    count
+}
+
+// How many entries these journals have.
+fn entries_of(journals: &[(u32, Journal)]) -> u64 {
+    let mut count = 0u64;
+    for (_, journal) in journals {
+        count = count.saturating_add(u64::from(journal.len()));
+    }
+    count
+}
+
+// The report in one text.
+fn one_text(alloc: Global, hosts: &[HostEnd]) -> Result<Vec<String>, Memory>
+    ensures { AreFinalHosts (host_views hosts.now) →
+        IfOk result (λ texts. flat_map string_bytes texts.items ≡ text_of (host_views hosts.now)) }
+{
+    let mut text = String::new(alloc);
+    report(alloc, &mut text, hosts)?;
+    Ok(vec![in alloc; text]?)
+}
+
+// The report in texts one behind another, that on each host by a thread of its own.
+fn parts_beside<R: Threads + Sync>(
     rt: &R,
     alloc: Global,
     hosts: &[HostEnd],

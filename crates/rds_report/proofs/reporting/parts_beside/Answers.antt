@@ -10,7 +10,7 @@ use Rattle.rds_wire.specs.declared.memory.Memory.{Memory}
 use Rattle.rds_final.specs.Hosts.{address_of}
 use Rattle.rds_report.proofs.Parting.{all_parts, joined}
 use Rattle.rds_report.proofs.Printing.{behind}
-use Rattle.rds_report.proofs.reporting.report_parts.Goals as goal
+use Rattle.rds_report.proofs.reporting.parts_beside.Goals as goal
 
 -- the bytes of the texts of a part one behind another
 abbrev bytes : Vec (String Global) Global → List ℕ
