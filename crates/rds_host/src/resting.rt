@@ -4,31 +4,29 @@ use rds_fmap::Writer;
 use rds_line::Line;
 use rds_link::End;
 use std::sync::Wait;
-use std::thread::Parker;
 use std::time::Duration;
 
-/// After so many idle rounds in a row a worker sleeps as well.
+/// In so many idle rounds in a row the lines of a worker rest. After them it sleeps.
 const AWAKE: u32 = 32;
 
-/// After so many it does, once it is told to stop.
-const SOON: u32 = 8;
+/// In so many they do, once it is told to stop.
+const SOON: u32 = 2;
 
 /// How many microseconds it sleeps at first.
 const FIRST: u64 = 50;
 
-/// Once it would sleep so many next, a worker that is told to stop does, if no other has anything to do. It has then slept for 350, one
+/// Once it would sleep so many next, a worker that is told to stop does, if no other has anything to do. It has then slept for 150, one
 /// after another, and nothing came.
-const LONG: u64 = 400;
+const LONG: u64 = 200;
 
-/// How many it sleeps at most. Nothing wakes it, so this is how late it may see that it is to stop.
+/// How many it sleeps at most. Only that it is to stop wakes it, so this is how late it may see an order.
 const LONGEST: u64 = 5_000;
 
 /// How many idle rounds in a row a worker has had, and how long it sleeps next.
 #[derive(Drop)]
 pub(crate) struct Idle {
     rounds: u32,
-    sleep: u64,
-    parker: Parker,
+    next: u64,
 }
 
 impl Idle {
@@ -36,14 +34,13 @@ impl Idle {
     pub(crate) fn new() -> Idle {
         Idle {
             rounds: 0,
-            sleep: FIRST,
-            parker: Parker::new(),
+            next: FIRST,
         }
     }
 
     /// Whether the worker has been idle for so long that it may stop.
     pub(crate) fn is_long(&self) -> bool {
-        self.sleep >= LONG
+        self.next >= LONG
     }
 
     // A line moved. Where the round before was idle, the worker has something to do again.
@@ -52,31 +49,31 @@ impl Idle {
             stop.begin();
         }
         self.rounds = 0;
-        self.sleep = FIRST;
+        self.next = FIRST;
     }
 
-    // One idle round more. With the first the worker has nothing to do, and after many it sleeps, each time twice as long.
-    fn add<R: Wait>(&mut self, rt: &R, stop: &Stop, is_told: bool) {
+    // One idle round more. With the first the worker has nothing to do.
+    fn add(&mut self, stop: &Stop) {
         if self.rounds == 0 {
             stop.pause();
         }
-        let (awake, longest) = if is_told {
-            (SOON, LONG)
-        } else {
-            (AWAKE, LONGEST)
-        };
-        if self.rounds < awake {
-            self.rounds += 1;
-            return;
-        }
-        self.parker
-            .park_timeout(rt, Duration::from_micros(self.sleep));
-        self.sleep = self.sleep.saturating_mul(2).min(longest);
+        self.rounds = self.rounds.saturating_add(1);
+    }
+
+    // Whether there were so many that the worker sleeps: fewer, once it is told to stop.
+    fn are_many(&self, is_told: bool) -> bool {
+        self.rounds > if is_told { SOON } else { AWAKE }
+    }
+
+    // Sleeps, each time twice as long.
+    fn sleep<R: Wait>(&mut self, rt: &R, stop: &Stop, is_told: bool) {
+        stop.sleep(rt, is_told, Duration::from_micros(self.next));
+        let longest = if is_told { LONG } else { LONGEST };
+        self.next = self.next.saturating_mul(2).min(longest);
     }
 }
 
-/// Rests after a round, unless a line moved in it: each line rests, and after many such rounds, or fewer where it is told to stop, the
-/// worker sleeps.
+/// Rests after a round, unless a line moved in it: each line rests, or after many such rounds the worker sleeps.
 pub(crate) fn rest<E: End, R: Wait>(
     rt: &R,
     lines: &[Line<E, Writer>],
@@ -89,8 +86,12 @@ pub(crate) fn rest<E: End, R: Wait>(
         idle.end(stop);
         return;
     }
+    idle.add(stop);
+    if idle.are_many(is_told) {
+        idle.sleep(rt, stop, is_told);
+        return;
+    }
     for line in lines {
         line.rest(rt);
     }
-    idle.add(rt, stop, is_told);
 }

@@ -1,10 +1,13 @@
-use std::sync::atomic::{AtomicBool, AtomicUsize, Ordering};
+use std::sync::Wait;
+use std::sync::atomic::{AtomicU64, AtomicUsize, Ordering};
+use std::time::Duration;
 
 /// A flag that tells workers to stop, and how many of them have something to do. No clause rests on either: a worker that sees
 /// the flag late, or stops early, turns its lines more or less often.
 #[derive(Drop)]
 pub struct Stop {
-    flag: AtomicBool,
+    // 1 once it is set, and 0 before.
+    flag: AtomicU64,
     busy: AtomicUsize,
 }
 
@@ -12,19 +15,25 @@ impl Stop {
     /// A flag that isn't set, and no worker.
     pub fn new() -> Stop {
         Stop {
-            flag: AtomicBool::new(false),
+            flag: AtomicU64::new(0),
             busy: AtomicUsize::new(0),
         }
     }
 
-    /// Sets the flag, for good.
+    /// Sets the flag, for good, and wakes the workers that sleep.
     pub fn set(&self) {
-        self.flag.store(true, Ordering::SeqCst);
+        self.flag.store(1, Ordering::SeqCst);
+        self.flag.wake_all();
     }
 
     /// Whether it is set.
     pub fn is_set(&self) -> bool {
-        self.flag.load(Ordering::SeqCst)
+        self.flag.load(Ordering::SeqCst) == 1
+    }
+
+    /// Sleeps for so long at most, where the flag is as it was seen. It ends once the flag is set.
+    pub(crate) fn sleep<R: Wait>(&self, rt: &R, was_set: bool, time: Duration) {
+        self.flag.park_timeout(rt, u32::from(was_set), time);
     }
 
     /// One worker more has something to do.
