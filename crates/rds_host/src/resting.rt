@@ -12,20 +12,23 @@ const AWAKE: u32 = 32;
 /// In so many they do, once it is told to stop.
 const SOON: u32 = 2;
 
+/// After so many it stops then, if no other worker has anything to do. It has slept twice since, and nothing came.
+const ENOUGH: u32 = 4;
+
 /// How many microseconds it sleeps at first.
 const FIRST: u64 = 50;
-
-/// Once it would sleep so many next, a worker that is told to stop does, if no other has anything to do. It has then slept for 150, one
-/// after another, and nothing came.
-const LONG: u64 = 200;
 
 /// How many it sleeps at most. Only that it is to stop wakes it, so this is how late it may see an order.
 const LONGEST: u64 = 5_000;
 
-/// How many idle rounds in a row a worker has had, and how long it sleeps next.
+/// How many it sleeps at most, once it is told to stop: less than another one waits for it before that stops.
+const SHORT: u64 = 100;
+
+/// How many idle rounds in a row a worker has had, how many of them since it was told to stop, and how long it sleeps next.
 #[derive(Drop)]
 pub(crate) struct Idle {
     rounds: u32,
+    told: u32,
     next: u64,
 }
 
@@ -34,13 +37,14 @@ impl Idle {
     pub(crate) fn new() -> Idle {
         Idle {
             rounds: 0,
+            told: 0,
             next: FIRST,
         }
     }
 
     /// Whether the worker has been idle for so long that it may stop.
     pub(crate) fn is_long(&self) -> bool {
-        self.next >= LONG
+        self.told >= ENOUGH
     }
 
     // A line moved. Where the round before was idle, the worker has something to do again.
@@ -48,28 +52,35 @@ impl Idle {
         if self.rounds > 0 {
             stop.begin();
         }
-        self.rounds = 0;
-        self.next = FIRST;
+        *self = Idle::new();
     }
 
     // One idle round more. With the first the worker has nothing to do.
-    fn add(&mut self, stop: &Stop) {
+    fn add(&mut self, stop: &Stop, is_told: bool) {
         if self.rounds == 0 {
             stop.pause();
         }
         self.rounds = self.rounds.saturating_add(1);
+        if is_told {
+            self.told = self.told.saturating_add(1);
+        }
     }
 
-    // Whether there were so many that the worker sleeps: fewer, once it is told to stop.
+    // Whether there were so many that the worker sleeps.
     fn are_many(&self, is_told: bool) -> bool {
-        self.rounds > if is_told { SOON } else { AWAKE }
+        if is_told {
+            self.told > SOON
+        } else {
+            self.rounds > AWAKE
+        }
     }
 
     // Sleeps, each time twice as long.
     fn sleep<R: Wait>(&mut self, rt: &R, stop: &Stop, is_told: bool) {
-        stop.sleep(rt, is_told, Duration::from_micros(self.next));
-        let longest = if is_told { LONG } else { LONGEST };
-        self.next = self.next.saturating_mul(2).min(longest);
+        let longest = if is_told { SHORT } else { LONGEST };
+        let time = self.next.min(longest);
+        stop.sleep(rt, is_told, Duration::from_micros(time));
+        self.next = time.saturating_mul(2);
     }
 }
 
@@ -86,7 +97,7 @@ pub(crate) fn rest<E: End, R: Wait>(
         idle.end(stop);
         return;
     }
-    idle.add(stop);
+    idle.add(stop, is_told);
     if idle.are_many(is_told) {
         idle.sleep(rt, stop, is_told);
         return;
