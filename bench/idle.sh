@@ -1,8 +1,9 @@
 #!/bin/sh
-# Leaves a stream over TCP open between every two of eight hosts for five seconds, and prints the processor time that this took.
+# Leaves eight hosts idle for SECONDS (five by default), every two of them connected over TCP, and prints the processor time of that and
+# of the same run in which nobody waits: sh bench/idle.sh [SECONDS]
 set -eu
-cd "$(dirname "$0")/../crates/rds_bench_link"
-[ -x out/rds_bench_link ] || rt run >/dev/null
-out/rds_bench_link idle
-# What the second line of this has is the program's processor time: its own, and the kernel's for it.
-times
+cd "$(dirname "$0")/../crates/rds_bench_idle"
+[ -x out/rds_bench_idle ] || rt run >/dev/null
+for seconds in 0 "${1:-5}"; do
+    python3 ../../bench/spent.py out/rds_bench_idle "$seconds"
+done

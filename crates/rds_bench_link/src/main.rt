@@ -1,9 +1,7 @@
 //! How many bytes a second go through one stream in memory, beside a plain ring and a socket on this machine. By itself
-//! the program moves a few and writes one line; with a number of bytes it measures them, in pieces of three sizes; with the word
-//! `idle` it leaves streams over TCP open for five seconds.
+//! the program moves a few and writes one line; with a number of bytes it measures them, in pieces of three sizes.
 #![tactic(auto)]
 
-mod idle;
 mod pumping;
 mod ways;
 
@@ -34,7 +32,6 @@ fn main(rt: HostRuntime) -> anyhow::Result<()> {
     words.next();
     match words.next() {
         None => show(&rt, rt.alloc()),
-        Some(word) if word.as_str() == "idle" => idle::idle(&rt, rt.alloc(), 5),
         Some(word) => measure(&rt, rt.alloc(), word.parse()?),
     }
 }
