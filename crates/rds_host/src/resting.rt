@@ -19,7 +19,7 @@ const ENOUGH: u32 = 4;
 const FIRST: u64 = 50;
 
 /// How many it sleeps at most. Only that it is to stop wakes it, so this is how late it may see an order.
-const LONGEST: u64 = 20_000;
+const LONGEST: u64 = 50_000;
 
 /// How many it sleeps at most, once it is told to stop: less than another one waits for it before that stops.
 const SHORT: u64 = 100;
