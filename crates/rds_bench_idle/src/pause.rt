@@ -3,6 +3,7 @@ use std::thread;
 use std::time::{Clock, Duration};
 
 /// A gate at which each caller waits for so long before each of its commands.
+#[derive(Drop)]
 pub struct Pause<'a, R: Clock> {
     pub rt: &'a R,
     pub time: Duration,
