@@ -17,4 +17,3 @@ pub mod Parted
 pub mod Parting
 pub mod Added
 pub mod Printing
-pub mod Listed

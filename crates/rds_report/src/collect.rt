@@ -25,23 +25,8 @@ pub fn items_to<'a>(alloc: Global, hosts: &'a [HostEnd], to: u32) -> Result<Vec<
     Ok(items)
 }
 
-/// The items of a host of the pairs to the host at an address.
-pub fn items_of_host<'a>(
-    alloc: Global,
-    hosts: &[HostEnd],
-    host: &'a HostEnd,
-    to: u32,
-) -> Result<Vec<Item<'a>>, Memory>
-    ensures { IfOk result (λ found. found.items ≡ filter (is_to to) (host_items (host_views hosts.now) (host_view host.now))) }
-{
-    let mut items = Vec::new(alloc);
-    items.reserve(about(hosts, to))?;
-    add_host(alloc, &mut items, hosts, host, to)?;
-    Ok(items)
-}
-
-/// About how many items the host at an address has of the pairs to it, and the senders too: what came to a socket was accepted.
-pub fn about(hosts: &[HostEnd], to: u32) -> usize {
+// About how many items the host at an address has of the pairs to it, and the senders too: what came to a socket was accepted.
+fn about(hosts: &[HostEnd], to: u32) -> usize {
     for host in hosts {
         if host.addr == to {
             return came(&host.kept);

@@ -6,7 +6,6 @@ mod cancellations;
 mod collect;
 mod counts;
 mod flags;
-mod gathering;
 mod grouping;
 mod item;
 mod lists;

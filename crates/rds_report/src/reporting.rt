@@ -9,7 +9,7 @@ ghost use Rattle.rds_final.specs.Report.{report as text_of};
 use crate::grouping::sort;
 use crate::lists::joined;
 use crate::texts::Texts;
-use crate::{collect, gathering, print};
+use crate::{collect, print};
 use rayon::prelude::*;
 use rds_final::{HostEnd, address};
 use rds_model::Journal;
@@ -123,7 +123,7 @@ fn part_texts<R: Threads + Sync>(
     ensures { AreFinalHosts (host_views hosts.now) →
         IfOk result (λ texts. flat_map string_bytes texts.items ≡ part (host_views hosts.now) (address_of host)) }
 {
-    let mut items = gathering::items_to(rt, alloc, hosts, address(host))?;
+    let mut items = collect::items_to(alloc, hosts, address(host))?;
     sort(&mut items)?;
     let mut texts = Texts::new(alloc);
     texts.print_groups(rt, alloc, &items)?;
