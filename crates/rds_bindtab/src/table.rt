@@ -12,6 +12,9 @@ use std::marker::Model;
 /// The word that numbers slots stands behind the words of the ports.
 pub(crate) const DRAW_WORD: usize = 65536;
 
+// The words of a table at first. They are copied from here, so that no memory is filled with zeros for that alone.
+static WORDS: [u64; DRAW_WORD + 1] = [0; DRAW_WORD + 1];
+
 /// One word for each port, which is 0 or 1 plus the slot of the socket that holds it, and one word that numbers slots.
 /// Contracts see which table it is.
 #[derive(Drop)]
@@ -46,8 +49,7 @@ impl BindTable {
         ensures slots { IfOk result (λ r. r.0.slots ≡ slots) }
         ensures seat { IfOk result (λ r. (r.1.table ≡ r.0) × (r.1.view ≡ first_view slots)) }
     {
-        let words = vec![in alloc; 0u64; DRAW_WORD + 1]?;
-        let (table, seat) = Table::of_words(alloc, words.as_slice(), &slots)?;
+        let (table, seat) = Table::of_words(alloc, &WORDS, &slots)?;
         let table = BindTable { table, slots };
         let seat = BindSeat {
             seat,
