@@ -12,8 +12,8 @@ const AWAKE: u32 = 32;
 /// In so many they do, once it is told to stop.
 const SOON: u32 = 2;
 
-/// After so many it stops then, if no other worker has anything to do. It has slept twice since, and nothing came.
-const ENOUGH: u32 = 4;
+/// After so many it stops then, once no other worker has anything to do.
+const ENOUGH: u32 = 2;
 
 /// How many microseconds it sleeps at first.
 const FIRST: u64 = 50;
@@ -21,10 +21,11 @@ const FIRST: u64 = 50;
 /// How many it sleeps at most. Only that it is to stop wakes it, so this is how late it may see an order.
 const LONGEST: u64 = 50_000;
 
-/// How many it sleeps at most, once it is told to stop: less than another one waits for it before that stops.
+/// How many it sleeps at most, once it is told to stop.
 const SHORT: u64 = 100;
 
-/// How many idle rounds in a row a worker has had, how many of them since it was told to stop, and how long it sleeps next.
+/// How many idle rounds in a row a worker has had, how many of them since it was told to stop, and how long it sleeps next. Where it had
+/// one since then, the flag counts it as one that has nothing to do.
 #[derive(Drop)]
 pub(crate) struct Idle {
     rounds: u32,
@@ -47,23 +48,24 @@ impl Idle {
         self.told >= ENOUGH
     }
 
-    // A line moved. Where the round before was idle, the worker has something to do again.
+    // A line moved. Where the worker had nothing to do, it has again.
     fn end(&mut self, stop: &Stop) {
-        if self.rounds > 0 {
+        if self.told > 0 {
             stop.begin();
         }
         *self = Idle::new();
     }
 
-    // One idle round more. With the first the worker has nothing to do.
+    // One idle round more. With the first since it was told to stop the worker has nothing to do.
     fn add(&mut self, stop: &Stop, is_told: bool) {
-        if self.rounds == 0 {
+        self.rounds = self.rounds.saturating_add(1);
+        if !is_told {
+            return;
+        }
+        if self.told == 0 {
             stop.pause();
         }
-        self.rounds = self.rounds.saturating_add(1);
-        if is_told {
-            self.told = self.told.saturating_add(1);
-        }
+        self.told = self.told.saturating_add(1);
     }
 
     // Whether there were so many that the worker sleeps.

@@ -2,8 +2,8 @@ use std::sync::Wait;
 use std::sync::atomic::{AtomicU64, AtomicUsize, Ordering};
 use std::time::Duration;
 
-/// A flag that tells workers to stop, and how many of them have something to do. No clause rests on either: a worker that sees
-/// the flag late, or stops early, turns its lines more or less often.
+/// A flag that tells workers to stop, and how many of them have something to do, or haven't seen it. No clause rests on either: a
+/// worker that sees the flag late, or stops early, turns its lines more or less often.
 #[derive(Drop)]
 pub struct Stop {
     // 1 once it is set, and 0 before.
@@ -41,9 +41,11 @@ impl Stop {
         self.busy.fetch_add(1, Ordering::SeqCst);
     }
 
-    /// One worker fewer has.
+    /// One worker fewer has, and it has seen that the flag is set. Where it was the last one, those that sleep wake: they may stop.
     pub(crate) fn pause(&self) {
-        self.busy.fetch_sub(1, Ordering::SeqCst);
+        if self.busy.fetch_sub(1, Ordering::SeqCst) == 1 {
+            self.flag.wake_all();
+        }
     }
 
     /// Whether none has.

@@ -9,8 +9,8 @@ use rds_link::End;
 use std::sync::Wait;
 
 /// Turns each line in order, round after round, until the stop flag is set, no line moved for a while, and no other worker with this
-/// flag has anything to do: it may have something for them yet. After a round in which none moved it rests. The lines come back in the
-/// same order.
+/// flag had anything to do before the last round: it may have something for them yet. After a round in which none moved it rests. The
+/// lines come back in the same order.
 pub fn work<E: End, R: Wait>(
     rt: &R,
     mut lines: Vec<Line<E, Writer>>,
@@ -22,8 +22,9 @@ pub fn work<E: End, R: Wait>(
     stop.begin();
     for _ in rt.forever() {
         let is_told = stop.is_set();
+        let others_rest = stop.is_quiet();
         let moved = turn_all(rt, &mut lines);
-        if !moved && is_told && idle.is_long() && stop.is_quiet() {
+        if !moved && is_told && others_rest && idle.is_long() {
             break;
         }
         rest(rt, &lines, moved, stop, is_told, &mut idle);
