@@ -16,11 +16,12 @@ hello:
 
 below: $(BELOW)
 
-# What is printed is one line a crate; a crate that fails prints what its check says.
+# What is printed is one line a crate; a crate that fails prints what its check says. `rt lib` proves a crate and builds what the crates above it
+# load, which they would have to do after `rt check`.
 $(BELOW):
 	@echo "proving $@"
 	@mkdir -p crates/$@/out
-	@cd crates/$@ && { rt check > out/make.log 2>&1 || { cat out/make.log; exit 1; }; }
+	@cd crates/$@ && { rt lib > out/make.log 2>&1 || { cat out/make.log; exit 1; }; }
 
 rds_frame rds_model rds_cong rds_script rds_words: rds_wire
 rds_generator rds_pieces: rds_script
