@@ -2,8 +2,8 @@ use std::sync::Wait;
 use std::sync::atomic::{AtomicU64, AtomicUsize, Ordering};
 use std::time::Duration;
 
-/// A flag that tells workers to stop, and how many of them have something to do, or haven't seen it. No clause rests on either: a
-/// worker that sees the flag late, or stops early, turns its lines more or less often.
+/// A flag that tells workers to stop, and how many of those that have begun have something to do, or haven't seen it. No clause rests on
+/// either: a worker that sees the flag late, or stops early, turns its lines more or less often.
 #[derive(Drop)]
 pub struct Stop {
     // 1 once it is set, and 0 before.

@@ -8,8 +8,8 @@ use rds_line::{Line, Turn};
 use rds_link::End;
 use std::sync::Wait;
 
-/// Turns each line in order, round after round, until the stop flag is set, no line moved for a while, and no other worker with this
-/// flag had anything to do before the last round: it may have something for them yet. After a round in which none moved it rests. The
+/// Turns each line in order, round after round, until the stop flag is set, no line moved for a while, and before the last round no
+/// worker with this flag had found anything to do: it may have something for them yet. After a round in which none moved it rests. The
 /// lines come back in the same order.
 pub fn work<E: End, R: Wait>(
     rt: &R,

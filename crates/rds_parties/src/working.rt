@@ -15,7 +15,7 @@ use std::sync::Wait;
 use std::thread;
 use std::thread::Threads;
 
-/// The workers of all lines, beside each other. They end once the flag is set.
+/// The workers of all lines, beside each other. They end some time after the flag is set.
 pub(crate) fn work_all<E: End + Send, R: Threads + Wait + Sync>(
     rt: &R,
     alloc: Global,
@@ -72,7 +72,7 @@ fn work_lines<E: End + Send, R: Threads + Wait + Sync>(
     thread::for_each_mut(rt, lines, threads, &turn);
 }
 
-// The worker of a line: turns it until the flag is set and it doesn't move.
+// The worker of a line: turns it until the flag is set and no worker finds anything to do.
 fn work_on<E: End, R: Wait>(rt: &R, alloc: Global, line: &mut Line<E, Writer>, stop: &Stop)
     ensures { LineStays E.means pair_of line.old line.new }
 {
