@@ -8,9 +8,9 @@ use rds_line::{Line, Turn};
 use rds_link::End;
 use std::sync::Wait;
 
-/// Turns each line in order, round after round, until the stop flag is set, no line moved for a while, and before the last round no
-/// worker with this flag had found anything to do: it may have something for them yet. After a round in which none moved it rests. The
-/// lines come back in the same order.
+/// Turns each line in order, round after round, until the stop flag is set, no line moved for a while, and before the last round every
+/// worker with this flag had found nothing to do: one that finds something may have bytes for these lines yet. After a round in which
+/// none moved it rests. The lines come back in the same order.
 pub fn work<E: End, R: Wait>(
     rt: &R,
     mut lines: Vec<Line<E, Writer>>,
