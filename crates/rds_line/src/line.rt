@@ -1,4 +1,4 @@
-ghost use Rattle.std.specs.Prelude.{◌≡◌, ◌≤◌, ◌<◌, ℕ, All, IfOk, IfSome, IsSome, [], None, Some, length};
+ghost use Rattle.std.specs.Prelude.{◌≡◌, ◌≤◌, ◌<◌, ℕ, All, IfOk, IfSome, IsSome, [], false, None, Some, length};
 ghost use Rattle.rds_cong.specs.Map.{no_ports};
 ghost use Rattle.rds_line_channel.specs.Channel.{new_channel};
 ghost use Rattle.rds_line_streams.specs.Streams.{AreNumbered, IsUnused};
@@ -82,7 +82,7 @@ impl<E: End, M: MapWriter> Line<E, M> {
     ghost use Rattle.rds_mail.specs.Passes.{after_note};
     ghost use Rattle.rds_bindtab.specs.Seats as ports;
     ghost use Rattle.rds_line_parts.specs.Boxes.{IsBoxOf};
-    ghost use Rattle.rds_line_channel.specs.Channel.{arrived_bytes, new_channel};
+    ghost use Rattle.rds_line_channel.specs.Channel.{IsNewChannel, arrived_bytes, new_channel};
     ghost use Rattle.rds_line_channel.specs.Carried.{IsCarriedBy};
     ghost use Rattle.rds_line_streams.specs.Streams.{AreKept, AreNumbered, IsUnused};
     ghost use Rattle.rds_line.specs.Keeps.{KeepsLine};
@@ -139,6 +139,17 @@ impl<E: End, M: MapWriter> Line<E, M> {
             peer_map,
             map,
         })
+    }
+
+    /// Gives a line that has no streams, and on which nothing was moved, those that it is to open, each with its number. The numbers
+    /// ascend from above 0, and the ends are unused. It takes no memory.
+    pub fn give_streams(&mut self, streams: Vec<(u32, E)>)
+        requires new { IsNewChannel self.old.channel }
+        requires numbered { AreNumbered streams.items }
+        requires unused { All (λ stream. IsUnused E.means stream.1) streams.items }
+        ensures { self.new ≡ record self.old { channel = record self.old.channel { streams = record { list = streams.items; opened = 0; is_open = false } } } }
+    {
+        self.channel.give_streams(streams);
     }
 
     /// The journal, and all that the line was given. It takes no memory.

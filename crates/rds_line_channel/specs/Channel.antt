@@ -1,5 +1,5 @@
 -- What contracts see of a connection and the streams that carry it. Source: this project's own.
-use Rattle.std.specs.Prelude.{ℕ, Bool, false, List, [], ◌++◌, replicate, None}
+use Rattle.std.specs.Prelude.{◌≡◌, ℕ, Bool, false, List, [], ◌++◌, replicate, None}
 use Rattle.rds_conn.specs.Connection.{Connection, taken_bytes}
 use Rattle.rds_line_streams.specs.Streams.{StreamsView}
 
@@ -42,6 +42,10 @@ module _ {E : Type 0} where
     streams = record { list = streams; opened = 0; is_open = false };
     cuts = record { numbers = []; has_room = false };
   }
+
+  -- nothing has happened on the channel, and it has no streams
+  abbrev pub IsNewChannel : ChannelView E → Type 0
+  IsNewChannel c = c ≡ new_channel c.conn.me c.conn.peer c.conn.slots c.conn.log.limit []
 
   -- the bytes of the open stream that came and were not passed
   abbrev pub arrived_bytes : ChannelView E → List ℕ

@@ -1,4 +1,4 @@
-ghost use Rattle.std.specs.Prelude.{◌≡◌, ◌≤◌, ◌<◌, ◌+◌, ◌↔◌, ℕ, All, IfOk, IfSome, IsSome, IsTrue, OnOk, OnErr, length, true, None, [], Err};
+ghost use Rattle.std.specs.Prelude.{◌≡◌, ◌≤◌, ◌<◌, ◌+◌, ◌↔◌, ℕ, All, IfOk, IfSome, IsSome, IsTrue, OnOk, OnErr, length, true, false, None, [], Err};
 ghost use Rattle.std.specs.Option.{option_map, option_copied};
 ghost use Rattle.rds_wire.specs.declared.frame.Frame.{Frame};
 ghost use Rattle.rds_model.specs.declared.journal.JournalError.TheVariants as errors;
@@ -81,7 +81,7 @@ impl<E: End> Channel<E> {
     ghost use Rattle.rds_conn.specs.Connection.{stream_of, with_room};
     ghost use Rattle.rds_line_streams.specs.Streams.{AreKept, AreNumbered, IsUnused};
     ghost use Rattle.rds_line_channel.specs.Carried.{IsCarriedBy};
-    ghost use Rattle.rds_line_channel.specs.Channel.{arrived_bytes, new_channel, with_conn};
+    ghost use Rattle.rds_line_channel.specs.Channel.{IsNewChannel, arrived_bytes, new_channel, with_conn};
 
     /// A channel of the host `me` to `peer`, both IPv4 addresses, over these streams, each with its number: an empty journal
     /// of at most `limit` entries, and no stream open. The numbers ascend from above 0, and the ends are unused. The sockets of
@@ -112,6 +112,17 @@ impl<E: End> Channel<E> {
             streams: Streams::new(streams),
             cuts: Cuts::new(alloc),
         })
+    }
+
+    /// Gives a channel that has no streams, and on which nothing has happened, those that it is to open, each with its number. The
+    /// numbers ascend from above 0, and the ends are unused. It takes no memory.
+    pub fn give_streams(&mut self, streams: Vec<(u32, E)>)
+        requires new { IsNewChannel self.old }
+        requires numbered { AreNumbered streams.items }
+        requires unused { All (λ stream. IsUnused E.means stream.1) streams.items }
+        ensures { self.new ≡ record self.old { streams = record { list = streams.items; opened = 0; is_open = false } } }
+    {
+        self.streams = Streams::new(streams);
     }
 
     /// The journal, and every stream with its end.

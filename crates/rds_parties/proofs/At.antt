@@ -1,7 +1,7 @@
 -- What stands at a place of a list.
-use Rattle.std.proofs.Common.{◌≡◌, ◌≢◌, ◌<◌, ◌⊎◌, inl, inr, ⊎_elim, ℕ, zero, suc, List, [], ◌∷◌, ◌++◌, Some, length, map, set, get_or, slice_get, refl, sym, ap, ◌∙◌, arith}
+use Rattle.std.proofs.Common.{◌≡◌, ◌≢◌, ◌<◌, ◌⊎◌, All, inl, inr, ⊎_elim, ℕ, zero, suc, List, [], ◌∷◌, ◌++◌, Some, length, map, set, get_or, slice_get, refl, sym, ap, subst, ◌∙◌, arith}
 use Rattle.std.proofs.lemmas.List.{length_push}
-use Rattle.std.proofs.lemmas.Option.{same_Some, slice_get-get_or}
+use Rattle.std.proofs.lemmas.Option.{get_or_from_slice_get, same_Some, slice_get_within, slice_get-get_or}
 
 -- what stands at a place of a mapped list is made of what stands there
 pub at_map : {A B : Type 0} (f : A → B) (xs : List A) (i : ℕ) (b : B) → slice_get (map f xs) i ≡ Some b → (a : A) × (slice_get xs i ≡ Some a) × (b ≡ f a)
@@ -92,3 +92,19 @@ at_both_set (u ∷ xs) (v ∷ ys) (suc k) x y (suc i) a b at_a at_b =
 pub the_one : {A : Type 0} (xs front : List A) (x : A) → xs ≡ front ++ x ∷ [] → length xs ≡ 1 → xs ≡ x ∷ []
 the_one xs [] x is one = is
 the_one xs (y ∷ front) x is one = absurd (let n = ap length is in let m = length_push front x in omega (arith, n, m, one))
+
+-- what holds of all holds of what stands at a place
+pub all_at : {A : Type 0} (P : A → Type 0) (xs : List A) (i : ℕ) (x : A) → All P xs → slice_get xs i ≡ Some x → P x
+all_at P xs i x all at = subst P (get_or_from_slice_get xs i x x at) (all i x (slice_get_within xs i x at))
+
+-- what stands behind the place that was set stood there before
+pub behind_set : {A : Type 0} (xs : List A) (k : ℕ) (x : A) (i : ℕ) → k < i → slice_get (set xs k x) i ≡ slice_get xs i
+behind_set [] k x i lt = refl
+behind_set (z ∷ xs) zero x zero lt = absurd (omega (arith, lt))
+behind_set (z ∷ xs) zero x (suc i) lt = refl
+behind_set (z ∷ xs) (suc k) x zero lt = absurd (omega (arith, lt))
+behind_set (z ∷ xs) (suc k) x (suc i) lt = behind_set xs k x i (omega (arith, lt))
+
+-- one more is at the end of what is the same
+pub joined : {A : Type 0} {new middle old : List A} (x : A) → new ≡ middle ++ x ∷ [] → middle ≡ old → new ≡ old ++ x ∷ []
+joined {A} x more same = more ∙ ap (λ (l : List A). l ++ x ∷ []) same

@@ -5,6 +5,7 @@ pub mod Keeping
 pub mod Obeying
 pub mod Preparing
 pub mod Made
+pub mod Handing
 pub mod Telling
 pub mod Jobs
 pub mod Led
@@ -14,3 +15,4 @@ pub mod Missing
 pub mod Summing
 pub mod Held
 pub mod Known
+pub mod Resting

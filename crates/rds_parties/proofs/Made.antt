@@ -9,23 +9,20 @@ use Rattle.std.specs.Global.{Global}
 use Rattle.std.specs.List.{range_with_len}
 use Rattle.rds_fmap.specs.Readers.{WriterView}
 use Rattle.rds_link.specs.Ends.{Means}
-use Rattle.rds_line_streams.specs.Streams.{AreNumbered, IsUnused, numbers}
+use Rattle.rds_line_streams.specs.Streams.{AreNumbered, IsUnused}
 use Rattle.rds_line.specs.Line.{LineView}
 use Rattle.rds_parts.specs.Lanes.{Ascend}
 use Rattle.rds_final.specs.Hosts.{address_of}
 use Rattle.rds_script.specs.declared.script.Placed.{Placed}
 use Rattle.rds_callers.specs.Places.{CallerView}
-use Rattle.rds_host.specs.Held.{ends_in, ends_of, ends_of_all}
-use Rattle.rds_host.specs.Lines.{AreNewLines}
-use Rattle.rds_rounds.specs.Connection.{AreHosts, ArePaired}
+use Rattle.rds_host.specs.Lines.{AreNewLines, IsNewLine}
 use Rattle.rds_rounds.specs.Grid.{AreRows, IsAt, OfEachPair, others, peer_at}
 use Rattle.rds_settling.specs.Tied.{AreTied}
-use Rattle.rds_parties.specs.Held.{ends_of_row, ends_prepared}
-use Rattle.rds_parties.specs.HeldLaws.{as_many_each}
+use Rattle.rds_parties.specs.Giving.{HasNewLines, HaveNewLines}
 use Rattle.rds_parties.specs.Obeyed.{AreNewPlaces, slot_count}
-use Rattle.rds_parties.specs.Parties.{AreNewCallers, AreParties, HaveNotLooked}
-use Rattle.rds_parties.specs.Preparing.{AreAllCounted, AreAllPrepared, ArePrepared, HaveCounted, HaveNumbered, HaveStreamsOf}
-use Rattle.rds_parties.proofs.At.{at_snoc, length_map, map_at, some_at}
+use Rattle.rds_parties.specs.Parties.{AreNewCallers, AreParties}
+use Rattle.rds_parties.specs.Preparing.{AreAllPrepared, ArePrepared}
+use Rattle.rds_parties.proofs.At.{all_at, at_snoc, length_map, map_at, some_at}
 
 -- a host below a place's number stands at its own place, and one above one place earlier
 pub lower_peer : (host place : ℕ) → place < host → peer_at host place ≡ place
@@ -152,32 +149,31 @@ module _ {E : Type 0} (m : Means E) where
       (λ low high one other p. (p.1.one_unused, p.1.other_unused))
       host place (get_or row place d) (row, at, slice_get-get_or row place d within)
 
-  -- the first hosts of so many were made over these streams
-  pub record AreMade (limit hosts : ℕ) (commands : List Placed) (streams : List (List StreamsOf)) (n : ℕ) (callers : List CallerView) (rows : List (List (LineView E WriterView))) : Type 0 where
+module _ {E : Type 0} where
+  -- the first hosts of so many were made
+  pub record AreMade (limit hosts : ℕ) (commands : List Placed) (n : ℕ) (callers : List CallerView) (rows : List (List (LineView E WriterView))) : Type 0 where
     pub callers_count : length callers ≡ n
     pub rows_count : length rows ≡ n
     pub tied : (host : ℕ) (caller : CallerView) (row : List (LineView E WriterView)) → slice_get callers host ≡ Some caller → slice_get rows host ≡ Some row →
         AreTied caller.places row
     pub new : AreNewCallers hosts commands callers
-    pub lines : (host : ℕ) (lists : List StreamsOf) (row : List (LineView E WriterView)) → slice_get streams host ≡ Some lists → slice_get rows host ≡ Some row →
-        AreNewLines (address_of host) limit (map address_of (others hosts host)) (map (λ (list : StreamsOf). list.items) lists) row
+    pub lines : (host : ℕ) (row : List (LineView E WriterView)) → slice_get rows host ≡ Some row → HasNewLines limit hosts host row
 
-  pub made_none : (limit hosts : ℕ) (commands : List Placed) (streams : List (List StreamsOf)) → AreMade limit hosts commands streams 0 [] []
-  made_none limit hosts commands streams = record {
+  pub made_none : (limit hosts : ℕ) (commands : List Placed) → AreMade limit hosts commands 0 [] []
+  made_none limit hosts commands = record {
     callers_count = refl;
     rows_count = refl;
     tied = λ host caller row at_caller at_row. absurd (cc);
     new = λ host caller at. absurd (cc);
-    lines = λ host lists row at_lists at_row. absurd (cc);
+    lines = λ host row at. absurd (cc);
   }
 
-  pub made_more : (limit hosts : ℕ) (commands : List Placed) (streams : List (List StreamsOf)) (n : ℕ) (callers : List CallerView)
-      (rows : List (List (LineView E WriterView))) (list : List StreamsOf) (new : CallerView) (new_row : List (LineView E WriterView)) →
-      AreMade limit hosts commands streams n callers rows → slice_get streams n ≡ Some list → AreTied new.places new_row →
-      length new.places ≡ slot_count n commands → AreNewPlaces hosts n new.places →
-      AreNewLines (address_of n) limit (map address_of (others hosts n)) (map (λ (l : StreamsOf). l.items) list) new_row →
-      AreMade limit hosts commands streams (n + 1) (callers ++ new ∷ []) (rows ++ new_row ∷ [])
-  made_more limit hosts commands streams n callers rows list new new_row made at_list new_tied new_count new_places new_lines = record {
+  pub made_more : (limit hosts : ℕ) (commands : List Placed) (n : ℕ) (callers : List CallerView)
+      (rows : List (List (LineView E WriterView))) (new : CallerView) (new_row : List (LineView E WriterView)) →
+      AreMade limit hosts commands n callers rows → AreTied new.places new_row →
+      length new.places ≡ slot_count n commands → AreNewPlaces hosts n new.places → HasNewLines limit hosts n new_row →
+      AreMade limit hosts commands (n + 1) (callers ++ new ∷ []) (rows ++ new_row ∷ [])
+  made_more limit hosts commands n callers rows new new_row made new_tied new_count new_places new_lines = record {
     callers_count = length_push callers new ∙ ap (λ k. k + 1) made.callers_count;
     rows_count = length_push rows new_row ∙ ap (λ k. k + 1) made.rows_count;
     tied = λ host caller row at_caller at_row. ⊎_elim
@@ -200,103 +196,49 @@ module _ {E : Type 0} (m : Means E) where
         subst (λ k. (length caller.places ≡ slot_count k commands) × AreNewPlaces hosts k caller.places) (sym here)
         (subst (λ (c : CallerView). (length c.places ≡ slot_count n commands) × AreNewPlaces hosts n c.places) (sym last.1) (new_count, new_places)))
         (at_snoc callers new host caller at);
-    lines = λ host lists row at_lists at_row. ⊎_elim
-        (λ old. made.lines host lists row at_lists old)
+    lines = λ host row at. ⊎_elim
+        (λ old. made.lines host row old)
         (λ last.
         let here : host ≡ n = last.0 ∙ made.rows_count in
-        let same : list ≡ lists = same_Some list lists (sym at_list ∙ ap (slice_get streams) (sym here) ∙ at_lists) in
-        subst (λ k. AreNewLines (address_of k) limit (map address_of (others hosts k)) (map (λ (l : StreamsOf). l.items) lists) row) (sym here)
-        (subst (λ (r : List (LineView E WriterView)). AreNewLines (address_of n) limit (map address_of (others hosts n)) (map (λ (l : StreamsOf). l.items) lists) r) (sym last.1)
-        (subst (λ (ls : List StreamsOf). AreNewLines (address_of n) limit (map address_of (others hosts n)) (map (λ (l : StreamsOf). l.items) ls) new_row) same new_lines)))
-        (at_snoc rows new_row host row at_row);
+        subst (λ k. HasNewLines limit hosts k row) (sym here)
+        (subst (λ (r : List (LineView E WriterView)). HasNewLines limit hosts n r) (sym last.1) new_lines))
+        (at_snoc rows new_row host row at);
   }
 
-  pub made_parties : (limit hosts : ℕ) (commands : List Placed) (streams : List (List StreamsOf)) (callers : List CallerView) (rows : List (List (LineView E WriterView))) →
-      AreMade limit hosts commands streams hosts callers rows → AreParties hosts callers rows
-  made_parties limit hosts commands streams callers rows made =
+  pub made_parties : (limit hosts : ℕ) (commands : List Placed) (callers : List CallerView) (rows : List (List (LineView E WriterView))) →
+      AreMade limit hosts commands hosts callers rows → AreParties hosts callers rows
+  made_parties limit hosts commands callers rows made =
       record { callers_count = made.callers_count; rows_count = made.rows_count; tied = made.tied }
 
-  module _ (limit hosts : ℕ) (commands : List Placed) (streams : List (List StreamsOf)) (callers : List CallerView) (rows : List (List (LineView E WriterView)))
-      (prepared : AreAllPrepared m hosts streams) (made : AreMade limit hosts commands streams hosts callers rows) where
-    lists_at : (host : ℕ) → host < hosts → (lists : List StreamsOf) × (slice_get streams host ≡ Some lists)
-    lists_at host within = some_at streams host (let count = prepared.shape.count in omega (arith, count, within))
+  pub made_lines : (limit hosts : ℕ) (commands : List Placed) (callers : List CallerView) (rows : List (List (LineView E WriterView))) →
+      AreMade limit hosts commands hosts callers rows → HaveNewLines limit hosts rows
+  made_lines limit hosts commands callers rows made = record { count = made.rows_count; each = made.lines }
 
-    row_within : (host : ℕ) (row : List (LineView E WriterView)) → slice_get rows host ≡ Some row → host < hosts
-    row_within host row at = let within = slice_get_within rows host row at in let count = made.rows_count in omega (arith, within, count)
+  -- what is empty is numbered and unused
+  pub all_empty_numbered : (lists : List (Vec (ℕ × E) Global)) → All (λ (list : Vec (ℕ × E) Global). list.items ≡ []) lists →
+      All (λ (list : Vec (ℕ × E) Global). AreNumbered list.items) lists
+  all_empty_numbered lists none i d within =
+      subst (λ (l : List (ℕ × E)). AreNumbered l) (sym (none i d within)) (λ k small. absurd (omega (arith, small)))
 
-    row_length : (host : ℕ) (row : List (LineView E WriterView)) → slice_get rows host ≡ Some row → suc (length row) ≡ hosts
-    row_length host row at =
-        let within = row_within host row at in
-        let lists = lists_at host within in
-        let size = (made.lines host lists.0 row lists.1 at).count in
+  pub all_empty_unused : (m : Means E) (lists : List (Vec (ℕ × E) Global)) → All (λ (list : Vec (ℕ × E) Global). list.items ≡ []) lists →
+      All (λ (list : Vec (ℕ × E) Global). All (λ stream. IsUnused m stream.1) list.items) lists
+  all_empty_unused m lists none i d within =
+      subst (λ (l : List (ℕ × E)). All (λ stream. IsUnused m stream.1) l) (sym (none i d within)) (All-nil (λ (stream : ℕ × E). IsUnused m stream.1))
+
+  -- the lines that a host is made with, over no streams
+  pub without_streams : (limit hosts host : ℕ) (lists : List (Vec (ℕ × E) Global)) (lines : List (LineView E WriterView)) → 2 ≤ hosts →
+      length lists ≡ hosts - 1 → All (λ (list : Vec (ℕ × E) Global). list.items ≡ []) lists →
+      AreNewLines (address_of host) limit (map address_of (others hosts host)) (map (λ (list : Vec (ℕ × E) Global). list.items) lists) lines →
+      HasNewLines limit hosts host lines
+  without_streams limit hosts host lists lines two size none new = record {
+    count = let count = peers_count hosts host in let same = new.count in omega (arith, count, same, two);
+    each = λ place line at.
         let count = peers_count hosts host in
-        omega (arith, size, count, within)
-
-    -- the line at a place, and the streams over which it was made
-    line_at : (host place : ℕ) (line : LineView E WriterView) → IsAt rows host place line →
-        (list : StreamsOf) × IsAt streams host place list × (line.channel.streams.list ≡ list.items) × (line.channel.conn.log.limit ≡ limit)
-        × (line.channel.conn.peer ≡ address_of (peer_at host place)) × (line.ports.view.steps ≡ [])
-    line_at host place line at =
-        let lists = lists_at host (row_within host at.0 at.1) in
-        let size = row_length host at.0 at.1 in
-        let within = slice_get_within at.0 place line at.2 in
-        let same = row_size hosts streams prepared.shape host lists.0 lists.1 in
-        let list = some_at lists.0 place (omega (arith, size, within, same)) in
-        let new = (made.lines host lists.0 at.0 lists.1 at.1).each place (address_of (peer_at host place)) list.0.items line
-        (peer_there hosts host place (omega (arith, size, within)))
-        (map_at (λ (l : StreamsOf). l.items) lists.0 place list.0 list.1) at.2 in
-        (list.0, (lists.0, lists.1, list.1), ap (λ c. c.streams.list) new.0, ap (λ c. c.conn.log.limit) new.0, ap (λ c. c.conn.peer) new.0, new.1)
-
-    pub made_looks : HaveNotLooked rows
-    made_looks host place line at = (line_at host place line at).5
-
-    pub made_hosts : hosts ≤ 8 → AreHosts m limit hosts rows
-    made_hosts few = record {
-      few = few;
-      shape = record {
-        count = made.rows_count;
-        each = λ host d within. row_length host (get_or rows host d) (slice_get-get_or rows host d within);
-      };
-      connected = λ low place one other le at_one at_other.
-          let a = line_at low place one at_one in
-          let b = line_at (suc place) low other at_other in
-          let pair = prepared.pairs low place a.0 b.0 le a.1 b.1 in record {
-            hosts = record {
-              one_limit = a.3;
-              other_limit = b.3;
-              one_peer = a.4 ∙ ap address_of (higher_peer low place le);
-              other_peer = b.4 ∙ ap address_of (lower_peer (suc place) low (omega (arith, le)));
-            };
-            streams =
-                subst (λ (l : List (ℕ × E)). ArePaired m l other.channel.streams.list) (sym a.2)
-                (subst (λ (l : List (ℕ × E)). ArePaired m a.0.items l) (sym b.2) pair.1.paired);
-          };
-    }
-
-    -- the lines have the streams that were counted
-    pub made_counted : (cuts : List Placed) (before after : ℕ) → AreAllCounted cuts before after streams → HaveCounted cuts before after rows
-    made_counted cuts before after counted low place one other le at_one at_other =
-        let a = line_at low place one at_one in
-        let b = line_at (suc place) low other at_other in
-        subst (λ (l : List (ℕ × E)). HaveNumbered cuts before after low (suc place) l other.channel.streams.list) (sym a.2)
-        (subst (λ (l : List (ℕ × E)). HaveNumbered cuts before after low (suc place) a.0.items l) (sym b.2) (counted low place a.0 b.0 le a.1 b.1))
-
-    -- and their numbers
-    pub made_numbered : HaveStreamsOf streams rows
-    made_numbered host place line at =
-        let list = line_at host place line at in
-        (list.0, list.1, ap (λ (l : List (ℕ × E)). numbers l) list.2)
-
-    -- and hold all the ends
-    pub made_ends : ends_of_all rows ≡ ends_prepared streams
-    made_ends =
-        as_many_each ends_of_row ends_in streams rows (made.rows_count ∙ sym prepared.shape.count)
-        (λ host lists row at_lists at_row.
-        let size = row_length host row at_row in
-        let same = row_size hosts streams prepared.shape host lists at_lists in
-        as_many_each (λ (list : StreamsOf). length list.items) ends_of lists row (omega (arith, size, same))
-        (λ place list line at_list at_line.
-        let within = slice_get_within row place line at_line in
-        let new = (made.lines host lists row at_lists at_row).each place (address_of (peer_at host place)) list.items line
-        (peer_there hosts host place (omega (arith, size, within))) (map_at (λ (l : StreamsOf). l.items) lists place list at_list) at_line in
-        ap (λ c. length c.streams.list) new.0))
+        let same = new.count in
+        let within = slice_get_within lines place line at in
+        let list = some_at lists place (omega (arith, count, same, within, size)) in
+        let made = new.each place (address_of (peer_at host place)) list.0.items line (peer_there hosts host place (omega (arith, count, same, within)))
+        (map_at (λ (l : Vec (ℕ × E) Global). l.items) lists place list.0 list.1) at in
+        let empty : list.0.items ≡ [] = all_at (λ (l : Vec (ℕ × E) Global). l.items ≡ []) lists place list.0 none list.1 in
+        subst (λ (l : List (ℕ × E)). IsNewLine (address_of host) (address_of (peer_at host place)) limit l line) empty made;
+  }

@@ -1,5 +1,5 @@
 -- Private: it serves the contracts of the private functions that open the streams of a run. Source: this project's own.
-use Rattle.std.specs.Prelude.{◌≡◌, ◌≤◌, ◌<◌, ◌+◌, ◌*◌, ◌^◌, ℕ, suc, List, Vec, [], ◌∷◌, ◌++◌, Some, length, slice_get, slice_set}
+use Rattle.std.specs.Prelude.{◌≡◌, ◌≤◌, ◌<◌, ◌+◌, ◌*◌, ◌^◌, ℕ, suc, List, Vec, [], ◌∷◌, ◌++◌, Some, length, slice_get, slice_set, vec_capacity, vec_len}
 use Rattle.std.specs.Global.{Global}
 use Rattle.rds_link.specs.Ends.{Means}
 use Rattle.rds_link.specs.Streaming.{HasRisenBy}
@@ -12,6 +12,14 @@ use Rattle.rds_parties.specs.Streams.{AreNumbersOf, IsKnown}
 -- the values that a count has
 abbrev pub IsCount : ℕ → Type 0
 IsCount n = n < 2 ^ 64
+
+-- there is room for one thing more
+abbrev pub HasRoom : {T : Type 0} → Vec T Global → Type 0
+HasRoom v = vec_len v < vec_capacity v
+
+-- So many ends were out, and so many of them were held; these are the same numbers later. None was lost: of the others no more are out.
+abbrev pub LosesNone : (out held out_after held_after : ℕ) → Type 0
+LosesNone out held out_after held_after = (others : ℕ) → out ≤ others + held → out_after ≤ others + held_after
 
 -- The streams between a host and a later one were prepared: the ends of the host stand behind those that it had, and those of the later
 -- one behind those in its own row. So many were to be prepared, and the wire's count of faults was this before and that afterwards.

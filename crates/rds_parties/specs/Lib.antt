@@ -2,6 +2,8 @@ pub mod Obeyed
 pub mod Streams
 pub mod Cuts
 pub mod Preparing
+pub mod Giving
+pub mod Making
 pub mod Parties
 pub mod Growing
 pub mod Leading

@@ -2,14 +2,17 @@
 #![tactic(auto)]
 
 mod counts;
+mod giving;
 pub mod laws;
 mod leading;
 mod making;
 mod playing;
+mod returning;
 mod streams;
 mod working;
 
 pub use counts::prepared_streams;
+pub use giving::give_streams;
 pub use making::parties;
 pub use playing::play;
 pub use streams::{Ends, Prepared, prepare};

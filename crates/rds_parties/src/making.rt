@@ -1,19 +1,14 @@
 //! How the hosts of a run are made.
-ghost use Rattle.std.specs.Prelude.{◌≡◌, ◌≤◌, ◌<◌, ℕ, suc, All, IfOk, List, filter, length, map};
+ghost use Rattle.std.specs.Prelude.{◌≡◌, ◌≤◌, ◌<◌, ℕ, All, IfOk, [], filter, length, map};
 ghost use Rattle.rds_model.specs.declared.entry.TheConstants.{MAX_SLOTS};
 ghost use Rattle.rds_model.specs.declared.journal.TheConstants.{MAX_ENTRIES, MIN_ENTRIES};
 ghost use Rattle.rds_final.specs.Hosts.{address_of};
 ghost use Rattle.rds_script.specs.Script.{IsScript};
-ghost use Rattle.rds_line_streams.specs.Streams.{AreNumbered, IsUnused};
-ghost use Rattle.rds_host.specs.Held.{ends_of_all};
-ghost use Rattle.rds_host.specs.Lines.{AreNewLines};
-ghost use Rattle.rds_rounds.specs.Connection.{AreHosts};
 ghost use Rattle.rds_rounds.specs.Grid.{others, peer_at, rows_of};
-ghost use Rattle.rds_parties.specs.Held.{ends_prepared};
+ghost use Rattle.rds_parties.specs.Giving.{HasNewLines, HaveNewLines};
+ghost use Rattle.rds_parties.specs.Making.{AreMadeBeside, IsParty};
 ghost use Rattle.rds_parties.specs.Obeyed.{AreNewPlaces, is_bind_of as is_bind_of_host, slot_count};
-ghost use Rattle.rds_parties.specs.Parties.{AreNewCallers, AreParties, HaveNotLooked};
-ghost use Rattle.rds_parties.specs.Preparing.{AreAllCounted, AreAllPrepared, HaveCounted, HaveStreamsOf};
-ghost use Rattle.rds_script.specs.declared.script.Placed.{Placed as PlacedCommand};
+ghost use Rattle.rds_parties.specs.Parties.{AreNewCallers, AreParties};
 ghost use Rattle.rds_settling.specs.Tied.{AreTied};
 
 use crate::streams::Ends;
@@ -29,6 +24,8 @@ use rds_script::{Placed, Script};
 use rds_settling::laws::tied_keeps;
 use rds_wire::Memory;
 use std::alloc::Global;
+use std::thread;
+use std::thread::Threads;
 
 // Whether the command binds a socket of the host.
 fn is_bind_of(placed: &Placed, host: u8) -> bool
@@ -62,67 +59,106 @@ fn slots(script: &Script, host: u8) -> u16
     binds as u16
 }
 
-/// The callers of the hosts of a script, and their lines to each other over these streams.
+/// The callers of the hosts of a script, and their lines to each other, which have no streams yet.
 ///
 /// # Errors
 ///
-/// Where memory runs out. The streams are given up.
-pub fn parties<E: End>(
+/// Where memory runs out.
+pub fn parties<E: End + Send, R: Threads + Sync>(
+    rt: &R,
     alloc: Global,
     script: &Script,
-    streams: Vec<Vec<Ends<E>>>,
     limit: u32,
 ) -> Result<(Vec<Caller>, Lines<E>), Memory>
     requires script { IsScript script.now }
-    requires streams { AreAllPrepared E.means script.now.hosts (rows_of streams.items) }
     requires least { MIN_ENTRIES ≤ limit }
     requires most { limit ≤ MAX_ENTRIES }
     ensures parties { IfOk result (λ p. AreParties script.now.hosts p.0.items (rows_of p.1.items)) }
     ensures new { IfOk result (λ p. AreNewCallers script.now.hosts script.now.commands.items p.0.items) }
-    ensures hosts { IfOk result (λ p. AreHosts E.means limit script.now.hosts (rows_of p.1.items)) }
-    ensures looks { IfOk result (λ p. HaveNotLooked (rows_of p.1.items)) }
-    ensures counted { (commands : List PlacedCommand) (before after : ℕ) → AreAllCounted commands before after (rows_of streams.items) →
-        IfOk result (λ p. HaveCounted commands before after (rows_of p.1.items)) }
-    ensures numbered { IfOk result (λ p. HaveStreamsOf (rows_of streams.items) (rows_of p.1.items)) }
-    ensures ends { IfOk result (λ p. ends_of_all (rows_of p.1.items) ≡ ends_prepared (rows_of streams.items)) }
+    ensures lines { IfOk result (λ p. HaveNewLines limit script.now.hosts (rows_of p.1.items)) }
 {
     let mut callers = Vec::new(alloc);
     let mut lines = Vec::new(alloc);
-    let mut host = 0u8;
-    for row in streams {
-        let (caller, row) = party(alloc, script, host, row, limit)?;
+    for party in made_beside(rt, alloc, script, limit)? {
+        let (caller, row) = party?;
         callers.push(caller)?;
         lines.push(row)?;
-        host += 1;
     }
     Ok((callers, lines))
 }
 
-// The caller of a host, and its lines over these streams, a line to each other host.
-fn party<E: End>(
+// The caller of a host, and its lines.
+type Party<E> = (Caller, Vec<Line<E, Writer>>);
+
+// The party of each host, made beside those of the others. The calling thread has the number behind the last one, for which nothing is made:
+// it makes the other threads and then sleeps, so that each of them has a processor at once.
+fn made_beside<E: End + Send, R: Threads + Sync>(
+    rt: &R,
     alloc: Global,
     script: &Script,
-    host: u8,
-    streams: Vec<Ends<E>>,
     limit: u32,
-) -> Result<(Caller, Vec<Line<E, Writer>>), Memory>
+) -> Result<Vec<Result<Party<E>, Memory>>, Memory>
+    requires script { IsScript script.now }
+    requires least { MIN_ENTRIES ≤ limit }
+    requires most { limit ≤ MAX_ENTRIES }
+    ensures { IfOk result (λ made. AreMadeBeside limit script.now.hosts script.now.commands.items made.items) }
+{
+    let make = |host: usize| -> Result<Party<E>, Memory>
+        requires { (2 ≤ script.now.hosts) × (script.now.hosts ≤ 8) × (MIN_ENTRIES ≤ limit) × (limit ≤ MAX_ENTRIES) }
+        ensures { IfOk result (IsParty limit script.entry.now.hosts host script.entry.now.commands.items) }
+    { party_or_none(alloc, script, host, limit) };
+    let mut made = thread::map_indices(rt, alloc, usize::from(script.hosts) + 1, &make)?;
+    made.pop();
+    Ok(made)
+}
+
+// The party of the host with this number, if there is one.
+fn party_or_none<E: End>(
+    alloc: Global,
+    script: &Script,
+    host: usize,
+    limit: u32,
+) -> Result<Party<E>, Memory>
+    requires hosts { (2 ≤ script.now.hosts) × (script.now.hosts ≤ 8) }
+    requires least { MIN_ENTRIES ≤ limit }
+    requires most { limit ≤ MAX_ENTRIES }
+    ensures { IfOk result (IsParty limit script.now.hosts host script.now.commands.items) }
+{
+    if host >= usize::from(script.hosts) {
+        return Err(Memory);
+    }
+    party(alloc, script, host as u8, limit)
+}
+
+// The caller of a host, and its lines, a line to each other host.
+fn party<E: End>(alloc: Global, script: &Script, host: u8, limit: u32) -> Result<Party<E>, Memory>
     requires hosts { (2 ≤ script.now.hosts) × (script.now.hosts ≤ 8) }
     requires host { host < script.now.hosts }
-    requires count { suc (length streams.items) ≡ script.now.hosts }
-    requires numbered { All (λ list. AreNumbered list.items) streams.items }
-    requires unused { All (λ list. All (λ stream. IsUnused E.means stream.1) list.items) streams.items }
     requires least { MIN_ENTRIES ≤ limit }
     requires most { limit ≤ MAX_ENTRIES }
     ensures count { IfOk result (λ p. length p.0.places ≡ slot_count host script.now.commands.items) }
     ensures slots { IfOk result (λ p. AreNewPlaces script.now.hosts host p.0.places) }
     ensures tied { IfOk result (λ p. AreTied p.0.places p.1.items) }
-    ensures lines { IfOk result (λ p. AreNewLines (address_of host) limit (map address_of (others script.now.hosts host)) (map (λ list. list.items) streams.items) p.1.items) }
+    ensures lines { IfOk result (λ p. HasNewLines limit script.now.hosts host p.1.items) }
 {
     let peers = peers(alloc, script.hosts, host)?;
     let slots = slots(script, host);
-    let (vacants, lines) = make(alloc, address(host), &peers, slots, streams, limit)?;
+    let none = no_streams(alloc, peers.len())?;
+    let (vacants, lines) = make(alloc, address(host), &peers, slots, none, limit)?;
     tied_keeps::<E>();
     Ok((Caller::new(alloc, host, vacants)?, lines))
+}
+
+// No streams to each of so many peers.
+fn no_streams<E: End>(alloc: Global, peers: usize) -> Result<Vec<Ends<E>>, Memory>
+    ensures count { IfOk result (λ lists. length lists.items ≡ peers) }
+    ensures none { IfOk result (λ lists. All (λ list. list.items ≡ []) lists.items) }
+{
+    let mut lists = Vec::new(alloc);
+    for _ in 0..peers {
+        lists.push(Vec::new(alloc))?;
+    }
+    Ok(lists)
 }
 
 // The addresses of the other hosts, ascending.

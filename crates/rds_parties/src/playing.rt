@@ -85,6 +85,34 @@ fn call_all<R: Wait, G: Gate>(
     Ok(caller)
 }
 
+// The callers of all hosts and then the word to stop, by threads of their own. The calling thread only sleeps, so that the thread that it
+// made for the workers has its processor at once.
+fn call_apart<R: Threads + Wait + Sync, G: Gate + Sync>(
+    rt: &R,
+    alloc: Global,
+    commands: &[Placed],
+    gate: &G,
+    callers: Vec<Caller>,
+    stop: &Stop,
+) -> Result<Vec<Caller>, Memory>
+    requires few { length callers.items ≤ 8 }
+    requires commands { (hosts : ℕ) × All (λ p. IsCommand hosts p.command) commands.now }
+    ensures obeyed { IfOk result (λ after. HaveObeyed commands.now callers.items after.items) }
+    ensures keeps { IfOk result (λ after. CallersKeep callers.items after.items) }
+{
+    let (after, ()) = thread::join(
+        rt,
+        move || -> Result<Vec<Caller>, Memory>
+            requires few { length callers.items ≤ 8 }
+            requires commands { (hosts : ℕ) × All (λ p. IsCommand hosts p.command) commands.now }
+            ensures obeyed { IfOk result (λ after. HaveObeyed commands.entry.now callers.items after.items) }
+            ensures keeps { IfOk result (λ after. CallersKeep callers.items after.items) }
+        { call_then_stop(rt, alloc, commands, gate, callers, stop) },
+        || (),
+    );
+    after
+}
+
 // The callers of all hosts, beside each other. When they have ended, the workers are told to stop.
 fn call_then_stop<R: Threads + Wait + Sync, G: Gate + Sync>(
     rt: &R,
@@ -220,7 +248,7 @@ fn play_beside<E: End + Send, R: Threads + Wait + Sync, G: Gate + Sync>(
             requires commands { (hosts : ℕ) × All (λ p. IsCommand hosts p.command) commands.now }
             ensures obeyed { IfOk result (λ after. HaveObeyed commands.entry.now callers.items after.items) }
             ensures keeps { IfOk result (λ after. CallersKeep callers.items after.items) }
-        { call_then_stop(rt, alloc, commands, gate, callers, stop) },
+        { call_apart(rt, alloc, commands, gate, callers, stop) },
     );
     (callers, lines)
 }

@@ -1,17 +1,18 @@
 //! The streams of a run.
-ghost use Rattle.std.specs.Prelude.{◌≡◌, ℕ, ◌+◌, ◌-◌, ◌≤◌, ◌<◌, [], ◌∷◌, ◌++◌, IfOk, OnOk, length};
+ghost use Rattle.std.specs.Prelude.{◌≡◌, ℕ, ◌+◌, ◌-◌, ◌≤◌, ◌<◌, [], ◌∷◌, ◌++◌, IfOk, OnErr, OnOk, length};
 ghost use Rattle.rds_link.specs.Streaming.{HasRisenBy};
 ghost use Rattle.rds_line_streams.specs.Streams.{numbers};
 ghost use Rattle.rds_rounds.specs.Grid.{rows_of};
 ghost use Rattle.rds_script.specs.Grammar.{meaning};
 ghost use Rattle.rds_script.specs.Script.{IsScript};
 ghost use Rattle.rds_parties.specs.Cuts.{AreFewCuts};
-ghost use Rattle.rds_parties.specs.Growing.{AreMissingBeside, AreRowsKnown, GrowsBy, HasThoseBelow, IsCount};
+ghost use Rattle.rds_parties.specs.Growing.{AreMissingBeside, AreRowsKnown, GrowsBy, HasRoom, HasThoseBelow, IsCount, LosesNone};
 ghost use Rattle.rds_parties.specs.Held.{ends_of_row, ends_prepared};
 ghost use Rattle.rds_parties.specs.Preparing.{AreAllCounted, AreAllKnown, AreAllPrepared, ArePrepared};
 ghost use Rattle.rds_parties.specs.Streams.{AreAllUnlessLacking, AreAllUnlessRisen, AreMissing, AreNumbersOf, prepared_streams, streams_below, streams_between};
 
 use crate::counts::{MORE_STREAMS, cuts_between, cuts_of};
+use crate::returning::{faults_of, give_back_ends, give_back_row, give_back_rows};
 use rds_final::address;
 use rds_link::{End, Wire, WireError};
 use rds_rounds::Wanted;
@@ -49,15 +50,27 @@ struct Opened<E: End> {
 }
 
 impl<E: End> Opened<E> {
-    // Adds the ends of a stream.
-    fn add(&mut self, number: u32, first: E, second: E) -> Result<(), Memory>
-        ensures low { OnOk result (self.new.low.items ≡ self.old.low.items ++ (number, first) ∷ []) }
-        ensures high { OnOk result (self.new.high.items ≡ self.old.high.items ++ (number, second) ∷ []) }
+    // Makes room for the ends of a stream.
+    fn reserve(&mut self) -> Result<(), Memory>
+        ensures low { self.new.low.items ≡ self.old.low.items }
+        ensures high { self.new.high.items ≡ self.old.high.items }
+        ensures lacks { self.new.lacks ≡ self.old.lacks }
+        ensures room { OnOk result (HasRoom self.new.low × HasRoom self.new.high) }
+    {
+        self.low.reserve(1)?;
+        self.high.reserve(1)?;
+        Ok(())
+    }
+
+    // Adds the ends of a stream, for which there is room.
+    fn add(&mut self, number: u32, first: E, second: E)
+        requires { HasRoom self.old.low × HasRoom self.old.high }
+        ensures low { self.new.low.items ≡ self.old.low.items ++ (number, first) ∷ [] }
+        ensures high { self.new.high.items ≡ self.old.high.items ++ (number, second) ∷ [] }
         ensures lacks { self.new.lacks ≡ self.old.lacks }
     {
-        self.low.push((number, first))?;
-        self.high.push((number, second))?;
-        Ok(())
+        self.low.push_reserved((number, first));
+        self.high.push_reserved((number, second));
     }
 }
 
@@ -66,7 +79,7 @@ impl<E: End> Opened<E> {
 ///
 /// # Errors
 ///
-/// Where memory runs out. The streams that were opened are given up.
+/// Where memory runs out. Every end of the streams that were opened is given back to the wire.
 pub fn prepare<W: Wire, R: Threads + Wait + Net>(
     rt: &R,
     alloc: Global,
@@ -80,6 +93,7 @@ pub fn prepare<W: Wire, R: Threads + Wait + Net>(
     ensures missing { IfOk result (λ p. AreMissing (prepared_streams (meaning script.now)) (ends_prepared (rows_of p.streams.items)) (W.faults wire.old) (W.faults wire.new)) }
     ensures grows { W.faults wire.old ≤ W.faults wire.new }
     ensures out { IfOk result (λ p. W.out wire.new ≤ W.out wire.old + ends_prepared (rows_of p.streams.items)) }
+    ensures memory { OnErr result (W.out wire.new ≤ W.out wire.old) }
 {
     let cuts = cuts_of(alloc, script)?;
     let mut prepared = Prepared {
@@ -87,18 +101,13 @@ pub fn prepare<W: Wire, R: Threads + Wait + Net>(
         wanted: Vec::new(alloc),
     };
     for host in 0..script.hosts {
-        add_host(rt, alloc, wire, cuts.as_slice(), host, &mut prepared)?;
+        let Ok(()) = add_host(rt, alloc, wire, cuts.as_slice(), host, &mut prepared) else {
+            give_back_rows(rt, wire, prepared.streams);
+            return Err(Memory);
+        };
     }
     faults_of(wire);
     Ok(prepared)
-}
-
-// How many faults the wire has counted, which is a number of 64 bits.
-fn faults_of<W: Wire>(wire: &W) -> u64
-    ensures value { result ≡ W.faults wire.now }
-    ensures fits { IsCount (W.faults wire.now) }
-{
-    wire.counts().faults
 }
 
 // Opens the streams between this host and each one below it. Those are all that were prepared so far.
@@ -120,16 +129,41 @@ fn add_host<W: Wire, R: Threads + Wait + Net>(
         OnOk result (AreAllCounted all_cuts.now before (W.faults wire.new) (rows_of prepared.new.streams.items)) }
     ensures missing { IsCount (W.faults wire.new) → OnOk result (AreMissingBeside (streams_below host all_cuts.now) (ends_prepared (rows_of prepared.old.streams.items)) (ends_prepared (rows_of prepared.new.streams.items)) (W.faults wire.old) (W.faults wire.new)) }
     ensures grows { W.faults wire.old ≤ W.faults wire.new }
-    ensures out { OnOk result (W.out wire.new + ends_prepared (rows_of prepared.old.streams.items) ≤ W.out wire.old + ends_prepared (rows_of prepared.new.streams.items)) }
+    ensures out { LosesNone (W.out wire.old) (ends_prepared (rows_of prepared.old.streams.items)) (W.out wire.new) (ends_prepared (rows_of prepared.new.streams.items)) }
 {
     let mut row = Row {
         streams: Vec::new(alloc),
         wanted: Vec::new(alloc),
     };
     for low in 0..host {
-        add_pair(rt, alloc, wire, all_cuts, low, host, prepared, &mut row)?;
+        let Ok(()) = add_pair(rt, alloc, wire, all_cuts, low, host, prepared, &mut row) else {
+            give_back_row(rt, wire, row.streams);
+            return Err(Memory);
+        };
     }
-    prepared.streams.push(row.streams)?;
+    add_row(rt, wire, prepared, row)?;
+    Ok(())
+}
+
+// Puts the row of a host behind those of the others. Where there is no memory for it, its ends are given back to the wire.
+fn add_row<W: Wire, R: Wait>(
+    rt: &R,
+    wire: &mut W,
+    prepared: &mut Prepared<W::End>,
+    row: Row<W::End>,
+) -> Result<(), Memory>
+    ensures streams { OnOk result (prepared.new.streams.items ≡ prepared.old.streams.items ++ row.streams ∷ []) }
+    ensures wanted { OnOk result (prepared.new.wanted.items ≡ prepared.old.wanted.items ++ row.wanted ∷ []) }
+    ensures same { OnOk result (wire.new ≡ wire.old) }
+    ensures faults { W.faults wire.old ≤ W.faults wire.new }
+    ensures out { LosesNone (W.out wire.old) (ends_prepared (rows_of prepared.old.streams.items) + ends_of_row row.streams.items)
+        (W.out wire.new) (ends_prepared (rows_of prepared.new.streams.items)) }
+{
+    if prepared.streams.reserve(1).is_err() {
+        give_back_row(rt, wire, row.streams);
+        return Err(Memory);
+    }
+    prepared.streams.push_reserved(row.streams);
     prepared.wanted.push(row.wanted)?;
     Ok(())
 }
@@ -156,17 +190,20 @@ fn add_pair<W: Wire, R: Threads + Wait + Net>(
     ensures known { OnOk result (AreRowsKnown all_cuts.now (rows_of prepared.new.streams.items) (rows_of prepared.new.wanted.items)) }
     ensures row { OnOk result (length row.new.wanted.items ≡ length row.old.wanted.items + 1) }
     ensures faults { W.faults wire.old ≤ W.faults wire.new }
-    ensures out { OnOk result (W.out wire.new + (ends_prepared (rows_of prepared.old.streams.items) + ends_of_row row.old.streams.items) ≤
-        W.out wire.old + (ends_prepared (rows_of prepared.new.streams.items) + ends_of_row row.new.streams.items)) }
+    ensures out { LosesNone (W.out wire.old) (ends_prepared (rows_of prepared.old.streams.items) + ends_of_row row.old.streams.items)
+        (W.out wire.new) (ends_prepared (rows_of prepared.new.streams.items) + ends_of_row row.new.streams.items) }
 {
     let cuts = cuts_between(all_cuts, low, high);
+    let place = usize::from(low);
+    let stood = &mut prepared.streams[place];
+    stood.reserve(1)?;
+    row.streams.reserve(1)?;
     let opened = open_all(rt, alloc, wire, low, high, cuts + MORE_STREAMS)?;
     let lacks = opened.lacks;
-    let low = usize::from(low);
-    prepared.wanted[low].push(Wanted { lacks, cuts })?;
+    stood.push_reserved(opened.low);
+    row.streams.push_reserved(opened.high);
+    prepared.wanted[place].push(Wanted { lacks, cuts })?;
     row.wanted.push(Wanted { lacks, cuts })?;
-    prepared.streams[low].push(opened.low)?;
-    row.streams.push(opened.high)?;
     Ok(())
 }
 
@@ -184,6 +221,7 @@ fn open_all<W: Wire, R: Threads + Wait + Net>(
     ensures counted { IsCount (W.faults wire.new) → IfOk result (λ opened. AreNumbersOf count (W.faults wire.old) (W.faults wire.new) (numbers opened.low.items)) }
     ensures grows { W.faults wire.old ≤ W.faults wire.new }
     ensures out { IfOk result (λ opened. W.out wire.new ≤ W.out wire.old + (length opened.low.items + length opened.high.items)) }
+    ensures memory { OnErr result (W.out wire.new ≤ W.out wire.old) }
 {
     let mut opened = Opened {
         low: Vec::new(alloc),
@@ -191,7 +229,11 @@ fn open_all<W: Wire, R: Threads + Wait + Net>(
         lacks: false,
     };
     for before in 0..count {
-        open_next(rt, wire, low, high, &mut opened, before)?;
+        let Ok(()) = open_next(rt, wire, low, high, &mut opened, before) else {
+            give_back_ends(rt, wire, opened.low);
+            give_back_ends(rt, wire, opened.high);
+            return Err(Memory);
+        };
     }
     Ok(opened)
 }
@@ -215,13 +257,14 @@ fn open_next<W: Wire, R: Threads + Wait + Net>(
     ensures missing { (first : ℕ) → IsCount (W.faults wire.new) → HasRisenBy (before - length (numbers opened.old.low.items)) first (W.faults wire.old) →
         OnOk result (HasRisenBy (before + 1 - length (numbers opened.new.low.items)) first (W.faults wire.new)) }
     ensures grows { W.faults wire.old ≤ W.faults wire.new }
-    ensures out { OnOk result (W.out wire.new + (length opened.old.low.items + length opened.old.high.items) ≤
-        W.out wire.old + (length opened.new.low.items + length opened.new.high.items)) }
+    ensures out { LosesNone (W.out wire.old) (length opened.old.low.items + length opened.old.high.items)
+        (W.out wire.new) (length opened.new.low.items + length opened.new.high.items) }
 {
+    opened.reserve()?;
     let number = before + 1;
     match wire.open(rt, address(low), address(high), number) {
         Ok((first, second)) => {
-            opened.add(number, first, second)?;
+            opened.add(number, first, second);
             Ok(())
         }
         Err(WireError::Fault) => {

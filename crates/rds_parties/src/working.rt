@@ -15,8 +15,26 @@ use std::sync::Wait;
 use std::thread;
 use std::thread::Threads;
 
-/// The workers of all lines, beside each other. They end some time after the flag is set.
+/// The workers of all lines, beside each other. They end some time after the flag is set. Behind the rows stands one without lines, which
+/// is the calling thread's: that thread makes the others and then sleeps, so that each of them has a processor at once.
 pub(crate) fn work_all<E: End + Send, R: Threads + Wait + Sync>(
+    rt: &R,
+    alloc: Global,
+    mut lines: Lines<E>,
+    stop: &Stop,
+) -> Lines<E>
+    ensures { EachRow (AreTurned E.means pair_of) (rows_of lines.items) (rows_of result.items) }
+{
+    if lines.push(Vec::new(alloc)).is_err() {
+        return work_on_rows(rt, alloc, lines, stop);
+    }
+    let mut lines = work_on_rows(rt, alloc, lines, stop);
+    lines.pop();
+    lines
+}
+
+// The workers of all lines of these rows, the last row's on the calling thread.
+fn work_on_rows<E: End + Send, R: Threads + Wait + Sync>(
     rt: &R,
     alloc: Global,
     mut lines: Lines<E>,

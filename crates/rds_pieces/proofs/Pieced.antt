@@ -1,12 +1,12 @@
 -- What was read of a head alone, and of each piece.
-use Rattle.std.proofs.Common.{◌≡◌, ℕ, List, [], ◌∷◌, length, map, Option, Some, None, Result, Ok, Err, Vec, Global, arith, refl, sym, ap, subst, ◌∙◌}
+use Rattle.std.proofs.Common.{◌≡◌, ℕ, List, [], ◌∷◌, ◌++◌, length, map, Option, Some, None, Result, Ok, Err, Vec, Global, arith, refl, sym, ap, subst, ◌∙◌}
 use Rattle.std.specs.Prelude.{◌≢◌, IfOk, IfSome, MatchResult, Contains}
 use Rattle.std.specs.Borrow.{Bor}
 use Rattle.std.specs.Result.{result_ok}
 use Rattle.std.specs.List.{AllByRecursion, AllZip}
 use Rattle.std.specs.Str.Lines.{lines as lines_of}
-use Rattle.std.proofs.lemmas.List.{append-nil}
-use Rattle.rayon.proofs.ListFacts.{AllZip-through}
+use Rattle.std.proofs.lemmas.List.{append-nil, map-append}
+use Rattle.rayon.proofs.ListFacts.{AllZip-append, AllZip-through}
 use Rattle.rds_script.specs.declared.cause.ScriptError.{ScriptError}
 use Rattle.rds_script.specs.declared.script.Placed.{Placed}
 use Rattle.rds_script.specs.Grammar.{Meaning, meaning, command_lines, SpellsPlaced, SpellsLines, Spells}
@@ -76,3 +76,11 @@ module _ (head : List ℕ) where
   each_in_lines [] (y ∷ ys) h = absurd h
   each_in_lines (p ∷ ps) [] h = absurd h
   each_in_lines (p ∷ ps) (y ∷ ys) h = (h.0.placed, each_in_lines ps ys h.1)
+
+  -- what was read of pieces, and behind it what was read of others
+  pub both_read : (front back pieces : List (Bor (List ℕ))) (xs ys zs : List Part) → pieces ≡ front ++ back → zs ≡ xs ++ ys
+      → AllZip (IsPart head) (contents front) xs → AllZip (IsPart head) (contents back) ys → AllZip (IsPart head) (contents pieces) zs
+  both_read front back pieces xs ys zs whole items first rest =
+      let each = AllZip-append (IsPart head) (contents front) (contents back) xs ys first rest in
+      let texts : contents pieces ≡ contents front ++ contents back = ap contents whole ∙ map-append (λ (p : Bor (List ℕ)). p.now) front back in
+      subst (λ (ps : List (List ℕ)). AllZip (IsPart head) ps zs) (sym texts) (subst (AllZip (IsPart head) (contents front ++ contents back)) (sym items) each)

@@ -1,4 +1,4 @@
-ghost use Rattle.std.specs.Prelude.{◌≡◌, ◌≤◌, ℕ, [], IfOk, IfSome};
+ghost use Rattle.std.specs.Prelude.{◌≡◌, ◌<◌, ◌≤◌, ℕ, [], IfOk, IfSome};
 ghost use Rattle.std.specs.List.{AllZip};
 ghost use Rattle.rds_script.specs.declared.cause.Cause.{Cause as Why};
 ghost use Rattle.rds_script.specs.Script.{IsScript};
@@ -17,10 +17,17 @@ use rayon::prelude::*;
 use rds_script::laws::{one_script, spelled_or_refused};
 use rds_script::{MAX_TEXT, Script, ScriptError, read};
 use std::alloc::{AllocError, Global};
+use std::thread;
 use std::thread::Threads;
 
+/// How many groups of pieces are read beside one another at most.
+const GROUPS: usize = 4;
+
+/// How many pieces each thread of a group reads at least, where more than one thread reads the group.
+const LEAST: usize = 8;
+
 /// The script that the text spells, or the first line at which it is refused and why, as `rds_script::read` gives it. A
-/// long text is cut into pieces at ends of lines, and each is read by a thread of its own.
+/// long text is cut into pieces at ends of lines, and groups of them are read by threads beside one another.
 ///
 /// # Errors
 ///
@@ -83,8 +90,53 @@ fn read_head(alloc: Global, head: &[u8]) -> Option<(Part, u32)>
     Some((first, line_count(head)))
 }
 
-/// What is read of each piece, each by a thread of its own.
+/// What is read of each piece, in at most `GROUPS` groups beside one another.
 fn read_each<R: Threads + Sync>(
+    rt: &R,
+    alloc: Global,
+    head: &[u8],
+    pieces: &[&[u8]],
+) -> Option<Vec<Part>>
+    ensures { IfSome result (λ parts. AllZip (IsPart head.now) (contents pieces.now) parts.items) }
+{
+    let size = pieces.len().div_ceil(GROUPS).max(1);
+    read_groups(rt, alloc, head, pieces, size)
+}
+
+/// What is read of each piece, where each group of so many pieces, one behind another, has a thread of its own.
+///
+/// The calling thread reads none of them: it makes the threads and then only waits. A kernel may place a new thread on its
+/// maker's processor as long as only the maker runs there, so a group would wait while the maker read another one.
+#[cycle(groups)]
+fn read_groups<R: Threads + Sync>(
+    rt: &R,
+    alloc: Global,
+    head: &[u8],
+    pieces: &[&[u8]],
+    size: usize,
+) -> Option<Vec<Part>>
+    requires { 0 < size }
+    ensures { IfSome result (λ parts. AllZip (IsPart head.now) (contents pieces.now) parts.items) }
+{
+    if pieces.is_empty() {
+        return Some(Vec::new(alloc));
+    }
+    let (group, others) = pieces.split_at(size.min(pieces.len()));
+    let first = || -> Option<Vec<Part>>
+        ensures { IfSome result (λ parts. AllZip (IsPart head.entry.now) (contents group.entry.now) parts.items) }
+    { read_group(rt, alloc, head, group) };
+    let rest = || -> Option<Vec<Part>>
+        requires { 0 < size }
+        ensures { IfSome result (λ parts. AllZip (IsPart head.entry.now) (contents others.entry.now) parts.items) }
+    { read_groups(rt, alloc, head, others, size) };
+    let (front, back) = thread::join(rt, first, rest);
+    let mut parts = front?;
+    parts.append(&mut back?).ok()?;
+    Some(parts)
+}
+
+/// What is read of each piece of a group, by one thread, or by more where the group has many pieces.
+fn read_group<R: Threads + Sync>(
     rt: &R,
     alloc: Global,
     head: &[u8],
@@ -94,7 +146,7 @@ fn read_each<R: Threads + Sync>(
 {
     let read: Result<Result<Vec<Part>, ScriptError>, AllocError> = pieces
         .par_iter()
-        .with_min_len(1)
+        .with_min_len(LEAST)
         .map(
             |piece: &&[u8]| -> Result<Part, ScriptError>
                 ensures { IfOk result (IsPart head.entry.now piece.now.now) }

@@ -1,10 +1,9 @@
 -- The report by parts, one for each host that datagrams went to.
-use Rattle.std.proofs.Common.{◌≡◌, ◌<◌, ◌≤◌, ◌+◌, inl, inr, ℕ, zero, suc, Bool, true, false, ◌||◌, ◌&&◌, ◌==◌, nat_lt, cond, List, [], ◌∷◌, ◌++◌, map, filter, Result, Ok, IfOk, append_assoc, arith, refl, sym, ap, ◌∙◌}
-use Rattle.std.specs.List.{AllZip, flat_map, list_any, range_with_len}
+use Rattle.std.proofs.Common.{◌≡◌, ◌<◌, ◌≤◌, ◌+◌, inl, inr, ℕ, zero, suc, Bool, true, false, ◌||◌, ◌&&◌, ◌==◌, nat_lt, cond, List, [], ◌∷◌, ◌++◌, filter, Some, length, slice_get, subst, if◌then◌else◌, append_assoc, arith, refl, sym, ap, ◌∙◌}
+use Rattle.std.specs.List.{flat_map, list_any}
 use Rattle.std.proofs.lemmas.Bool.{true≢false, cases_order, lt-ltb, le-ltb, ne_eqb, eq-eqb, eqb-true}
 use Rattle.std.proofs.lemmas.List.{append-nil}
 use Rattle.std.proofs.lemmas.Grind.{flat_map-append}
-use Rattle.rds_wire.specs.declared.memory.Memory.{Memory}
 use Rattle.rds_text.specs.declared.host.TheConstants.{MAX_HOSTS}
 use Rattle.rds_report.specs.Item.{Item}
 use Rattle.rds_final.specs.Hosts.{IsAddress, address_of}
@@ -12,7 +11,7 @@ use Rattle.rds_final.specs.FinalState.{FinalHost}
 use Rattle.rds_final.specs.Report.{Group, is_before, ascending, groups, group_text}
 use Rattle.rds_final.specs.Views.{AreFinalHosts}
 use Rattle.rds_report.specs.Items.{is_to, items, items_to}
-use Rattle.rds_report.specs.ItemReport.{is_same, is_of, of_pair, pair_lines, accepted_pairs, groups_text, AreKnown, groups_to, part, parts}
+use Rattle.rds_report.specs.ItemReport.{is_same, is_of, of_pair, pair_lines, accepted_pairs, groups_text, AreKnown, groups_to, job_end, part, parts}
 use Rattle.rds_report.proofs.Orders.{Above, Rising, lex_more, has, has_ascending, rising_ascending, rising_one, same_itself}
 use Rattle.rds_report.proofs.Chunks.{accepting}
 use Rattle.rds_report.proofs.Chosen.{ends_once}
@@ -239,23 +238,37 @@ module _ (ends : List FinalHost) where
     pub all_parts : parts ends MAX_HOSTS ≡ flat_map (group_text ends) (groups ends)
     all_parts = parts_below MAX_HOSTS ∙ ap (flat_map (group_text ends)) below_last
 
--- the parts of n hosts from host k on, behind those of the hosts below it
-pub joined : {T : Type 0} (bytes : T → List ℕ) (ends : List FinalHost) (k n : ℕ) (texts : List T) →
-    AllZip (λ (host : ℕ) (made : Result T Memory). IfOk made (λ t. bytes t ≡ part ends (address_of host))) (range_with_len k n) (map Ok texts) →
-    parts ends k ++ flat_map bytes texts ≡ parts ends (k + n)
-joined bytes ends k zero [] zip = append-nil (parts ends k) ∙ ap (parts ends) same
+-- what one more than `count` jobs made, from job `job` on, behind the parts that end before it
+jobs_end : {T : Type 0} (bytes : T → List ℕ) (ends : List FinalHost) (count job : ℕ) (made : List T) → job + length made ≡ suc count →
+    ((i : ℕ) (t : T) → slice_get made i ≡ Some t → parts ends (job_end count (job + i)) ≡ parts ends (job + i) ++ bytes t) →
+    job ≤ count → parts ends job ++ flat_map bytes made ≡ parts ends MAX_HOSTS
+jobs_end bytes ends count job [] number each within = absurd (omega (arith, number, within))
+jobs_end bytes ends count job (t ∷ []) number each within =
+    ap (λ (l : List ℕ). parts ends job ++ l) (append-nil (bytes t))
+    ∙ sym (subst (λ (j : ℕ). parts ends (job_end count j) ≡ parts ends j ++ bytes t) same (each 0 t refl))
+    ∙ ap (λ (b : Bool). parts ends (if b then suc job else MAX_HOSTS)) (le-ltb job count (omega (arith, number)))
   where
-    same : k ≡ k + 0
+    same : job + 0 ≡ job
     same = omega arith
-joined bytes ends k zero (t ∷ texts) zip = absurd zip
-joined bytes ends k (suc n) [] zip = absurd zip
-joined bytes ends k (suc n) (t ∷ texts) zip =
-    sym (append_assoc (parts ends k) (bytes t) (flat_map bytes texts))
-    ∙ ap (λ (l : List ℕ). (parts ends k ++ l) ++ flat_map bytes texts) zip.0
-    ∙ ap (λ (m : ℕ). parts ends m ++ flat_map bytes texts) next ∙ joined bytes ends (k + 1) n texts zip.1 ∙ ap (parts ends) more
+jobs_end {T} bytes ends count job (t ∷ (u ∷ made)) number each within =
+    sym (append_assoc (parts ends job) (bytes t) (flat_map bytes (u ∷ made)))
+    ∙ ap (λ (l : List ℕ). l ++ flat_map bytes (u ∷ made))
+    (sym (subst (λ (j : ℕ). parts ends (job_end count j) ≡ parts ends j ++ bytes t) same (each 0 t refl))
+    ∙ ap (λ (b : Bool). parts ends (if b then suc job else MAX_HOSTS)) (lt-ltb job count (omega (arith, number))))
+    ∙ jobs_end bytes ends count (suc job) (u ∷ made) (omega (arith, number)) later (omega (arith, number))
   where
-    next : suc k ≡ k + 1
-    next = omega arith
+    same : job + 0 ≡ job
+    same = omega arith
 
-    more : (k + 1) + n ≡ k + suc n
-    more = omega arith
+    later : (i : ℕ) (x : T) → slice_get (u ∷ made) i ≡ Some x → parts ends (job_end count (suc job + i)) ≡ parts ends (suc job + i) ++ bytes x
+    later i x at =
+        let up : job + suc i ≡ suc job + i = omega arith in
+        subst (λ (j : ℕ). parts ends (job_end count j) ≡ parts ends j ++ bytes x) up (each (suc i) x at)
+
+-- what all of them made is all parts
+pub all_jobs : {T : Type 0} (bytes : T → List ℕ) (ends : List FinalHost) (count : ℕ) (made : List T) → length made ≡ suc count →
+    ((i : ℕ) (t : T) → slice_get made i ≡ Some t → parts ends (job_end count i) ≡ parts ends i ++ bytes t) → flat_map bytes made ≡ parts ends MAX_HOSTS
+all_jobs bytes ends count made number each =
+    jobs_end bytes ends count 0 made (omega (arith, number))
+    (λ i t at. let same : i ≡ 0 + i = omega arith in subst (λ (j : ℕ). parts ends (job_end count j) ≡ parts ends j ++ bytes t) same (each i t at))
+    (omega arith)

@@ -1,7 +1,8 @@
 -- Private: needed by the proofs of `report` and `summary` only. The report of items. Source: this project's own.
-use Rattle.std.specs.Prelude.{◌≡◌, ℕ, zero, suc, ⊤, ◌==◌, if◌then◌else◌, ◌&&◌, Bool, true, false, Option, Some, None, List, [], ◌∷◌, ◌++◌, length, filter, map, codes}
+use Rattle.std.specs.Prelude.{◌≡◌, ℕ, zero, suc, ⊤, ◌==◌, nat_lt, if◌then◌else◌, ◌&&◌, Bool, true, false, Option, Some, None, List, [], ◌∷◌, ◌++◌, length, filter, map, codes}
 use Rattle.std.specs.List.{flat_map, list_any}
 use Rattle.rds_text.specs.Words.{hex}
+use Rattle.rds_text.specs.declared.host.TheConstants.{MAX_HOSTS}
 use Rattle.rds_report.specs.Item.{What, Accepted, Received, Unread, Dropped, Port0, Cancelled, Item}
 use Rattle.rds_final.specs.FinalState.{FinalHost}
 use Rattle.rds_final.specs.Hosts.{IsAddress, address_of}
@@ -111,3 +112,8 @@ part hosts to = flat_map (group_text hosts) (groups_to hosts to)
 abbrev pub parts : List FinalHost → (n : ℕ) → List ℕ
 parts hosts zero = []
 parts hosts (suc n) = parts hosts n ++ part hosts (address_of n)
+
+-- One more than `count` jobs print the parts, each that on the host of its number, and the last those on all hosts from there on: where the
+-- parts of a job end
+abbrev pub job_end : (count : ℕ) → (job : ℕ) → ℕ
+job_end count job = if nat_lt job count then suc job else MAX_HOSTS

@@ -1,4 +1,4 @@
-ghost use Rattle.std.specs.Prelude.{◌≡◌, IfOk};
+ghost use Rattle.std.specs.Prelude.{◌≡◌, IfOk, Ok, map};
 ghost use Rattle.std.specs.List.{flat_map};
 
 use rds_wire::Memory;
@@ -12,6 +12,17 @@ pub fn joined<T: Drop>(alloc: Global, lists: Vec<Vec<T>>) -> Result<Vec<T>, Memo
     all.reserve(length(&lists))?;
     for mut list in lists {
         all.append(&mut list)?;
+    }
+    Ok(all)
+}
+
+/// What was made, where memory ran out for none of it.
+pub fn all_of<T: Drop>(alloc: Global, made: Vec<Result<T, Memory>>) -> Result<Vec<T>, Memory>
+    ensures { IfOk result (λ all. map Ok all.items ≡ made.items) }
+{
+    let mut all = Vec::new(alloc);
+    for one in made {
+        all.push(one?)?;
     }
     Ok(all)
 }

@@ -1,21 +1,21 @@
-ghost use Rattle.std.specs.Prelude.{◌≡◌, ◌++◌, ℕ, List, IfOk, OnOk, string_bytes};
+ghost use Rattle.std.specs.Prelude.{◌≡◌, ◌≤◌, ◌++◌, ℕ, List, IfOk, OnOk, string_bytes};
 ghost use Rattle.std.specs.List.{flat_map};
 ghost use Rattle.rds_final.specs.Hosts.{address_of};
 ghost use Rattle.rds_final.specs.Views.{AreFinalHosts, host_views};
 ghost use Rattle.rds_text.specs.Lines.{end_line};
-ghost use Rattle.rds_report.specs.ItemReport.{part};
+ghost use Rattle.rds_report.specs.ItemReport.{job_end, part, parts};
 ghost use Rattle.rds_final.specs.Report.{report as text_of};
 
 use crate::grouping::sort;
-use crate::lists::joined;
+use crate::lists::{all_of, joined};
 use crate::texts::Texts;
 use crate::{collect, print};
-use rayon::prelude::*;
 use rds_final::{HostEnd, address};
 use rds_model::Journal;
 use rds_text::MAX_HOSTS;
 use rds_wire::Memory;
 use std::alloc::Global;
+use std::thread;
 use std::thread::Threads;
 
 /// The report over what the hosts have in the end: a group for each port pair with an accepted datagram, in ascending
@@ -40,8 +40,8 @@ pub fn report(alloc: Global, text: &mut String, hosts: &[HostEnd]) -> Result<(),
 /// A report on journals with fewer entries in all is made on the calling thread: other threads would take longer to begin.
 const FEW_ENTRIES: u64 = 8_192;
 
-/// The same report, in texts that are to be written one behind another. Where journals have many entries, what went to each of the
-/// `MAX_HOSTS` hosts is printed by a thread of its own, and the lines of a port pair with many datagrams by several.
+/// The same report, in texts that are to be written one behind another. Where journals have many entries, what went to each host
+/// is printed by a thread of its own, and the lines of a port pair with many datagrams by several.
 ///
 /// # Errors
 ///
@@ -88,7 +88,9 @@ fn one_text(alloc: Global, hosts: &[HostEnd]) -> Result<Vec<String>, Memory>
     Ok(vec![in alloc; text]?)
 }
 
-// The report in texts one behind another, that on each host by a thread of its own.
+// The report in texts one behind another: the parts on the first hosts, as many as these, each by a thread of its own, and the parts on all
+// others, which as a rule have nothing, by the calling thread. The calling thread has hardly anything to do, and sleeps: where the maker of a
+// thread runs on, a kernel can leave the new thread on the maker's processor, and it waits there for some milliseconds.
 fn parts_beside<R: Threads + Sync>(
     rt: &R,
     alloc: Global,
@@ -97,19 +99,53 @@ fn parts_beside<R: Threads + Sync>(
     ensures { AreFinalHosts (host_views hosts.now) →
         IfOk result (λ texts. flat_map string_bytes texts.items ≡ text_of (host_views hosts.now)) }
 {
-    let parts: Result<Vec<Vec<String>>, Memory> = (0..MAX_HOSTS)
-        .into_par_iter()
-        .with_min_len(1)
-        .map(
-            |host: u8| -> Result<Vec<String>, Memory>
-                ensures { AreFinalHosts (host_views hosts.entry.now) →
-                    IfOk result (λ texts. flat_map string_bytes texts.items ≡ part (host_views hosts.entry.now) (address_of host)) }
-            { part_texts(rt, alloc, hosts, host) },
-        )
-        .collect(rt, alloc)?;
-    let parts = parts?;
-    let mut texts = joined(alloc, parts)?;
+    let count = hosts.len().min(usize::from(MAX_HOSTS)) as u8;
+    let do_job = move |job: usize| -> Result<Vec<String>, Memory>
+        requires { (job ≤ count) × (count ≤ MAX_HOSTS) }
+        ensures { AreFinalHosts (host_views hosts.entry.now) →
+            IfOk result (λ texts. parts (host_views hosts.entry.now) (job_end count job) ≡
+            parts (host_views hosts.entry.now) job ++ flat_map string_bytes texts.items) }
+    { job_texts(rt, alloc, hosts, job as u8, count) };
+    let made = thread::map_indices(rt, alloc, usize::from(count) + 1, &do_job)?;
+    let mut texts = joined(alloc, all_of(alloc, made)?)?;
     texts.push(format!(in alloc; "end ok\n")?)?;
+    Ok(texts)
+}
+
+// What a job prints, where one more than `count` jobs print the parts: that on the host of its number, and the last job those on all hosts
+// from there on.
+fn job_texts<R: Threads + Sync>(
+    rt: &R,
+    alloc: Global,
+    hosts: &[HostEnd],
+    job: u8,
+    count: u8,
+) -> Result<Vec<String>, Memory>
+    requires { (job ≤ count) × (count ≤ MAX_HOSTS) }
+    ensures { AreFinalHosts (host_views hosts.now) →
+        IfOk result (λ texts. parts (host_views hosts.now) (job_end count job) ≡ parts (host_views hosts.now) job ++ flat_map string_bytes texts.items) }
+{
+    let to = if job < count { job + 1 } else { MAX_HOSTS };
+    texts_between(rt, alloc, hosts, job, to)
+}
+
+// The parts of the report on the hosts from one up to another, in texts one behind another.
+fn texts_between<R: Threads + Sync>(
+    rt: &R,
+    alloc: Global,
+    hosts: &[HostEnd],
+    from: u8,
+    to: u8,
+) -> Result<Vec<String>, Memory>
+    requires { from ≤ to }
+    ensures { AreFinalHosts (host_views hosts.now) →
+        IfOk result (λ texts. parts (host_views hosts.now) to ≡ parts (host_views hosts.now) from ++ flat_map string_bytes texts.items) }
+{
+    let mut texts = Vec::new(alloc);
+    for host in from..to {
+        let mut more = part_texts(rt, alloc, hosts, host)?;
+        texts.append(&mut more)?;
+    }
     Ok(texts)
 }
 

@@ -1,4 +1,4 @@
-ghost use Rattle.std.specs.Prelude.{◌≡◌, ◌⊎◌, ℕ, IfNone, IfSome};
+ghost use Rattle.std.specs.Prelude.{◌≡◌, ◌≤◌, ◌⊎◌, ℕ, IfNone, IfSome};
 ghost use Rattle.rds_link.specs.Streaming.{HasRisen};
 ghost use Rattle.rds_script.specs.Script.{IsScript};
 ghost use Rattle.rds_script.specs.declared.cause.Cause.{Cause as Why};
@@ -70,6 +70,7 @@ where
         result
         ⊎ (result ≡ ended.Memory) }
     ensures tcp_unused { wire ≡ wires.Memory → tcp.new ≡ tcp.old }
+    ensures given_back { W.out tcp.new ≤ W.out tcp.old }
 {
     match read_script(rt, alloc, source, sink) {
         Ok(script) => run_over(rt, alloc, wire, script, sink, tcp, gate),
@@ -99,6 +100,7 @@ where
         record { held_before = K.held sink.old; held_after = K.held sink.new; faults_before = K.faults sink.old; faults_after = K.faults sink.new }
         result }
     ensures tcp_unused { wire ≡ wires.Memory → tcp.new ≡ tcp.old }
+    ensures given_back { W.out tcp.new ≤ W.out tcp.old }
 {
     if let Some(streams) = too_many(wire, &script) {
         return refuse_streams(alloc, streams, sink);

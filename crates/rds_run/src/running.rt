@@ -1,4 +1,4 @@
-ghost use Rattle.std.specs.Prelude.{◌≡◌};
+ghost use Rattle.std.specs.Prelude.{◌≡◌, ◌≤◌};
 ghost use Rattle.rds_script.specs.Script.{IsScript};
 ghost use Rattle.rds_script.specs.Grammar.{meaning};
 ghost use Rattle.rds_model.specs.declared.journal.TheConstants.{MAX_ENTRIES};
@@ -63,6 +63,7 @@ where
         record { held_before = K.held sink.old; held_after = K.held sink.new; faults_before = K.faults sink.old; faults_after = K.faults sink.new }
         result }
     ensures may_fail { result ≡ status.WireFault → W.may_fail wire.old }
+    ensures given_back { W.out wire.new ≤ W.out wire.old }
     ensures begun { result ≡ status.WriteFault → HasBegun form W.End.means.tells MAX_ENTRIES script.hosts script.commands.items
         (IsCountedEnd W.End.means.tells (W.may_fail wire.old) 20000000 script.commands.items
         record { faults = W.faults wire.old; nothings = W.nothings wire.old; fulls = W.fulls wire.old }
@@ -81,7 +82,7 @@ where
         sink,
     ) {
         RunEnd::Ok { ends } => {
-            let_go(rt, ends, script);
+            let_go(rt, alloc, ends, script);
             Status::Written
         }
         RunEnd::WireFault { .. } => Status::WireFault,
@@ -92,9 +93,18 @@ where
     }
 }
 
-// Lets go of what the hosts of a run have, that of each host in a thread of its own. The script has shares of the same blocks of
-// memory, and threads that count the owners of one block beside one another wait for each other. So it goes afterwards.
-fn let_go<R: Threads + Sync>(rt: &R, ends: Vec<HostEnd>, script: Script) {
+// Lets go of what the hosts of a run have, that of each host in a thread of its own. The calling thread makes these threads, lets go of a
+// host without anything, and sleeps, so that each of them has a processor at once. The script has shares of the same blocks of memory, and
+// threads that count the owners of one block beside one another wait for each other. So it goes afterwards.
+fn let_go<R: Threads + Sync>(rt: &R, alloc: Global, ends: Vec<HostEnd>, script: Script) {
+    let mut ends = ends;
+    let nothing = HostEnd {
+        addr: 0,
+        journals: Vec::new(alloc),
+        kept: Vec::new(alloc),
+    };
+    // Where there is no memory for it, the calling thread lets go of the last host.
+    let _ = ends.push(nothing);
     ends.into_par_iter()
         .with_min_len(1)
         .for_each(rt, |end: HostEnd| drop(end));

@@ -181,6 +181,8 @@ where
     ensures unread { (sends seed : ℕ) → AreGen words.now sends seed → source.new ≡ source.old }
     ensures usage_unread { AreNoCommand words.now → source.new ≡ source.old }
     ensures tcp_unused { (AreRun words.now wires.Tcp → ⊥) → tcp.new ≡ tcp.old }
+    // However a run over TCP ends, every end of a stream that it opened was given back.
+    ensures given_back { W.out tcp.new ≤ W.out tcp.old }
     ensures known { result ≤ 9 }
 {
     do_work(rt, alloc, words, source, sink, tcp, gate).code()
@@ -210,6 +212,7 @@ where
     ensures unread { (sends seed : ℕ) → AreGen words.now sends seed → source.new ≡ source.old }
     ensures usage_unread { AreNoCommand words.now → source.new ≡ source.old }
     ensures tcp_unused { (AreRun words.now wires.Tcp → ⊥) → tcp.new ≡ tcp.old }
+    ensures given_back { W.out tcp.new ≤ W.out tcp.old }
 {
     match work_of(alloc, words) {
         Ok(Some(Work::Play)) => play_text(rt, alloc, source, sink),

@@ -1,5 +1,5 @@
 -- The ends that the lines of hosts hold.
-use Rattle.std.proofs.Common.{◌≡◌, ℕ, suc, ◌+◌, List, Vec, [], ◌∷◌, ◌++◌, Some, Result, Ok, Err, IfOk, get_or, slice_get, take, ap, ◌∙◌}
+use Rattle.std.proofs.Common.{◌≡◌, ℕ, suc, ◌+◌, List, Vec, [], ◌∷◌, ◌++◌, Some, get_or, slice_get, take, ap, ◌∙◌}
 use Rattle.std.specs.Global.{Global}
 use Rattle.std.proofs.Math.Seq.{take-suc}
 use Rattle.std.proofs.lemmas.List.{map-append}
@@ -8,11 +8,6 @@ use Rattle.std.proofs.lemmas.Option.{get_or_from_slice_get, slice_get_within}
 use Rattle.rds_line.specs.Line.{LineView}
 use Rattle.rds_host.specs.Held.{ends_in, ends_of_all}
 use Rattle.rds_rounds.specs.Grid.{rows_of}
-
--- what holds anyway holds of what was made
-pub of_any : {X Z : Type 0} (r : Result X Z) (P : Type 0) → P → IfOk r (λ x. P)
-of_any (Ok x) P p = p
-of_any (Err e) P p = tt
 
 module _ {E M : Type 0} where
   -- those of a host more

@@ -120,8 +120,23 @@ fn tell_slots<E: End>(caller: &mut Caller, lines: &mut Vec<Line<E, Writer>>)
     settle_slots(caller, lines);
 }
 
-// What is left of the slots of each host, in order, each by a thread of its own.
+// What is left of the slots of each host, in order, each by a thread of its own. The calling thread has a caller without slots behind the
+// others: it makes the threads and then sleeps, so that each of them has a processor at once.
 fn end_beside<R: Threads + Wait + Sync>(
+    rt: &R,
+    alloc: Global,
+    mut callers: Vec<Caller>,
+) -> Result<Vec<Result<Left, Memory>>, Memory>
+    ensures { IfOk result (λ left. HaveEnded callers.items left.items) }
+{
+    callers.push(Caller::new(alloc, 0, Vec::new(alloc))?)?;
+    let mut left = end_all(rt, alloc, callers)?;
+    left.pop();
+    Ok(left)
+}
+
+// What is left of the slots of these callers, in order, the last one's by the calling thread.
+fn end_all<R: Threads + Wait + Sync>(
     rt: &R,
     alloc: Global,
     callers: Vec<Caller>,

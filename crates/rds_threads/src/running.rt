@@ -1,5 +1,5 @@
 //! A run.
-ghost use Rattle.std.specs.Prelude.{◌≡◌, ◌≢◌, ◌≤◌, ◌-◌, ℕ, List, IfOk, OnErr, length, true};
+ghost use Rattle.std.specs.Prelude.{◌≡◌, ◌≤◌, ◌-◌, ℕ, List, IfOk, OnErr, length, true};
 ghost use Rattle.rds_model.specs.declared.journal.TheConstants.{MAX_ENTRIES, MIN_ENTRIES};
 ghost use Rattle.rds_script.specs.Script.{IsScript};
 ghost use Rattle.rds_rounds.specs.Connection.{AreHosts};
@@ -10,7 +10,6 @@ ghost use Rattle.rds_threads.specs.Begun.{BeginsAtFault};
 ghost use Rattle.rds_threads.specs.Counted.{IsCountedEnd};
 ghost use Rattle.rds_threads.specs.Cuts.{IsCutEnd};
 ghost use Rattle.rds_threads.specs.Ends.{IsEndOfRun};
-ghost use Rattle.rds_threads.specs.declared.form.RunEnd.TheVariants as ended;
 ghost use Rattle.rds_threads.specs.Known.{AreKnownOf};
 ghost use Rattle.rds_threads.specs.Settled.{AreToldBelow, HaveDoneLed, IsToldOf};
 ghost use Rattle.rds_parties.specs.Parties.{AreParties};
@@ -26,7 +25,7 @@ use rds_fmap::Writer;
 use rds_line::Line;
 use rds_link::{End, Gate, Sink, Wire};
 use rds_parties::laws::counted_keeps;
-use rds_parties::{Prepared, parties, play, prepare};
+use rds_parties::{Prepared, give_streams, parties, play, prepare};
 use rds_rounds::laws::connected_keeps;
 use rds_rounds::{Lines, Wanted, last_rounds};
 use rds_script::Script;
@@ -71,7 +70,7 @@ where
         record { faults = W.faults wire.old; nothings = W.nothings wire.old; fulls = W.fulls wire.old }
         record { faults = W.faults wire.new; nothings = W.nothings wire.new; fulls = W.fulls wire.new })
         (W.faults wire.old) (W.faults wire.new) (K.held sink.old) (K.held sink.new) result }
-    ensures given_back { result ≢ ended.Memory → W.out wire.new ≤ W.out wire.old }
+    ensures given_back { W.out wire.new ≤ W.out wire.old }
 {
     match ended(rt, alloc, script, wire, gate, form, limit, budget, sink) {
         Ok(end) => end,
@@ -108,11 +107,12 @@ where
         record { faults = W.faults wire.new; nothings = W.nothings wire.new; fulls = W.fulls wire.new })
         (W.faults wire.old) (W.faults wire.new) (K.held sink.old) (K.held sink.new)) }
     ensures memory { OnErr result (K.held sink.new ≡ K.held sink.old) }
-    ensures out { IfOk result (λ _. W.out wire.new ≤ W.out wire.old) }
+    ensures out { W.out wire.new ≤ W.out wire.old }
 {
     let start = Start::of(wire, budget);
+    let (callers, mut lines) = parties(rt, alloc, script, limit)?;
     let Prepared { streams, wanted } = prepare(rt, alloc, wire, script)?;
-    let (callers, lines) = parties(alloc, script, streams, limit)?;
+    give_streams(&mut lines, streams);
     let (callers, lines) = play(rt, alloc, script, gate, callers, lines);
     let Ok(callers) = callers else {
         end_lines(rt, wire, lines);

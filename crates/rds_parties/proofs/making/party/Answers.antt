@@ -1,4 +1,4 @@
-use Rattle.std.proofs.Common.{◌≡◌, ℕ, List, ap, length, ◌∙◌, map, sym, subst, arith}
+use Rattle.std.proofs.Common.{◌≡◌, ℕ, ◌-◌, List, ap, length, ◌∙◌, map, sym, subst, arith}
 use Rattle.rds_final.specs.Hosts.{address_of}
 use Rattle.rds_callers.specs.Places.{Place}
 use Rattle.rds_host.specs.Lines.{AreNewLines}
@@ -7,7 +7,7 @@ use Rattle.rds_parts.specs.Lanes.{Ascend}
 use Rattle.rds_rounds.specs.Grid.{others}
 use Rattle.rds_settling.specs.Tied.{AreTied}
 use Rattle.rds_parties.specs.Obeyed.{AreNewPlaces}
-use Rattle.rds_parties.proofs.Made.{peers_ascend, peers_count}
+use Rattle.rds_parties.proofs.Made.{all_empty_numbered, all_empty_unused, peers_ascend, peers_count, without_streams}
 use Rattle.rds_parties.proofs.Obeying.{length_vacant, new_places}
 use Rattle.rds_parties.proofs.making.party.Goals as goal
 use Rattle.rds_parties.proofs.making.party.Goals.{After-deref}
@@ -15,20 +15,23 @@ use Rattle.rds_parties.proofs.making.party.Goals.{After-deref}
 peers_are : (g : _) (c : After-deref g) → c.deref.result.now ≡ map address_of (others c.args.script.now.hosts c.args.host)
 peers_are g c = c.deref.ensures.value ∙ c.in_ok-peers.ensures
 
-peers_length : (g : _) (c : After-deref g) → length c.deref.result.now ≡ length c.args.streams.items
-peers_length g c =
-    let count = peers_count c.args.script.now.hosts c.args.host in
-    let same = ap length (peers_are g c) in
-    omega (arith, count, same, c.requires.count)
+peers_length : (g : _) (c : After-deref g) → length c.deref.result.now ≡ c.args.script.now.hosts - 1
+peers_length g c = ap length (peers_are g c) ∙ peers_count c.args.script.now.hosts c.args.host
 
 pub make-requires-clause-peers : goal.make-requires-clause-peers
-make-requires-clause-peers g c = let size = peers_length g c in omega (arith, size, c.requires.count, c.requires.hosts)
+make-requires-clause-peers g c = let size = peers_length g c in omega (arith, size, c.requires.hosts)
 
 pub make-requires-clause-ascend : goal.make-requires-clause-ascend
 make-requires-clause-ascend g c = subst Ascend (sym (peers_are g c)) (peers_ascend c.args.script.now.hosts c.args.host)
 
 pub make-requires-clause-streams : goal.make-requires-clause-streams
-make-requires-clause-streams g c = sym (peers_length g c)
+make-requires-clause-streams g c = omega (arith, c.in_ok-none.ensures.count, c.len.ensures, c.deref.ensures.len)
+
+pub make-requires-clause-numbered : goal.make-requires-clause-numbered
+make-requires-clause-numbered g c = all_empty_numbered c.in_ok-none.none.items c.in_ok-none.ensures.none
+
+pub make-requires-clause-unused : goal.make-requires-clause-unused
+make-requires-clause-unused g c = all_empty_unused g.E.End.means c.in_ok-none.none.items c.in_ok-none.ensures.none
 
 pub returns-clause-slots : goal.returns-clause-slots
 returns-clause-slots g c =
@@ -40,9 +43,12 @@ returns-clause-slots g c =
 pub returns-clause-lines : goal.returns-clause-lines
 returns-clause-lines g c =
     let d = (goal.at.returns-clause-lines g c).After-deref in
-    subst (λ (ps : List ℕ). AreNewLines (address_of c.args.host) c.args.limit ps (map (λ list. list.items) c.args.streams.items) c.in_ok-vacants.lines.items) (peers_are g d)
-    (subst (λ (a : ℕ). AreNewLines a c.args.limit c.deref.result.now (map (λ list. list.items) c.args.streams.items) c.in_ok-vacants.lines.items) c.address.ensures
-    c.in_ok-vacants.ensures.lines)
+    let none = c.in_ok-none.none.items in
+    let made = subst (λ (ps : List ℕ). AreNewLines (address_of c.args.host) c.args.limit ps (map (λ list. list.items) none) c.in_ok-vacants.lines.items) (peers_are g d)
+    (subst (λ (a : ℕ). AreNewLines a c.args.limit c.deref.result.now (map (λ list. list.items) none) c.in_ok-vacants.lines.items) c.address.ensures
+    c.in_ok-vacants.ensures.lines) in
+    without_streams c.args.limit c.args.script.now.hosts c.args.host none c.in_ok-vacants.lines.items c.requires.hosts.0
+    (let size = peers_length g d in omega (arith, size, c.in_ok-none.ensures.count, c.len.ensures, c.deref.ensures.len)) c.in_ok-none.ensures.none made
 
 pub returns-clause-tied : goal.returns-clause-tied
 returns-clause-tied g c =

@@ -7,7 +7,7 @@ use Rattle.rds_rounds.specs.Grid.{rows_of}
 use Rattle.rds_link.specs.Ends.{Means}
 use Rattle.rds_line_streams.specs.Streams.{numbers}
 use Rattle.rds_rounds.specs.declared.verdict.Wanted.{Wanted}
-use Rattle.rds_parties.specs.Growing.{AreMissingBeside, AreRowsKnown, GrowsBy}
+use Rattle.rds_parties.specs.Growing.{AreMissingBeside, AreRowsKnown, GrowsBy, IsCount}
 use Rattle.rds_parties.specs.Held.{ends_of_row, ends_prepared}
 use Rattle.rds_parties.specs.Preparing.{AreAllCounted, AreAllPrepared}
 use Rattle.rds_parties.specs.Streams.{streams_between}
@@ -40,7 +40,7 @@ loop-low-init g c =
           none_missing (ends_prepared rows) (ends_prepared rows + ends_of_row c.new.result.items) (g.W.Wire.faults c.args.wire.now) (g.W.Wire.faults c.args.wire.now)
           (omega arith) (omega arith);
       grows = omega arith;
-      out = (let none : ends_of_row c.new.result.items ≡ 0 = ap ends_of_row c.new.ensures.items in omega (arith, none));
+      out = λ others least. let none : ends_of_row c.new.result.items ≡ 0 = ap ends_of_row c.new.ensures.items in omega (arith, none, least);
     }
 
 -- a pair more
@@ -76,7 +76,7 @@ add_pair-requires-clause-wanted g c =
 pub loop-low-preserved : goal.loop-low-preserved
 loop-low-preserved g c =
     let m = g.W.End.End.means in
-    let grows = c.in_ok-add_pair.ensures.grows in
+    let grows = c.in-Ok.ensures.grows in
     let host = c.args.host in
     let low = c.loop-low.low in
     let commands = c.args.all_cuts.now in
@@ -91,8 +91,8 @@ loop-low-preserved g c =
       half =
           one_pair_more m (IsPair m) host low (streams_between low host commands) faults after rows new row own c.loop-low-test.true grows
           (grows.newest, grows.prepared) c.loop-low.invariant.half;
-      wanted = c.in_ok-add_pair.ensures.known;
-      row = c.in_ok-add_pair.ensures.row ∙ ap (λ n. n + 1) c.loop-low.invariant.row;
+      wanted = c.in-Ok.ensures.known;
+      row = c.in-Ok.ensures.row ∙ ap (λ n. n + 1) c.loop-low.invariant.row;
       counted = λ before least small all.
           let lower : before ≤ faults = omega (arith, least, so_far) in
           one_pair_more m (IsCounted commands before after) host low (streams_between low host commands) faults after rows new row own c.loop-low-test.true grows
@@ -106,9 +106,9 @@ loop-low-preserved g c =
           (sym (sum_below_more (λ low. streams_between low host commands) low))
           (missing_both (sum_by (λ low. streams_between low host commands) (range_with_len 0 low)) (streams_between low host commands) (ends_prepared old)
           (ends_prepared rows + ends_of_row row) (ends_prepared new + ends_of_row own) (g.W.Wire.faults c.args.wire.now) faults after more small
-          (c.loop-low.invariant.missing (omega (arith, more, small))) (c.in_ok-add_pair.ensures.missing small));
+          (c.loop-low.invariant.missing (omega (arith, more, small))) (c.in-Ok.ensures.missing small));
       grows = omega (arith, more, so_far);
-      out = (let one = c.in_ok-add_pair.ensures.out in let past = c.loop-low.invariant.out in omega (arith, one, past));
+      out = λ others least. c.add_pair.ensures.out others (c.loop-low.invariant.out others least);
     }
 
 -- the rows with that of the host
@@ -126,8 +126,8 @@ returns-clause-prepared g c =
     let end : c.loop-low.low ≡ host = (let t = c.loop-low-test.false in let a = c.loop-low.auto.low-end in omega (arith, t, a)) in
     let half = subst (λ n. IsHalfway (IsPair m) host n rows own) end c.loop-low.invariant.half in
     let next : suc host ≡ host + 1 = omega arith in
-    let all = with_own c.loop-low.prepared.streams.items c.loop-low.row.streams c.push.new.self.items c.in_ok-push.ensures.items in
-    subst (λ n. AreAllPrepared m n (rows_of c.push.new.self.items)) next
+    let all = with_own c.loop-low.prepared.streams.items c.loop-low.row.streams c.add_row.new.prepared.streams.items c.in_ok-add_row.ensures.streams in
+    subst (λ n. AreAllPrepared m n (rows_of c.add_row.new.prepared.streams.items)) next
     (subst (λ (l : List (List (EndsOf g.row.W-End.Denot))). AreAllPrepared m (suc host) l) (sym all)
     (record { shape = halfway_rows (IsPair m) host rows own half; pairs = halfway_pairs (IsPair m) host rows own half }))
 
@@ -141,12 +141,12 @@ returns-clause-wanted g c =
     let known = c.loop-low.row.wanted.items in
     let end : c.loop-low.low ≡ host = (let t = c.loop-low-test.false in let a = c.loop-low.auto.low-end in omega (arith, t, a)) in
     let half = c.loop-low.invariant.half in
-    let all = with_own c.loop-low.prepared.streams.items c.loop-low.row.streams c.push.new.self.items c.in_ok-push.ensures.items in
+    let all = with_own c.loop-low.prepared.streams.items c.loop-low.row.streams c.add_row.new.prepared.streams.items c.in_ok-add_row.ensures.streams in
     let all_known =
-    ap (λ (l : List (Vec Wanted Global)). rows_of l) c.in_ok-push-2.ensures.items
+    ap (λ (l : List (Vec Wanted Global)). rows_of l) c.in_ok-add_row.ensures.wanted
     ∙ map-append (λ (v : Vec Wanted Global). v.items) c.loop-low.prepared.wanted.items (c.loop-low.row.wanted ∷ []) in
     let last = last_known commands (length rows) own known (half.later ∙ end ∙ sym half.count) (c.loop-low.invariant.row ∙ sym half.later) in
-    subst (λ (l : List (List (EndsOf g.row.W-End.Denot))). AreRowsKnown commands l (rows_of c.push-2.new.self.items)) (sym all)
+    subst (λ (l : List (List (EndsOf g.row.W-End.Denot))). AreRowsKnown commands l (rows_of c.add_row.new.prepared.wanted.items)) (sym all)
     (subst (λ (l : List (List Wanted)). AreRowsKnown commands (rows ++ own ∷ []) l) (sym all_known)
     (rows_known_pushed commands rows wanted own known c.loop-low.invariant.wanted last))
 
@@ -154,35 +154,43 @@ pub returns-clause-counted : goal.returns-clause-counted
 returns-clause-counted g c = λ before least small counted.
     let commands = c.args.all_cuts.now in
     let after = g.W.Wire.faults c.loop-low.wire in
+    let same : g.W.Wire.faults c.add_row.new.wire ≡ after = ap (λ (w : g.row.W.Denot). g.W.Wire.faults w) c.in_ok-add_row.ensures.same in
     let holds = IsCounted commands before after in
     let host = c.args.host in
     let rows = rows_of c.loop-low.prepared.streams.items in
     let own = c.loop-low.row.streams.items in
     let end : c.loop-low.low ≡ host = (let t = c.loop-low-test.false in let a = c.loop-low.auto.low-end in omega (arith, t, a)) in
-    let half = subst (λ n. IsHalfway holds host n rows own) end (c.loop-low.invariant.counted before least small counted) in
-    let all = with_own c.loop-low.prepared.streams.items c.loop-low.row.streams c.push.new.self.items c.in_ok-push.ensures.items in
-    subst (λ (l : List (List (EndsOf g.row.W-End.Denot))). AreAllCounted commands before after l) (sym all) (halfway_pairs holds host rows own half)
+    let half = subst (λ n. IsHalfway holds host n rows own) end (c.loop-low.invariant.counted before least (subst IsCount same small) counted) in
+    let all = with_own c.loop-low.prepared.streams.items c.loop-low.row.streams c.add_row.new.prepared.streams.items c.in_ok-add_row.ensures.streams in
+    subst (λ n. AreAllCounted commands before n (rows_of c.add_row.new.prepared.streams.items)) (sym same)
+    (subst (λ (l : List (List (EndsOf g.row.W-End.Denot))). AreAllCounted commands before after l) (sym all) (halfway_pairs holds host rows own half))
 
 pub returns-clause-out : goal.returns-clause-out
-returns-clause-out g c =
-    let rows = rows_of c.loop-low.prepared.streams.items in
-    let own = c.loop-low.row.streams.items in
-    let all = ap ends_prepared (with_own c.loop-low.prepared.streams.items c.loop-low.row.streams c.push.new.self.items c.in_ok-push.ensures.items) in
-    let one = sum_by_push ends_of_row rows own in
-    let past = c.loop-low.invariant.out in
-    omega (arith, all, one, past)
+returns-clause-out g c = λ others least. c.add_row.ensures.out others (c.loop-low.invariant.out others least)
+
+pub returns-in_err-add_row-clause-out : goal.returns-in_err-add_row-clause-out
+returns-in_err-add_row-clause-out g c = λ others least. c.add_row.ensures.out others (c.loop-low.invariant.out others least)
+
+-- refused where the ends of the host's own row aren't given back
+pub returns-in_default-clause-out : goal.returns-in_default-clause-out
+returns-in_default-clause-out g c = λ others least.
+    let opened = c.add_pair.ensures.out others (c.loop-low.invariant.out others least) in
+    omega (arith, opened, c.give_back_row.ensures.out)
 
 pub returns-clause-missing : goal.returns-clause-missing
 returns-clause-missing g c = λ small.
     let before = g.W.Wire.faults c.args.wire.now in
     let after = g.W.Wire.faults c.loop-low.wire in
+    let same : g.W.Wire.faults c.add_row.new.wire ≡ after = ap (λ (w : g.row.W.Denot). g.W.Wire.faults w) c.in_ok-add_row.ensures.same in
     let host = c.args.host in
     let old = ends_prepared (rows_of c.args.prepared.now.streams.items) in
     let rows = rows_of c.loop-low.prepared.streams.items in
     let own = c.loop-low.row.streams.items in
     let end : c.loop-low.low ≡ host = (let t = c.loop-low-test.false in let a = c.loop-low.auto.low-end in omega (arith, t, a)) in
-    let all = ap ends_prepared (with_own c.loop-low.prepared.streams.items c.loop-low.row.streams c.push.new.self.items c.in_ok-push.ensures.items) in
-    subst (λ n. AreMissingBeside (sum_by (λ low. streams_between low host c.args.all_cuts.now) (range_with_len 0 host)) old n before after)
+    let all = ap ends_prepared (with_own c.loop-low.prepared.streams.items c.loop-low.row.streams c.add_row.new.prepared.streams.items c.in_ok-add_row.ensures.streams) in
+    subst (λ k. AreMissingBeside (sum_by (λ low. streams_between low host c.args.all_cuts.now) (range_with_len 0 host)) old
+    (ends_prepared (rows_of c.add_row.new.prepared.streams.items)) before k) (sym same)
+    (subst (λ n. AreMissingBeside (sum_by (λ low. streams_between low host c.args.all_cuts.now) (range_with_len 0 host)) old n before after)
     (sym (all ∙ sum_by_push ends_of_row rows own))
     (subst (λ n. AreMissingBeside (sum_by (λ low. streams_between low host c.args.all_cuts.now) (range_with_len 0 n)) old (ends_prepared rows + ends_of_row own) before after)
-    end (c.loop-low.invariant.missing small))
+    end (c.loop-low.invariant.missing (subst IsCount same small))))

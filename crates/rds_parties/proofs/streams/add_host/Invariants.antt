@@ -1,7 +1,7 @@
 use Rattle.std.proofs.Common.{◌≡◌, ◌≤◌, ◌+◌, ℕ, length, sum_by}
 use Rattle.std.specs.List.{range_with_len}
 use Rattle.rds_rounds.specs.Grid.{rows_of}
-use Rattle.rds_parties.specs.Growing.{AreMissingBeside, AreRowsKnown, IsCount}
+use Rattle.rds_parties.specs.Growing.{AreMissingBeside, AreRowsKnown, IsCount, LosesNone}
 use Rattle.rds_parties.specs.Streams.{streams_between}
 use Rattle.rds_parties.specs.Held.{ends_of_row, ends_prepared}
 use Rattle.rds_parties.specs.Preparing.{AreAllCounted}
@@ -22,6 +22,6 @@ invariant-loop-low g l = record {
       AreMissingBeside (sum_by (λ low. streams_between low l.fn.host l.fn.all_cuts) (range_with_len 0 l.low)) (ends_prepared (rows_of l.fn.prepared.streams.items))
       (ends_prepared (rows_of l.prepared.streams.items) + ends_of_row l.row.streams.items) (g.W.Wire.faults l.fn.wire) (g.W.Wire.faults l.wire);
   grows : g.W.Wire.faults l.fn.wire ≤ g.W.Wire.faults l.wire;
-  out : g.W.Wire.out l.wire + ends_prepared (rows_of l.fn.prepared.streams.items) ≤
-      g.W.Wire.out l.fn.wire + (ends_prepared (rows_of l.prepared.streams.items) + ends_of_row l.row.streams.items);
+  out : LosesNone (g.W.Wire.out l.fn.wire) (ends_prepared (rows_of l.fn.prepared.streams.items)) (g.W.Wire.out l.wire)
+      (ends_prepared (rows_of l.prepared.streams.items) + ends_of_row l.row.streams.items);
 }

@@ -27,13 +27,13 @@ loop-before-init g c =
 
 pub loop-before-preserved : goal.loop-before-preserved
 loop-before-preserved g c = record {
-  prepared = c.in_ok-open_next.ensures.prepared;
-  lacks = c.in_ok-open_next.ensures.lacks c.loop-before.invariant.lacks;
-  whole = c.in_ok-open_next.ensures.whole (g.W.Wire.faults c.args.wire.now) c.loop-before.invariant.grows c.loop-before.invariant.whole;
-  missing = λ small. c.in_ok-open_next.ensures.missing (g.W.Wire.faults c.args.wire.now) small
+  prepared = c.in-Ok.ensures.prepared;
+  lacks = c.in-Ok.ensures.lacks c.loop-before.invariant.lacks;
+  whole = c.in-Ok.ensures.whole (g.W.Wire.faults c.args.wire.now) c.loop-before.invariant.grows c.loop-before.invariant.whole;
+  missing = λ small. c.in-Ok.ensures.missing (g.W.Wire.faults c.args.wire.now) small
       (c.loop-before.invariant.missing (let more = c.open_next.ensures.grows in omega (arith, more, small)));
   grows = (let more = c.open_next.ensures.grows in let so_far = c.loop-before.invariant.grows in omega (arith, more, so_far));
-  out = (let more = c.in_ok-open_next.ensures.out in let so_far = c.loop-before.invariant.out in omega (arith, more, so_far));
+  out = c.open_next.ensures.out (g.W.Wire.out c.args.wire.now) c.loop-before.invariant.out;
 }
 
 pub returns-clause-prepared : goal.returns-clause-prepared
@@ -54,3 +54,9 @@ returns-clause-lacks g c =
     let most = c.loop-before.auto.before-end in
     let end : c.loop-before.before ≡ c.args.count = omega (arith, test, most) in
     subst (λ n. AreAllUnlessLacking n c.loop-before.opened.lacks (numbers c.loop-before.opened.low.items)) end c.loop-before.invariant.lacks
+
+-- refused where an end that was opened isn't given back
+pub returns-in_default-clause-memory : goal.returns-in_default-clause-memory
+returns-in_default-clause-memory g c =
+    let opened = c.open_next.ensures.out (g.W.Wire.out c.args.wire.now) c.loop-before.invariant.out in
+    omega (arith, opened, c.give_back_ends.ensures.out, c.give_back_ends-in_default.ensures.out)

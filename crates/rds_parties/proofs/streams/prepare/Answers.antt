@@ -38,16 +38,16 @@ loop-host-init g c = record {
 
 pub loop-host-preserved : goal.loop-host-preserved
 loop-host-preserved g c = record {
-  prepared = c.in_ok-add_host.ensures.prepared;
+  prepared = c.in-Ok.ensures.prepared;
   wanted =
       subst (λ (l : List Placed). AreRowsKnown l (rows_of c.add_host.new.prepared.streams.items) (rows_of c.add_host.new.prepared.wanted.items)) c.as_slice.ensures.value
-      c.in_ok-add_host.ensures.wanted;
+      c.in-Ok.ensures.wanted;
   counted = λ small.
       let more = c.add_host.ensures.grows in
       let first = g.W.Wire.faults c.args.wire.now in
       let same = c.as_slice.ensures.value in
       subst (λ (l : List Placed). AreAllCounted l first (g.W.Wire.faults c.add_host.new.wire) (rows_of c.add_host.new.prepared.streams.items)) same
-      (c.in_ok-add_host.ensures.counted first c.loop-host.invariant.grows small
+      (c.in-Ok.ensures.counted first c.loop-host.invariant.grows small
       (subst (λ (l : List Placed). AreAllCounted l first (g.W.Wire.faults c.loop-host.wire) (rows_of c.loop-host.prepared.streams.items)) (sym same)
       (c.loop-host.invariant.counted (omega (arith, more, small)))));
   missing = λ small.
@@ -62,9 +62,9 @@ loop-host-preserved g c = record {
       subst (λ n. AreMissingBeside n 0 new first after) (sym (sum_below_more (λ h. streams_below h cuts) host))
       (missing_both (sum_by (λ h. streams_below h cuts) (range_with_len 0 host)) (streams_below host cuts) 0 old new first before after more small
       (c.loop-host.invariant.missing (omega (arith, more, small)))
-      (subst (λ (l : List Placed). AreMissingBeside (streams_below host l) old new before after) c.as_slice.ensures.value (c.in_ok-add_host.ensures.missing small)));
+      (subst (λ (l : List Placed). AreMissingBeside (streams_below host l) old new before after) c.as_slice.ensures.value (c.in-Ok.ensures.missing small)));
   grows = (let more = c.add_host.ensures.grows in let so_far = c.loop-host.invariant.grows in omega (arith, more, so_far));
-  out = (let one = c.in_ok-add_host.ensures.out in let past = c.loop-host.invariant.out in omega (arith, one, past));
+  out = c.add_host.ensures.out (g.W.Wire.out c.args.wire.now) c.loop-host.invariant.out;
 }
 
 pub add_host-requires-clause-wanted : goal.add_host-requires-clause-wanted
@@ -97,3 +97,14 @@ returns-clause-missing g c =
     let end : c.loop-host.host ≡ c.args.script.now.hosts = (let t = c.loop-host-test.false in let a = c.loop-host.auto.host-end in omega (arith, t, a)) in
     of_script c.args.script.now c.loop-host.host (ends_prepared (rows_of c.loop-host.prepared.streams.items)) (g.W.Wire.faults c.args.wire.now)
     (g.W.Wire.faults c.loop-host.wire) c.in_ok-cuts.cuts.items end c.in_ok-cuts.ensures.all (c.loop-host.invariant.missing c.faults_of.ensures.fits)
+
+-- refused where the ends of some host aren't given back
+pub returns-in_default-clause-memory : goal.returns-in_default-clause-memory
+returns-in_default-clause-memory g c =
+    let opened = c.add_host.ensures.out (g.W.Wire.out c.args.wire.now) c.loop-host.invariant.out in
+    omega (arith, opened, c.give_back_rows.ensures.out)
+
+pub returns-in_default-clause-grows : goal.returns-in_default-clause-grows
+returns-in_default-clause-grows g c =
+    let so_far = c.loop-host.invariant.grows in
+    omega (arith, so_far, c.add_host.ensures.grows, c.give_back_rows.ensures.faults)

@@ -1,45 +1,41 @@
-use Rattle.std.proofs.Common.{◌≡◌, ◌-◌, [], ◌∷◌, subst, ◌∙◌, ◌++◌, ℕ, List, Result, Ok, IfOk, map, ap, append-nil, string_bytes, String, Vec, Global}
-use Rattle.std.specs.List.{AllZip, flat_map, range_with_len}
+use Rattle.std.proofs.Common.{arith, ◌≡◌, [], ◌∷◌, sym, subst, suc, ◌∙◌, ◌++◌, ℕ, List, Result, Ok, Some, IfOk, length, map, slice_get, option_map, ap, append-nil, string_bytes, String, Vec, Global}
+use Rattle.std.specs.List.{flat_map}
 use Rattle.std.proofs.lemmas.Grind.{flat_map-append}
-use Rattle.rds_text.specs.declared.host.TheConstants.{MAX_HOSTS}
-use Rattle.rds_final.specs.Report.{group_text, groups}
-use Rattle.rds_report.specs.ItemReport.{part}
-use Rattle.rds_final.specs.Views.{AreFinalHosts, host_views}
-use Rattle.rayon.proofs.ListFacts.{AllZip-weaken}
+use Rattle.std.proofs.lemmas.List.{length-map}
+use Rattle.std.proofs.lemmas.Option.{get_or_from_slice_get, slice_get-map, slice_get_within}
 use Rattle.rds_wire.specs.declared.memory.Memory.{Memory}
-use Rattle.rds_final.specs.Hosts.{address_of}
-use Rattle.rds_report.proofs.Parting.{all_parts, joined}
+use Rattle.rds_final.specs.Report.{group_text, groups}
+use Rattle.rds_final.specs.Views.{host_views}
+use Rattle.rds_report.specs.ItemReport.{job_end, parts}
+use Rattle.rds_report.proofs.Parting.{all_parts, all_jobs}
 use Rattle.rds_report.proofs.Printing.{behind}
 use Rattle.rds_report.proofs.reporting.parts_beside.Goals as goal
 
--- the bytes of the texts of a part one behind another
+-- the bytes of the texts of a job one behind another
 abbrev bytes : Vec (String Global) Global → List ℕ
 bytes texts = flat_map string_bytes texts.items
 
 pub returns : goal.returns
 returns g c = λ are.
     let ends = host_views c.args.hosts.now in
-    let given = c.in_ok-parts.ensures in
-    let start : c.map.result.base.base.start ≡ 0 =
-    ap (λ it. it.base.start) c.map.ensures.base ∙ ap (λ it. it.start) c.with_min_len.ensures.base ∙ c.into_par_iter.ensures.0 in
-    let end : c.map.result.base.base.end ≡ MAX_HOSTS =
-    ap (λ it. it.base.end) c.map.ensures.base ∙ ap (λ it. it.end) c.with_min_len.ensures.base ∙ c.into_par_iter.ensures.1 in
-    let from = rw c.in_ok-parts-2.was at given.2 in
-    let exact : ℕ → Result (Vec (String Global) Global) Memory → Type 0 = λ host made. IfOk made (λ texts. bytes texts ≡ part ends (address_of host)) in
-    let found : ℕ → Result (Vec (String Global) Global) Memory → Type 0 = λ host made.
-    AreFinalHosts (host_views c.map.result.f.2.now) → IfOk made (λ texts. bytes texts ≡ part (host_views c.map.result.f.2.now) (address_of host)) in
-    let gave : AllZip found given.1.0 given.0 = given.1.2 in
-    let same : host_views c.map.result.f.2.now ≡ ends = ap (λ f. host_views f.2.now) c.map.ensures.f in
-    let zip : AllZip exact given.1.0 given.0 = AllZip-weaken found exact (λ host made h. rw same at h are) given.1.0 given.0 gave in
-    let list : given.1.0 ≡ range_with_len 0 MAX_HOSTS =
-    given.1.1 ∙ ap (λ (n : ℕ). range_with_len n (c.map.result.base.base.end - n)) start ∙ ap (λ (n : ℕ). range_with_len 0 (n - 0)) end in
-    let parts = c.in_ok-parts-2.parts.items in
-    let all : AllZip exact (range_with_len 0 MAX_HOSTS) (map Ok from.0) =
-    subst (λ (ns : List ℕ). AllZip exact ns (map Ok from.0)) list (subst (AllZip exact given.1.0) from.1 zip) in
+    let count = c.min-count.result in
+    let made = c.in_ok-made.made.items in
+    let each = c.in_ok-all_of.field-0.items in
+    let all : map Ok each ≡ made = c.in_ok-all_of.ensures in
+    let number : length each ≡ suc count =
+    let same = c.from-2.ensures in
+    let long = sym (length-map each Ok) ∙ ap length all ∙ sym c.in_ok-made.made.ok.0 ∙ c.in_ok-made.ensures.len in
+    omega (arith, same, long) in
+    let job : (i : ℕ) (t : Vec (String Global) Global) → slice_get each i ≡ Some t → parts ends (job_end count i) ≡ parts ends i ++ bytes t =
+    λ i t at.
+    let there : slice_get made i ≡ Some (Ok t) = subst (λ (l : List (Result (Vec (String Global) Global) Memory)). slice_get l i ≡ Some (Ok t)) all
+    (slice_get-map Ok each i ∙ ap (option_map Ok) at) in
+    let did = (c.in_ok-made.ensures.each i (Ok t) (let within = slice_get_within each i t at in let same = c.from-2.ensures in omega (arith, within, number, same))).1 in
+    let came = get_or_from_slice_get made i (Ok t) (Ok t) there in
+    subst (λ (r : Result (Vec (String Global) Global) Memory). IfOk r (λ texts. parts ends (job_end count i) ≡ parts ends i ++ bytes texts)) came (did.met are) in
     let texts = c.in_ok-texts.texts.items in
     let before : flat_map string_bytes texts ≡ flat_map (group_text ends) (groups ends) =
-    ap (flat_map string_bytes) c.in_ok-texts.ensures ∙ behind string_bytes parts ∙ ap (flat_map bytes) from.2
-    ∙ joined bytes ends 0 MAX_HOSTS from.0 all ∙ all_parts ends are in
+    ap (flat_map string_bytes) c.in_ok-texts.ensures ∙ behind string_bytes each ∙ all_jobs bytes ends count each number job ∙ all_parts ends are in
     let last = c.in_ok-format.field-0 in
     ap (flat_map string_bytes) c.in_ok-push.ensures.items ∙ flat_map-append string_bytes texts (last ∷ [])
     ∙ ap (λ (t : List ℕ). t ++ (string_bytes last ++ [])) before

@@ -6,7 +6,7 @@ use Rattle.rds_script.specs.declared.cause.ScriptError.{ScriptError}
 use Rattle.rds_pieces.specs.declared.part.Part.{Part}
 use Rattle.rds_pieces.specs.Parts.{IsPart}
 use Rattle.rds_pieces.proofs.Pieced.{each_read, if_ok}
-use Rattle.rds_pieces.proofs.reading.read_each.Goals as goal
+use Rattle.rds_pieces.proofs.reading.read_group.Goals as goal
 
 pub returns : goal.returns
 returns g c =
