@@ -8,13 +8,12 @@ ghost use Rattle.rds_run.specs.RunStatus.{IsEndOfScript, memory_seen};
 ghost use Rattle.rds_run.specs.declared.status.Status.TheVariants as status;
 
 use crate::status::Status;
-use rayon::prelude::*;
-use rds_final::HostEnd;
 use rds_link::{Gate, MemWire, Sink, Wire};
 use rds_model::MAX_ENTRIES;
 use rds_script::Script;
 use rds_threads::{Form, RunEnd, run};
 use std::alloc::Global;
+use std::mem::forget;
 use std::net::Net;
 use std::sync::Wait;
 use std::thread::Threads;
@@ -82,7 +81,9 @@ where
         sink,
     ) {
         RunEnd::Ok { ends } => {
-            let_go(rt, alloc, ends, script);
+            // The process ends after this, and its memory goes back at once: nothing is let go of piece by piece.
+            forget(ends);
+            forget(script);
             Status::Written
         }
         RunEnd::WireFault { .. } => Status::WireFault,
@@ -91,22 +92,4 @@ where
         RunEnd::WriteFault => Status::WriteFault,
         RunEnd::Memory => Status::Memory,
     }
-}
-
-// Lets go of what the hosts of a run have, that of each host in a thread of its own. The calling thread makes these threads, lets go of a
-// host without anything, and sleeps, so that each of them has a processor at once. The script has shares of the same blocks of memory, and
-// threads that count the owners of one block beside one another wait for each other. So it goes afterwards.
-fn let_go<R: Threads + Sync>(rt: &R, alloc: Global, ends: Vec<HostEnd>, script: Script) {
-    let mut ends = ends;
-    let nothing = HostEnd {
-        addr: 0,
-        journals: Vec::new(alloc),
-        kept: Vec::new(alloc),
-    };
-    // Where there is no memory for it, the calling thread lets go of the last host.
-    let _ = ends.push(nothing);
-    ends.into_par_iter()
-        .with_min_len(1)
-        .for_each(rt, |end: HostEnd| drop(end));
-    drop(script);
 }

@@ -36,7 +36,8 @@ const USAGE: &str = "usage: rds play | rds run [--wire memory|tcp] | rds gen N S
 /// Runs the program on the words after its name, and gives its exit status (docs/COMMAND.md has the table). Two of its
 /// commands read a script from the source: `play` writes its transcript and its report to the sink, and `run` runs it with threads and
 /// writes its report. `gen` generates a script, runs it so, and writes a summary. Before each command of a run its caller asks the gate.
-/// A run goes over streams in memory, or over those of `tcp` where the words name that wire.
+/// A run goes over streams in memory, or over those of `tcp` where the words name that wire. It is the last call of its process: what the
+/// hosts and the script of a run that ended well have in memory stays there, and goes back to the system when the process ends.
 ///
 /// | Status | When |
 /// |---|---|
