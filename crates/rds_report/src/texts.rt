@@ -19,8 +19,8 @@ use std::thread::Threads;
 /// So many items of a group are printed by several threads.
 const MANY: usize = 8192;
 
-/// So many of them, one behind another, are printed to one text.
-const CHUNK: usize = 4096;
+/// So many threads print them. Accepted datagrams stand before received ones and have no line, so half of the threads have most to do.
+const PRINTERS: usize = 4;
 
 /// Texts that are to be written one behind another: those that are done, and the one that grows.
 #[derive(Drop)]
@@ -124,7 +124,7 @@ fn received_texts<R: Threads + Sync>(
     ensures { IfOk result (λ texts. flat_map string_bytes texts.items ≡ flat_map (λ (i : Piece). data_lines i.what) items.now) }
 {
     let texts: Result<Vec<String>, Memory> = items
-        .par_chunks(CHUNK)
+        .par_chunks(items.len() / PRINTERS + 1)
         .with_min_len(1)
         .map(
             |chunk: &[Item<'_>]| -> Result<String, Memory>

@@ -1,10 +1,9 @@
-use Rattle.std.proofs.Common.{◌≡◌, ◌<◌, ◌∙◌, ℕ, List, map, max, ap, arith}
+use Rattle.std.proofs.Common.{◌≡◌, ◌<◌, ◌∙◌, List, map, max, ap, arith}
 use Rattle.std.specs.Borrow.{Bor}
 use Rattle.std.specs.List.{AllZip, flat_map}
 use Rattle.rayon.specs.Lists.{chunks_of}
 use Rattle.rayon.proofs.ToStd.{chunks_of-concat}
 use Rattle.rds_report.specs.Item.{Item}
-use Rattle.rds_report.specs.declared.texts.TheConstants.{CHUNK}
 use Rattle.rds_report.proofs.Printing.{Prints, chunk_texts}
 use Rattle.rds_report.proofs.texts.received_texts.Goals as goal
 
@@ -16,10 +15,8 @@ returns g c =
     let chunks = given.1.0 in
     let slice : c.map.result.base.base.slice.now ≡ items =
     ap (λ it. it.base.slice.now) c.map.ensures.base ∙ ap (λ it. it.slice.now) c.with_min_len.ensures.base ∙ c.par_chunks.ensures.slice in
-    let size : c.map.result.base.base.size ≡ CHUNK =
-    ap (λ it. it.base.size) c.map.ensures.base ∙ ap (λ it. it.size) c.with_min_len.ensures.base ∙ c.par_chunks.ensures.size in
-    let cut : map (λ (chunk : Bor (List Item)). chunk.now) chunks ≡ chunks_of CHUNK items =
-    given.1.1 ∙ ap (λ (n : ℕ). chunks_of (max n 1) c.map.result.base.base.slice.now) size ∙ ap (chunks_of CHUNK) slice in
-    let some : 0 < CHUNK = omega arith in
+    let n = c.map.result.base.base.size in
+    let cut : map (λ (chunk : Bor (List Item)). chunk.now) chunks ≡ chunks_of (max n 1) items = given.1.1 ∙ ap (chunks_of (max n 1)) slice in
+    let some : 0 < max n 1 = omega arith in
     let zip : AllZip Prints chunks made = given.1.2 in
-    chunk_texts chunks made c.in_ok-texts.texts items zip given.2 (ap (flat_map (λ (l : List Item). l)) cut ∙ chunks_of-concat CHUNK items some)
+    chunk_texts chunks made c.in_ok-texts.texts items zip given.2 (ap (flat_map (λ (l : List Item). l)) cut ∙ chunks_of-concat (max n 1) items some)
