@@ -1,4 +1,4 @@
-ghost use Rattle.std.specs.Prelude.{◌≡◌, ◌++◌, ◌==◌, [], false, IfOk, OnOk, string_bytes};
+ghost use Rattle.std.specs.Prelude.{◌≡◌, ◌<◌, ◌++◌, ◌==◌, [], false, IfOk, OnOk, string_bytes};
 ghost use Rattle.std.specs.List.{flat_map};
 ghost use Rattle.rds_final.specs.Hosts.{IsAddress};
 ghost use Rattle.rds_report.specs.Item.{Item as Piece};
@@ -10,11 +10,10 @@ use crate::counts::Counts;
 use crate::grouping::first_run;
 use crate::item::{Group, Item};
 use crate::print::{print_head, print_received, room};
-use rayon::prelude::*;
 use rds_wire::Memory;
 use std::alloc::Global;
-use std::mem;
 use std::thread::Threads;
+use std::{mem, thread};
 
 /// So many items of a group are printed by several threads.
 const MANY: usize = 8192;
@@ -99,7 +98,7 @@ impl Texts {
             self.last.reserve(room(items))?;
             return print_received(&mut self.last, items);
         }
-        let lines = received_texts(rt, alloc, items)?;
+        let lines = received_texts(rt, alloc, items, items.len() / PRINTERS + 1)?;
         self.append(alloc, lines)
     }
 
@@ -115,24 +114,33 @@ impl Texts {
     }
 }
 
-// A line for each item that was received, in texts that threads make.
+// A line for each item that was received, in texts of so many items each. Each text is made by a thread of its own: the calling thread makes
+// none of them, and only waits.
+#[cycle(printing)]
 fn received_texts<R: Threads + Sync>(
     rt: &R,
     alloc: Global,
     items: &[Item<'_>],
+    size: usize,
 ) -> Result<Vec<String>, Memory>
+    requires { 0 < size }
     ensures { IfOk result (λ texts. flat_map string_bytes texts.items ≡ flat_map (λ (i : Piece). data_lines i.what) items.now) }
 {
-    let texts: Result<Vec<String>, Memory> = items
-        .par_chunks(items.len() / PRINTERS + 1)
-        .with_min_len(1)
-        .map(
-            |chunk: &[Item<'_>]| -> Result<String, Memory>
-                ensures { IfOk result (λ text. string_bytes text ≡ flat_map (λ (i : Piece). data_lines i.what) chunk.now) }
-            { received_text(alloc, chunk) },
-        )
-        .collect(rt, alloc)?;
-    texts
+    if items.is_empty() {
+        return Ok(Vec::new(alloc));
+    }
+    let (front, others) = items.split_at(size.min(items.len()));
+    let first = || -> Result<String, Memory>
+        ensures { IfOk result (λ text. string_bytes text ≡ flat_map (λ (i : Piece). data_lines i.what) front.entry.now) }
+    { received_text(alloc, front) };
+    let rest = || -> Result<Vec<String>, Memory>
+        requires { 0 < size }
+        ensures { IfOk result (λ texts. flat_map string_bytes texts.items ≡ flat_map (λ (i : Piece). data_lines i.what) others.entry.now) }
+    { received_texts(rt, alloc, others, size) };
+    let (text, more) = thread::join(rt, first, rest);
+    let mut texts = vec![in alloc; text?]?;
+    texts.append(&mut more?)?;
+    Ok(texts)
 }
 
 // A line for each item that was received.
