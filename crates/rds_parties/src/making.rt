@@ -91,7 +91,7 @@ pub fn parties<E: End + Send, R: Threads + Sync>(
 type Party<E> = (Caller, Vec<Line<E, Writer>>);
 
 // The party of each host, made beside those of the others. The calling thread has the number behind the last one, for which nothing is made:
-// it makes the other threads and then sleeps, so that each of them has a processor at once.
+// it makes threads and then sleeps. With two hosts each thread has a processor at once, as a rule; with more, some of them make others.
 fn made_beside<E: End + Send, R: Threads + Sync>(
     rt: &R,
     alloc: Global,

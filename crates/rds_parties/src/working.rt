@@ -16,7 +16,8 @@ use std::thread;
 use std::thread::Threads;
 
 /// The workers of all lines, beside each other. They end some time after the flag is set. Behind the rows stands one without lines, which
-/// is the calling thread's: that thread makes the others and then sleeps, so that each of them has a processor at once.
+/// is the calling thread's: that thread makes others and then sleeps. With two hosts each of them has a processor at once, as a rule; with more,
+/// some of them make others. Where there is no memory for that row, the calling thread has the last row.
 pub(crate) fn work_all<E: End + Send, R: Threads + Wait + Sync>(
     rt: &R,
     alloc: Global,

@@ -18,7 +18,8 @@ use std::{mem, thread};
 /// So many items of a group are printed by several threads.
 const MANY: usize = 8192;
 
-/// So many threads print them. Accepted datagrams stand before received ones and have no line, so half of the threads have most to do.
+/// At most so many threads print them. Acceptances stand together, before the received ones or, where the sender is the later host, behind
+/// them, and have no line. So where all was received about half of the threads have most to do.
 const PRINTERS: usize = 4;
 
 /// Texts that are to be written one behind another: those that are done, and the one that grows.
@@ -114,8 +115,8 @@ impl Texts {
     }
 }
 
-// A line for each item that was received, in texts of so many items each. Each text is made by a thread of its own: the calling thread makes
-// none of them, and only waits.
+// A line for each item that was received, in texts of so many items each, the last of what is left. Each text is made by a thread of its own,
+// where one can be made; the calling thread then only makes these threads and waits.
 #[cycle(printing)]
 fn received_texts<R: Threads + Sync>(
     rt: &R,

@@ -81,7 +81,7 @@ where
         sink,
     ) {
         RunEnd::Ok { ends } => {
-            // The process ends after this, and its memory goes back at once: nothing is let go of piece by piece.
+            // The program ends soon after this, and its memory goes back at once: these two are not let go of piece by piece.
             forget(ends);
             forget(script);
             Status::Written

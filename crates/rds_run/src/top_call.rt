@@ -36,8 +36,9 @@ const USAGE: &str = "usage: rds play | rds run [--wire memory|tcp] | rds gen N S
 /// Runs the program on the words after its name, and gives its exit status (docs/COMMAND.md has the table). Two of its
 /// commands read a script from the source: `play` writes its transcript and its report to the sink, and `run` runs it with threads and
 /// writes its report. `gen` generates a script, runs it so, and writes a summary. Before each command of a run its caller asks the gate.
-/// A run goes over streams in memory, or over those of `tcp` where the words name that wire. It is the last call of its process: what the
-/// hosts and the script of a run that ended well have in memory stays there, and goes back to the system when the process ends.
+/// A run goes over streams in memory, or over those of `tcp` where the words name that wire. It is made to be
+/// called once in a process, shortly before it ends: what the hosts and the script of a run that ended well have in memory is never let go of. A
+/// process that calls it again and again, as tests do, keeps that of each run.
 ///
 /// | Status | When |
 /// |---|---|
@@ -182,7 +183,7 @@ where
     ensures unread { (sends seed : ℕ) → AreGen words.now sends seed → source.new ≡ source.old }
     ensures usage_unread { AreNoCommand words.now → source.new ≡ source.old }
     ensures tcp_unused { (AreRun words.now wires.Tcp → ⊥) → tcp.new ≡ tcp.old }
-    // However a run over TCP ends, every end of a stream that it opened was given back.
+    // However a run ends, no more ends of streams over TCP are out than before.
     ensures given_back { W.out tcp.new ≤ W.out tcp.old }
     ensures known { result ≤ 9 }
 {

@@ -121,7 +121,7 @@ fn tell_slots<E: End>(caller: &mut Caller, lines: &mut Vec<Line<E, Writer>>)
 }
 
 // What is left of the slots of each host, in order, each by a thread of its own. The calling thread has a caller without slots behind the
-// others: it makes the threads and then sleeps, so that each of them has a processor at once.
+// others: it makes threads and then sleeps. With two hosts each thread has a processor at once, as a rule; with more, some of them make others.
 fn end_beside<R: Threads + Wait + Sync>(
     rt: &R,
     alloc: Global,

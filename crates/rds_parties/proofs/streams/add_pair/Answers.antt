@@ -40,7 +40,7 @@ returns-clause-grows g c =
           (ap (λ n. n + 3) c.cuts_between-cuts.ensures.count) (c.in_ok-opened.ensures.counted small);
     }
 
--- refused where the ends of a stream are let go
+-- refused where the ends of the streams of two hosts are dropped and not put into their rows
 pub returns-clause-out : goal.returns-clause-out
 returns-clause-out g c = λ others least.
     let put = ends_put c.args.prepared.now.streams.items c.from-place.result c.args.low c.index_mut-stood.result.now c.push_reserved.new.self c.args.row.now.streams.items _
