@@ -35,7 +35,8 @@ pub type Parts<E> = (Vec<Vacant<Reader>>, Vec<Line<E, Writer>>);
 ///
 /// # Errors
 ///
-/// Where there is no memory for its tables. The streams are given up.
+/// Where there is no memory for its tables. The streams are given up, though their wire counts these ends as out: where that matters, make
+/// the host with empty lists, and give each line its streams by `Line::give_streams`, which takes no memory.
 pub fn make<E: End>(
     alloc: Global,
     addr: u32,

@@ -43,6 +43,7 @@ fn give_back_end<W: Wire, R: Wait>(rt: &R, wire: &mut W, end: W::End)
     ensures out { W.out wire.new ≡ W.out wire.old - 1 }
     ensures faults { W.faults wire.old ≤ W.faults wire.new }
 {
+    // Called for its promise alone: the count of faults is a number of 64 bits.
     faults_of(wire);
     wire.give_back(rt, end);
 }

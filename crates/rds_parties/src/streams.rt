@@ -106,6 +106,7 @@ pub fn prepare<W: Wire, R: Threads + Wait + Net>(
             return Err(Memory);
         };
     }
+    // Called for its promise alone: the count of faults is a number of 64 bits.
     faults_of(wire);
     Ok(prepared)
 }

@@ -23,6 +23,9 @@ use std::thread::yield_now;
 /// The lines of each host, by host: those of one host have its peers in ascending order.
 pub type Lines<E> = Vec<Vec<Line<E, Writer>>>;
 
+// After how many quiet rounds it is looked whether a stream is open.
+const STRANDED: u64 = 1_000;
+
 /// How the last rounds ended.
 #[derive(Clone, Copy, Debug, PartialEq, Eq)]
 pub enum Rounds {
@@ -52,7 +55,8 @@ pub enum Rounds {
 
 /// Turns all lines in rounds: in each the two lines of each two hosts meet, have a turn each, and meet again. Where the first one's
 /// turn ends the rounds, the second has none. Over ends that tell their bytes the rounds stop after an idle one that left nothing to be
-/// written. Over others they stop once rounds were quiet and all is acknowledged, or as many were quiet as the budget allows. Where the
+/// written. Over others they stop once rounds were quiet and all is acknowledged, as many were quiet as the budget allows, or some were and no
+/// stream is open. Where the
 /// lines of several two hosts end them by a fault, a full journal or a lack of memory, the first in ascending order tells how. `lowest`
 /// and `lowest_full` say so of faults and full journals: no line of two hosts that come before lacks a stream that they should have,
 /// unless it took an order in the call, and the journal of none was full when the call began.
@@ -88,7 +92,7 @@ pub fn last_rounds<W: Wire, R: Wait>(
     let mut quiet = 0u64;
     for _ in rt.forever() {
         let came = round_of_all(rt, wire, wanted, lines);
-        quiet = quiet_after(came, quiet);
+        quiet = quiet_after(came, quiet, lines);
         if let Some(end) = end_after(came, wire.tells(), quiet, budget, lines) {
             return end;
         }
@@ -104,13 +108,16 @@ fn rest_after(came: Round) {
     }
 }
 
-// How many rounds in a row were quiet.
-fn quiet_after(came: Round, quiet: u64) -> u64 {
-    if came == Round::Idle {
-        quiet.saturating_add(1)
-    } else {
-        0
+// How many rounds in a row were quiet. After so many it is looked once whether a stream is open at all. Without one nothing comes any more,
+// however long the rounds go on, so it is as if they had.
+fn quiet_after<E: End>(came: Round, quiet: u64, lines: &Lines<E>) -> u64 {
+    if came != Round::Idle {
+        return 0;
     }
+    if quiet == STRANDED && are_closed(lines) {
+        return u64::MAX;
+    }
+    quiet.saturating_add(1)
 }
 
 // How the rounds end after this one, if they do.

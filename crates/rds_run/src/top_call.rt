@@ -36,8 +36,8 @@ const USAGE: &str = "usage: rds play | rds run [--wire memory|tcp] | rds gen N S
 /// Runs the program on the words after its name, and gives its exit status (docs/COMMAND.md has the table). Two of its
 /// commands read a script from the source: `play` writes its transcript and its report to the sink, and `run` runs it with threads and
 /// writes its report. `gen` generates a script, runs it so, and writes a summary. Before each command of a run its caller asks the gate.
-/// A run goes over streams in memory, or over those of `tcp` where the words name that wire. It is made to be
-/// called once in a process, shortly before it ends: what the hosts and the script of a run that ended well have in memory is never let go of. A
+/// A run goes over streams in memory, or over those of `tcp` where the words name that wire. The call is made for the end of a process,
+/// and for one time in it: what the hosts and the script of a run that ended well have in memory is never let go of. A
 /// process that calls it again and again, as tests do, keeps that of each run.
 ///
 /// | Status | When |

@@ -68,7 +68,8 @@ fn no_stream_can_be_opened(rt: HostRuntime) -> Result<(), Fail> {
     Ok(())
 }
 
-// Whether a run whose ends fail at their call number `call` writes the report, or that no stream is left after the last one.
+// Whether a run whose ends fail at their call number `call` writes the report, or that no stream is left after the last one. Ends that
+// fail at their first call move nothing, so there only the latter is right.
 fn ends_well<R: Threads + Wait + Net + Sync>(rt: &R, alloc: Global, call: u32) -> bool {
     let Ok(fail) = Vec::from_array(alloc, [call]) else {
         return false;
@@ -78,7 +79,7 @@ fn ends_well<R: Threads + Wait + Net + Sync>(rt: &R, alloc: Global, call: u32) -
         return false;
     };
     let line = b"wire fault A B after k=3\n".as_slice();
-    sink.held() == HELLO_TEXT || sink.held() == line
+    sink.held() == line || (call > 1 && sink.held() == HELLO_TEXT)
 }
 
 #[test]
