@@ -16,8 +16,8 @@ hello:
 
 below: $(BELOW)
 
-# What is printed is one line a crate; a crate that fails prints what its check says. `rt lib` proves a crate and builds what the crates above it
-# load, which they would have to do after `rt check`.
+# It prints one line a crate, and what the check says where one fails. `rt lib` proves a crate and builds what the crates above it load; after
+# `rt check` they would have to build that themselves.
 $(BELOW):
 	@echo "proving $@"
 	@mkdir -p crates/$@/out
