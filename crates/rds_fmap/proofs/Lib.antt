@@ -5,3 +5,4 @@ pub mod Steps
 pub mod Seats
 pub mod Publication
 pub mod Entering
+pub mod Ascending

@@ -1,5 +1,5 @@
 -- A writer and a reader of words, as contracts see them. This project's own.
-use Rattle.std.specs.Prelude.{◌≡◌, ℕ, ◌/◌, ◌%◌, ◌==◌, List, [], ◌∷◌, ◌++◌, Contains}
+use Rattle.std.specs.Prelude.{◌≡◌, ℕ, ◌/◌, ◌%◌, ◌==◌, ◌≤◌, List, [], ◌∷◌, ◌++◌, Contains, Some, slice_get}
 use Rattle.std.specs.Int.{bit_at}
 use Rattle.atomic_table.specs.Seated.{TableId}
 use Rattle.rds_fmap.specs.declared.seen.Seen.{Seen}
@@ -38,3 +38,8 @@ HasSeen r port seen = (number : ℕ) × Contains r.found (record { word = half_o
 -- one load of the port's word, and what it says of the port
 abbrev pub IsLook : ReaderView → ReaderView → ℕ → Seen → Type 0
 IsLook old new port seen = (number : ℕ) × (new ≡ record old { found = old.found ++ record { word = half_of_port port; number = number } ∷ [] }) × (seen ≡ seen_in number port)
+
+-- of two of these looks at one word, which stand in their order, the later one found no older version
+abbrev pub NeverFalls : List Look → Type 0
+NeverFalls looks = (i j : ℕ) (a b : Look) → i ≤ j → slice_get looks i ≡ Some a → slice_get looks j ≡ Some b → b.word ≡ a.word →
+    version_in a.number ≤ version_in b.number

@@ -6,7 +6,7 @@ use Rattle.rds_mail.specs.Shared.{IsPart}
 use Rattle.rds_mail.specs.Passes.{Getter, Putter, account_of}
 use Rattle.rds_mail.specs.Merging.{AreAll, IsMerged, KeysBegin}
 use Rattle.rds_joins.specs.Joins.{AreMarked, PutsAreTold, KeysAre}
-use Rattle.rds_fmap.specs.Readers.{HasSeen, ReaderView, WriterView}
+use Rattle.rds_fmap.specs.Readers.{HasSeen, NeverFalls, ReaderView, WriterView}
 use Rattle.rds_fmap.specs.Versions.{IsSeenIn}
 use Rattle.rds_fmap.specs.declared.seen.Seen.{Seen}
 use Rattle.rds_parts.specs.Lanes.{Lane}
@@ -15,9 +15,9 @@ use Rattle.rds_parts.specs.Lanes.{Lane}
 abbrev pub AreReadersOf : WriterView → List (Lane ReaderView) → Type 0
 AreReadersOf w lanes = All (λ lane. lane.reader.pair ≡ w.pair) lanes
 
--- each look of a reader found what the map of its version has, among these
+-- each look of a reader found what the map of its version has, among these, and no version older than an earlier look at the same word found
 abbrev pub HasLookedAt : List (List ℕ) → ReaderView → Type 0
-HasLookedAt published r = (port : ℕ) (seen : Seen) → HasSeen r port seen → IsSeenIn published port seen
+HasLookedAt published r = ((port : ℕ) (seen : Seen) → HasSeen r port seen → IsSeenIn published port seen) × NeverFalls r.found
 
 -- so it is of the readers of these routes
 abbrev pub HaveLookedAt : List (List ℕ) → List (Lane ReaderView) → Type 0

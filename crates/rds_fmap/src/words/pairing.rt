@@ -1,7 +1,7 @@
 //! How a pair is made, and what is known once a reader is joined into its writer.
 ghost use Rattle.std.specs.Prelude.{◌≡◌, ℕ, ◌≤◌, [], replicate, IfOk};
 ghost use Rattle.std.specs.Arc.{arc_value};
-ghost use Rattle.rds_fmap.specs.Readers.{ReaderView, HasSeen};
+ghost use Rattle.rds_fmap.specs.Readers.{ReaderView, HasSeen, NeverFalls};
 ghost use Rattle.rds_fmap.specs.Versions.{IsSeenIn};
 ghost use Rattle.rds_fmap.specs.declared.seen.Seen.{Seen};
 
@@ -53,11 +53,12 @@ impl Writer {
 }
 
 /// Joins a reader into the writer of its pair. From then on what each of its looks found is known to be the port's bit in the
-/// published map of that version.
+/// published map of that version. Of two looks at one word the later found no older version.
 pub fn close(writer: &mut Writer, reader: Reader)
     requires { reader.pair ≡ writer.old.pair }
     ensures same { writer.new ≡ writer.old }
     ensures seen { (port : ℕ) (seen : Seen) → HasSeen reader port seen → IsSeenIn writer.new.published port seen }
+    ensures ascend { NeverFalls reader.found }
 {
     let Reader { seat, .. } = reader;
     let shared = &writer.words.shared;

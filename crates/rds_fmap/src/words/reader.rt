@@ -22,13 +22,13 @@ pub struct Reader {
 impl Model for Reader {
     ghost use Rattle.std.specs.Prelude.{◌≡◌, [], false};
     ghost use Rattle.std.specs.Arc.{arc_value};
-    ghost use Rattle.rds_fmap.specs.Readers.{ReaderView, reader_view};
+    ghost use Rattle.rds_fmap.specs.Readers.{NeverFalls, ReaderView, reader_view};
 
     ghost Value = { ReaderView };
 
     ghost view = { λ r. reader_view r.seat.table_id r.seat.me.0 };
 
-    ghost invariant = { λ r. (r.seat.table_id ≡ (arc_value r.words).shared.table_id) × (r.seat.table_id.words ≡ 2048) × (r.seat.me.1 ≡ []) × (r.seat.me.0.writes ≡ false) };
+    ghost invariant = { λ r. (r.seat.table_id ≡ (arc_value r.words).shared.table_id) × (r.seat.table_id.words ≡ 2048) × (r.seat.me.1 ≡ []) × (r.seat.me.0.writes ≡ false) × NeverFalls r.seat.me.0.looks };
 }
 
 impl MapReader for Reader {

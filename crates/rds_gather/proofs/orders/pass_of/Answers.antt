@@ -8,4 +8,4 @@ use Rattle.rds_gather.proofs.orders.pass_of.Goals as goal
 pub returns-clause-looks : goal.returns-clause-looks
 returns-clause-looks c =
     subst (λ (lane : Lane ReaderView). HasLookedAt c.args.writer.now.published lane.reader) c.route.view_is
-    (subst (λ (w : WriterView). HasLookedAt w.published c.route.inside.map) c.close.ensures.same c.close.ensures.seen)
+    (subst (λ (w : WriterView). HasLookedAt w.published c.route.inside.map) c.close.ensures.same (c.close.ensures.seen, c.close.ensures.ascend))
