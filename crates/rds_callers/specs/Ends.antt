@@ -6,6 +6,7 @@ use Rattle.rds_mail.specs.Learning.{AllGot}
 use Rattle.rds_mail.specs.Numbers.{bare_items}
 use Rattle.rds_parts.specs.Lanes.{Ascend}
 use Rattle.rds_parts.specs.Ports.{HasClaimedOnly}
+use Rattle.rds_model.specs.Honest.{Begins}
 use Rattle.rds_final.specs.declared.final_state.Kept.{Kept}
 use Rattle.rds_socket.specs.Holding.{Holding}
 use Rattle.rds_callers.specs.Places.{Place, Vacant, Bound, Ended, Spare, PlaceKeeps, holding_of, somes}
@@ -59,10 +60,10 @@ used_name (Spare h) = None
 abbrev pub kept_name : Kept → ℕ × ℕ
 kept_name k = (k.slot, k.port)
 
--- what an open socket still held it handed out in the end, and what an ended one held is unread
+-- what an open socket still held it handed out in the end, after all that it had handed out before; and what an ended one held is unread
 abbrev pub UnreadFits : Place → Kept → Type 0
 UnreadFits (Vacant h) k = ⊥
-UnreadFits (Bound o got) k = k.unread.items ≡ []
+UnreadFits (Bound o got) k = (k.unread.items ≡ []) × Begins got k.got.items
 UnreadFits (Ended port h got) k = k.got.items ≡ got
 UnreadFits (Spare h) k = ⊥
 

@@ -39,6 +39,7 @@ impl Tenant {
     ghost use Rattle.rds_fmap.specs.Readers.{ReaderView};
     ghost use Rattle.rds_mail.specs.Learning.{AllGot};
     ghost use Rattle.rds_mail.specs.Passes.{after_note};
+    ghost use Rattle.rds_model.specs.Honest.{Begins};
     ghost use Rattle.rds_model.specs.declared.order.Datagram.{Datagram as Item};
     ghost use Rattle.rds_model.specs.declared.order.Order.TheVariants as order;
     ghost use Rattle.rds_parts.specs.Lanes.{IsLaneAt, Lane};
@@ -195,6 +196,7 @@ impl Tenant {
         ensures name { IfOk result (λ r. (r.0.slot ≡ self.socket.own.words.slot) × (r.0.port ≡ self.socket.port)) }
         ensures all { IfOk result (λ r. r.0.got.items ++ r.0.unread.items ≡ bare_items r.1.inbox.get.got) }
         ensures unread { IfOk result (λ r. r.0.unread.items ≡ []) }
+        ensures begins { IfOk result (λ r. Begins self.got.items r.0.got.items) }
         ensures empty { IfOk result (λ r. AllGot r.1.inbox.get) }
         ensures ends { IfOk result (λ r. IsEndOf self.socket.own r.1) }
         ensures claimed { IfOk result (λ r. HasClaimedOnly (Some self.socket.port) r.1.ports.view) }
@@ -215,6 +217,7 @@ impl Tenant {
     // Receives until the mailbox is found empty.
     fn receive_all<R: Wait>(&mut self, rt: &R) -> Result<(), Memory>
         ensures empty { OnOk result (AllGot self.new.socket.own.inbox.get) }
+        ensures begins { Begins self.old.got.items self.new.got.items }
         ensures port { self.new.socket.port ≡ self.old.socket.port }
         ensures ends { IsEndOf self.old.socket.own self.new.socket.own }
     {

@@ -1,4 +1,4 @@
--- A map with a port was pulled only where more was delivered than a receive buffer that the host's binds ask for.
+-- A map with a port was pulled only where more was delivered to a slot than the receive buffer that its bind asks for.
 use Rattle.std.proofs.Common.{◌≡◌, ℕ, suc, ◌+◌, ◌<◌, List, [], ◌∷◌, All, Some, length, map, option_map, slice_get, refl, sym, ap, subst, ◌∙◌, arith}
 use Rattle.std.proofs.lemmas.List.{length-map}
 use Rattle.std.proofs.lemmas.Option.{slice_get-map, slice_get_within}
@@ -18,7 +18,7 @@ use Rattle.rds_gather.specs.Sides.{line_side}
 use Rattle.rds_callers.specs.Ends.{AreEndsOf}
 use Rattle.rds_callers.specs.Places.{Place, holding_of, spared}
 use Rattle.rds_settling.specs.Tied.{PlacesHear, holdings}
-use Rattle.rds_threads.specs.Outcome.{AskFor, IsFilled}
+use Rattle.rds_threads.specs.Outcome.{BindsSlot, IsFilled}
 use Rattle.rds_threads.specs.Settled.{HasDoneSpared}
 use Rattle.rds_threads.proofs.At.{all_from, at_map, held_at, spared_holds, stood_at}
 use Rattle.rds_threads.proofs.Cutting.{cuts_of_done}
@@ -85,9 +85,11 @@ module _ {E : Type 0} where
   pub all_filled : (hosts host : ℕ) (commands : List Placed) (places : List Place) (lines : List (LineView E WriterView)) →
       ((place : ℕ) (line : LineView E WriterView) → slice_get lines place ≡ Some line → (line.channel.conn.peer ≡ address_of (peer_at host place)) × (suc place < hosts)) →
       HasDoneSpared hosts host commands places lines → AreMapsGrounded (holdings places) lines →
-      All (λ (side : FinalJournal). (port : ℕ) → port < 65536 → HasPulled port side.past → IsFilled host commands (map line_side lines) port) (map line_side lines)
+      All (λ (side : FinalJournal). (port : ℕ) → port < 65536 → HasPulled port side.past → IsFilled host commands did.did.done.first did.last (map line_side lines) port)
+      (map line_side lines)
   all_filled hosts host commands places lines peers did grounded =
-      all_from (λ (side : FinalJournal). (port : ℕ) → port < 65536 → HasPulled port side.past → IsFilled host commands (map line_side lines) port) (map line_side lines)
+      all_from (λ (side : FinalJournal). (port : ℕ) → port < 65536 → HasPulled port side.past → IsFilled host commands did.did.done.first did.last (map line_side lines) port)
+      (map line_side lines)
       (λ place side at_side port small pulled.
       let line = at_map line_side lines place side at_side in
       let way = cuts_of_done hosts host place commands did.last did.did.done (peers place line.0 line.1).1 in
@@ -107,7 +109,7 @@ module _ {E : Type 0} where
         above = subst (λ (n : ℕ). g.limit < n) (sym (total_sides g.slot lines)) g.above;
       })
     where
-      asked : (port : ℕ) (g : IsGrounded (holdings places) lines port) → AskFor host g.limit commands
+      asked : (port : ℕ) (g : IsGrounded (holdings places) lines port) → BindsSlot host g.slot g.limit commands did.did.done.first did.last
       asked port g =
           let p = at_map holding_of places g.owner g.held g.owned in
           let q = at_map spared did.last g.owner p.0 (subst (λ (l : List Place). slice_get l g.owner ≡ Some p.0) did.left p.1) in

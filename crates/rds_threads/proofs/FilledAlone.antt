@@ -1,4 +1,4 @@
--- Of two hosts alone: a map with a port was pulled only where the journal delivered more than a receive buffer that the host's binds ask for.
+-- Of two hosts alone: a map with a port was pulled only where the journal delivered more than the receive buffer of the bind of some slot.
 use Rattle.std.proofs.Common.{◌≡◌, ◌≢◌, ◌<◌, ℕ, zero, suc, List, [], ◌∷◌, Some, length, map, option_map, slice_get, refl, sym, ap, subst, ◌∙◌, arith}
 use Rattle.std.proofs.lemmas.Option.{same_Some, slice_get-map}
 use Rattle.rds_link.specs.Ends.{Means}
@@ -53,8 +53,8 @@ module _ {E : Type 0} where
       (tied : HaveTied callers rows) (commands : List Placed) (did : HaveDoneSpared hosts commands callers rows) where
     -- of the journal of a line
     filled_line : (host place : ℕ) (line : LineView E WriterView) → IsAt rows host place line → IsGroundedAt callers rows host → hosts ≡ 2 →
-        IsFilledAlone host (peer_at host place) commands (line_past line)
-    filled_line host place line at grounded two port small pulled =
+        IsFilledAlone hosts host (peer_at host place) commands (line_past line)
+    filled_line host place line at grounded two =
         let row = at.0 in
         let caller = stood_at callers rows host row (sym tied.count) at.1 in
         let long = row_length hosts rows done.shape host row at.1 in
@@ -62,20 +62,25 @@ module _ {E : Type 0} where
         let of = line_of m limit hosts rows done host place line at in
         let sides : map line_side row ≡ record { peer = address_of (peer_at host place); past = line_past line } ∷ [] =
         ap (map line_side) one ∙ ap (λ (n : ℕ). record { peer = n; past = line_past line } ∷ []) of.peer_is in
+        let mine = did host caller.0 row caller.1 at.1 in
         let all =
         all_filled hosts host commands caller.0.places row
         (λ p l at_l.
         ((line_of m limit hosts rows done host p l (row, at.1, at_l)).peer_is, place_within hosts rows done.shape host p l (row, at.1, at_l)))
-        (did host caller.0 row caller.1 at.1) (grounded caller.0 row caller.1 at.1) in
-        subst (λ (l : List FinalJournal). IsFilled host commands l port) sides
-        (all_at (λ (side : FinalJournal). (q : ℕ) → q < 65536 → HasPulled q side.past → IsFilled host commands (map line_side row) q) (map line_side row) place
-        (line_side line) all (slice_get-map line_side row place ∙ ap (option_map line_side) at.2) port small pulled)
+        mine (grounded caller.0 row caller.1 at.1) in (
+          mine.last,
+          mine.did.done,
+          λ port small pulled.
+              subst (λ (l : List FinalJournal). IsFilled host commands mine.did.done.first mine.last l port) sides
+              (all_at (λ (side : FinalJournal). (q : ℕ) → q < 65536 → HasPulled q side.past → IsFilled host commands mine.did.done.first mine.last (map line_side row) q)
+              (map line_side row) place (line_side line) all (slice_get-map line_side row place ∙ ap (option_map line_side) at.2) port small pulled),
+        )
 
     -- of the journal of one of the two with the other
     pub filled_alone : (host peer : ℕ) → host < hosts → peer < hosts → peer ≢ host → (past : List Entry) → IsJournalOf rows host peer past →
-        IsGroundedAt callers rows host → hosts ≡ 2 → IsFilledAlone host peer commands past
+        IsGroundedAt callers rows host → hosts ≡ 2 → IsFilledAlone hosts host peer commands past
     filled_alone host peer known also apart past is grounded two =
         let line = stands hosts rows done.shape host zero known (omega (arith, two)) in
         let to = other_of_two host peer (omega (arith, known, two)) (omega (arith, also, two)) apart in
-        subst (IsFilledAlone host peer commands) (sym (is zero line.0 to line.1).is)
-        (subst (λ (n : ℕ). IsFilledAlone host n commands (line_past line.0)) to (filled_line host zero line.0 line.1 grounded two))
+        subst (IsFilledAlone hosts host peer commands) (sym (is zero line.0 to line.1).is)
+        (subst (λ (n : ℕ). IsFilledAlone hosts host n commands (line_past line.0)) to (filled_line host zero line.0 line.1 grounded two))

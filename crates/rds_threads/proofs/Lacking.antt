@@ -103,7 +103,7 @@ module _ {E M : Type 0} where
   lacking_of : (m : Means E) (limit hosts : ℕ) (rows : List (List (LineView E M))) → AreDone m limit hosts rows → HaveSameStreams rows →
       (commands : List Placed) (low high : ℕ) → MissByCommands m.tells commands low high rows → (before after : ℕ) → HaveCounted commands before after rows → (own other : List Entry) →
       IsJournalOf rows low high own → IsJournalOf rows high low other → IsOfCommands hosts low high commands own →
-      IsOfCommands hosts high low commands other → (hosts ≡ 2 → IsFilledAlone low high commands own) → (hosts ≡ 2 → IsFilledAlone high low commands other) →
+      IsOfCommands hosts high low commands other → (hosts ≡ 2 → IsFilledAlone hosts low high commands own) → (hosts ≡ 2 → IsFilledAlone hosts high low commands other) →
       AreLackingStream m.tells hosts commands low high (newest_stream own) own other
   lacking_of m limit hosts rows done streams commands low high missed before after counted own other is_own is_other own_sent other_sent own_filled other_filled =
       let lack = missed.misses in

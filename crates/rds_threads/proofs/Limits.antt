@@ -1,7 +1,7 @@
--- The receive limits that the slots of a host have stored are those that its commands ask for.
-use Rattle.std.proofs.Common.{◌≡◌, ◌⊎◌, inl, inr, ℕ, List, [], ◌∷◌, Ok, Some, set, slice_get, refl, sym, ap, subst, ◌∙◌, arith}
+-- The receive limits that the slots of a host have stored are those that the binds of these slots ask for.
+use Rattle.std.proofs.Common.{◌≡◌, ◌⊎◌, inl, inr, ℕ, List, [], ◌∷◌, ◌++◌, append_assoc, Ok, Some, set, slice_get, refl, sym, ap, subst, ◌∙◌, arith}
 use Rattle.std.specs.Prelude.{Contains}
-use Rattle.std.proofs.lemmas.List.Elements.{Contains-append_right, Contains-push_cases}
+use Rattle.std.proofs.lemmas.List.Elements.{Contains-push_cases}
 use Rattle.std.proofs.lemmas.Option.{same_Some, slice_get_within}
 use Rattle.rds_model.specs.declared.order.Datagram.{Datagram}
 use Rattle.rds_model.specs.declared.order.Order.{Order}
@@ -29,7 +29,7 @@ use Rattle.rds_callers.specs.Places.{Bound, Ended, Place, Spare, Vacant, holding
 use Rattle.rds_callers.specs.Tenants.{Asks, Cancels, Closes, ReceivesNext, SendsFrom, SendsOrNot}
 use Rattle.rds_callers.specs.StoringLaws.{stores_closed, stores_load, stores_received, stores_same}
 use Rattle.rds_parties.specs.Obeyed.{DoesCommand, HasDone, HasObeyed}
-use Rattle.rds_threads.specs.Outcome.{AskFor, BindsWith}
+use Rattle.rds_threads.specs.Outcome.{BindsAt, BindsSlot, BindsWith}
 use Rattle.rds_threads.proofs.At.{at_set, beside_set, one_at}
 use Rattle.rds_threads.proofs.CutsPut.{either_way}
 
@@ -69,14 +69,14 @@ holds (Bound o got) k = refl
 holds (Ended port v got) k = refl
 holds (Spare v) k = refl
 
-module _ (P : ℕ → Type 0) where
+module _ (P : (slot limit : ℕ) → Type 0) where
   -- each limit that a slot has stored is such a one
   abbrev pub LimitsAre : List Place → Type 0
-  LimitsAre places = (k : ℕ) (p : Place) → slice_get places k ≡ Some p → (slot limit : ℕ) → HasStored slot limit (holding_of p).words.seat.view → P limit
+  LimitsAre places = (k : ℕ) (p : Place) → slice_get places k ≡ Some p → (slot limit : ℕ) → HasStored slot limit (holding_of p).words.seat.view → P slot limit
 
   -- what is stored was stored before, or is such a one
   abbrev Adds : Holding ReaderView → Holding ReaderView → Type 0
-  Adds old new = (slot limit : ℕ) → HasStored slot limit new.words.seat.view → HasStored slot limit old.words.seat.view ⊎ P limit
+  Adds old new = (slot limit : ℕ) → HasStored slot limit new.words.seat.view → HasStored slot limit old.words.seat.view ⊎ P slot limit
 
   stays : (old new : List Place) → new ≡ old → LimitsAre old → LimitsAre new
   stays old new same h = subst (λ (l : List Place). LimitsAre l) (sym same) h
@@ -90,7 +90,7 @@ module _ (P : ℕ → Type 0) where
       go (adds s l (subst (λ (y : Place). HasStored s l (holding_of y).words.seat.view) x_is has)))
       (λ apart. all k x (sym (beside_set old slot k q apart) ∙ at_x) s l has)
     where
-      go : HasStored s l (holding_of p).words.seat.view ⊎ P l → P l
+      go : HasStored s l (holding_of p).words.seat.view ⊎ P s l → P s l
       go (inl before) = all slot p at s l before
       go (inr new) = new
 
@@ -101,21 +101,30 @@ module _ (P : ℕ → Type 0) where
   limit_in (Stored word limit) = limit
   limit_in _ = 0
 
-  one_more : (old new : Holding ReaderView) (rcvbuf : ℕ) → P rcvbuf → new.words ≡ purse_with old.words (after_store old.words.seat.view old.words.slot rcvbuf) → Adds old new
+  abbrev word_in : Step → ℕ
+  word_in (Stored word limit) = word
+  word_in _ = 0
+
+  one_more : (old new : Holding ReaderView) (rcvbuf : ℕ) → P old.words.slot rcvbuf → new.words ≡ purse_with old.words (after_store old.words.seat.view old.words.slot rcvbuf) → Adds old new
   one_more old new rcvbuf such is s l has =
       go (Contains-push_cases old.words.seat.view.steps (Stored (limit_word old.words.slot) rcvbuf) (Stored (limit_word s) l)
       (subst (λ (w : Purse). HasStored s l w.seat.view) is has))
     where
-      go : Contains old.words.seat.view.steps (Stored (limit_word s) l) ⊎ (Stored (limit_word old.words.slot) rcvbuf ≡ Stored (limit_word s) l) → HasStored s l old.words.seat.view ⊎ P l
+      go : Contains old.words.seat.view.steps (Stored (limit_word s) l) ⊎ (Stored (limit_word old.words.slot) rcvbuf ≡ Stored (limit_word s) l) → HasStored s l old.words.seat.view ⊎ P s l
       go (inl before) = inl before
-      go (inr same) = inr (subst P (ap limit_in same) such)
+      go (inr same) = inr (subst (λ (n : ℕ). P n l) (ap word_in same) (subst (λ (n : ℕ). P old.words.slot n) (ap limit_in same) such))
 
-  binds_next : (Fits : Holding ReaderView → Open ReaderView → Type 0) (old new : List Place) (rcvbuf : ℕ) → P rcvbuf →
+  binds_next : (Fits : Holding ReaderView → Open ReaderView → Type 0) (old new : List Place) (rcvbuf : ℕ) → ((slot : ℕ) → BindsAt slot old new → P slot rcvbuf) →
       ((v : Holding ReaderView) (o : Open ReaderView) → Fits v o → o.own.words ≡ purse_with v.words (after_store v.words.seat.view v.words.slot rcvbuf)) →
       BindsNext Fits old new → LimitsAre old → LimitsAre new
   binds_next Fits old new rcvbuf such stored is h =
       subst (λ (l : List Place). LimitsAre l) (sym is.5)
-      (slot_keeps old is.0 (Vacant is.1) (Bound is.2 []) is.3.0 (one_more is.1 is.2.own rcvbuf such (stored is.1 is.2 is.4)) h)
+      (slot_keeps old is.0 (Vacant is.1) (Bound is.2 []) is.3.0 (one_more is.1 is.2.own rcvbuf (such is.1.words.slot bound) (stored is.1 is.2 is.4)) h)
+    where
+      bound : BindsAt is.1.words.slot old new
+      bound =
+          let within = slice_get_within old is.0 (Vacant is.1) is.3.0 in
+          (is.0, is.1, is.2, is.3.0, refl, subst (λ (l : List Place). slice_get l is.0 ≡ Some (Bound is.2 [])) (sym is.5) (at_set old is.0 (Bound is.2 []) within))
 
   at_port : (Rel : Open ReaderView → List Datagram → Place → Type 0) (port : ℕ) (old new : List Place) →
       ((o : Open ReaderView) (got : List Datagram) (p : Place) → Rel o got p → StoresNoMore o.own (holding_of p)) → AtPort port Rel old new → LimitsAre old → LimitsAre new
@@ -125,13 +134,13 @@ module _ (P : ℕ → Type 0) where
   at_port Rel port old new keeps (inr none) h = stays old new none.1 h
 
   -- a command that was done stores no other limit than that it asks for
-  done : (host : ℕ) (command : Command) (old new : List Place) → ((rcvbuf : ℕ) → BindsWith host rcvbuf command → P rcvbuf) → commander command ≡ Some host →
+  done : (host : ℕ) (command : Command) (old new : List Place) → ((slot rcvbuf : ℕ) → BindsWith host rcvbuf command → BindsAt slot old new → P slot rcvbuf) → commander command ≡ Some host →
       IsDone command old new → LimitsAre old → LimitsAre new
   done host (script.Bind by port sndbuf rcvbuf) old new such own (inl is) h =
-      binds_next (λ v o. BindFits v port sndbuf rcvbuf (Ok o)) old new rcvbuf (such rcvbuf (same_Some by host own, refl)) (λ v o fits. ap (λ (x : Open ReaderView). x.own.words) fits.1) is.2 h
+      binds_next (λ v o. BindFits v port sndbuf rcvbuf (Ok o)) old new rcvbuf (λ slot. such slot rcvbuf (same_Some by host own, refl)) (λ v o fits. ap (λ (x : Open ReaderView). x.own.words) fits.1) is.2 h
   done host (script.Bind by port sndbuf rcvbuf) old new such own (inr cannot) h = stays old new cannot.1 h
   done host (script.BindAny by port sndbuf rcvbuf) old new such own (inl is) h =
-      binds_next (λ v o. BindAnyFits v port sndbuf rcvbuf (Ok o) × IsFirstFree old port o.port) old new rcvbuf (such rcvbuf (same_Some by host own, refl))
+      binds_next (λ v o. BindAnyFits v port sndbuf rcvbuf (Ok o) × IsFirstFree old port o.port) old new rcvbuf (λ slot. such slot rcvbuf (same_Some by host own, refl))
       (λ v o fits. ap (λ (x : Open ReaderView). x.own.words) fits.0.1) is h
   done host (script.BindAny by port sndbuf rcvbuf) old new such own (inr cannot) h = stays old new cannot.1 h
   done host (script.Send by port to dport payload) old new such own is h = at_port (SendsFrom (address_of to) dport payload) port old new (sends_from (address_of to) dport payload) is h
@@ -149,20 +158,46 @@ module _ (P : ℕ → Type 0) where
   done host (script.Cut by to) old new such own (inr none) h = stays old new none.1 h
   done host script.Drain old new such own is h = stays old new is h
 
-  all_steps : (host : ℕ) (commands : List Placed) (old new : List Place) → ((placed : Placed) (rcvbuf : ℕ) → Contains commands placed → BindsWith host rcvbuf placed.command → P rcvbuf) →
-      HasObeyed host commands old new → LimitsAre old → LimitsAre new
-  all_steps host [] old new such is h = stays old new is h
-  all_steps host (placed ∷ commands) old new such is h =
-      all_steps host commands is.0 new (λ other rcvbuf has. such other rcvbuf (Contains-append_right (placed ∷ []) commands other has)) is.2 (go is.1)
-    where
-      go : DoesCommand host placed old is.0 → LimitsAre is.0
-      go (inl own) = done host placed.command old is.0 (λ rcvbuf asks. such placed rcvbuf (0, omega arith, refl) asks) own.0 own.1 h
-      go (inr other) = stays old is.0 other.1 h
+-- one command more was done
+obeyed_more : (host : ℕ) (front : List Placed) (placed : Placed) (first old new : List Place) → HasObeyed host front first old → DoesCommand host placed old new →
+    HasObeyed host (front ++ placed ∷ []) first new
+obeyed_more host [] placed first old new began did = (new, subst (λ (l : List Place). DoesCommand host placed l new) began did, refl)
+obeyed_more host (other ∷ front) placed first old new began did = (began.0, began.1, obeyed_more host front placed began.0 old new began.2 did)
 
--- each limit that a slot has stored in the end is one that a command asks for
-pub limits_of_done : (hosts host : ℕ) (commands : List Placed) (places : List Place) → HasDone hosts host commands places → LimitsAre (λ (limit : ℕ). AskFor host limit commands) places
+-- the commands from some on, of all of them
+module _ (host : ℕ) (all : List Placed) (first last : List Place) where
+  abbrev IsBoundBy : (slot limit : ℕ) → Type 0
+  IsBoundBy slot limit = BindsSlot host slot limit all first last
+
+  all_steps : (front commands : List Placed) (old : List Place) → all ≡ front ++ commands → HasObeyed host front first old → HasObeyed host commands old last →
+      LimitsAre IsBoundBy old → LimitsAre IsBoundBy last
+  all_steps front [] old whole began is h = stays IsBoundBy old last is h
+  all_steps front (placed ∷ commands) old whole began is h =
+      all_steps (front ++ placed ∷ []) commands is.0 (whole ∙ sym (append_assoc front (placed ∷ []) commands)) (obeyed_more host front placed first old is.0 began is.1)
+      is.2 (go is.1)
+    where
+      go : DoesCommand host placed old is.0 → LimitsAre IsBoundBy is.0
+      go (inl own) = done IsBoundBy host placed.command old is.0
+          (λ slot rcvbuf asks bound. record {
+            before = front;
+            placed = placed;
+            after = commands;
+            order = whole;
+            asks = asks;
+            left = old;
+            next = is.0;
+            began = began;
+            did = own.1;
+            rest = is.2;
+            bound = bound;
+          }) own.0 own.1 h
+      go (inr other) = stays IsBoundBy old is.0 other.1 h
+
+-- each limit that a slot has stored in the end is one that the bind of the slot asks for
+pub limits_of_done : (hosts host : ℕ) (commands : List Placed) (places : List Place) (did : HasDone hosts host commands places) →
+    LimitsAre (λ (slot limit : ℕ). BindsSlot host slot limit commands did.first places) places
 limits_of_done hosts host commands places did =
-    all_steps (λ (limit : ℕ). AskFor host limit commands) host commands did.first places (λ placed rcvbuf has asks. (placed, has, asks)) did.obeyed
+    all_steps host commands did.first places [] commands did.first refl refl did.obeyed
     (λ k p at slot limit has.
     let new = did.new k p at in
     let none = ap (λ (x : Place). (holding_of x).words.seat.view.steps) new.vacant ∙ new.steps in

@@ -78,8 +78,8 @@ module _ {E M : Type 0} (m : Means E) (limit hosts : ℕ) (rows : List (List (Li
   -- the two journals of a host that is full and its peer
   full_journal : (host peer entries : ℕ) → IsFullHost host peer entries rows → (own other : List Entry) → IsJournalOf rows host peer own →
       IsJournalOf rows peer host other → (commands : List Placed) (before after : ℕ) → HaveCounted commands before after rows →
-      IsOfCommands hosts host peer commands own → IsOfCommands hosts peer host commands other → (hosts ≡ 2 → IsFilledAlone host peer commands own) →
-      (hosts ≡ 2 → IsFilledAlone peer host commands other) → IsFullJournal m.tells limit hosts commands host peer entries own other
+      IsOfCommands hosts host peer commands own → IsOfCommands hosts peer host commands other → (hosts ≡ 2 → IsFilledAlone hosts host peer commands own) →
+      (hosts ≡ 2 → IsFilledAlone hosts peer host commands other) → IsFullJournal m.tells limit hosts commands host peer entries own other
   full_journal host peer entries full own other is is_other commands before after counted own_sent other_sent own_filled other_filled =
       let line = line_of m limit hosts rows done host full.place full.line full.at in
       let own_is = is full.place full.line full.to full.at in

@@ -44,10 +44,11 @@ pub record IsOfCommands (hosts host peer : ℕ) (commands : List Placed) (past :
   pub sent : BeginsOrders host peer last past
   pub none_else : (slot : ℕ) → length last ≤ slot → orders_of slot past ≡ []
 
--- In this journal of a host with a peer a map with a port was pulled only where the journal delivered more bytes to a slot, and a datagram at
--- that port among them, than the receive buffer of one of the host's binds.
-abbrev pub IsFilledAlone : (host peer : ℕ) → List Placed → List Entry → Type 0
-IsFilledAlone host peer commands past = (port : ℕ) → port < 65536 → HasPulled port past → IsFilled host commands (record { peer = address_of peer; past = past } ∷ []) port
+-- One of so many hosts did its commands, and in this journal of it with a peer a map with a port was pulled only where the journal delivered more
+-- bytes to a slot, and a datagram at that port among them, than the receive buffer of the bind of that slot.
+abbrev pub IsFilledAlone : (hosts host peer : ℕ) → List Placed → List Entry → Type 0
+IsFilledAlone hosts host peer commands past = (last : List Place) × (done : HasDone hosts host commands last)
+    × ((port : ℕ) → port < 65536 → HasPulled port past → IsFilled host commands done.first last (record { peer = address_of peer; past = past } ∷ []) port)
 
 -- The journal has no stream left: none is open in it, and the other journal of the connection opened none that it didn't open before.
 pub record HasNoneLeft (own other : List Entry) : Type 0 where
@@ -78,8 +79,8 @@ pub record AreLackingStream (tells : Bool) (hosts : ℕ) (commands : List Placed
   pub other_opened : OpenedAmong (streams_between low high commands) other
   pub own_sent : IsOfCommands hosts low high commands own
   pub other_sent : IsOfCommands hosts high low commands other
-  pub own_filled : hosts ≡ 2 → IsFilledAlone low high commands own
-  pub other_filled : hosts ≡ 2 → IsFilledAlone high low commands other
+  pub own_filled : hosts ≡ 2 → IsFilledAlone hosts low high commands own
+  pub other_filled : hosts ≡ 2 → IsFilledAlone hosts high low commands other
   pub lacks : MissesOne tells low high commands own other ⊎ MissesOne tells low high commands other own
   pub newest : stream ≡ newest_stream own
 
@@ -114,5 +115,5 @@ pub record IsFullJournal (tells : Bool) (limit hosts : ℕ) (commands : List Pla
   pub other_opened : OpenedAmong (streams_between host peer commands) other
   pub own_sent : IsOfCommands hosts host peer commands own
   pub other_sent : IsOfCommands hosts peer host commands other
-  pub own_filled : hosts ≡ 2 → IsFilledAlone host peer commands own
-  pub other_filled : hosts ≡ 2 → IsFilledAlone peer host commands other
+  pub own_filled : hosts ≡ 2 → IsFilledAlone hosts host peer commands own
+  pub other_filled : hosts ≡ 2 → IsFilledAlone hosts peer host commands other

@@ -1,5 +1,5 @@
 -- What came of what the callers of a run did. Source: this project's own.
-use Rattle.std.specs.Prelude.{◌≡◌, ◌≢◌, ◌⊎◌, ◌<◌, ◌≤◌, ℕ, ◌==◌, ◌&&◌, Bool, false, List, [], All, Contains, None, Some, filter, length, map, slice_get}
+use Rattle.std.specs.Prelude.{◌≡◌, ◌≢◌, ◌⊎◌, ◌<◌, ◌≤◌, ℕ, ◌==◌, ◌&&◌, Bool, false, List, [], ◌∷◌, ◌++◌, All, Contains, None, Some, filter, length, map, slice_get}
 use Rattle.rds_wire.specs.declared.frame.Frame.{Frame}
 use Rattle.rds_model.specs.declared.entry.Entry.TheVariants.{Read}
 use Rattle.rds_model.specs.declared.entry.Outcome.TheVariants as outcome
@@ -19,19 +19,21 @@ use Rattle.rds_gather.specs.Grounded.{HasDelivered}
 use Rattle.rds_gather.specs.Joined.{orders_of}
 use Rattle.rds_gather.specs.Shown.{HasLookedAt}
 use Rattle.rds_model.specs.Deliveries.{put_bytes}
+use Rattle.rds_model.specs.Honest.{Begins}
 use Rattle.rds_model.specs.Past.{open_stream}
 use Rattle.rds_model.specs.Sums.{maps}
-use Rattle.rds_socket.specs.Holding.{Open}
+use Rattle.rds_socket.specs.Holding.{Holding, Open}
+use Rattle.rds_callers.specs.Doing.{IsDone}
 use Rattle.rds_callers.specs.Ends.{used_name}
 use Rattle.rds_callers.specs.Places.{Bound, Ended, Place, Spare, Vacant, holding_of, somes}
 use Rattle.rds_parties.specs.Obeyed.{HasDone, HasObeyed, after_binds, leading_binds}
 use Rattle.rds_threads.specs.Reliable.{AllWentToSockets}
 
--- A socket that was open when its host's commands were done handed out all that it got. One that was closed before had handed out what its
--- receives gave, and the rest is unread.
+-- A socket that was open when its host's commands were done handed out what its receives gave, and after that all else that it got. One that
+-- was closed before had handed out what its receives gave, and the rest is unread.
 abbrev pub HandedOutAt : Place → FinalSocket → Type 0
 HandedOutAt (Vacant h) s = ⊥
-HandedOutAt (Bound o got) s = s.unread ≡ []
+HandedOutAt (Bound o got) s = (s.unread ≡ []) × Begins got s.got
 HandedOutAt (Ended port h got) s = s.got ≡ got
 HandedOutAt (Spare h) s = ⊥
 
@@ -67,20 +69,36 @@ BindsWith host rcvbuf (Bind by port sndbuf size) = (by ≡ host) × (size ≡ rc
 BindsWith host rcvbuf (BindAny by port sndbuf size) = (by ≡ host) × (size ≡ rcvbuf)
 BindsWith host rcvbuf _ = ⊥
 
--- one of the commands does
-abbrev pub AskFor : (host rcvbuf : ℕ) → List Placed → Type 0
-AskFor host rcvbuf commands = (placed : Placed) × Contains commands placed × BindsWith host rcvbuf placed.command
+-- the slot of this number was vacant, and then it had a socket, which had handed out nothing
+abbrev pub BindsAt : (slot : ℕ) → (old new : List Place) → Type 0
+BindsAt slot old new = (place : ℕ) × (h : Holding ReaderView) × (o : Open ReaderView) × (slice_get old place ≡ Some (Vacant h)) × (h.words.slot ≡ slot)
+    × (slice_get new place ≡ Some (Bound o []))
+
+-- One of these commands bound the slot of this number with this receive buffer. The caller of the host did those before it, which left its slots
+-- so, then this one, and then the others.
+pub record BindsSlot (host slot rcvbuf : ℕ) (commands : List Placed) (first last : List Place) : Type 0 where
+  pub before : List Placed
+  pub placed : Placed
+  pub after : List Placed
+  pub order : commands ≡ before ++ placed ∷ after
+  pub asks : BindsWith host rcvbuf placed.command
+  pub left : List Place
+  pub next : List Place
+  pub began : HasObeyed host before first left
+  pub did : IsDone placed.command left next
+  pub rest : HasObeyed host after next last
+  pub bound : BindsAt slot left next
 
 -- One of these journals of a host delivered a datagram at this port to some slot, and all of them together delivered more bytes to that
--- slot than the receive buffer that one of the host's binds asks for.
-pub record IsFilled (host : ℕ) (commands : List Placed) (sides : List FinalJournal) (port : ℕ) : Type 0 where
+-- slot than the receive buffer that its own bind asks for.
+pub record IsFilled (host : ℕ) (commands : List Placed) (first last : List Place) (sides : List FinalJournal) (port : ℕ) : Type 0 where
   pub slot : ℕ
   pub place : ℕ
   pub side : FinalJournal
   pub stands : slice_get sides place ≡ Some side
   pub delivered : HasDelivered port slot side.past
   pub rcvbuf : ℕ
-  pub asked : AskFor host rcvbuf commands
+  pub asked : BindsSlot host slot rcvbuf commands first last
   pub above : rcvbuf < total (λ (s : FinalJournal). put_bytes slot s.past) sides
 
 -- What one of so many hosts, with these journals and these sockets, comes to did the script's commands: from slots that were new its caller did
@@ -100,7 +118,8 @@ pub record IsOutcome (hosts host : ℕ) (commands : List Placed) (sides : List F
   pub looked : (slot place : ℕ) (p : Place) (lane : Lane ReaderView) (side : FinalJournal) → slice_get last slot ≡ Some p →
       IsLaneAt (holding_of p).routes place lane → slice_get sides place ≡ Some side → HasLookedAt (maps side.past) lane.reader
   pub cut : All (λ (side : FinalJournal). HasShut (cuts_to host side.peer commands) side.past ⊎ (open_stream side.past ≡ None)) sides
-  pub filled : All (λ (side : FinalJournal). (port : ℕ) → port < 65536 → HasPulled port side.past → IsFilled host commands sides port) sides
+  pub filled : All (λ (side : FinalJournal). (port : ℕ) → port < 65536 → HasPulled port side.past →
+      IsFilled host commands done.first last sides port) sides
   pub gone : All (AllWentToSockets sockets) sides
   pub found : AreLeadingFound host commands done.first last sides
   pub names : map socket_name sockets ≡ somes (map used_name last)
