@@ -84,7 +84,7 @@ module _ {E : Type 0} where
 
   pub all_filled : (hosts host : ℕ) (commands : List Placed) (places : List Place) (lines : List (LineView E WriterView)) →
       ((place : ℕ) (line : LineView E WriterView) → slice_get lines place ≡ Some line → (line.channel.conn.peer ≡ address_of (peer_at host place)) × (suc place < hosts)) →
-      HasDoneSpared hosts host commands places lines → AreMapsGrounded (holdings places) lines →
+      (did : HasDoneSpared hosts host commands places lines) → AreMapsGrounded (holdings places) lines →
       All (λ (side : FinalJournal). (port : ℕ) → port < 65536 → HasPulled port side.past → IsFilled host commands did.did.done.first did.last (map line_side lines) port)
       (map line_side lines)
   all_filled hosts host commands places lines peers did grounded =
