@@ -1,12 +1,12 @@
 //! Two hosts over one stream in memory, and what one of them sends.
 ghost use Rattle.std.specs.Prelude.{◌≤◌, IfSome, length};
 ghost use Rattle.rds_link.specs.Memory.{memory_means};
-ghost use Rattle.rds_line_streams.specs.Streams.{IsUnused};
+ghost use Rattle.rds_line_channel.specs.Streams.{IsUnused};
 ghost use Rattle.rds_wire.specs.declared.kind.TheConstants.{MAX_LENGTH};
 
-use rds_line_hosts::{LineHost, PORT};
 use rds_link::{MemEnd, MemWire, Wire};
 use rds_model::{MAX_ENTRIES, Order};
+use rds_test_hosts::{LineHost, PORT};
 use rds_wire::{Memory, Payloads};
 use std::alloc::Global;
 use std::net::Net;

@@ -1,8 +1,8 @@
 //! How datagrams are moved, by one thread and by two.
 use crate::hosts::{Both, Sender};
 use rds_line::Turn;
-use rds_line_hosts::LineHost;
 use rds_link::MemEnd;
+use rds_test_hosts::LineHost;
 use std::sync::Wait;
 use std::thread;
 use std::thread::Threads;

@@ -1,8 +1,8 @@
 //! Two hosts that sent each other datagrams.
 
 use crate::failure::Failure;
-use rds_final::{HostEnd, Kept, address};
 use rds_model::{Datagram, Entry, Journal, MAX_ENTRIES, Outcome};
+use rds_text::{HostEnd, Kept, address};
 use rds_wire::{ACK_REQUIRED, Frame, Header, Payloads};
 use std::alloc::Global;
 

@@ -7,8 +7,8 @@ mod hosts;
 
 use failure::Failure;
 use hosts::hosts;
-use rds_final::HostEnd;
 use rds_report::report_parts;
+use rds_text::HostEnd;
 use std::env;
 use std::io::Print;
 use std::thread::Threads;

@@ -1,7 +1,7 @@
 //! A host with a bound socket.
 ghost use Rattle.std.specs.Prelude.{◌≡◌, None, IfSome};
 
-use rds_handmade::{Bound, HandmadeHost};
+use rds_test_hosts::{Bound, HandmadeHost};
 use std::alloc::Global;
 
 /// The only peer.

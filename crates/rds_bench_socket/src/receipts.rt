@@ -1,9 +1,9 @@
 //! Datagrams that are put into a socket's mailbox, each received at once.
 use crate::bound::{PEER, bound};
 use rds_fmap::Reader;
-use rds_handmade::{Bound, Deliverer};
 use rds_model::Datagram;
 use rds_socket::Socket;
+use rds_test_hosts::{Bound, Deliverer};
 use rds_wire::Payload;
 use std::alloc::{AllocGlobal, Global};
 use std::sync::Wait;

@@ -3,9 +3,9 @@ ghost use Rattle.std.specs.Prelude.{◌≡◌, None};
 
 use crate::bound::{PEER, bound};
 use rds_fmap::Reader;
-use rds_handmade::{Bound, Orders};
 use rds_model::Order;
 use rds_socket::Socket;
+use rds_test_hosts::{Bound, Orders};
 use rds_wire::Payload;
 use std::alloc::{AllocGlobal, Global};
 use std::sync::Wait;

@@ -1,6 +1,6 @@
 -- What a thread of the measurement asks of the seat that it is given. This project's own.
 use Rattle.std.specs.Prelude.{◌≡◌, None, IsSome}
-use Rattle.rds_views.specs.Views.{Table}
+use Rattle.rds_seats.specs.Views.{Table}
 use Rattle.rds_bindtab.specs.Seats as bind
 use Rattle.rds_meter.specs.Seats as meter
 use Rattle.rds_meter.specs.Places.{put_word, part}

@@ -8,8 +8,8 @@ use native.Mathlib.Decide.{ℕ_discrete}
 use prog.Atomic.{either}
 use Rattle.atomic_table.specs.Table.{Me, Allows, keeps}
 use Rattle.atomic_table.proofs.Lists.{at_set}
-use Rattle.rds_views.specs.Views.{At, Has}
-use Rattle.rds_views.specs.ViewLaws.{at_here, has_set, has_unset}
+use Rattle.rds_seats.specs.Views.{At, Has}
+use Rattle.rds_seats.specs.ViewLaws.{at_here, has_set, has_unset}
 use Rattle.rds_bindtab.specs.declared.view.View.{View}
 use Rattle.rds_bindtab.specs.declared.view.Telling.{Telling}
 use Rattle.rds_bindtab.specs.declared.view.Step.{Step}

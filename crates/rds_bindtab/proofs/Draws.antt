@@ -5,8 +5,8 @@ use Rattle.std.proofs.lemmas.List.{get_or-set_same, get_or-set_other, length-set
 use Rattle.std.proofs.lemmas.List.Elements.{Contains-push_cases}
 use Rattle.std.specs.Prelude.{Contains}
 use Rattle.atomic_table.specs.Table.{Me, Allows, keeps}
-use Rattle.rds_views.specs.Views.{At}
-use Rattle.rds_views.specs.ViewLaws.{at_here, each_set, total_set, total_below, total_times}
+use Rattle.rds_seats.specs.Views.{At}
+use Rattle.rds_seats.specs.ViewLaws.{at_here, each_set, total_set, total_below, total_times}
 use Rattle.rds_bindtab.specs.declared.view.View.{View}
 use Rattle.rds_bindtab.specs.declared.view.Telling.{Telling}
 use Rattle.rds_bindtab.specs.declared.view.Step.TheVariants.{Drew, Looked}

@@ -6,8 +6,8 @@ use mathlib.Core.Option.{some-injective}
 use native.Mathlib.Decide.{ℕ_discrete}
 use lib.ListN.{get_elem?}
 use Rattle.atomic_table.proofs.Lists.{at_set, at_snoc}
-use Rattle.rds_views.specs.Views.{At, Has, Each}
-use Rattle.rds_views.specs.ViewLaws.{at_there, has_snoc}
+use Rattle.rds_seats.specs.Views.{At, Has, Each}
+use Rattle.rds_seats.specs.ViewLaws.{at_there, has_snoc}
 use Rattle.rds_bindtab.specs.declared.view.View.{View}
 use Rattle.rds_bindtab.specs.declared.view.Telling.{Telling}
 use Rattle.rds_bindtab.specs.declared.view.Step.TheVariants.{Looked}

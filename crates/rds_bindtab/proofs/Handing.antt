@@ -3,8 +3,8 @@ use Rattle.std.proofs.Common.{◌≡◌, ◌≢◌, ◌⊎◌, ℕ, zero, suc, �
 use mathlib.Core.Option.{some-ne-none, some-injective}
 use Rattle.atomic_table.specs.Table.{Splits}
 use Rattle.atomic_table.proofs.Lists.{at_set}
-use Rattle.rds_views.specs.Views.{At, Has, Each}
-use Rattle.rds_views.specs.ViewLaws.{has_set, has_unset, has_snoc, has_unsnoc, each_set, each_snoc, total_set, total_snoc}
+use Rattle.rds_seats.specs.Views.{At, Has, Each}
+use Rattle.rds_seats.specs.ViewLaws.{has_set, has_unset, has_snoc, has_unsnoc, each_set, each_snoc, total_set, total_snoc}
 use Rattle.rds_bindtab.specs.declared.view.View.{View}
 use Rattle.rds_bindtab.specs.declared.view.Telling.{Telling}
 use Rattle.rds_bindtab.specs.Seats.{without_slot, with_slot_of}

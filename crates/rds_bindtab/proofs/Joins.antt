@@ -3,8 +3,8 @@ use Rattle.std.proofs.Common.{◌≡◌, ◌≢◌, ℕ, ◌+◌, ◌*◌, ◌�
 use Rattle.std.proofs.lemmas.List.Elements.{Contains-append_left, Contains-append_right, Contains-append_cases}
 use Rattle.atomic_table.specs.Table.{Joins}
 use Rattle.atomic_table.proofs.Lists.{set_else}
-use Rattle.rds_views.specs.Views.{At}
-use Rattle.rds_views.specs.ViewLaws.{at_here, at_there, each_set, total_set}
+use Rattle.rds_seats.specs.Views.{At}
+use Rattle.rds_seats.specs.ViewLaws.{at_here, at_there, each_set, total_set}
 use Rattle.rds_bindtab.specs.declared.view.View.{View}
 use Rattle.rds_bindtab.specs.declared.view.Step.TheVariants.{Claimed, Looked}
 use Rattle.rds_bindtab.specs.Seats.{joined, spent}

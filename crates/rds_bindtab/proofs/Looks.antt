@@ -9,8 +9,8 @@ use native.Mathlib.Decide.{ℕ_discrete}
 use lib.ListN.{get_elem?}
 use Rattle.atomic_table.specs.Table.{Me, Allows, keeps}
 use Rattle.atomic_table.proofs.Lists.{set_again}
-use Rattle.rds_views.specs.Views.{At, Has}
-use Rattle.rds_views.specs.ViewLaws.{at_here}
+use Rattle.rds_seats.specs.Views.{At, Has}
+use Rattle.rds_seats.specs.ViewLaws.{at_here}
 use Rattle.rds_bindtab.specs.declared.view.View.{View}
 use Rattle.rds_bindtab.specs.declared.view.Telling.{Telling}
 use Rattle.rds_bindtab.specs.declared.view.Step.TheVariants.{Looked}

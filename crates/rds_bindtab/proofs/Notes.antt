@@ -6,8 +6,8 @@ use mathlib.Core.Option.{some-injective}
 use lib.ListN.{get_elem?}
 use Rattle.atomic_table.specs.Table.{Splits}
 use Rattle.atomic_table.proofs.Lists.{set_again}
-use Rattle.rds_views.specs.Views.{At}
-use Rattle.rds_views.specs.ViewLaws.{at_here, has_snoc, has_unsnoc, each_set, each_snoc, total_set, total_snoc}
+use Rattle.rds_seats.specs.Views.{At}
+use Rattle.rds_seats.specs.ViewLaws.{at_here, has_snoc, has_unsnoc, each_set, each_snoc, total_set, total_snoc}
 use Rattle.rds_bindtab.specs.declared.view.View.{View}
 use Rattle.rds_bindtab.specs.declared.view.Telling.{Telling}
 use Rattle.rds_bindtab.specs.declared.view.Step.TheVariants.{Looked}

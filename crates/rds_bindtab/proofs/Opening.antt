@@ -3,7 +3,7 @@ use Rattle.std.proofs.Common.{◌≡◌, ℕ, zero, suc, List, [], ◌∷◌, le
 use Rattle.std.proofs.lemmas.List.{length-replicate}
 use Rattle.std.specs.Prelude.{slice_index}
 use mathlib.Core.Option.{some-ne-none, some-injective}
-use Rattle.rds_views.specs.Views.{At, Each}
+use Rattle.rds_seats.specs.Views.{At, Each}
 use Rattle.rds_bindtab.specs.declared.view.View.{View}
 use Rattle.rds_bindtab.specs.Seats.{first_view}
 use Rattle.rds_bindtab.specs.Shared.{Shared, HoldsPort}

@@ -2,8 +2,8 @@
 use Rattle.std.proofs.Common.{◌≡◌, ℕ, ◌+◌, ◌*◌, ◌<◌, ◌≤◌, List, [], ◌∷◌, ◌++◌, length, set, sym, ◌∙◌, arith}
 use Rattle.std.specs.Prelude.{◌↔◌, slice_index, Contains}
 use Rattle.std.proofs.lemmas.List.Elements.{Contains-append_left}
-use Rattle.rds_views.specs.Views.{At, Has, Each, total}
-use Rattle.rds_views.specs.ViewLaws.{has_set, has_unset, each_set, total_set, total_below, total_times}
+use Rattle.rds_seats.specs.Views.{At, Has, Each, total}
+use Rattle.rds_seats.specs.ViewLaws.{has_set, has_unset, each_set, total_set, total_below, total_times}
 use Rattle.rds_bindtab.specs.declared.view.View.{View}
 use Rattle.rds_bindtab.specs.declared.view.Step.{Step}
 use Rattle.rds_bindtab.specs.declared.view.Step.TheVariants.{Claimed}

@@ -1,7 +1,7 @@
 -- What a seat of the port table knows, and what each of its steps leaves it with. This project's own.
 use Rattle.std.specs.Prelude.{ℕ, suc, zero, ◌+◌, ◌-◌, ◌==◌, nat_lt, if◌then◌else◌, List, [], ◌∷◌, ◌++◌, Option, Some, None, unwrap_or}
 use Rattle.atomic_table.specs.Seated.{TableId}
-use Rattle.rds_views.specs.Views.{Table}
+use Rattle.rds_seats.specs.Views.{Table}
 use Rattle.rds_bindtab.specs.declared.view.View.{View}
 use Rattle.rds_bindtab.specs.declared.view.Telling.{Telling}
 use Rattle.rds_bindtab.specs.declared.view.Step.{Step}

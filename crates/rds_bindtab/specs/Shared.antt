@@ -1,7 +1,7 @@
 -- What holds of the port table between any two atomic steps. This project's own.
 use Rattle.std.specs.Prelude.{◌≡◌, ◌≢◌, ◌↔◌, ℕ, ◌+◌, ◌*◌, ◌<◌, ◌≤◌, List, length, slice_index, Some, Option, Contains}
 use Rattle.atomic_table.specs.Table.{State}
-use Rattle.rds_views.specs.Views.{At, Has, Each, total}
+use Rattle.rds_seats.specs.Views.{At, Has, Each, total}
 use Rattle.rds_bindtab.specs.declared.view.View.{View}
 use Rattle.rds_bindtab.specs.declared.view.Telling.{Telling}
 use Rattle.rds_bindtab.specs.declared.view.Step.TheVariants.{Claimed, Looked}

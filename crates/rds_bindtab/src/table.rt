@@ -26,7 +26,7 @@ pub struct BindTable {
 impl Model for BindTable {
     ghost use Rattle.std.specs.Prelude.{◌≡◌, ◌≤◌};
     ghost use Rattle.rds_model.specs.declared.entry.TheConstants.{MAX_SLOTS};
-    ghost use Rattle.rds_views.specs.Views.{Table};
+    ghost use Rattle.rds_seats.specs.Views.{Table};
 
     ghost Value = { Table };
 

@@ -4,7 +4,7 @@ use Rattle.std.proofs.lemmas.Option.{none-some, same_Some, slice_get_within, sli
 use Rattle.std.proofs.Math.Seq.{take-append_seam}
 use Rattle.std.specs.List.{All}
 use Rattle.rds_fmap.specs.Readers.{ReaderView, WriterView, HasSeen}
-use Rattle.rds_parts.specs.ChangeLaws.{stay_on}
+use Rattle.rds_socket_parts.specs.ChangeLaws.{stay_on}
 use Rattle.rds_socket.specs.Holding.{Holding, Open}
 use Rattle.rds_line.specs.Line.{LineView}
 use Rattle.rds_host.specs.Keeping.{LinesKeep, SlotKeeps, SlotsKeep}

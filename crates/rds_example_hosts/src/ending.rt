@@ -5,9 +5,9 @@ ghost use Rattle.rds_example_hosts.specs.Hosts.{AreTied, IsHost};
 
 use crate::hosts::{Host, Lines, out_of_memory};
 use rds_fmap::Reader;
-use rds_gather::gather;
 use rds_host::laws::{host_keeps, lines_keep, slots_keep, turned_keeps};
 use rds_host::{Stop, settle, work};
+use rds_host_end::gather;
 use rds_link::{MemEnd, MemWire};
 use rds_model::{Entry, Journal};
 use rds_socket::{Closed, Socket};

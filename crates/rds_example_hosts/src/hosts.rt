@@ -1,7 +1,7 @@
 //! The two hosts of the example, and how they are made.
 ghost use Rattle.std.specs.Prelude.{◌≡◌, ◌∷◌, [], None, IfOk, length};
 ghost use Rattle.rds_link.specs.Memory.{memory_means};
-ghost use Rattle.rds_line_streams.specs.Streams.{IsUnused};
+ghost use Rattle.rds_line_channel.specs.Streams.{IsUnused};
 ghost use Rattle.rds_host.specs.Keeping.{SlotKeeps};
 ghost use Rattle.rds_example_hosts.specs.Hosts.{IsHost};
 

@@ -1,7 +1,7 @@
 //! The two hosts of the example, and how their sockets are bound.
 ghost use Rattle.std.specs.Prelude.{◌≡◌, [], None, IfOk};
 
-use rds_handmade::{Bound, HandmadeHost};
+use rds_test_hosts::{Bound, HandmadeHost};
 use rds_wire::Memory;
 use std::alloc::{AllocError, Global};
 

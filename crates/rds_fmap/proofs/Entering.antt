@@ -4,7 +4,7 @@ use Rattle.std.proofs.lemmas.List.{append_assoc, length-append, append-nil}
 use Rattle.std.proofs.lemmas.List.Elements.{Contains-push_cases, Contains-push, Contains-append_left}
 use Rattle.std.specs.Prelude.{Contains, Result, Ok, Err, IsOk, MatchResult, is_err, false}
 use Rattle.crossbeam_utils.specs.Register.{Admits, TurnsAt}
-use Rattle.rds_views.specs.ViewLaws.{each_set, each_snoc}
+use Rattle.rds_seats.specs.ViewLaws.{each_set, each_snoc}
 use Rattle.rds_cong.specs.Map.{no_ports, has_port}
 use Rattle.rds_fmap.specs.Versions.{IsVersion}
 use Rattle.rds_fmap.specs.Entries.{newcomer, first_shown, entered, published, IsFound, IsLatest, LookDone, TakesCopy, copy_reader_view, seen_of}

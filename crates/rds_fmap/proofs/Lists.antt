@@ -2,7 +2,7 @@
 use Rattle.std.proofs.Common.{zero, suc, [], ◌∷◌, sym, subst, arith}
 use Rattle.std.specs.Prelude.{Contains}
 use mathlib.Core.Option.{some-ne-none, some-injective}
-use Rattle.rds_views.specs.Views.{Each}
+use Rattle.rds_seats.specs.Views.{Each}
 
 pub nothing_in : {X : Type 0} (x : X) → Contains [] x → ⊥
 nothing_in x m = let k = m.1 in omega arith

@@ -7,8 +7,8 @@ use Rattle.std.specs.Prelude.{slice_index}
 use mathlib.Core.Option.{some-ne-none}
 use Rattle.atomic_table.specs.Table.{Joins, Splits}
 use Rattle.atomic_table.proofs.Lists.{at_set, at_snoc, at_longer, set_again, set_else}
-use Rattle.rds_views.specs.Views.{At}
-use Rattle.rds_views.specs.ViewLaws.{at_here, at_there, each_set, each_snoc}
+use Rattle.rds_seats.specs.Views.{At}
+use Rattle.rds_seats.specs.ViewLaws.{at_here, at_there, each_set, each_snoc}
 use Rattle.rds_cong.specs.Map.{no_ports}
 use Rattle.rds_cong.specs.declared.map.TheConstants.{MAP_BYTES}
 use Rattle.rds_fmap.specs.Views.{version_in, maps_begun, first_view, as_before, newcomer, joined, spent}

@@ -9,8 +9,8 @@ use native.Mathlib.Decide.{ℕ_discrete}
 use lib.ListN.{get_elem?}
 use Rattle.atomic_table.specs.Table.{Me, Allows, keeps}
 use Rattle.atomic_table.proofs.Lists.{at_set, set_again}
-use Rattle.rds_views.specs.Views.{At}
-use Rattle.rds_views.specs.ViewLaws.{at_here, at_there, each_set}
+use Rattle.rds_seats.specs.Views.{At}
+use Rattle.rds_seats.specs.ViewLaws.{at_here, at_there, each_set}
 use Rattle.rds_fmap.specs.Views.{version_in, maps_begun, after_put, after_look}
 use Rattle.rds_fmap.specs.Shared.{Shared, Ruled, IsWordOf, IsLookOf, version_at}
 use Rattle.rds_fmap.specs.declared.words.view.View.{View}

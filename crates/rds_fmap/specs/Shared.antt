@@ -1,7 +1,7 @@
 -- What holds of the words of a pair between any two atomic steps. This project's own.
 use Rattle.std.specs.Prelude.{◌≡◌, ℕ, ◌+◌, ◌*◌, ◌<◌, ◌≤◌, nat_lt, if◌then◌else◌, true, List, length, slice_get, slice_index, Some, Contains}
 use Rattle.atomic_table.specs.Table.{State}
-use Rattle.rds_views.specs.Views.{At, Each}
+use Rattle.rds_seats.specs.Views.{At, Each}
 use Rattle.rds_cong.specs.Halves.{HasPortsAt}
 use Rattle.rds_fmap.specs.Views.{version_in, maps_begun}
 use Rattle.rds_fmap.specs.declared.words.view.View.{View}

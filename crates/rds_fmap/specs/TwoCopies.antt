@@ -1,6 +1,6 @@
 -- What holds of the two copies of a map at any moment. This project's own.
 use Rattle.std.specs.Prelude.{◌≡◌, ℕ, ◌≤◌, List, ◌++◌, length, Contains}
-use Rattle.rds_views.specs.Views.{Each}
+use Rattle.rds_seats.specs.Views.{Each}
 use Rattle.rds_fmap.specs.Versions.{IsVersion}
 use Rattle.rds_fmap.specs.declared.copies.shown.Shown.{Shown}
 use Rattle.rds_fmap.specs.declared.copies.view.View.{View}

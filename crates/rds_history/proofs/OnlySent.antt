@@ -13,7 +13,7 @@ use Rattle.rds_model.specs.declared.order.Datagram.{Datagram}
 use Rattle.rds_model.specs.Past.{Moment, now, before, Accepted, datagram, number, passes}
 use Rattle.rds_model.specs.Fifo.{Carries}
 use Rattle.rds_model.specs.Deliveries.{datagram_from}
-use Rattle.rds_final.specs.Hosts.{address_of}
+use Rattle.rds_text.specs.Hosts.{address_of}
 use Rattle.rds_history.specs.Events.{Event, Appended}
 use Rattle.rds_history.specs.Journals.{journal}
 use Rattle.rds_history.specs.Sockets.{arrived_datagrams, delivery}

@@ -11,9 +11,9 @@ use Rattle.std.specs.List.Sorted.{IsStrictlyIncreasing}
 use Rattle.rds_model.specs.declared.order.Datagram.{Datagram}
 use Rattle.rds_model.specs.Pairs.{delivered, delivered_to}
 use Rattle.rds_text.specs.Ports.{below}
-use Rattle.rds_final.specs.FinalState.{FinalSocket, FinalHost, sockets_of}
-use Rattle.rds_final.specs.Hosts.{address_of}
-use Rattle.rds_final.specs.Report.{of_group, received}
+use Rattle.rds_text.specs.FinalState.{FinalSocket, FinalHost, sockets_of}
+use Rattle.rds_text.specs.Hosts.{address_of}
+use Rattle.rds_text.specs.Report.{of_group, received}
 use Rattle.rds_history.specs.Events.{Event}
 use Rattle.rds_history.specs.History.{final_host, final_hosts, socket, sockets}
 use Rattle.rds_history.specs.Journals.{journal}

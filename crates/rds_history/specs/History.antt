@@ -6,7 +6,7 @@ use Rattle.rds_script.specs.declared.script.Command.{Command}
 use Rattle.rds_script.specs.declared.script.Command.TheVariants as command
 use Rattle.rds_text.specs.Ports.{below}
 use Rattle.rds_history.specs.Events.{Event}
-use Rattle.rds_final.specs.Hosts.{address_of}
+use Rattle.rds_text.specs.Hosts.{address_of}
 use Rattle.rds_history.specs.Journals.{journal, peers}
 use Rattle.rds_history.specs.Sockets.{next_slot, bound_port, handed_out, queue}
 use Rattle.rds_history.specs.Courses.{Course, and_then}
@@ -19,8 +19,8 @@ use Rattle.rds_history.specs.Move.{move}
 use Rattle.rds_history.specs.Drain.{drain}
 use Rattle.rds_text.specs.Lines.{spent_line}
 use Rattle.rds_history.specs.Transcript.{lines}
-use Rattle.rds_final.specs.FinalState.{FinalSocket, FinalHost}
-use Rattle.rds_final.specs.Report.{report}
+use Rattle.rds_text.specs.FinalState.{FinalSocket, FinalHost}
+use Rattle.rds_text.specs.Report.{report}
 
 -- what a command comes to
 abbrev pub after : (limit hosts : ℕ) → Command → List Event → Course

@@ -8,7 +8,7 @@ use Rattle.rds_model.specs.declared.entry.Outcome.TheVariants as outcome
 use Rattle.rds_model.specs.Deliveries.{datagram_from}
 use Rattle.rds_model.specs.Alive.{alive_bytes}
 use Rattle.rds_history.specs.Events.{Event, Appended, Bound, Closed, Received}
-use Rattle.rds_final.specs.Hosts.{address_of}
+use Rattle.rds_text.specs.Hosts.{address_of}
 use Rattle.rds_history.specs.Journals.{journal, peers}
 
 -- the slot of the next socket of host h: it has bound so many

@@ -13,8 +13,8 @@ use Rattle.rds_model.specs.Legal.{IsWhole}
 use Rattle.rds_model.specs.Honest.{IsHonest}
 use Rattle.rds_model.specs.Pairs.{IsDeliveredOnce, delivered, delivered_to}
 use Rattle.rds_text.specs.Ports.{below}
-use Rattle.rds_final.specs.Hosts.{address_of}
-use Rattle.rds_final.specs.Report.{Group, received}
+use Rattle.rds_text.specs.Hosts.{address_of}
+use Rattle.rds_text.specs.Report.{Group, received}
 use Rattle.rds_history.specs.Events.{Event}
 use Rattle.rds_history.specs.Journals.{journal}
 use Rattle.rds_history.specs.Sockets.{next_slot, handed_out, queue}

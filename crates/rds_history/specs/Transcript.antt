@@ -6,7 +6,7 @@ use Rattle.rds_model.specs.Past.{accepted}
 use Rattle.rds_model.specs.Streams.{was_pulled}
 use Rattle.rds_model.specs.Alive.{covered}
 use Rattle.rds_history.specs.Events.{Event, Appended, Bound, Closed, Received, Marked, Moved, Printed}
-use Rattle.rds_final.specs.Hosts.{host_at}
+use Rattle.rds_text.specs.Hosts.{host_at}
 use Rattle.rds_history.specs.Journals.{journal}
 use Rattle.rds_text.specs.Lines.{accept_line, cancel_line, open_line, pull_line, read_line, shut_line, bind_line, recv_line, close_line, mark_line}
 

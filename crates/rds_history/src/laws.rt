@@ -11,6 +11,7 @@ ghost use Rattle.rds_history.specs.InOrder.{HandsOutInOrder};
 ghost use Rattle.rds_history.specs.Journals.{is_marked, own_map};
 ghost use Rattle.rds_history.specs.WorkedScripts.{hello, text_of_hello, cut_cancel_ping_congestion, text_of_cut_cancel_ping_congestion, three_hosts, text_of_three_hosts};
 
+pub mod constants;
 mod limits;
 pub mod sound;
 

@@ -2,12 +2,12 @@
 use Rattle.std.proofs.Common.{◌≡◌, ℕ, ◌+◌, ◌<◌, List, [], ◌∷◌, ◌++◌, All, Some, length, map, slice_get, option_map, refl, sym, ap, subst, ⊎_elim, ◌∙◌, arith}
 use Rattle.std.proofs.lemmas.List.{length-map, length_push, same_lists}
 use Rattle.std.proofs.lemmas.Option.{same_Some, slice_get_within, slice_get-map, get_or_from_slice_get}
-use Rattle.rds_views.specs.Views.{Table}
+use Rattle.rds_seats.specs.Views.{Table}
 use Rattle.rds_model.specs.declared.order.Datagram.{Datagram}
 use Rattle.rds_model.specs.declared.order.Order.{Order}
 use Rattle.rds_mail.specs.Passes.{Getter, Putter, QueueId}
 use Rattle.rds_fmap.specs.Readers.{ReaderView, WriterView}
-use Rattle.rds_parts.specs.Lanes.{Ascend, Lane}
+use Rattle.rds_socket_parts.specs.Lanes.{Ascend, Lane}
 use Rattle.rds_line_parts.specs.Boxes.{IsBoxOf}
 use Rattle.rds_socket.specs.Holding.{Holding}
 use Rattle.rds_line.specs.Line.{LineView}

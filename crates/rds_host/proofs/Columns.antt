@@ -8,7 +8,7 @@ use Rattle.rds_model.specs.declared.order.Datagram.{Datagram}
 use Rattle.rds_model.specs.declared.order.Order.{Order}
 use Rattle.rds_mail.specs.Passes.{Putter, QueueId, new_from, split_from}
 use Rattle.rds_fmap.specs.Readers.{ReaderView, WriterView}
-use Rattle.rds_parts.specs.Lanes.{Lane}
+use Rattle.rds_socket_parts.specs.Lanes.{Lane}
 use Rattle.rds_socket.specs.Holding.{Holding}
 use Rattle.rds_host.specs.Slots.{AreInPlace}
 use Rattle.rds_host.specs.Ties.{Way, ColumnView, IsColumnFilled, AreColumnsFilled, IsNextOf, AreNextOf, new_putter, putters_from, popped, with_box, with_boxes, ways_of, peers_to, lane_way}

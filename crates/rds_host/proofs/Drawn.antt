@@ -4,11 +4,11 @@ use Rattle.std.proofs.lemmas.List.Elements.{Contains-push_cases, at_from_Contain
 use Rattle.rds_bindtab.specs.declared.view.View.{View}
 use Rattle.rds_bindtab.specs.declared.view.Step.{Step}
 use Rattle.rds_bindtab.specs.declared.view.Step.TheVariants.{Drew, Claimed}
-use Rattle.rds_views.specs.Views.{Table}
+use Rattle.rds_seats.specs.Views.{Table}
 use Rattle.rds_bindtab.specs.Seats.{PortSeat, knowing, after_draw, after_split, newcomer, slot_of, without_slot, with_slot_of}
 use Rattle.rds_meter.specs.Seats.{MeterSeat, owning}
 use Rattle.rds_meter.specs.Seats as meter
-use Rattle.rds_parts.specs.Ports.{HasClaimedOnly}
+use Rattle.rds_socket_parts.specs.Ports.{HasClaimedOnly}
 use Rattle.rds_host.specs.Seats.{AreFree, AreOfSlot, IsIdle}
 
 -- a seat of the meter that another was split off, and that one

@@ -8,7 +8,7 @@ use Rattle.rds_model.specs.declared.order.Datagram.{Datagram}
 use Rattle.rds_meter.specs.Grounds.{seats_of}
 use Rattle.rds_mail.specs.Passes.{Putter}
 use Rattle.rds_fmap.specs.Readers.{HasSeen, ReaderView, WriterView}
-use Rattle.rds_parts.specs.Lanes.{Ascend, Fixed, IsLaneAt, Lane, RoutesStay, fixed}
+use Rattle.rds_socket_parts.specs.Lanes.{Ascend, Fixed, IsLaneAt, Lane, RoutesStay, fixed}
 use Rattle.rds_link.specs.Ends.{Means}
 use Rattle.rds_line_parts.specs.Boxes.{IsBoxOf}
 use Rattle.rds_socket.specs.Holding.{Holding}

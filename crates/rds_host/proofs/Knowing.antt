@@ -11,7 +11,7 @@ use Rattle.rds_bindtab.specs.declared.view.Telling.{Telling}
 use Rattle.rds_bindtab.specs.declared.view.View.{View}
 use Rattle.rds_bindtab.specs.Seats.{PortSeat, joined, knowing, note_of, telling_of}
 use Rattle.rds_fmap.specs.Readers.{WriterView}
-use Rattle.rds_line_streams.specs.PlaceLaws.{at_set, beside_set}
+use Rattle.rds_line_channel.specs.PlaceLaws.{at_set, beside_set}
 use Rattle.rds_line.specs.Line.{LineView}
 use Rattle.rds_line.specs.Stays.{AreSameBoxes}
 use Rattle.rds_host.specs.Keeping.{LineKeeps, LinesKeep}

@@ -7,7 +7,7 @@ use Rattle.std.proofs.lemmas.Option.{same_Some, slice_get_within, slice_get-get_
 use Rattle.rds_model.specs.declared.order.Order.{Order}
 use Rattle.rds_mail.specs.Passes.{Putter, QueueId, new_from}
 use Rattle.rds_fmap.specs.Readers.{ReaderView}
-use Rattle.rds_parts.specs.Lanes.{Lane}
+use Rattle.rds_socket_parts.specs.Lanes.{Lane}
 use Rattle.rds_host.specs.Ties.{Way, ColumnView, IsFront, IsNextOf, new_putter, ways_of, peers_to, lane_way}
 
 -- what stands in a list after one push stood there, or is what was pushed

@@ -6,7 +6,7 @@ use Rattle.std.proofs.lemmas.Option.{same_Some, slice_get_within, get_or_from_sl
 use Rattle.rds_bindtab.specs.declared.view.Telling.{Telling}
 use Rattle.rds_bindtab.specs.Seats.{telling_of}
 use Rattle.rds_fmap.specs.Readers.{ReaderView}
-use Rattle.rds_line_streams.specs.PlaceLaws.{at_set, beside_set}
+use Rattle.rds_line_channel.specs.PlaceLaws.{at_set, beside_set}
 use Rattle.rds_socket.specs.Calls.{with_own}
 use Rattle.rds_socket.specs.Holding.{Open}
 use Rattle.rds_host.specs.Settled.{AreSameSockets, IsSameSocket, ports_of}

@@ -1,6 +1,6 @@
 -- For how many seats at the meter the slots and the lines of a host stand.
 use Rattle.std.proofs.Common.{◌≡◌, ℕ, suc, List, [], ◌∷◌, Some, length, slice_get, refl, arith}
-use Rattle.rds_views.specs.Views.{total}
+use Rattle.rds_seats.specs.Views.{total}
 
 -- a number of each value, added up, where each value in the same place has the same
 pub total_alike : {X : Type 0} (f : X → ℕ) (xs ys : List X) → length ys ≡ length xs → ((place : ℕ) (x y : X) → slice_get xs place ≡ Some x → slice_get ys place ≡ Some y → f y ≡ f x)

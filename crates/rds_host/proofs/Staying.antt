@@ -12,8 +12,8 @@ use Rattle.rds_model.specs.Honest.{Begins}
 use Rattle.rds_model.specs.Past.{Moment, now, before}
 use Rattle.rds_model.specs.SumLaws.{same_list}
 use Rattle.rds_mail.specs.Passes.{Putter}
-use Rattle.rds_line_streams.specs.ChangeLaws.{same_length, each_through}
-use Rattle.rds_line_streams.specs.Streams.{StreamsView}
+use Rattle.rds_line_channel.specs.ChangeLaws.{same_length, each_through}
+use Rattle.rds_line_channel.specs.Streams.{StreamsView}
 use Rattle.rds_line_channel.specs.Channel.{ChannelView}
 use Rattle.rds_line.specs.Acts.{nothing}
 use Rattle.rds_line.specs.ActLaws.{acts_through}

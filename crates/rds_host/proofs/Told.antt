@@ -2,7 +2,7 @@
 use Rattle.std.proofs.Common.{◌≡◌, ◌⊎◌, ℕ, zero, suc, ◌+◌, ◌-◌, ◌<◌, ◌≤◌, List, [], ◌∷◌, ◌++◌, Some, length, length-append, set, take, drop, slice_get, refl, inl, inr, sym, ap, subst, ⊎_elim, ◌∙◌, arith}
 use Rattle.std.proofs.lemmas.Option.{same_Some, slice_get_within}
 use Rattle.atomic_table.proofs.Lists.{at_last, at_longer}
-use Rattle.rds_views.specs.Views.{At, Has}
+use Rattle.rds_seats.specs.Views.{At, Has}
 use Rattle.rds_model.specs.Honest.{Begins}
 use Rattle.rds_model.specs.SumLaws.{same_list}
 use Rattle.rds_model.specs.declared.order.Datagram.{Datagram}

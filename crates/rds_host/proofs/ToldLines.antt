@@ -10,9 +10,9 @@ use Rattle.rds_mail.specs.Passes.{Putter, account_of, after_note}
 use Rattle.rds_bindtab.specs.declared.view.Telling.{Telling}
 use Rattle.rds_bindtab.specs.Seats.{PortSeat}
 use Rattle.rds_fmap.specs.Readers.{ReaderView, WriterView}
-use Rattle.rds_parts.specs.Lanes.{IsLaneAt, Lane}
+use Rattle.rds_socket_parts.specs.Lanes.{IsLaneAt, Lane}
 use Rattle.rds_line_parts.specs.Boxes.{IsBoxOf}
-use Rattle.rds_line_streams.specs.PlaceLaws.{at_set, beside_set}
+use Rattle.rds_line_channel.specs.PlaceLaws.{at_set, beside_set}
 use Rattle.rds_socket.specs.Holding.{Holding}
 use Rattle.rds_line.specs.Line.{LineView}
 use Rattle.rds_host.specs.Keeping.{LinesKeep}

@@ -6,7 +6,7 @@ use Rattle.std.proofs.lemmas.Option.{same_Some, slice_get_within}
 use Rattle.rds_bindtab.specs.declared.view.Telling.{Telling}
 use Rattle.rds_bindtab.specs.Seats.{PortSeat, telling_of}
 use Rattle.rds_fmap.specs.Readers.{ReaderView, WriterView}
-use Rattle.rds_line_streams.specs.PlaceLaws.{at_set, beside_set}
+use Rattle.rds_line_channel.specs.PlaceLaws.{at_set, beside_set}
 use Rattle.rds_socket.specs.Holding.{Holding}
 use Rattle.rds_line.specs.Line.{LineView}
 use Rattle.rds_host.specs.Settled.{AreLinesToldMore, knowing_ports}

@@ -1,12 +1,12 @@
 -- The putters of a host's queues: which slot and which line has which, and that none is missing, nor a seat at its meter.
 -- Source: this project's own.
 use Rattle.std.specs.Prelude.{◌≡◌, ℕ, zero, suc, ◌+◌, ◌-◌, List, [], ◌∷◌, Some, length, map, slice_get}
-use Rattle.rds_views.specs.Views.{total}
+use Rattle.rds_seats.specs.Views.{total}
 use Rattle.rds_meter.specs.Grounds.{seats_of}
 use Rattle.rds_mail.specs.Numbers.{Number}
 use Rattle.rds_model.specs.declared.order.Datagram.{Datagram}
 use Rattle.rds_mail.specs.Passes.{Putter}
-use Rattle.rds_parts.specs.Lanes.{Ascend, IsLaneAt, Lane}
+use Rattle.rds_socket_parts.specs.Lanes.{Ascend, IsLaneAt, Lane}
 use Rattle.rds_line_parts.specs.Boxes.{IsBoxOf}
 use Rattle.rds_socket.specs.Holding.{Holding}
 use Rattle.rds_line.specs.Line.{LineView}

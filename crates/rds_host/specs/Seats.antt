@@ -1,11 +1,11 @@
 -- The seats of a host at its port table and its meter. Source: this project's own.
 use Rattle.std.specs.Prelude.{◌≡◌, ◌<◌, ◌≤◌, [], Some, None}
-use Rattle.rds_views.specs.Views.{Table}
+use Rattle.rds_seats.specs.Views.{Table}
 use Rattle.rds_model.specs.declared.entry.TheConstants.{MAX_SLOTS}
 use Rattle.rds_bindtab.specs.Seats.{PortSeat, slot_of}
 use Rattle.rds_meter.specs.Seats.{MeterSeat}
 use Rattle.rds_meter.specs.declared.view.Stage.TheVariants.{Idle}
-use Rattle.rds_parts.specs.Ports.{HasClaimedOnly}
+use Rattle.rds_socket_parts.specs.Ports.{HasClaimedOnly}
 
 -- the seat has done nothing at its meter
 pub record IsIdle (meter : Table) (own : MeterSeat) : Type 0 where

@@ -1,6 +1,6 @@
 -- The slots of a host that was made. Source: this project's own.
 use Rattle.std.specs.Prelude.{◌≡◌, ℕ, List, [], All, Some, length, slice_get}
-use Rattle.rds_parts.specs.Lanes.{peers_of}
+use Rattle.rds_socket_parts.specs.Lanes.{peers_of}
 use Rattle.rds_socket.specs.Holding.{Holding}
 
 module _ {R : Type 0} where

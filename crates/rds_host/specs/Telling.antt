@@ -1,11 +1,11 @@
 -- What getters were told of what putters have put. Source: this project's own.
 use Rattle.std.specs.Prelude.{◌≡◌, ℕ, List, ◌++◌, Some, map, slice_get}
-use Rattle.rds_views.specs.Views.{Has}
+use Rattle.rds_seats.specs.Views.{Has}
 use Rattle.rds_bindtab.specs.Seats.{PortSeat, telling_of}
 use Rattle.rds_mail.specs.declared.view.Account.{Account}
 use Rattle.rds_mail.specs.Passes.{Putter}
 use Rattle.rds_model.specs.declared.order.Datagram.{Datagram}
-use Rattle.rds_parts.specs.Lanes.{IsLaneAt, Lane}
+use Rattle.rds_socket_parts.specs.Lanes.{IsLaneAt, Lane}
 use Rattle.rds_line_parts.specs.Boxes.{IsBoxOf}
 use Rattle.rds_socket.specs.Holding.{Holding, Open}
 use Rattle.rds_line.specs.Line.{LineView}

@@ -1,13 +1,13 @@
 -- What ties the slots of a host to its lines. Source: this project's own.
 use Rattle.std.specs.Prelude.{◌≡◌, ℕ, zero, suc, ◌-◌, List, [], ◌∷◌, ◌++◌, Some, All, length, map, reverse, slice_get, take}
 use Rattle.atomic_table.specs.Seated.{TableId}
-use Rattle.rds_views.specs.Views.{Table}
+use Rattle.rds_seats.specs.Views.{Table}
 use Rattle.rds_model.specs.declared.entry.TheConstants.{MAX_SLOTS}
 use Rattle.rds_model.specs.declared.order.Datagram.{Datagram}
 use Rattle.rds_model.specs.declared.order.Order.{Order}
 use Rattle.rds_mail.specs.Passes.{Getter, Putter, QueueId, first_getter}
 use Rattle.rds_fmap.specs.Readers.{ReaderView, WriterView}
-use Rattle.rds_parts.specs.Lanes.{Lane, IsLaneAt}
+use Rattle.rds_socket_parts.specs.Lanes.{Lane, IsLaneAt}
 use Rattle.rds_line_parts.specs.Boxes.{IsBoxOf}
 use Rattle.rds_socket.specs.Holding.{Holding}
 use Rattle.rds_line_channel.specs.Channel.{new_channel}

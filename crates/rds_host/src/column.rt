@@ -3,7 +3,7 @@ ghost use Rattle.std.specs.Prelude.{◌≡◌, ◌≤◌, ◌-◌, ◌++◌, ◌
 ghost use Rattle.std.specs.Arc.{arc_value};
 ghost use Rattle.rds_model.specs.declared.entry.TheConstants.{MAX_SLOTS};
 ghost use Rattle.rds_model.specs.declared.journal.TheConstants.{MAX_ENTRIES, MIN_ENTRIES};
-ghost use Rattle.rds_line_streams.specs.Streams.{AreNumbered, IsUnused};
+ghost use Rattle.rds_line_channel.specs.Streams.{AreNumbered, IsUnused};
 ghost use Rattle.rds_line_channel.specs.Channel.{new_channel};
 ghost use Rattle.rds_mail.specs.Passes.{first_putter};
 ghost use Rattle.rds_host.specs.Ties.{IsFront, IsNextOf, lane_way, new_putter, popped, putters_from, with_box};

@@ -5,7 +5,7 @@ ghost use Rattle.rds_model.specs.declared.entry.TheConstants.{MAX_SLOTS};
 ghost use Rattle.rds_bindtab.specs.Shared.{IsAlone};
 ghost use Rattle.rds_meter.specs.Grounds.{seats_of};
 ghost use Rattle.rds_bindtab.specs.Seats.{slot_of};
-ghost use Rattle.rds_parts.specs.Lanes.{Ascend, peers_of};
+ghost use Rattle.rds_socket_parts.specs.Lanes.{Ascend, peers_of};
 ghost use Rattle.rds_host.specs.Seats.{AreFree, AreOfSlot};
 
 use rds_bindtab::{BindSeat, BindTable};

@@ -13,7 +13,7 @@ use Rattle.rds_model.specs.Reading.{verdict_of}
 use Rattle.rds_conn.specs.declared.conn.Found.{Found}
 use Rattle.rds_conn.specs.Connection.{Connection, taken_bytes, with_room}
 use Rattle.rds_conn.specs.Passing.{Passes, outcome_of}
-use Rattle.rds_line_streams.specs.Streams.{StreamsView, with_list}
+use Rattle.rds_line_channel.specs.Streams.{StreamsView, with_list}
 use Rattle.rds_line_channel.specs.Channel.{ChannelView, arrived_bytes, with_conn}
 use Rattle.rds_line_channel.specs.Changes.{EndsRefused, EndsStream, OpensNext, ShutsStream, TakesBytes}
 use Rattle.rds_line_channel.specs.declared.channel.Taken.{Taken}

@@ -11,7 +11,7 @@ use Rattle.rds_model.specs.Past.{open_stream}
 use Rattle.rds_model.specs.Sums.{maps, orders}
 use Rattle.rds_mail.specs.Numbers.{Numbered, bare_items}
 use Rattle.rds_mail.specs.Passes.{Getter}
-use Rattle.rds_views.specs.Views.{Table}
+use Rattle.rds_seats.specs.Views.{Table}
 use Rattle.rds_bindtab.specs.declared.view.Step.{Step}
 use Rattle.rds_bindtab.specs.declared.view.View.{View as PortView}
 use Rattle.rds_bindtab.specs.Seats.{PortSeat, after_look, joined, knowing}

@@ -17,7 +17,7 @@ use Rattle.rds_model.specs.Reading.{verdict_of}
 use Rattle.rds_model.specs.Sums.{maps, orders, with_map}
 use Rattle.rds_mail.specs.Numbers.{bare_items}
 use Rattle.rds_mail.specs.Passes.{Getter, Putter}
-use Rattle.rds_views.specs.Views.{Table}
+use Rattle.rds_seats.specs.Views.{Table}
 use Rattle.rds_bindtab.specs.declared.view.Step.{Step}
 use Rattle.rds_meter.specs.declared.view.View.{View}
 use Rattle.rds_meter.specs.declared.view.Step.{Step as MeterStep}

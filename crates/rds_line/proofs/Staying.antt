@@ -14,10 +14,10 @@ use Rattle.rds_model.specs.Past.{Moment, now, before}
 use Rattle.rds_model.specs.SumLaws.{same_list}
 use Rattle.rds_conn.specs.Connection.{Connection, with_entries, with_room}
 use Rattle.rds_conn.specs.Orders.{after_order}
-use Rattle.rds_line_streams.specs.Changes.{ChangesAt, Receives, Sends, IsShutDown}
-use Rattle.rds_line_streams.specs.ChangeLaws.{same_length, each_through, changed_each, changed_numbers, changed_paired}
-use Rattle.rds_line_streams.specs.Meeting.{StayPaired}
-use Rattle.rds_line_streams.specs.Streams.{StreamsView}
+use Rattle.rds_line_channel.specs.StreamChanges.{ChangesAt, Receives, Sends, IsShutDown}
+use Rattle.rds_line_channel.specs.ChangeLaws.{same_length, each_through, changed_each, changed_numbers, changed_paired}
+use Rattle.rds_line_channel.specs.Meeting.{StayPaired}
+use Rattle.rds_line_channel.specs.Streams.{StreamsView}
 use Rattle.rds_line_channel.specs.Channel.{ChannelView, with_conn}
 use Rattle.rds_line_channel.specs.Changes.{OpensNext, EndsStream, ShutsStream}
 use Rattle.rds_line.specs.Acts.{acted, nothing}

@@ -32,7 +32,7 @@ use Rattle.rds_conn.specs.Connection.{Connection}
 use Rattle.rds_conn.specs.Passing.{Passes, outcome_of}
 use Rattle.rds_line_parts.specs.Boxes.{IsBoxOf, IsPutInto}
 use Rattle.rds_line_parts.specs.Delivery.{IsDelivery, check_of, counting_steps, lowering, must_lower}
-use Rattle.rds_line_streams.specs.PlaceLaws.{at_set, beside_set}
+use Rattle.rds_line_channel.specs.PlaceLaws.{at_set, beside_set}
 use Rattle.rds_line_channel.specs.Channel.{ChannelView, CutsView, with_conn}
 use Rattle.rds_line_channel.specs.Changes.{EndsRefused, TakesBytes}
 use Rattle.rds_line_channel.specs.declared.channel.Taken.{Taken}

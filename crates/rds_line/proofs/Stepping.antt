@@ -10,9 +10,9 @@ use Rattle.rds_model.specs.Honest.{Begins}
 use Rattle.rds_model.specs.Owed.{owed_frame}
 use Rattle.rds_model.specs.Past.{Moment, now, before}
 use Rattle.rds_conn.specs.Connection.{Connection, stream_of, taken_bytes}
-use Rattle.rds_line_streams.specs.Changes.{ChangesAt, Receives, Sends}
-use Rattle.rds_line_streams.specs.ChangeLaws.{same_length}
-use Rattle.rds_line_streams.specs.Streams.{StreamsView, newest_place}
+use Rattle.rds_line_channel.specs.StreamChanges.{ChangesAt, Receives, Sends}
+use Rattle.rds_line_channel.specs.ChangeLaws.{same_length}
+use Rattle.rds_line_channel.specs.Streams.{StreamsView, newest_place}
 use Rattle.rds_line_channel.specs.Channel.{ChannelView}
 use Rattle.rds_line.specs.declared.outcome.Done.{Done}
 use Rattle.rds_line.specs.declared.outcome.Heard.{Heard}

@@ -19,7 +19,7 @@ use Rattle.rds_conn.specs.Connection.{Connection, freed_bytes_of, stream_of}
 use Rattle.rds_conn.specs.Orders.{after_order}
 use Rattle.rds_conn.specs.Released.{released_bytes}
 use Rattle.rds_line_channel.specs.Channel.{ChannelView, CutsView, with_conn}
-use Rattle.rds_line_streams.specs.Streams.{StreamsView}
+use Rattle.rds_line_channel.specs.Streams.{StreamsView}
 use Rattle.rds_line_channel.specs.Changes.{ShutsStream}
 use Rattle.rds_line.specs.Keeps.{KeepsLine, IsPulled, uncut, cuts_among}
 use Rattle.rds_line.specs.Acts.{acted, nothing}

@@ -7,11 +7,11 @@ use Rattle.rds_link.specs.declared.end.Put.TheVariants as put
 use Rattle.rds_link.specs.Ends.{Means}
 use Rattle.rds_model.specs.declared.entry.Entry.TheVariants as entry
 use Rattle.rds_conn.specs.Connection.{Connection, stream_of, with_entries, with_room}
-use Rattle.rds_line_streams.specs.Changes.{ChangesAt, Receives, Sends}
-use Rattle.rds_line_streams.specs.ChangeLaws.{changed_here}
-use Rattle.rds_line_streams.specs.Meeting.{AtEach}
-use Rattle.rds_line_streams.specs.NumberLaws.{same_number}
-use Rattle.rds_line_streams.specs.Streams.{StreamsView, newest_place, numbers, with_list}
+use Rattle.rds_line_channel.specs.StreamChanges.{ChangesAt, Receives, Sends}
+use Rattle.rds_line_channel.specs.ChangeLaws.{changed_here}
+use Rattle.rds_line_channel.specs.Meeting.{AtEach}
+use Rattle.rds_line_channel.specs.NumberLaws.{same_number}
+use Rattle.rds_line_channel.specs.Streams.{StreamsView, newest_place, numbers, with_list}
 use Rattle.rds_line_channel.specs.Channel.{ChannelView, CutsView, with_conn}
 use Rattle.rds_line_channel.specs.Changes.{ShutsStream}
 use Rattle.rds_line.specs.Keeps.{IsPulled, KeepsLine}

@@ -7,8 +7,8 @@ use Rattle.rds_model.specs.declared.order.Datagram.{Datagram}
 use Rattle.rds_mail.specs.Passes.{Putter}
 use Rattle.rds_bindtab.specs.declared.view.Telling.{Telling}
 use Rattle.rds_line_parts.specs.Boxes.{IsBoxOf}
-use Rattle.rds_line_streams.specs.Meeting.{AtEach, StayPaired}
-use Rattle.rds_line_streams.specs.Streams.{StreamsView, numbers}
+use Rattle.rds_line_channel.specs.Meeting.{AtEach, StayPaired}
+use Rattle.rds_line_channel.specs.Streams.{StreamsView, numbers}
 use Rattle.rds_line_channel.specs.Channel.{ChannelView}
 use Rattle.rds_line.specs.Acts.{Acts, acted}
 use Rattle.rds_line.specs.Line.{LineView}

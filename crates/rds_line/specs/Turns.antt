@@ -16,8 +16,8 @@ use Rattle.rds_mail.specs.Passes.{Getter, after_get, after_none}
 use Rattle.rds_meter.specs.Seats.{MeterSeat}
 use Rattle.rds_conn.specs.Connection.{stream_of}
 use Rattle.rds_line_parts.specs.Own.{IsRefresh}
-use Rattle.rds_line_streams.specs.Changes.{ChangesAt, Receives, Sends}
-use Rattle.rds_line_streams.specs.Streams.{newest_place}
+use Rattle.rds_line_channel.specs.StreamChanges.{ChangesAt, Receives, Sends}
+use Rattle.rds_line_channel.specs.Streams.{newest_place}
 use Rattle.rds_line_channel.specs.Channel.{ChannelView, arrived_bytes}
 use Rattle.rds_line.specs.Line.{LineView, line_past, pulls_in}
 use Rattle.rds_line.specs.declared.outcome.Heard.{Heard}

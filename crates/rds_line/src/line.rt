@@ -1,7 +1,7 @@
 ghost use Rattle.std.specs.Prelude.{◌≡◌, ◌≤◌, ◌<◌, ℕ, All, IfOk, IfSome, IsSome, [], false, None, Some, length};
 ghost use Rattle.rds_cong.specs.Map.{no_ports};
 ghost use Rattle.rds_line_channel.specs.Channel.{new_channel};
-ghost use Rattle.rds_line_streams.specs.Streams.{AreNumbered, IsUnused};
+ghost use Rattle.rds_line_channel.specs.Streams.{AreNumbered, IsUnused};
 ghost use Rattle.rds_model.specs.declared.entry.TheConstants.{MAX_SLOTS};
 ghost use Rattle.rds_model.specs.declared.journal.TheConstants.{MIN_ENTRIES, MAX_ENTRIES};
 
@@ -84,7 +84,7 @@ impl<E: End, M: MapWriter> Line<E, M> {
     ghost use Rattle.rds_line_parts.specs.Boxes.{IsBoxOf};
     ghost use Rattle.rds_line_channel.specs.Channel.{IsNewChannel, arrived_bytes, new_channel};
     ghost use Rattle.rds_line_channel.specs.Carried.{IsCarriedBy};
-    ghost use Rattle.rds_line_streams.specs.Streams.{AreKept, AreNumbered, IsUnused};
+    ghost use Rattle.rds_line_channel.specs.Streams.{AreKept, AreNumbered, IsUnused};
     ghost use Rattle.rds_line.specs.Keeps.{KeepsLine};
 
     /// A line of these parts, with an empty journal of at most `limit` entries and no stream open. Nothing was moved yet: the

@@ -3,8 +3,8 @@ ghost use Rattle.std.specs.Prelude.{◌≡◌, ℕ, true};
 ghost use Rattle.rds_model.specs.Honest.{IsHonest};
 ghost use Rattle.rds_model.specs.Fifo.{HasNoBad};
 ghost use Rattle.rds_model.specs.Pairs.{IsDeliveredOnce};
-ghost use Rattle.rds_line_streams.specs.Meeting.{AreMet, AtEach};
-ghost use Rattle.rds_line_streams.specs.Streams.{numbers, with_list};
+ghost use Rattle.rds_line_channel.specs.Meeting.{AreMet, AtEach};
+ghost use Rattle.rds_line_channel.specs.Streams.{numbers, with_list};
 ghost use Rattle.rds_line.specs.Line.{line_past};
 
 use crate::Line;

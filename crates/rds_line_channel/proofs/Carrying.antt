@@ -8,10 +8,10 @@ use Rattle.rds_model.specs.declared.entry.Entry.{Entry}
 use Rattle.rds_model.specs.Past.{open_stream}
 use Rattle.rds_model.specs.Streams.{read_bytes, refused_bytes, written_bytes}
 use Rattle.rds_model.specs.Sums.{opens}
-use Rattle.rds_line_streams.specs.Streams.{StreamsView, AreKept, IsEndedAt, newest_place, numbers, open_number, with_list}
-use Rattle.rds_line_streams.specs.Changes.{ChangesAt}
-use Rattle.rds_line_streams.specs.ChangeLaws.{changed_here, changed_beside, changed_numbers, changed_length}
-use Rattle.rds_line_streams.specs.NumberLaws.{number_there, later_number}
+use Rattle.rds_line_channel.specs.Streams.{StreamsView, AreKept, IsEndedAt, newest_place, numbers, open_number, with_list}
+use Rattle.rds_line_channel.specs.StreamChanges.{ChangesAt}
+use Rattle.rds_line_channel.specs.ChangeLaws.{changed_here, changed_beside, changed_numbers, changed_length}
+use Rattle.rds_line_channel.specs.NumberLaws.{number_there, later_number}
 use Rattle.rds_line_channel.specs.Carried.{AreSomeOf, HasCause, IsCarriedBy, IsOn, cut_streams, shut_streams}
 
 -- A journal went on by entries that open no stream and end none. The bytes that arrived and weren't read, and those that are to

@@ -19,10 +19,10 @@ use Rattle.rds_model.specs.Honest.{Begins}
 use Rattle.rds_model.specs.Past.{open_stream}
 use Rattle.rds_model.specs.Streams.{read_bytes, refused_bytes, written_bytes}
 use Rattle.rds_model.specs.Sums.{opens}
-use Rattle.rds_line_streams.specs.ChangeLaws.{changed_cases, changed_length, changed_numbers}
-use Rattle.rds_line_streams.specs.Changes.{IsShutDown}
-use Rattle.rds_line_streams.specs.NumberLaws.{later_number, number_there}
-use Rattle.rds_line_streams.specs.Streams.{StreamsView, AreKept, AreNumbered, EndAt, HasSaidOver, newest_place, numbers}
+use Rattle.rds_line_channel.specs.ChangeLaws.{changed_cases, changed_length, changed_numbers}
+use Rattle.rds_line_channel.specs.StreamChanges.{IsShutDown}
+use Rattle.rds_line_channel.specs.NumberLaws.{later_number, number_there}
+use Rattle.rds_line_channel.specs.Streams.{StreamsView, AreKept, AreNumbered, EndAt, HasSaidOver, newest_place, numbers}
 use Rattle.rds_line_channel.specs.Changes.{EndsStream}
 use Rattle.rds_line_channel.specs.Carried.{AreSomeOf, IsOff, HasCause, IsCarriedBy, cut_streams, shut_streams}
 use Rattle.rds_line_channel.proofs.Noting.{late_more, shut_beside, shut_too}

@@ -25,7 +25,7 @@ use Rattle.rds_conn.specs.declared.conn.Found.{Found}
 use Rattle.rds_conn.specs.declared.conn.Pulled.{Pulled}
 use Rattle.rds_conn.specs.Passing.{Passes, after_pass, outcome_of, with_pong}
 use Rattle.rds_conn.specs.Pulling.{Pulls}
-use Rattle.rds_line_streams.specs.Streams.{StreamsView, AreKept}
+use Rattle.rds_line_channel.specs.Streams.{StreamsView, AreKept}
 use Rattle.rds_line_channel.specs.Carried.{IsCarriedBy}
 use Rattle.rds_line_channel.proofs.Carrying.{JournalGoesOn, carried_on}
 

@@ -10,9 +10,9 @@ use Rattle.rds_model.specs.Honest.{Begins}
 use Rattle.rds_model.specs.Legal.{IsLegal}
 use Rattle.rds_model.specs.StreamLaws.{read_was_opened}
 use Rattle.rds_model.specs.Streams.{read_bytes, written_bytes}
-use Rattle.rds_line_streams.specs.Meeting.{AtEach, GotBeginning}
-use Rattle.rds_line_streams.specs.NumberLaws.{number_there, same_number}
-use Rattle.rds_line_streams.specs.Streams.{StreamsView, AreKept, numbers, newest_place}
+use Rattle.rds_line_channel.specs.Meeting.{AtEach, GotBeginning}
+use Rattle.rds_line_channel.specs.NumberLaws.{number_there, same_number}
+use Rattle.rds_line_channel.specs.Streams.{StreamsView, AreKept, numbers, newest_place}
 use Rattle.rds_line_channel.specs.Carried.{IsOn, IsOff, IsCarriedBy}
 
 begins_through : (x y z : List ℕ) → Begins x y → Begins y z → Begins x z

@@ -7,3 +7,8 @@ mod Noting
 mod Ending
 mod Moving
 mod Honesty
+mod Keeping
+mod Numbering
+mod Partly
+mod Over
+mod OtherTerms

@@ -2,11 +2,11 @@
 use Rattle.std.proofs.Common.{◌≡◌, inl, inr, ℕ, ◌≤◌, if◌then◌else◌, None, slice_get, List, ◌++◌, take, sym, ap, subst, ◌∙◌}
 use Rattle.rds_link.specs.Ends.{Means}
 use Rattle.rds_model.specs.declared.entry.Entry.{Entry}
-use Rattle.rds_line_streams.specs.ChangeLaws.{same_length}
-use Rattle.rds_line_streams.specs.Meeting.{AtEach}
-use Rattle.rds_line_streams.specs.MeetingLaws.{MeetsSome}
-use Rattle.rds_line_streams.specs.NumberLaws.{same_number}
-use Rattle.rds_line_streams.specs.Streams.{StreamsView, HasSaidOver, numbers, newest_place, with_list}
+use Rattle.rds_line_channel.specs.ChangeLaws.{same_length}
+use Rattle.rds_line_channel.specs.Meeting.{AtEach}
+use Rattle.rds_line_channel.specs.MeetingLaws.{MeetsSome}
+use Rattle.rds_line_channel.specs.NumberLaws.{same_number}
+use Rattle.rds_line_channel.specs.Streams.{StreamsView, HasSaidOver, numbers, newest_place, with_list}
 use Rattle.rds_line_channel.specs.Carried.{StreamAt, IsOn, IsOff, HasCause, IsCarriedBy}
 
 -- what held of the number and the end of a stream holds of it still

@@ -7,7 +7,7 @@ use Rattle.rds_link.specs.declared.end.Put.TheVariants as put
 use Rattle.rds_link.specs.Answers.{bytes_put}
 use Rattle.rds_link.specs.Ends.{Means}
 use Rattle.rds_model.specs.declared.entry.Entry.{Entry}
-use Rattle.rds_line_streams.specs.Changes.{Receives, Sends}
+use Rattle.rds_line_channel.specs.StreamChanges.{Receives, Sends}
 use Rattle.rds_model.specs.Streams.{read_bytes}
 use Rattle.rds_line_channel.specs.Carried.{IsOn}
 

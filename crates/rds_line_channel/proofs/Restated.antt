@@ -6,7 +6,7 @@ use Rattle.rds_model.specs.declared.entry.Entry.{Entry}
 use Rattle.rds_model.specs.declared.entry.Entry.TheVariants.{Shut}
 use Rattle.rds_model.specs.Legal.{IsLegal, IsWhole}
 use Rattle.rds_conn.specs.Connection.{Connection, stream_of, with_entries}
-use Rattle.rds_line_streams.specs.Streams.{StreamsView, AreKept, numbers}
+use Rattle.rds_line_channel.specs.Streams.{StreamsView, AreKept, numbers}
 use Rattle.rds_line_channel.specs.Channel.{ChannelView}
 use Rattle.rds_line_channel.specs.Carried.{IsCarriedBy}
 

@@ -10,8 +10,8 @@ use Rattle.rds_model.specs.Legal.{IsLegal}
 use Rattle.rds_model.specs.Past.{newest_stream}
 use Rattle.rds_model.specs.StreamLaws.{none_read, none_written}
 use Rattle.rds_model.specs.Sums.{opens}
-use Rattle.rds_line_streams.specs.NumberLaws.{number_there, opened_more}
-use Rattle.rds_line_streams.specs.Streams.{StreamsView, AreKept, IsEndedAt, numbers, opened_numbers}
+use Rattle.rds_line_channel.specs.NumberLaws.{number_there, opened_more}
+use Rattle.rds_line_channel.specs.Streams.{StreamsView, AreKept, IsEndedAt, numbers, opened_numbers}
 use Rattle.rds_line_channel.specs.Carried.{IsOn, IsOff, IsCarriedBy, nothing}
 
 -- before the first stream nothing was opened, noted or moved

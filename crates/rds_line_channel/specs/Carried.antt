@@ -7,7 +7,7 @@ use Rattle.rds_model.specs.Honest.{Begins}
 use Rattle.rds_model.specs.Past.{open_stream}
 use Rattle.rds_model.specs.Streams.{read_bytes, refused_bytes, written_bytes}
 use Rattle.rds_model.specs.Sums.{opens}
-use Rattle.rds_line_streams.specs.Streams.{StreamsView, HasSaidOver, IsEndedAt, newest_place, open_number, opened_numbers}
+use Rattle.rds_line_channel.specs.Streams.{StreamsView, HasSaidOver, IsEndedAt, newest_place, open_number, opened_numbers}
 
 -- the numbers of the streams that were shut, in the order in which they were
 abbrev pub shut_streams : List Entry → List ℕ

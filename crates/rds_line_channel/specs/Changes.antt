@@ -6,8 +6,8 @@ use Rattle.rds_model.specs.declared.entry.Entry.TheVariants as entry
 use Rattle.rds_conn.specs.declared.conn.Fed.{Fed}
 use Rattle.rds_conn.specs.Connection.{with_entries, stream_of}
 use Rattle.rds_conn.specs.Feeding.{Feeds, RefusesHeader}
-use Rattle.rds_line_streams.specs.Changes.{ChangesAt, IsShutDown}
-use Rattle.rds_line_streams.specs.Streams.{StreamsView, newest_place, numbers}
+use Rattle.rds_line_channel.specs.StreamChanges.{ChangesAt, IsShutDown}
+use Rattle.rds_line_channel.specs.Streams.{StreamsView, newest_place, numbers}
 use Rattle.rds_line_channel.specs.Channel.{ChannelView}
 
 module _ {E : Type 0} where

@@ -1,7 +1,7 @@
 -- What contracts see of a connection and the streams that carry it. Source: this project's own.
 use Rattle.std.specs.Prelude.{◌≡◌, ℕ, Bool, false, List, [], ◌++◌, replicate, None}
 use Rattle.rds_conn.specs.Connection.{Connection, taken_bytes}
-use Rattle.rds_line_streams.specs.Streams.{StreamsView}
+use Rattle.rds_line_channel.specs.Streams.{StreamsView}
 
 -- for each cut that was taken the number of the stream that it shut, or 0 where none was open; and whether there is room for one
 -- more

@@ -3,7 +3,7 @@ use Rattle.std.specs.Prelude.{◌≡◌, ◌≤◌, ℕ, zero, suc, List, [], �
 use Rattle.std.proofs.Common.{refl, ap, arith}
 use Rattle.rds_link.specs.Ends.{Means}
 use Rattle.rds_model.specs.declared.entry.Entry.{Entry}
-use Rattle.rds_line_streams.specs.Streams.{StreamsView}
+use Rattle.rds_line_channel.specs.Streams.{StreamsView}
 use Rattle.rds_line_channel.specs.Carried.{AreSomeOf, IsCarriedBy, also, cuts_of_streams, nothing, shuts, without}
 
 -- where no cut came too late, each of them found a stream open

@@ -2,3 +2,10 @@ pub mod Channel
 pub mod Carried
 pub mod Changes
 pub mod CutLaws
+pub mod Streams
+pub mod StreamChanges
+pub mod Meeting
+pub mod PlaceLaws
+pub mod ChangeLaws
+pub mod MeetingLaws
+pub mod NumberLaws

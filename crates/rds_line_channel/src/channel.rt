@@ -9,10 +9,10 @@ mod receiving;
 mod sending;
 mod steps;
 
+use crate::Streams;
 use crate::cuts::Cuts;
 use crate::piece::Piece;
 use rds_conn::{Conn, ConnError, Out};
-use rds_line_streams::Streams;
 use rds_link::End;
 use rds_model::{Journal, JournalError, Verdict};
 use rds_wire::{Frame, Memory};
@@ -79,7 +79,7 @@ impl<E: End> Channel<E> {
     ghost use Rattle.rds_wire.specs.declared.kind.TheConstants.{MAP_LENGTH, MAX_LENGTH};
     ghost use Rattle.rds_frame.specs.Splitting.{IsPartial};
     ghost use Rattle.rds_conn.specs.Connection.{stream_of, with_room};
-    ghost use Rattle.rds_line_streams.specs.Streams.{AreKept, AreNumbered, IsUnused};
+    ghost use Rattle.rds_line_channel.specs.Streams.{AreKept, AreNumbered, IsUnused};
     ghost use Rattle.rds_line_channel.specs.Carried.{IsCarriedBy};
     ghost use Rattle.rds_line_channel.specs.Channel.{IsNewChannel, arrived_bytes, new_channel, with_conn};
 

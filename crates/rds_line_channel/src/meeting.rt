@@ -1,8 +1,8 @@
 //! The meeting of two channels.
 ghost use Rattle.std.specs.Prelude.{◌≡◌, true};
 ghost use Rattle.rds_model.specs.Honest.{IsHonest};
-ghost use Rattle.rds_line_streams.specs.Meeting.{AreMet, AtEach};
-ghost use Rattle.rds_line_streams.specs.Streams.{numbers, with_list};
+ghost use Rattle.rds_line_channel.specs.Meeting.{AreMet, AtEach};
+ghost use Rattle.rds_line_channel.specs.Streams.{numbers, with_list};
 
 use crate::Channel;
 use rds_link::Wire;
@@ -23,7 +23,7 @@ pub fn meet<W: Wire>(a: &mut Channel<W::End>, b: &mut Channel<W::End>)
 {
     a.conn.known();
     b.conn.known();
-    rds_line_streams::meet::<W>(&mut a.streams, &mut b.streams);
+    crate::meet_streams::<W>(&mut a.streams, &mut b.streams);
     a.streams.known();
     b.streams.known();
 }

@@ -1,11 +1,11 @@
 //! Bytes that came from a stream.
 ghost use Rattle.std.specs.Prelude.{◌≡◌, ◌≢◌, ◌≤◌, ◌<◌, ℕ, [], length, drop, true, IfOk};
 ghost use Rattle.rds_link.specs.declared.end.Got.TheVariants as got;
-ghost use Rattle.rds_line_streams.specs.Changes.{ChangesAt, Receives};
-ghost use Rattle.rds_line_streams.specs.Meeting.{StayPaired};
-ghost use Rattle.rds_line_streams.specs.Streams.{EndAt, HasSaidOver, newest_place, numbers, with_list};
+ghost use Rattle.rds_line_channel.specs.StreamChanges.{ChangesAt, Receives};
+ghost use Rattle.rds_line_channel.specs.Meeting.{StayPaired};
+ghost use Rattle.rds_line_channel.specs.Streams.{EndAt, HasSaidOver, newest_place, numbers, with_list};
 
-use rds_line_streams::Streams;
+use crate::Streams;
 use rds_link::{End, Got};
 use rds_wire::Memory;
 use std::alloc::Global;

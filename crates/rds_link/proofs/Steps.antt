@@ -10,8 +10,8 @@ use prog.Atomic.{either}
 use Rattle.atomic_table.specs.Seated.{TableId}
 use Rattle.atomic_table.specs.Table.{Me, Allows, Splits, Joins, keeps}
 use Rattle.atomic_table.proofs.Lists.{at_set, at_snoc, set_again, set_else}
-use Rattle.rds_views.specs.Views.{At}
-use Rattle.rds_views.specs.ViewLaws.{each_set, each_snoc, total_set, total_snoc, total_at}
+use Rattle.rds_seats.specs.Views.{At}
+use Rattle.rds_seats.specs.ViewLaws.{each_set, each_snoc, total_set, total_snoc, total_at}
 use Rattle.rds_link.specs.declared.words.view.View.{View}
 use Rattle.rds_link.specs.Seats.{first_view, kept_half, given_half, after_draw, after_look, after_shut, note_of, heard, spent, FitsKnown}
 use Rattle.rds_link.specs.Rule.{Fits, Shared, Ruled}

@@ -1,7 +1,7 @@
 -- What holds of the two words of a stream between any two atomic steps. This project's own.
 use Rattle.std.specs.Prelude.{◌≡◌, ℕ, ◌+◌, ◌≤◌, List, length, slice_index, true}
 use Rattle.atomic_table.specs.Table.{State}
-use Rattle.rds_views.specs.Views.{At, Each, total}
+use Rattle.rds_seats.specs.Views.{At, Each, total}
 use Rattle.rds_link.specs.declared.words.view.View.{View}
 
 -- a view fits the number of draws and the number of the end that shut first

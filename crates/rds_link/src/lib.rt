@@ -1,4 +1,5 @@
-//! Where bytes come from and go to: sources and sinks that count their faults.
+//! Where bytes come from and go to, and count their faults: sources and sinks, and the ends of streams with the wires that open them.
+//! The streams in memory stand here, those over TCP in rds_tcp.
 #![tactic(auto)]
 
 mod calls;
@@ -11,6 +12,7 @@ mod sink;
 mod source;
 mod standard;
 mod standing;
+mod start;
 mod wire;
 mod words;
 
@@ -23,6 +25,7 @@ pub use sink::{Sink, write_all};
 pub use source::{ReadError, Source, read_all};
 pub use standard::{StdSink, StdSource};
 pub use standing::Standing;
+pub use start::Start;
 use std::fmt;
 pub use wire::{Wire, WireCounts, WireError};
 pub use words::{EndSeat, View};

@@ -2,7 +2,7 @@
 use Rattle.std.proofs.Common.{◌≡◌, ◌≢◌, ℕ, suc, true, true≢false, List, ◌∷◌, ◌++◌, set, Some, None, sym, ap, ◌∙◌, ⊎_elim, arith}
 use Rattle.crossbeam_queue.specs.Fifo.{Merges}
 use Rattle.atomic_table.proofs.Lists.{at_set}
-use Rattle.rds_views.specs.Views.{At}
+use Rattle.rds_seats.specs.Views.{At}
 use Rattle.rds_mail.specs.declared.view.View.{View}
 use Rattle.rds_mail.specs.declared.view.Account.{Account}
 use Rattle.rds_mail.specs.Numbers.{Number, Numbered}

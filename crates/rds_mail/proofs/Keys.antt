@@ -2,7 +2,7 @@
 use Rattle.std.proofs.Common.{◌≡◌, ◌⊎◌, ℕ, zero, suc, Bool, true, false, true≢false, cond, List, [], ◌∷◌, ◌++◌, Option, Some, None, refl, sym, ap, subst, ◌∙◌, ⊎_elim}
 use Rattle.std.proofs.lemmas.Bool.{cases_Bool, cond-true, cond-false, eqb-true}
 use mathlib.Core.Option.{some-injective, some-ne-none}
-use Rattle.rds_views.specs.Views.{At, Each}
+use Rattle.rds_seats.specs.Views.{At, Each}
 use Rattle.rds_mail.specs.declared.view.Account.{Account}
 use Rattle.rds_mail.specs.Numbers.{Number, Numbered, same_number, items_of, bare_items}
 use Rattle.rds_mail.specs.Merging.{IsMerged, is_key, by_key, IsKeyed, KeysBegin}

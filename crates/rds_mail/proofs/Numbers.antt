@@ -4,7 +4,7 @@ use Rattle.std.proofs.lemmas.Bool.{cases_eq, cases_Bool, cond-true, cond-false, 
 use Rattle.std.proofs.lemmas.List.{append-nil}
 use mathlib.Core.List.{cons≢nil}
 use mathlib.Core.Option.{some-injective, some-ne-none}
-use Rattle.rds_views.specs.Views.{At}
+use Rattle.rds_seats.specs.Views.{At}
 use Rattle.rds_mail.specs.Numbers.{Number, Numbered, same_number, items_of, bare_items}
 
 module _ {A : Type 0} where

@@ -1,6 +1,6 @@
 -- What an empty queue shows, and what each moment shows. This project's own.
 use Rattle.std.specs.Prelude.{◌≡◌, true}
-use Rattle.rds_views.specs.Views.{Each}
+use Rattle.rds_seats.specs.Views.{Each}
 use Rattle.rds_mail.specs.declared.view.View.{View}
 use Rattle.rds_mail.specs.Shared.{IsPart, IsAllPut, IsKnown}
 use Rattle.rds_mail.specs.Passes.{Getter, getter_of}

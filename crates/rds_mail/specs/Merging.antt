@@ -1,6 +1,6 @@
 -- What was got of each putter that has ended. This project's own.
 use Rattle.std.specs.Prelude.{◌≡◌, ◌⊎◌, ℕ, ◌<◌, ◌==◌, Bool, false, if◌then◌else◌, List, [], ◌∷◌, Option, Some, None}
-use Rattle.rds_views.specs.Views.{Has, Each}
+use Rattle.rds_seats.specs.Views.{Has, Each}
 use Rattle.rds_mail.specs.declared.view.Account.{Account}
 use Rattle.rds_mail.specs.Numbers.{Number, Numbered, items_of, bare_items}
 use Rattle.rds_model.specs.Honest.{Begins}

@@ -1,6 +1,6 @@
 -- What each kind of step on a mailbox tells its pass. This project's own.
 use Rattle.std.specs.Prelude.{◌≡◌, List, []}
-use Rattle.rds_views.specs.Views.{Each}
+use Rattle.rds_seats.specs.Views.{Each}
 use Rattle.rds_mail.specs.declared.view.View.{View}
 use Rattle.rds_mail.specs.Numbers.{Number}
 use Rattle.rds_mail.specs.Views.{after_put, after_get}

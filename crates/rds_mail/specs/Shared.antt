@@ -1,6 +1,6 @@
 -- What holds of a mailbox between any two atomic steps. This project's own.
 use Rattle.std.specs.Prelude.{◌≡◌, ℕ, suc, ◌≤◌, true, List, [], ◌∷◌, ◌++◌, Option, Some, None}
-use Rattle.rds_views.specs.Views.{At, Has, Each}
+use Rattle.rds_seats.specs.Views.{At, Has, Each}
 use Rattle.rds_mail.specs.declared.view.View.{View}
 use Rattle.rds_mail.specs.declared.view.Account.{Account}
 use Rattle.rds_mail.specs.Numbers.{Number, Numbered, items_of, bare_items}

@@ -4,8 +4,8 @@ use Rattle.std.specs.Prelude.{Contains, slice_index}
 use Rattle.std.proofs.lemmas.Bool.Decides.{nat_tests}
 use Rattle.std.proofs.lemmas.List.Elements.{Contains-append_left, Contains-append_right, Contains-append_cases, Contains-push, Contains-push_cases}
 use mathlib.Core.Option.{some-injective}
-use Rattle.rds_views.specs.Views.{At, Has, total}
-use Rattle.rds_views.specs.ViewLaws.{total_snoc}
+use Rattle.rds_seats.specs.Views.{At, Has, total}
+use Rattle.rds_seats.specs.ViewLaws.{total_snoc}
 use Rattle.rds_meter.specs.declared.view.View.{View}
 use Rattle.rds_meter.specs.declared.view.Check.{Check}
 use Rattle.rds_meter.specs.declared.view.Step.{Step}

@@ -9,8 +9,8 @@ use Rattle.std.specs.Int.{bit_at, bit_not}
 use mathlib.Core.Logic.{dite}
 use native.Mathlib.Decide.{ℕ_discrete}
 use Rattle.atomic_table.specs.Table.{Me, Allows, keeps}
-use Rattle.rds_views.specs.Views.{At, Has}
-use Rattle.rds_views.specs.ViewLaws.{at_here}
+use Rattle.rds_seats.specs.Views.{At, Has}
+use Rattle.rds_seats.specs.ViewLaws.{at_here}
 use Rattle.rds_meter.specs.declared.view.View.{View}
 use Rattle.rds_meter.specs.declared.view.Check.{Check}
 use Rattle.rds_meter.specs.declared.view.Step.{Step}

@@ -5,8 +5,8 @@ use mathlib.Core.Logic.{dite}
 use mathlib.Core.Option.{some-injective}
 use native.Mathlib.Decide.{ℕ_discrete}
 use lib.ListN.{get_elem?}
-use Rattle.rds_views.specs.Views.{At, Has, Each}
-use Rattle.rds_views.specs.ViewLaws.{at_there, has_snoc, each_set, each_snoc}
+use Rattle.rds_seats.specs.Views.{At, Has, Each}
+use Rattle.rds_seats.specs.ViewLaws.{at_there, has_snoc, each_set, each_snoc}
 use Rattle.rds_meter.specs.declared.view.View.{View}
 use Rattle.rds_meter.specs.declared.view.Check.{Check}
 use Rattle.rds_meter.specs.declared.view.Stage.{Stage}

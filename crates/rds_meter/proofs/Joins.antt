@@ -4,8 +4,8 @@ use Rattle.std.proofs.lemmas.List.Elements.{Contains-append_left, Contains-appen
 use Rattle.std.specs.Prelude.{slice_index}
 use Rattle.atomic_table.specs.Table.{Joins, Splits}
 use Rattle.atomic_table.proofs.Lists.{set_else}
-use Rattle.rds_views.specs.Views.{At, Has}
-use Rattle.rds_views.specs.ViewLaws.{at_here, at_there, each_set, each_snoc, has_snoc, total_set, total_snoc}
+use Rattle.rds_seats.specs.Views.{At, Has}
+use Rattle.rds_seats.specs.ViewLaws.{at_here, at_there, each_set, each_snoc, has_snoc, total_set, total_snoc}
 use Rattle.rds_meter.specs.declared.view.View.{View}
 use Rattle.rds_meter.specs.declared.view.Step.TheVariants.{Loaded}
 use Rattle.rds_meter.specs.Places.{part}

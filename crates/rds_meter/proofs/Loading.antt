@@ -5,8 +5,8 @@ use Rattle.std.proofs.lemmas.List.Elements.{Contains-append_left, Contains-appen
 use Rattle.std.specs.Prelude.{Contains, slice_index}
 use Rattle.atomic_table.specs.Table.{Me, Allows, keeps}
 use Rattle.atomic_table.proofs.Lists.{set_again}
-use Rattle.rds_views.specs.Views.{At, Has}
-use Rattle.rds_views.specs.ViewLaws.{at_here}
+use Rattle.rds_seats.specs.Views.{At, Has}
+use Rattle.rds_seats.specs.ViewLaws.{at_here}
 use Rattle.rds_meter.specs.declared.view.View.{View}
 use Rattle.rds_meter.specs.declared.view.Check.{Check}
 use Rattle.rds_meter.specs.declared.view.Stage.{Stage}

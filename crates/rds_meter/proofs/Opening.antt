@@ -8,8 +8,8 @@ use mathlib.Core.Logic.{dite}
 use mathlib.Core.Option.{some-ne-none, some-injective}
 use native.Mathlib.Decide.{ℕ_discrete}
 use lib.ListN.{get_elem?}
-use Rattle.rds_views.specs.Views.{At, Has, Each, total}
-use Rattle.rds_views.specs.ViewLaws.{total_two}
+use Rattle.rds_seats.specs.Views.{At, Has, Each, total}
+use Rattle.rds_seats.specs.ViewLaws.{total_two}
 use Rattle.rds_meter.specs.declared.view.View.{View}
 use Rattle.rds_meter.specs.declared.view.Step.TheVariants.{Stored}
 use Rattle.rds_meter.specs.Places.{part}

@@ -1,8 +1,8 @@
 -- One step of one seat: its sums, its bits and its numbers, put together with what else holds of the views.
 use Rattle.std.proofs.Common.{◌≡◌, ℕ, ◌+◌, ◌*◌, ◌<◌, ◌≤◌, List, [], ◌∷◌, ◌++◌, length, set, ap, ◌∙◌, arith}
 use Rattle.std.specs.Prelude.{slice_index}
-use Rattle.rds_views.specs.Views.{At, Each, total}
-use Rattle.rds_views.specs.ViewLaws.{each_set, total_set, total_at, total_below, total_times}
+use Rattle.rds_seats.specs.Views.{At, Each, total}
+use Rattle.rds_seats.specs.ViewLaws.{each_set, total_set, total_at, total_below, total_times}
 use Rattle.rds_meter.specs.declared.view.View.{View}
 use Rattle.rds_meter.specs.declared.view.Step.{Step}
 use Rattle.rds_meter.specs.declared.view.Stage.TheVariants.{Idle}

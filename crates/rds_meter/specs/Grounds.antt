@@ -1,7 +1,7 @@
 -- Why bits of a host's congestion map were found set. This project's own.
 use Rattle.std.specs.Prelude.{◌≡◌, ℕ, ◌+◌, ◌%◌, ◌<◌, List, Some, Contains}
 use Rattle.std.specs.Int.{bit_at}
-use Rattle.rds_views.specs.Views.{total}
+use Rattle.rds_seats.specs.Views.{total}
 use Rattle.rds_model.specs.declared.entry.TheConstants.{MAX_SLOTS}
 use Rattle.rds_meter.specs.declared.view.View.{View}
 use Rattle.rds_meter.specs.declared.view.Check.{Check}

@@ -1,6 +1,6 @@
 -- Private: it serves the contract of the private call that joins seats, and its proof. This project's own.
 use Rattle.std.specs.Prelude.{◌≡◌, ◌⊎◌, ℕ, ◌+◌, List, Contains}
-use Rattle.rds_views.specs.Views.{total}
+use Rattle.rds_seats.specs.Views.{total}
 use Rattle.rds_meter.specs.declared.view.View.{View}
 use Rattle.rds_meter.specs.declared.view.Check.{Check}
 use Rattle.rds_meter.specs.declared.view.Step.{Step}

@@ -1,7 +1,7 @@
 -- What a seat of the meter knows, and what each of its steps leaves it with. This project's own.
 use Rattle.std.specs.Prelude.{◌≡◌, ℕ, ◌+◌, ◌-◌, ◌==◌, ◌&&◌, nat_lt, nat_le, if◌then◌else◌, Bool, List, [], ◌∷◌, ◌++◌, Option, Some, None}
 use Rattle.atomic_table.specs.Seated.{TableId}
-use Rattle.rds_views.specs.Views.{Table}
+use Rattle.rds_seats.specs.Views.{Table}
 use Rattle.rds_meter.specs.declared.view.View.{View}
 use Rattle.rds_meter.specs.declared.view.Check.{Check}
 use Rattle.rds_meter.specs.declared.view.Stage.{Stage}

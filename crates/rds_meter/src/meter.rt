@@ -21,7 +21,7 @@ pub struct Meter {
 impl Model for Meter {
     ghost use Rattle.std.specs.Prelude.{◌≡◌, ◌≤◌};
     ghost use Rattle.rds_model.specs.declared.entry.TheConstants.{MAX_SLOTS};
-    ghost use Rattle.rds_views.specs.Views.{Table};
+    ghost use Rattle.rds_seats.specs.Views.{Table};
 
     ghost Value = { Table };
 

@@ -4,12 +4,12 @@ use Rattle.rds_script.specs.declared.script.Placed.{Placed}
 use Rattle.rds_history.specs.Courses.{Course, and_then}
 use Rattle.rds_history.specs.Events.{Event}
 use Rattle.rds_history.specs.History.{after, history}
-use Rattle.rds_world.specs.declared.stop.Stop.{Stop}
-use Rattle.rds_world.specs.declared.stop.Stop.TheVariants as stop
-use Rattle.rds_world.specs.Coming.{Comes}
+use Rattle.rds_play_world.specs.declared.stop.Stop.{Stop}
+use Rattle.rds_play_world.specs.declared.stop.Stop.TheVariants as stop
+use Rattle.rds_play_world.specs.Coming.{Comes}
 use Rattle.rds_play.specs.Following.{FollowsCourse}
-use Rattle.rds_world.specs.Readiness.{IsMemory}
-use Rattle.rds_world.specs.Telling.{State, Tells}
+use Rattle.rds_play_world.specs.Readiness.{IsMemory}
+use Rattle.rds_play_world.specs.Telling.{State, Tells}
 
 -- there may always be no memory
 pub follows_memory : {A : Type 0} (P : List Event → A → Type 0) (c : Course) → FollowsCourse P c (Err stop.Memory)

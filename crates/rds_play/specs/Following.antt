@@ -2,8 +2,8 @@
 use Rattle.std.specs.Prelude.{◌≡◌, ℕ, Result, Ok, Err, List}
 use Rattle.rds_history.specs.Courses.{Course}
 use Rattle.rds_history.specs.Events.{Event}
-use Rattle.rds_world.specs.declared.stop.Stop.{Stop}
-use Rattle.rds_world.specs.Readiness.{IsMemory, IsStopAt}
+use Rattle.rds_play_world.specs.declared.stop.Stop.{Stop}
+use Rattle.rds_play_world.specs.Readiness.{IsMemory, IsStopAt}
 
 -- what is made is right for the past that the course leads to, or the stop is that of the first full journal; there may
 -- always be no memory

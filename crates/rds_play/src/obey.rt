@@ -2,12 +2,12 @@ ghost use Rattle.std.specs.Prelude.{◌≡◌, ℕ, List};
 ghost use Rattle.rds_script.specs.Script.{IsCommand};
 ghost use Rattle.rds_history.specs.Events.{Event};
 ghost use Rattle.rds_history.specs.History.{after};
-ghost use Rattle.rds_world.specs.Coming.{Comes};
-ghost use Rattle.rds_world.specs.Telling.{IsTelling, Tells, state};
+ghost use Rattle.rds_play_world.specs.Coming.{Comes};
+ghost use Rattle.rds_play_world.specs.Telling.{IsTelling, Tells, state};
 
 use rds_msgs::Steps;
+use rds_play_world::{Stop, World};
 use rds_script::Command;
-use rds_world::{Stop, World};
 use std::sync::ledger::Ledger;
 
 /// Does one command.

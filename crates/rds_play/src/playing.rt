@@ -10,10 +10,10 @@ ghost use Rattle.rds_play.specs.declared.playing.PlayEnd.TheVariants as ended;
 
 use crate::texting::text_of;
 use rds_link::{Sink, write_all};
+use rds_play_world::{Full, Stop};
 use rds_script::Script;
 use rds_text::spent_line;
 use rds_wire::Memory;
-use rds_world::{Full, Stop};
 use std::alloc::Global;
 
 /// How the playing of a script ended, and what was written.

@@ -6,15 +6,15 @@ ghost use Rattle.rds_history.specs.Events.{Event};
 ghost use Rattle.rds_history.specs.History.{course, final_hosts};
 ghost use Rattle.rds_history.specs.Transcript.{lines};
 ghost use Rattle.rds_text.specs.Lines.{end_line};
-ghost use Rattle.rds_final.specs.Report.{report as text_of_report};
+ghost use Rattle.rds_text.specs.Report.{report as text_of_report};
 ghost use Rattle.rds_play.specs.Following.{FollowsCourse};
-ghost use Rattle.rds_world.specs.Telling.{Tells, state};
+ghost use Rattle.rds_play_world.specs.Telling.{Tells, state};
 
 use crate::obey::obey;
 use rds_msgs::Steps;
+use rds_play_world::{Stop, World};
 use rds_report::report;
 use rds_script::Script;
-use rds_world::{Stop, World};
 use std::alloc::Global;
 use std::marker::Brand;
 use std::sync::ledger::{Blank, Ledger};

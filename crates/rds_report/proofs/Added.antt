@@ -4,10 +4,10 @@ use Rattle.std.specs.List.{All, AllZip, range_with_len, sum_by}
 use Rattle.std.proofs.lemmas.List.Elements.{All-cons, All-nil}
 use Rattle.std.proofs.lemmas.List.Sums.{sum_by-append, sum_by-cons}
 use Rattle.rds_wire.specs.declared.memory.Memory.{Memory}
-use Rattle.rds_final.specs.FinalState.{FinalHost}
-use Rattle.rds_final.specs.Hosts.{address_of}
-use Rattle.rds_final.specs.Report.{Counts}
-use Rattle.rds_final.specs.Views.{AreFinalHosts}
+use Rattle.rds_text.specs.FinalState.{FinalHost}
+use Rattle.rds_text.specs.Hosts.{address_of}
+use Rattle.rds_text.specs.Report.{Counts}
+use Rattle.rds_text.specs.FinalViews.{AreFinalHosts}
 use Rattle.rds_report.specs.declared.totals.Totals.{Totals}
 use Rattle.rds_report.specs.Summary.{all_counts, plus, received_bytes, total}
 use Rattle.rds_report.specs.ItemTotals.{AreTotals, AreTotalsTo, IsSmall, bytes_below, bytes_to, counts_below, totals_bytes, totals_counts}

@@ -5,7 +5,7 @@ use Rattle.std.specs.List.{flat_map, AllPairs}
 use Rattle.std.proofs.lemmas.Bool.{ne_eqb, eqb-true}
 use Rattle.std.proofs.lemmas.List.{append-nil}
 use Rattle.rds_model.specs.declared.entry.Entry.{Entry}
-use Rattle.rds_final.specs.FinalState.{FinalJournal, FinalHost, past_with}
+use Rattle.rds_text.specs.FinalState.{FinalJournal, FinalHost, past_with}
 
 -- lists of which each differs from those after it
 

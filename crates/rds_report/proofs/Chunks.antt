@@ -7,8 +7,8 @@ use Rattle.std.proofs.lemmas.List.{map-append, append-nil, take-append-drop}
 use Rattle.std.proofs.lemmas.List.Elements.{filter-append}
 use Rattle.std.proofs.lemmas.List.Folds.{list_any-append}
 use Rattle.rds_report.specs.Item.{Item}
-use Rattle.rds_final.specs.Hosts.{IsAddress}
-use Rattle.rds_final.specs.Report.{Group, is_before, ascending}
+use Rattle.rds_text.specs.Hosts.{IsAddress}
+use Rattle.rds_text.specs.Report.{Group, is_before, ascending}
 use Rattle.rds_report.specs.Items.{seen}
 use Rattle.rds_report.specs.ItemReport.{is_same, is_of, is_accepted, count_of, of_pair, accepted_pairs, AreKnown, AreNotBefore, IsUp}
 use Rattle.rds_report.proofs.Orders.{same_is, same_itself, same_sym, before_either, before_differs, not_before_trans, before_then_not, Above, has, rising_one, rising_ascending, has_ascending}

@@ -2,7 +2,7 @@
 use Rattle.std.proofs.Common.{◌≡◌, ◌≤◌, ◌+◌, ◌==◌, ℕ, Bool, true, false, if◌then◌else◌, List, [], ◌∷◌, ◌++◌, length, arith, refl, sym, ap, ◌∙◌, length-append}
 use Rattle.std.proofs.lemmas.List.Elements.{filter-append}
 use Rattle.rds_report.specs.Item.{What, Accepted, Received, Unread, Dropped, Port0, Cancelled, Item}
-use Rattle.rds_final.specs.Report.{Counts}
+use Rattle.rds_text.specs.Report.{Counts}
 use Rattle.rds_report.specs.ItemReport.{count_of, is_accepted, is_received, is_unread, is_dropped, is_port0, is_cancelled_item, tally}
 use Rattle.rds_report.specs.ItemTotals.{count_all, grouped, with_accepted}
 use Rattle.rds_report.specs.Summary.{plus}

@@ -6,7 +6,7 @@ use Rattle.std.specs.declared.cmp.Ordering.{Ordering}
 use Rattle.std.specs.declared.cmp.Ordering.TheVariants.{Less, Equal, Greater}
 use Rattle.std.specs.List.{list_any}
 use Rattle.std.proofs.lemmas.Bool.{true≢false, cases_order, lt-ltb, le-ltb, ltb-true, ne_eqb, eq-eqb, eqb-true, and_parts}
-use Rattle.rds_final.specs.Report.{Group, is_before, with_group, ascending}
+use Rattle.rds_text.specs.Report.{Group, is_before, with_group, ascending}
 use Rattle.rds_report.specs.ItemReport.{is_same}
 
 -- by two numbers, and where they are equal by p

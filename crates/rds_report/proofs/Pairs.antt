@@ -7,10 +7,10 @@ use Rattle.rds_model.specs.declared.entry.Entry.{Entry}
 use Rattle.rds_model.specs.declared.entry.Entry.TheVariants.{Accept}
 use Rattle.rds_model.specs.Past.{accepted}
 use Rattle.rds_report.specs.Item.{Item}
-use Rattle.rds_final.specs.Hosts.{IsAddress}
-use Rattle.rds_final.specs.FinalState.{FinalJournal, FinalHost, past_of}
-use Rattle.rds_final.specs.Report.{Group, accepted_groups}
-use Rattle.rds_final.specs.Views.{AreSides, AreFinalHosts}
+use Rattle.rds_text.specs.Hosts.{IsAddress}
+use Rattle.rds_text.specs.FinalState.{FinalJournal, FinalHost, past_of}
+use Rattle.rds_text.specs.Report.{Group, accepted_groups}
+use Rattle.rds_text.specs.FinalViews.{AreSides, AreFinalHosts}
 use Rattle.rds_report.specs.Items.{seen, accepted_items, sent_items, came_items, socket_items, is_lost, side_items, host_items, items}
 use Rattle.rds_report.specs.ItemReport.{is_same, is_of, of_pair, is_accepted, accepted_pairs}
 use Rattle.rds_report.proofs.Orders.{has, same_is}

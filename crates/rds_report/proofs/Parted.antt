@@ -13,8 +13,8 @@ use Rattle.rds_model.specs.declared.entry.Outcome.TheVariants as outcome
 use Rattle.rds_model.specs.Past.{accepted}
 use Rattle.rds_report.specs.Item.{Received, Unread, Item}
 use Rattle.rds_model.specs.Log.{Log}
-use Rattle.rds_final.specs.Views.{side_view}
-use Rattle.rds_final.specs.FinalState.{FinalJournal, FinalHost, FinalSocket, past_of}
+use Rattle.rds_text.specs.FinalViews.{side_view}
+use Rattle.rds_text.specs.FinalState.{FinalJournal, FinalHost, FinalSocket, past_of}
 use Rattle.rds_report.specs.Items.{item, accepted_items, sent_items, read_items, came_items, socket_items, is_lost, is_to, side_items, host_items}
 
 -- all items are of pairs to the host at an address

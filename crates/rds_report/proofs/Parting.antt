@@ -6,10 +6,10 @@ use Rattle.std.proofs.lemmas.List.{append-nil}
 use Rattle.std.proofs.lemmas.Grind.{flat_map-append}
 use Rattle.rds_text.specs.declared.host.TheConstants.{MAX_HOSTS}
 use Rattle.rds_report.specs.Item.{Item}
-use Rattle.rds_final.specs.Hosts.{IsAddress, address_of}
-use Rattle.rds_final.specs.FinalState.{FinalHost}
-use Rattle.rds_final.specs.Report.{Group, is_before, ascending, groups, group_text}
-use Rattle.rds_final.specs.Views.{AreFinalHosts}
+use Rattle.rds_text.specs.Hosts.{IsAddress, address_of}
+use Rattle.rds_text.specs.FinalState.{FinalHost}
+use Rattle.rds_text.specs.Report.{Group, is_before, ascending, groups, group_text}
+use Rattle.rds_text.specs.FinalViews.{AreFinalHosts}
 use Rattle.rds_report.specs.Items.{is_to, items, items_to}
 use Rattle.rds_report.specs.ItemReport.{is_same, is_of, of_pair, pair_lines, accepted_pairs, groups_text, AreKnown, groups_to, job_end, part, parts}
 use Rattle.rds_report.proofs.Orders.{Above, Rising, lex_more, has, has_ascending, rising_ascending, rising_one, same_itself}

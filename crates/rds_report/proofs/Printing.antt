@@ -3,7 +3,7 @@ use Rattle.std.proofs.Common.{◌≡◌, ◌==◌, ℕ, Bool, false, if◌then�
 use Rattle.std.proofs.Common.{append_assoc, refl, sym, ap, ◌∙◌}
 use Rattle.std.specs.List.{flat_map}
 use Rattle.std.proofs.lemmas.Grind.{flat_map-append}
-use Rattle.rds_final.specs.Report.{Group, Counts, pair_text, counts_line}
+use Rattle.rds_text.specs.Report.{Group, Counts, pair_text, counts_line}
 use Rattle.rds_report.specs.Item.{Item}
 use Rattle.rds_report.specs.ItemReport.{count_of, is_accepted, tally, pair_lines, lines_of, data_lines}
 

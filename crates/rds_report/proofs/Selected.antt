@@ -10,8 +10,8 @@ use Rattle.rds_model.specs.declared.entry.Outcome.{Outcome}
 use Rattle.rds_model.specs.declared.entry.Outcome.TheVariants as outcome
 use Rattle.rds_model.specs.Past.{accepted}
 use Rattle.rds_report.specs.Item.{What, Accepted, Received, Unread, Dropped, Port0, Cancelled, Item}
-use Rattle.rds_final.specs.FinalState.{FinalSocket}
-use Rattle.rds_final.specs.Report.{Group}
+use Rattle.rds_text.specs.FinalState.{FinalSocket}
+use Rattle.rds_text.specs.Report.{Group}
 use Rattle.rds_report.specs.Items.{item, accepted_items, sent_items, read_items, came_items, socket_items}
 use Rattle.rds_report.specs.ItemReport.{is_of, of_pair}
 

@@ -6,8 +6,8 @@ use Rattle.std.proofs.lemmas.Bool.{eqb-true}
 use Rattle.std.proofs.lemmas.List.{append-nil}
 use Rattle.rds_model.specs.declared.entry.Entry.{Entry}
 use Rattle.rds_report.specs.Item.{What, Item}
-use Rattle.rds_final.specs.FinalState.{FinalSocket, FinalJournal, FinalHost, past_with, past_of, sockets_of}
-use Rattle.rds_final.specs.Report.{Group}
+use Rattle.rds_text.specs.FinalState.{FinalSocket, FinalJournal, FinalHost, past_with, past_of, sockets_of}
+use Rattle.rds_text.specs.Report.{Group}
 use Rattle.rds_report.specs.Items.{sent_items, came_items, socket_items, is_lost, side_items, host_items, items}
 use Rattle.rds_report.proofs.Selected.{other_to, other_from, none_sent, none_came, none_sockets, of_kind, chosen, chosen_append, chosen_spread}
 use Rattle.rds_report.proofs.Chosen.{SidesOnce, EndsOnce, one_side, Own, one_end}

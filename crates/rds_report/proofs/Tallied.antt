@@ -14,8 +14,8 @@ use Rattle.rds_model.specs.Alive.{was_taken_back}
 use Rattle.rds_model.specs.Streams.{was_passed}
 use Rattle.rds_model.specs.Pairs.{accepted_for, read_with, is_drop, is_port_0}
 use Rattle.rds_report.specs.Item.{What, Accepted, Received, Unread, Dropped, Port0, Cancelled, Item}
-use Rattle.rds_final.specs.FinalState.{FinalSocket, FinalHost, past_of, sockets_of}
-use Rattle.rds_final.specs.Report.{Group, Counts, of_group, received, unread, counts, counts_line, data_line, group_text, pair_text}
+use Rattle.rds_text.specs.FinalState.{FinalSocket, FinalHost, past_of, sockets_of}
+use Rattle.rds_text.specs.Report.{Group, Counts, of_group, received, unread, counts, counts_line, data_line, group_text, pair_text}
 use Rattle.rds_report.specs.Items.{item, accepted_items, sent_items, read_items, came_items, socket_items, is_lost, items}
 use Rattle.rds_report.specs.ItemReport.{is_of, of_pair, is_accepted, is_received, is_unread, is_dropped, is_port0, is_cancelled_item, tally, data_lines, pair_lines}
 use Rattle.rds_report.proofs.Counted.{same_counts}

@@ -7,10 +7,10 @@ use Rattle.std.proofs.lemmas.List.Sums.{sum_by-cons, sum_by-append}
 use Rattle.rds_text.specs.declared.host.TheConstants.{MAX_HOSTS}
 use Rattle.rds_model.specs.declared.order.Datagram.{Datagram}
 use Rattle.rds_report.specs.Item.{What, Accepted, Received, Unread, Dropped, Port0, Cancelled, Item}
-use Rattle.rds_final.specs.FinalState.{FinalHost}
-use Rattle.rds_final.specs.Hosts.{address_of}
-use Rattle.rds_final.specs.Report.{Group, Counts, counts, groups, received}
-use Rattle.rds_final.specs.Views.{AreFinalHosts}
+use Rattle.rds_text.specs.FinalState.{FinalHost}
+use Rattle.rds_text.specs.Hosts.{address_of}
+use Rattle.rds_text.specs.Report.{Group, Counts, counts, groups, received}
+use Rattle.rds_text.specs.FinalViews.{AreFinalHosts}
 use Rattle.rds_report.specs.Items.{items, items_to}
 use Rattle.rds_report.specs.ItemReport.{groups_to, of_pair, is_received, tally}
 use Rattle.rds_report.specs.ItemTotals.{bytes_below, bytes_of, bytes_to, counts_below, counts_to, grouped, payload_bytes}

@@ -6,8 +6,8 @@ use Rattle.std.proofs.lemmas.Bool.{true≢false}
 use Rattle.std.proofs.lemmas.List.{take-append-drop}
 use Rattle.std.proofs.lemmas.List.Folds.{length-prefix_len}
 use Rattle.rds_report.specs.Item.{Item}
-use Rattle.rds_final.specs.Hosts.{IsAddress}
-use Rattle.rds_final.specs.Report.{Group}
+use Rattle.rds_text.specs.Hosts.{IsAddress}
+use Rattle.rds_text.specs.Report.{Group}
 use Rattle.rds_report.specs.Items.{seen}
 use Rattle.rds_report.specs.ItemReport.{is_of, is_accepted, count_of, first_pair, pair_lines, lines_of, groups_text, AreKnown, AreNotBefore, IsUp}
 use Rattle.rds_report.specs.ItemTotals.{grouped, with_accepted}

@@ -4,10 +4,10 @@ use Rattle.std.specs.List.{flat_map, list_any}
 use Rattle.rds_text.specs.Words.{hex}
 use Rattle.rds_text.specs.declared.host.TheConstants.{MAX_HOSTS}
 use Rattle.rds_report.specs.Item.{What, Accepted, Received, Unread, Dropped, Port0, Cancelled, Item}
-use Rattle.rds_final.specs.FinalState.{FinalHost}
-use Rattle.rds_final.specs.Hosts.{IsAddress, address_of}
+use Rattle.rds_text.specs.FinalState.{FinalHost}
+use Rattle.rds_text.specs.Hosts.{IsAddress, address_of}
 use Rattle.rds_text.specs.Lines.{text_line}
-use Rattle.rds_final.specs.Report.{Group, Counts, is_before, ascending, groups, group_text, pair_text, counts_line}
+use Rattle.rds_text.specs.Report.{Group, Counts, is_before, ascending, groups, group_text, pair_text, counts_line}
 use Rattle.rds_report.specs.Items.{seen}
 
 -- two pairs are one

@@ -8,10 +8,10 @@ use Rattle.rds_report.specs.declared.counts.Counts.{Counts as Fates}
 use Rattle.rds_report.specs.Item.{What, Received, Item}
 use Rattle.rds_model.specs.declared.order.Datagram.{Datagram}
 use Rattle.rds_report.specs.declared.totals.Totals.{Totals}
-use Rattle.rds_final.specs.FinalState.{FinalHost}
-use Rattle.rds_final.specs.Hosts.{address_of}
-use Rattle.rds_final.specs.Views.{AreFinalHosts}
-use Rattle.rds_final.specs.Report.{Counts, ascending, counts, received}
+use Rattle.rds_text.specs.FinalState.{FinalHost}
+use Rattle.rds_text.specs.Hosts.{address_of}
+use Rattle.rds_text.specs.FinalViews.{AreFinalHosts}
+use Rattle.rds_text.specs.Report.{Counts, ascending, counts, received}
 use Rattle.rds_report.specs.Summary.{plus, total}
 use Rattle.rds_report.specs.ItemReport.{accepted_pairs, count_of, groups_to, is_accepted, of_pair}
 

@@ -13,8 +13,8 @@ use Rattle.rds_model.specs.Alive.{up_to, was_taken_back}
 use Rattle.rds_model.specs.Streams.{was_passed}
 use Rattle.rds_report.specs.declared.item.Group.{Group as Key}
 use Rattle.rds_report.specs.Item.{What, Accepted, Received, Unread, Dropped, Port0, Cancelled, Item}
-use Rattle.rds_final.specs.FinalState.{FinalSocket, FinalJournal, FinalHost, past_of}
-use Rattle.rds_final.specs.Report.{Group}
+use Rattle.rds_text.specs.FinalState.{FinalSocket, FinalJournal, FinalHost, past_of}
+use Rattle.rds_text.specs.Report.{Group}
 
 -- whether each number from 1 to m passes a test
 abbrev pub flags : (ℕ → Bool) → ℕ → List Bool

@@ -4,8 +4,8 @@ use Rattle.std.specs.List.{flat_map, sum_by}
 use Rattle.std.specs.Fmt.{decimal}
 use Rattle.rds_model.specs.declared.order.Datagram.{Datagram}
 use Rattle.rds_text.specs.Lines.{end_line, text_line}
-use Rattle.rds_final.specs.FinalState.{FinalHost}
-use Rattle.rds_final.specs.Report.{Counts, counts, groups, received}
+use Rattle.rds_text.specs.FinalState.{FinalHost}
+use Rattle.rds_text.specs.Report.{Counts, counts, groups, received}
 
 -- two counts together
 abbrev pub plus : Counts → Counts → Counts

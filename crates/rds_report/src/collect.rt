@@ -2,14 +2,14 @@ ghost use Rattle.std.specs.Prelude.{◌≡◌, ◌++◌, IfOk, OnOk, filter, map
 ghost use Rattle.std.specs.List.{flat_map};
 ghost use Rattle.rds_model.specs.declared.order.Datagram.{Datagram as Message};
 ghost use Rattle.rds_report.specs.Item as what;
-ghost use Rattle.rds_final.specs.FinalState.{past_of, past_with};
-ghost use Rattle.rds_final.specs.Views.{host_view, host_views, side_view, socket_view};
+ghost use Rattle.rds_text.specs.FinalState.{past_of, past_with};
+ghost use Rattle.rds_text.specs.FinalViews.{host_view, host_views, side_view, socket_view};
 ghost use Rattle.rds_report.specs.Items.{is_to, item, items_to as items_of, host_items, side_items, came_items, read_items, arrival_items, socket_items, past_in};
 
 use crate::item::{Group, Item, What};
 use crate::sent::add_sent;
-use rds_final::{HostEnd, Kept};
 use rds_model::{Datagram, Entry, Journal, Outcome};
+use rds_text::{HostEnd, Kept};
 use rds_wire::Memory;
 use std::alloc::Global;
 

@@ -1,6 +1,6 @@
 ghost use Rattle.std.specs.Prelude.{◌≡◌, ◌≤◌, IfSome, OnOk, length, option_map};
 ghost use Rattle.std.specs.List.{prefix_len, take_while};
-ghost use Rattle.rds_final.specs.Report.{Group as Pair};
+ghost use Rattle.rds_text.specs.Report.{Group as Pair};
 ghost use Rattle.rds_report.specs.Items.{seen};
 ghost use Rattle.rds_report.specs.ItemReport.{IsUp, first_pair, is_of, of_pair};
 

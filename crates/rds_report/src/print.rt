@@ -1,8 +1,8 @@
 ghost use Rattle.std.specs.Prelude.{◌≡◌, ◌++◌, ◌==◌, false, OnOk, string_bytes};
 ghost use Rattle.std.specs.List.{flat_map};
 ghost use Rattle.rds_report.specs.Item.{Item as Piece};
-ghost use Rattle.rds_final.specs.Hosts.{IsAddress};
-ghost use Rattle.rds_final.specs.Report.{pair_text, counts_line};
+ghost use Rattle.rds_text.specs.Hosts.{IsAddress};
+ghost use Rattle.rds_text.specs.Report.{pair_text, counts_line};
 ghost use Rattle.rds_report.specs.Items.{seen};
 ghost use Rattle.rds_report.specs.ItemReport.{AreKnown, IsUp, groups_text, lines_of, data_lines, count_of, is_accepted};
 ghost use Rattle.rds_report.specs.ItemTotals.{fates, seen_counts};
@@ -10,8 +10,7 @@ ghost use Rattle.rds_report.specs.ItemTotals.{fates, seen_counts};
 use crate::counts::Counts;
 use crate::grouping::first_run;
 use crate::item::{Group, Item, What};
-use rds_final::host_of;
-use rds_text::{Hex, HostName};
+use rds_text::{Hex, HostName, host_of};
 use rds_wire::Memory;
 
 /// Prints the groups of items, which stand in the order of their groups.

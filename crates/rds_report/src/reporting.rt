@@ -1,18 +1,17 @@
 ghost use Rattle.std.specs.Prelude.{◌≡◌, ◌≤◌, ◌++◌, ℕ, List, IfOk, OnOk, string_bytes};
 ghost use Rattle.std.specs.List.{flat_map};
-ghost use Rattle.rds_final.specs.Hosts.{address_of};
-ghost use Rattle.rds_final.specs.Views.{AreFinalHosts, host_views};
+ghost use Rattle.rds_text.specs.Hosts.{address_of};
+ghost use Rattle.rds_text.specs.FinalViews.{AreFinalHosts, host_views};
 ghost use Rattle.rds_text.specs.Lines.{end_line};
 ghost use Rattle.rds_report.specs.ItemReport.{job_end, part, parts};
-ghost use Rattle.rds_final.specs.Report.{report as text_of};
+ghost use Rattle.rds_text.specs.Report.{report as text_of};
 
 use crate::grouping::sort;
 use crate::lists::{all_of, joined};
 use crate::texts::Texts;
 use crate::{collect, print};
-use rds_final::{HostEnd, address};
 use rds_model::Journal;
-use rds_text::MAX_HOSTS;
+use rds_text::{HostEnd, MAX_HOSTS, address};
 use rds_wire::Memory;
 use std::alloc::Global;
 use std::thread;

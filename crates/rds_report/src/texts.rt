@@ -1,6 +1,6 @@
 ghost use Rattle.std.specs.Prelude.{◌≡◌, ◌<◌, ◌++◌, ◌==◌, [], false, IfOk, OnOk, string_bytes};
 ghost use Rattle.std.specs.List.{flat_map};
-ghost use Rattle.rds_final.specs.Hosts.{IsAddress};
+ghost use Rattle.rds_text.specs.Hosts.{IsAddress};
 ghost use Rattle.rds_report.specs.Item.{Item as Piece};
 ghost use Rattle.rds_report.specs.Items.{seen};
 ghost use Rattle.rds_report.specs.ItemReport.{AreKnown, IsUp, groups_text, lines_of, data_lines, count_of, is_accepted};

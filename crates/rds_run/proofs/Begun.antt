@@ -6,19 +6,19 @@ use Rattle.rds_link.specs.declared.wire.WireCounts.{WireCounts}
 use Rattle.rds_model.specs.declared.journal.TheConstants.{MAX_ENTRIES}
 use Rattle.rds_script.specs.Grammar.{Meaning}
 use Rattle.rds_script.specs.declared.script.Placed.{Placed}
-use Rattle.rds_generator.specs.Generator.{generated}
-use Rattle.rds_parties.specs.Streams.{prepared_streams}
-use Rattle.rds_threads.specs.Begun.{HasBegun}
-use Rattle.rds_threads.specs.Counted.{IsCountedEnd}
-use Rattle.rds_threads.specs.Cuts.{IsCutEnd}
-use Rattle.rds_threads.specs.Ends.{HasToWrite, Written}
-use Rattle.rds_threads.specs.declared.form.Form.{Form}
-use Rattle.rds_threads.specs.declared.form.Form.TheVariants as form
-use Rattle.rds_threads.specs.declared.form.RunEnd.{RunEnd}
-use Rattle.rds_threads.specs.declared.form.RunEnd.TheVariants as run_end
-use Rattle.rds_words.specs.declared.wire.RunWire.{RunWire}
-use Rattle.rds_words.specs.Gen.{AreGen}
-use Rattle.rds_words.specs.Run.{AreRun}
+use Rattle.rds_script_gen.specs.Generator.{generated}
+use Rattle.rds_run_hosts.specs.Streams.{prepared_streams}
+use Rattle.rds_run_threads.specs.Begun.{HasBegun}
+use Rattle.rds_run_threads.specs.Counted.{IsCountedEnd}
+use Rattle.rds_run_threads.specs.Cuts.{IsCutEnd}
+use Rattle.rds_run_threads.specs.Ends.{HasToWrite, Written}
+use Rattle.rds_run_threads.specs.declared.form.Form.{Form}
+use Rattle.rds_run_threads.specs.declared.form.Form.TheVariants as form
+use Rattle.rds_run_threads.specs.declared.form.RunEnd.{RunEnd}
+use Rattle.rds_run_threads.specs.declared.form.RunEnd.TheVariants as run_end
+use Rattle.rds_run.specs.declared.wire.RunWire.{RunWire}
+use Rattle.rds_run.specs.GenWords.{AreGen}
+use Rattle.rds_run.specs.RunWords.{AreRun}
 use Rattle.rds_run.specs.declared.status.Status.{Status}
 use Rattle.rds_run.specs.declared.status.Status.TheVariants as ended
 use Rattle.rds_run.specs.ExitStatus.{HasFailedIn, SinkSeen, SourceSeen, code}

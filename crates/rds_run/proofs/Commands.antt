@@ -2,11 +2,11 @@
 use Rattle.std.proofs.Common.{◌≡◌, ℕ, ◌≤◌, ◌<◌, ◌^◌, List, Option, Some, None, String, codes, map, slice_get, slice_index, string_bytes, sym, ap, unwrap_or, ◌∙◌, refl, arith}
 use Rattle.std.specs.Global.{Global}
 use Rattle.std.proofs.lemmas.Fmt.{decimal_injective}
-use Rattle.rds_words.specs.declared.wire.RunWire.{RunWire}
-use Rattle.rds_words.specs.declared.wire.RunWire.TheVariants as wire
-use Rattle.rds_words.specs.Gen.{AreGen, IsNamed, gen_word}
-use Rattle.rds_words.specs.Play.{ArePlay}
-use Rattle.rds_words.specs.Run.{AreRun, NamesWire, wire_named}
+use Rattle.rds_run.specs.declared.wire.RunWire.{RunWire}
+use Rattle.rds_run.specs.declared.wire.RunWire.TheVariants as wire
+use Rattle.rds_run.specs.GenWords.{AreGen, IsNamed, gen_word}
+use Rattle.rds_run.specs.PlayWords.{ArePlay}
+use Rattle.rds_run.specs.RunWords.{AreRun, NamesWire, wire_named}
 
 -- a number of sends is in range
 pub sends_in : (word : Option (List ℕ)) (n : ℕ) → IsNamed 1 100000 word n → (1 ≤ n) × (n ≤ 100000)

@@ -3,14 +3,14 @@ use Rattle.std.proofs.Common.{◌≡◌, ◌⊎◌, ⊎_elim, inl, inr, ℕ, Lis
 use Rattle.std.specs.Global.{Global}
 use Rattle.rds_link.specs.Streaming.{HasRisen}
 use Rattle.rds_script.specs.Grammar.{Meaning}
-use Rattle.rds_parties.specs.Streams.{prepared_streams}
-use Rattle.rds_generator.specs.Generator.{generated}
-use Rattle.rds_threads.specs.declared.form.Form.{Form}
-use Rattle.rds_threads.specs.declared.form.Form.TheVariants as form
-use Rattle.rds_words.specs.declared.wire.RunWire.{RunWire}
-use Rattle.rds_words.specs.declared.wire.RunWire.TheVariants as wire
-use Rattle.rds_words.specs.Gen.{AreGen}
-use Rattle.rds_words.specs.Run.{AreRun}
+use Rattle.rds_run_hosts.specs.Streams.{prepared_streams}
+use Rattle.rds_script_gen.specs.Generator.{generated}
+use Rattle.rds_run_threads.specs.declared.form.Form.{Form}
+use Rattle.rds_run_threads.specs.declared.form.Form.TheVariants as form
+use Rattle.rds_run.specs.declared.wire.RunWire.{RunWire}
+use Rattle.rds_run.specs.declared.wire.RunWire.TheVariants as wire
+use Rattle.rds_run.specs.GenWords.{AreGen}
+use Rattle.rds_run.specs.RunWords.{AreRun}
 use Rattle.rds_run.specs.declared.status.Status.{Status}
 use Rattle.rds_run.specs.declared.status.Status.TheVariants as ended
 use Rattle.rds_run.specs.ExitStatus.{IsToldSpelled, SinkSeen, SourceSeen, code}

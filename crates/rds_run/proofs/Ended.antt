@@ -11,17 +11,17 @@ use Rattle.rds_run.specs.declared.status.Status.TheVariants as ended
 use Rattle.rds_run.specs.ExitStatus.{HasTaken, IsAnswer, code, IsEndOfCall, IsEndOfRefusal, IsPlayed, IsRefusal, IsSpelled, IsSpent, IsToldRefused, IsToldSpelled, SinkSeen, SourceSeen}
 use Rattle.rds_run.specs.Reading.{IsEndOfReading}
 use Rattle.rds_run.specs.RunStatus.{HasFilled, IsEndOfGenCall, IsEndOfRunCall, IsEndOfRunOver, IsEndOfScript, IsEndOfTooMany, IsRan, IsRunUnfinished, IsTooMany, IsWireFault, Ran, TooMany, WireSeen, memory_seen, seen_over, tells_over}
-use Rattle.rds_parties.specs.Streams.{prepared_streams}
+use Rattle.rds_run_hosts.specs.Streams.{prepared_streams}
 use Rattle.rds_run.specs.Texts.{read_fault_line, too_many_line, usage_line}
 use Rattle.rds_run.specs.Ending.{IsEndOfProgram, IsEndOfRunning, IsEndOfUsage, OfGen, OfMemory, OfNone, OfPlay, OfRun, ReadsScript}
-use Rattle.rds_generator.specs.Generator.{generated}
-use Rattle.rds_threads.specs.declared.form.Form.TheVariants as form
-use Rattle.rds_words.specs.declared.wire.RunWire.{RunWire}
-use Rattle.rds_words.specs.declared.wire.RunWire.TheVariants as wire
-use Rattle.rds_words.specs.Gen.{AreGen}
-use Rattle.rds_words.specs.Play.{ArePlay}
-use Rattle.rds_words.specs.Run.{AreRun}
-use Rattle.rds_words.specs.Works.{AreNoCommand}
+use Rattle.rds_script_gen.specs.Generator.{generated}
+use Rattle.rds_run_threads.specs.declared.form.Form.TheVariants as form
+use Rattle.rds_run.specs.declared.wire.RunWire.{RunWire}
+use Rattle.rds_run.specs.declared.wire.RunWire.TheVariants as wire
+use Rattle.rds_run.specs.GenWords.{AreGen}
+use Rattle.rds_run.specs.PlayWords.{ArePlay}
+use Rattle.rds_run.specs.RunWords.{AreRun}
+use Rattle.rds_run.specs.Works.{AreNoCommand}
 use Rattle.rds_run.proofs.Codes.{IsRefusalCode, IsTooManyCode, is_of, of_code, refusal_found, too_many_found, usage_codes}
 use Rattle.rds_run.proofs.Commands.{play_or_gen, play_or_run, run_or_gen, same_gen, same_wire}
 use Rattle.rds_run.proofs.Whole.{ends_in_end_line}

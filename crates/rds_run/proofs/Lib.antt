@@ -6,3 +6,7 @@ pub mod Ended
 pub mod Begun
 pub mod Ran
 pub mod Complete
+pub mod Named
+pub mod Parsed
+pub mod Decimals
+pub mod Generated

@@ -3,16 +3,16 @@ use Rattle.std.proofs.Common.{◌≡◌, ◌≢◌, ◌⊎◌, inl, inr, ℕ, tr
 use Rattle.std.specs.Global.{Global}
 use Rattle.rds_link.specs.Streaming.{SinkGained}
 use Rattle.rds_script.specs.Grammar.{Meaning}
-use Rattle.rds_final.specs.Views.{host_views}
-use Rattle.rds_final.specs.declared.final_state.HostEnd.{HostEnd}
-use Rattle.rds_threads.specs.Cuts.{IsCutEnd}
-use Rattle.rds_threads.specs.Ends.{IsEndOfRun, Written}
-use Rattle.rds_threads.specs.declared.form.Form.{Form}
-use Rattle.rds_threads.specs.declared.form.RunEnd.{RunEnd}
-use Rattle.rds_threads.specs.declared.form.RunEnd.TheVariants as ended
+use Rattle.rds_text.specs.FinalViews.{host_views}
+use Rattle.rds_text.specs.declared.final_state.HostEnd.{HostEnd}
+use Rattle.rds_run_threads.specs.Cuts.{IsCutEnd}
+use Rattle.rds_run_threads.specs.Ends.{IsEndOfRun, Written}
+use Rattle.rds_run_threads.specs.declared.form.Form.{Form}
+use Rattle.rds_run_threads.specs.declared.form.RunEnd.{RunEnd}
+use Rattle.rds_run_threads.specs.declared.form.RunEnd.TheVariants as ended
 use Rattle.rds_model.specs.Log.{Log}
 use Rattle.rds_model.specs.declared.journal.TheConstants.{MAX_ENTRIES}
-use Rattle.rds_threads.specs.Counted.{IsCountedEnd}
+use Rattle.rds_run_threads.specs.Counted.{IsCountedEnd}
 use Rattle.rds_link.specs.declared.wire.WireCounts.{WireCounts}
 use Rattle.rds_run.specs.declared.status.Status.{Status}
 use Rattle.rds_run.specs.declared.status.Status.TheVariants as status

@@ -8,13 +8,13 @@ use Rattle.rds_run.specs.declared.status.Status.{Status}
 use Rattle.rds_run.specs.declared.status.Status.TheVariants as status
 use Rattle.rds_run.specs.ExitStatus.{HasFailedIn, HasTaken, HasTakenNothing, IsEndOfCall, IsEndOfRefusal, IsToldRefused, IsToldSpelled, SinkSeen, SourceSeen}
 use Rattle.rds_run.specs.RunStatus.{IsEndOfGenCall, IsEndOfRunCall, IsEndOfRunOver, IsEndOfTooMany, IsTooMany, WireSeen, seen_over}
-use Rattle.rds_parties.specs.Streams.{prepared_streams}
+use Rattle.rds_run_hosts.specs.Streams.{prepared_streams}
 use Rattle.rds_run.specs.Texts.{usage_line}
-use Rattle.rds_words.specs.declared.wire.RunWire.{RunWire}
-use Rattle.rds_words.specs.Gen.{AreGen}
-use Rattle.rds_words.specs.Play.{ArePlay}
-use Rattle.rds_words.specs.Run.{AreRun}
-use Rattle.rds_words.specs.Works.{AreNoCommand}
+use Rattle.rds_run.specs.declared.wire.RunWire.{RunWire}
+use Rattle.rds_run.specs.GenWords.{AreGen}
+use Rattle.rds_run.specs.PlayWords.{ArePlay}
+use Rattle.rds_run.specs.RunWords.{AreRun}
+use Rattle.rds_run.specs.Works.{AreNoCommand}
 
 -- the words are those of `play` or of `run`, which read a script from the source
 abbrev pub ReadsScript : List (String Global) → Type 0

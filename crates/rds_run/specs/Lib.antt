@@ -3,3 +3,7 @@ pub mod ExitStatus
 pub mod Reading
 pub mod RunStatus
 pub mod Ending
+pub mod PlayWords
+pub mod RunWords
+pub mod GenWords
+pub mod Works

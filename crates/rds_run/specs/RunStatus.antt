@@ -6,19 +6,19 @@ use Rattle.rds_model.specs.declared.entry.Entry.{Entry}
 use Rattle.rds_model.specs.declared.journal.TheConstants.{MAX_ENTRIES}
 use Rattle.rds_script.specs.Grammar.{Meaning}
 use Rattle.rds_text.specs.Lines.{spent_line}
-use Rattle.rds_final.specs.FinalState.{FinalHost}
-use Rattle.rds_parties.specs.Streams.{prepared_streams, streams_between}
-use Rattle.rds_threads.specs.Causes.{AreLackingStream, AreUnacknowledged, IsFullJournal}
-use Rattle.rds_threads.specs.Counted.{EndsOweNothing, HaveAllUsedUp, IsCountedEnd}
-use Rattle.rds_threads.specs.Cuts.{AreCutsOfEnds, IsCutEnd, IsShortBy}
-use Rattle.rds_threads.specs.Ends.{AreAcknowledged, AreDrainedHosts, AreEnds, HasToWrite, NoneFull, NonePending}
-use Rattle.rds_threads.specs.Texts.{fault_line, text_of, unfinished_line}
-use Rattle.rds_threads.specs.declared.form.Form.{Form}
-use Rattle.rds_threads.specs.declared.form.Form.TheVariants as form
-use Rattle.rds_threads.specs.declared.form.RunEnd.{RunEnd}
-use Rattle.rds_generator.specs.Generator.{generated}
-use Rattle.rds_words.specs.declared.wire.RunWire.{RunWire}
-use Rattle.rds_words.specs.declared.wire.RunWire.TheVariants as wire
+use Rattle.rds_text.specs.FinalState.{FinalHost}
+use Rattle.rds_run_hosts.specs.Streams.{prepared_streams, streams_between}
+use Rattle.rds_run_threads.specs.Causes.{AreLackingStream, AreUnacknowledged, IsFullJournal}
+use Rattle.rds_run_threads.specs.Counted.{EndsOweNothing, HaveAllUsedUp, IsCountedEnd}
+use Rattle.rds_run_threads.specs.Cuts.{AreCutsOfEnds, IsCutEnd, IsShortBy}
+use Rattle.rds_run_threads.specs.Ends.{AreAcknowledged, AreDrainedHosts, AreEnds, HasToWrite, NoneFull, NonePending}
+use Rattle.rds_run_threads.specs.Texts.{fault_line, text_of, unfinished_line}
+use Rattle.rds_run_threads.specs.declared.form.Form.{Form}
+use Rattle.rds_run_threads.specs.declared.form.Form.TheVariants as form
+use Rattle.rds_run_threads.specs.declared.form.RunEnd.{RunEnd}
+use Rattle.rds_script_gen.specs.Generator.{generated}
+use Rattle.rds_run.specs.declared.wire.RunWire.{RunWire}
+use Rattle.rds_run.specs.declared.wire.RunWire.TheVariants as wire
 use Rattle.rds_run.specs.declared.status.Status.{Status}
 use Rattle.rds_run.specs.declared.status.Status.TheVariants as status
 use Rattle.rds_run.specs.ExitStatus.{HasFailedIn, HasTaken, HasTakenNothing, IsNoScriptAnswer, IsSpelled, SinkSeen, SourceSeen}

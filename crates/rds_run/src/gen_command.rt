@@ -3,9 +3,9 @@ ghost use Rattle.rds_run.specs.RunStatus.{IsEndOfGenCall};
 
 use crate::running::run_in_memory;
 use crate::status::Status;
-use rds_generator::generate;
 use rds_link::{Gate, Sink};
-use rds_threads::Form;
+use rds_run_threads::Form;
+use rds_script_gen::generate;
 use rds_wire::Memory;
 use std::alloc::Global;
 use std::net::Net;

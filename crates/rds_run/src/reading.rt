@@ -8,8 +8,8 @@ ghost use Rattle.rds_run.specs.ExitStatus.{IsEndOfRefusal, IsSpelled, IsToldRefu
 use crate::answer::say;
 use crate::status::Status;
 use rds_link::{ReadError, Sink, Source, read_all};
-use rds_pieces::read_by_threads;
 use rds_script::{Cause, MAX_TEXT, Script, ScriptError};
+use rds_script_pieces::read_by_threads;
 use std::alloc::Global;
 use std::thread::Threads;
 

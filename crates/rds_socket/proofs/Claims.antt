@@ -4,7 +4,7 @@ use Rattle.std.proofs.lemmas.List.Elements.{Contains-push_cases, at_from_Contain
 use Rattle.rds_bindtab.specs.declared.view.View.{View}
 use Rattle.rds_bindtab.specs.declared.view.Step.TheVariants.{Drew, Claimed, Released}
 use Rattle.rds_bindtab.specs.Seats.{PortSeat, knowing, first_view, after_draw, after_exchange, after_release, slot_of, port_of}
-use Rattle.rds_parts.specs.Ports.{HasClaimedOnly, port_after, after_claims, IsTaken}
+use Rattle.rds_socket_parts.specs.Ports.{HasClaimedOnly, port_after, after_claims, IsTaken}
 
 -- a slot that had claimed none claims a port
 pub claims_first : (v : View) (port found : ℕ) → HasClaimedOnly None v → HasClaimedOnly (Some port) (after_exchange v port found)

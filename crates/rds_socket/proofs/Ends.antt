@@ -4,9 +4,9 @@ use Rattle.rds_bindtab.specs.Seats as seats
 use Rattle.rds_bindtab.specs.declared.view.View as port_view
 use Rattle.rds_meter.specs.declared.view.View.{View}
 use Rattle.rds_meter.specs.Seats.{after_store}
-use Rattle.rds_parts.specs.Ports.{HasClaimedOnly, port_after, after_claims, IsTaken}
-use Rattle.rds_parts.specs.Words.{Purse, purse_with, IsQuietSeat, after_clearing}
-use Rattle.rds_parts.specs.Lanes.{Lane, ArePut, ArePutOf}
+use Rattle.rds_socket_parts.specs.Ports.{HasClaimedOnly, port_after, after_claims, IsTaken}
+use Rattle.rds_socket_parts.specs.Words.{Purse, purse_with, IsQuietSeat, after_clearing}
+use Rattle.rds_socket_parts.specs.Lanes.{Lane, ArePut, ArePutOf}
 use Rattle.rds_model.specs.declared.order.Order.TheVariants as order
 use Rattle.rds_bindtab.specs.Answers.{ClaimFits, after_claim}
 use Rattle.rds_bindtab.specs.declared.error.BindError.{BindError}

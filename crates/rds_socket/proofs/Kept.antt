@@ -2,10 +2,10 @@
 use Rattle.std.proofs.Common.{◌≡◌, ◌≤◌, ℕ, List, length, Option, Some, None, refl, sym, ap, subst, arith}
 use Rattle.rds_meter.specs.declared.view.View.{View}
 use Rattle.rds_bindtab.specs.Seats as seats
-use Rattle.rds_parts.specs.Ports.{HasClaimedOnly}
-use Rattle.rds_parts.specs.Words.{Purse, purse_with, IsQuietSeat}
-use Rattle.rds_parts.specs.Boxes.{Box}
-use Rattle.rds_parts.specs.Lanes.{Lane, ArePutOf}
+use Rattle.rds_socket_parts.specs.Ports.{HasClaimedOnly}
+use Rattle.rds_socket_parts.specs.Words.{Purse, purse_with, IsQuietSeat}
+use Rattle.rds_socket_parts.specs.Boxes.{Box}
+use Rattle.rds_socket_parts.specs.Lanes.{Lane, ArePutOf}
 use Rattle.rds_socket.specs.Holding.{Holding, Open, IsHolding, IsVacant, IsOpen, IsEnded, told_of}
 use Rattle.rds_socket.specs.Calls.{with_own}
 

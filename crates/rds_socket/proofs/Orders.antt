@@ -6,10 +6,10 @@ use Rattle.std.proofs.lemmas.List.Elements.{All-get_or, All-set, All-push}
 use Rattle.rds_model.specs.declared.order.Order.{Order}
 use Rattle.rds_fmap.specs.declared.seen.Seen.{Seen}
 use Rattle.rds_mail.specs.Passes.{Putter}
-use Rattle.rds_parts.specs.Refusals.{AskRefused}
-use Rattle.rds_parts.specs.declared.error.CancelError.{CancelError}
-use Rattle.rds_parts.specs.declared.error.NoRoute.{NoRoute}
-use Rattle.rds_parts.specs.Lanes.{Lane, IsLaneAt, IsOf, IsPutAt, IsPutTo, NoneTo, ArePut, ArePutOf, IsLookAt, IsLookTo, RoutesStay, fixed, with_order, with_reader}
+use Rattle.rds_socket_parts.specs.Refusals.{AskRefused}
+use Rattle.rds_socket_parts.specs.declared.error.CancelError.{CancelError}
+use Rattle.rds_socket_parts.specs.declared.error.NoRoute.{NoRoute}
+use Rattle.rds_socket_parts.specs.Lanes.{Lane, IsLaneAt, IsOf, IsPutAt, IsPutTo, NoneTo, ArePut, ArePutOf, IsLookAt, IsLookTo, RoutesStay, fixed, with_order, with_reader}
 
 module _ {R : Type 0} (slot : ℕ) where
   of_lane : (routes : List (Lane R)) (place : ℕ) (lane : Lane R) → IsLaneAt routes place lane → ArePutOf slot routes → All (IsOf slot) lane.pass.put

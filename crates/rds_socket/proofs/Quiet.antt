@@ -10,8 +10,8 @@ use Rattle.rds_meter.specs.Grounds.{seats_of}
 use Rattle.rds_meter.specs.Places.{part, put_word, taken_word, map_word}
 use Rattle.rds_meter.specs.Seats.{after_add, after_store, after_load, after_lower, after_bump, is_put_word, stage_after, completed, opening, closing}
 use Rattle.rds_meter.specs.PartLaws.{part-push, amount_there}
-use Rattle.rds_parts.specs.Words.{IsQuietSeat, after_taking, after_clearing, after_relief, after_putting, after_receipt}
-use Rattle.rds_parts.specs.TiedLaws.{part-after_load, part-after_store, part-after_lower, part-after_bump}
+use Rattle.rds_socket_parts.specs.Words.{IsQuietSeat, after_taking, after_clearing, after_relief, after_putting, after_receipt}
+use Rattle.rds_socket_parts.specs.TiedLaws.{part-after_load, part-after_store, part-after_lower, part-after_bump}
 
 and_none : (a b : Bool) → b ≡ false → (a && b) ≡ false
 and_none true b e = e

@@ -2,9 +2,9 @@
 use Rattle.std.proofs.Common.{◌≡◌, ℕ, length, refl, ap, subst}
 use Rattle.rds_model.specs.declared.order.Datagram.{Datagram}
 use Rattle.rds_mail.specs.Numbers.{Number}
-use Rattle.rds_parts.specs.Words.{Purse, IsReceipt}
-use Rattle.rds_parts.specs.Boxes.{Box}
-use Rattle.rds_parts.specs.ChangeLaws.{stay_same}
+use Rattle.rds_socket_parts.specs.Words.{Purse, IsReceipt}
+use Rattle.rds_socket_parts.specs.Boxes.{Box}
+use Rattle.rds_socket_parts.specs.ChangeLaws.{stay_same}
 use Rattle.rds_fmap.specs.declared.seen.Seen.{Seen}
 use Rattle.rds_socket.specs.Holding.{Open, IsOpen}
 use Rattle.rds_socket.specs.Calls.{with_own, after_taking_out, IsReceived}

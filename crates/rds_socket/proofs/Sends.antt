@@ -3,9 +3,9 @@ use Rattle.std.proofs.Common.{◌≡◌, ◌+◌, ◌-◌, ◌<◌, ◌≤◌, �
 use Rattle.rds_meter.specs.Places.{freed_word}
 use Rattle.rds_model.specs.declared.order.Order.{Order}
 use Rattle.rds_fmap.specs.declared.seen.Seen.{Seen}
-use Rattle.rds_parts.specs.Words.{Purse}
-use Rattle.rds_parts.specs.Lanes.{Lane, IsLaneAt, LeadsTo, NoneTo, IsLookAt, IsLookTo, IsPutAt, ArePutOf, with_reader}
-use Rattle.rds_parts.specs.PlaceLaws.{here}
+use Rattle.rds_socket_parts.specs.Words.{Purse}
+use Rattle.rds_socket_parts.specs.Lanes.{Lane, IsLaneAt, LeadsTo, NoneTo, IsLookAt, IsLookTo, IsPutAt, ArePutOf, with_reader}
+use Rattle.rds_socket_parts.specs.PlaceLaws.{here}
 use Rattle.std.proofs.lemmas.Option.{slice_get_within, same_Some}
 use Rattle.rds_socket.specs.declared.error.SendError.{SendError}
 use Rattle.rds_socket.specs.declared.error.SendError.TheVariants as refusal

@@ -5,10 +5,10 @@ use Rattle.rds_meter.specs.Grounds.{seats_of}
 use Rattle.rds_model.specs.declared.order.Datagram.{Datagram}
 use Rattle.rds_mail.specs.Numbers.{Number}
 use Rattle.rds_fmap.specs.declared.seen.Seen.{Seen}
-use Rattle.rds_parts.specs.Words.{Purse, purse_with}
-use Rattle.rds_parts.specs.Boxes.{Box}
-use Rattle.rds_parts.specs.Lanes.{Lane, RoutesStay}
-use Rattle.rds_parts.specs.ChangeLaws.{stay_same, stay_on}
+use Rattle.rds_socket_parts.specs.Words.{Purse, purse_with}
+use Rattle.rds_socket_parts.specs.Boxes.{Box}
+use Rattle.rds_socket_parts.specs.Lanes.{Lane, RoutesStay}
+use Rattle.rds_socket_parts.specs.ChangeLaws.{stay_same, stay_on}
 use Rattle.rds_socket.specs.Holding.{Holding, Open}
 use Rattle.rds_socket.specs.Calls.{with_own, after_taking_out}
 use Rattle.rds_socket.specs.Stays.{HoldingStays, Stays}

@@ -5,8 +5,8 @@ use Rattle.rds_bindtab.specs.Answers.{ClaimFits, after_claim}
 use Rattle.rds_bindtab.specs.declared.error.BindError.{BindError}
 use Rattle.rds_bindtab.specs.declared.error.BindError.TheVariants.{NoneFree}
 use Rattle.rds_meter.specs.Seats.{after_store}
-use Rattle.rds_parts.specs.Ports.{first_port, SearchFits}
-use Rattle.rds_parts.specs.Words.{purse_with}
+use Rattle.rds_socket_parts.specs.Ports.{first_port, SearchFits}
+use Rattle.rds_socket_parts.specs.Words.{purse_with}
 use Rattle.rds_socket.specs.Holding.{Holding, Open}
 
 module _ {R : Type 0} where

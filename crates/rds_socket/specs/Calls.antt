@@ -7,9 +7,9 @@ use Rattle.rds_meter.specs.Places.{freed_word}
 use Rattle.rds_meter.specs.Seats.{after_load}
 use Rattle.rds_mail.specs.Numbers.{Number}
 use Rattle.rds_mail.specs.Passes.{after_get}
-use Rattle.rds_parts.specs.Words.{Purse, purse_with, after_clearing, IsReceipt}
-use Rattle.rds_parts.specs.Boxes.{Box}
-use Rattle.rds_parts.specs.Lanes.{Lane, ArePut}
+use Rattle.rds_socket_parts.specs.Words.{Purse, purse_with, after_clearing, IsReceipt}
+use Rattle.rds_socket_parts.specs.Boxes.{Box}
+use Rattle.rds_socket_parts.specs.Lanes.{Lane, ArePut}
 use Rattle.rds_socket.specs.Holding.{Holding, Open, told_of}
 
 -- the mailbox once a datagram was taken

@@ -1,10 +1,10 @@
 -- What contracts see of a slot without a port, of a socket and of one that has ended. This project's own.
 use Rattle.std.specs.Prelude.{◌≡◌, ◌≤◌, ℕ, List, length, Option, Some, None, unwrap_or}
 use Rattle.rds_bindtab.specs.Seats as seats
-use Rattle.rds_parts.specs.Ports.{HasClaimedOnly}
-use Rattle.rds_parts.specs.Words.{Purse, IsQuietSeat}
-use Rattle.rds_parts.specs.Boxes.{Box}
-use Rattle.rds_parts.specs.Lanes.{Lane, ArePutOf}
+use Rattle.rds_socket_parts.specs.Ports.{HasClaimedOnly}
+use Rattle.rds_socket_parts.specs.Words.{Purse, IsQuietSeat}
+use Rattle.rds_socket_parts.specs.Boxes.{Box}
+use Rattle.rds_socket_parts.specs.Lanes.{Lane, ArePutOf}
 
 -- what each of them holds: its seat at the port table, its words, its mailbox, its routes, and the bytes that it has sent in all
 pub record Holding (R : Type 0) : Type 0 where

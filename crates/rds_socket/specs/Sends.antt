@@ -3,7 +3,7 @@ use Rattle.std.specs.Prelude.{◌≡◌, ◌+◌, ◌-◌, ◌<◌, ◌≤◌, �
 use Rattle.rds_model.specs.declared.order.Order.{Order}
 use Rattle.rds_model.specs.declared.order.Order.TheVariants as order
 use Rattle.rds_fmap.specs.declared.seen.Seen.{Seen}
-use Rattle.rds_parts.specs.Lanes.{Lane, NoneTo, IsLookTo, IsPutTo}
+use Rattle.rds_socket_parts.specs.Lanes.{Lane, NoneTo, IsLookTo, IsPutTo}
 use Rattle.rds_socket.specs.declared.error.SendError.{SendError}
 use Rattle.rds_socket.specs.declared.error.SendError.TheVariants.{TooLong, NoRoute, Congested, SendFull, Memory}
 use Rattle.rds_socket.specs.Holding.{Open}

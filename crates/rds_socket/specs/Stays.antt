@@ -2,7 +2,7 @@
 use Rattle.std.specs.Prelude.{◌≡◌, ℕ}
 use Rattle.rds_fmap.specs.declared.seen.Seen.{Seen}
 use Rattle.rds_meter.specs.Grounds.{seats_of}
-use Rattle.rds_parts.specs.Lanes.{RoutesStay}
+use Rattle.rds_socket_parts.specs.Lanes.{RoutesStay}
 use Rattle.rds_socket.specs.Holding.{Holding, Open}
 
 module _ {R P : Type 0} (pair : R → P) (looked : R → ℕ → Seen → Type 0) where

@@ -11,6 +11,6 @@ mod vacant;
 pub use closed::{Closed, SocketParts};
 pub use error::SendError;
 pub use rds_bindtab::BindError;
-pub use rds_parts::{CancelError, NoRoute, Route};
+pub use rds_socket_parts::{CancelError, NoRoute, Route};
 pub use socket::Socket;
 pub use vacant::Vacant;

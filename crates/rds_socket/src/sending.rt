@@ -1,6 +1,6 @@
 //! How a datagram is sent.
 ghost use Rattle.std.specs.Prelude.{◌≡◌, ◌+◌, ◌-◌, ◌<◌, ◌≤◌, ℕ, length, None, IfOk, IfErr, OnOk, OnErr};
-ghost use Rattle.rds_parts.specs.Lanes.{LeadsTo, IsPutAt};
+ghost use Rattle.rds_socket_parts.specs.Lanes.{LeadsTo, IsPutAt};
 ghost use Rattle.rds_socket.specs.Sends.{SendFits, RefusalFits, FindsPortClear, after_freed_load, order_of, IsSend, IsSendOf};
 ghost use Rattle.rds_socket.specs.Calls.{with_own, with_routes, with_total};
 ghost use Rattle.rds_socket.specs.Stays.{Stays};

@@ -1,6 +1,6 @@
 //! A wire in memory on which host A's first write to one of its two peers waits for its first write to the other one.
-use rds_final::address;
 use rds_link::{End, Got, MemEnd, MemWire, Put, Wire, WireCounts, WireError};
+use rds_text::address;
 use std::alloc::Global;
 use std::marker::Model;
 use std::net::Net;

@@ -2,7 +2,7 @@ ghost use Rattle.std.specs.Prelude.{◌≡◌, ◌≢◌, ◌<◌, ◌*◌, ℕ,
 ghost use Rattle.rds_model.specs.declared.entry.Verdict.TheVariants as verdict;
 ghost use Rattle.rds_model.specs.declared.journal.JournalError.TheVariants as errors;
 ghost use Rattle.rds_conn.specs.Connection.{IsReady};
-ghost use Rattle.rds_line_streams.specs.Streams.{newest_place};
+ghost use Rattle.rds_line_channel.specs.Streams.{newest_place};
 ghost use Rattle.rds_line_channel.specs.declared.channel.Taken.TheVariants as taken;
 ghost use Rattle.rds_line.specs.Line.{IsFull, line_past};
 ghost use Rattle.rds_line.specs.Steps.{IsWaiting, KeepsArrived, KeepsOut, KeepsUnwritten, PassesOne, StaysQuiet, left_to_take};

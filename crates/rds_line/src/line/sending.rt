@@ -2,7 +2,7 @@ ghost use Rattle.std.specs.Prelude.{◌≡◌, ◌≢◌, ◌⊎◌, ◌<◌, �
 ghost use Rattle.rds_model.specs.declared.journal.JournalError.TheVariants as errors;
 ghost use Rattle.rds_conn.specs.Connection.{IsReady};
 ghost use Rattle.rds_line_parts.specs.Own.{IsRefresh};
-ghost use Rattle.rds_line_streams.specs.Streams.{newest_place};
+ghost use Rattle.rds_line_channel.specs.Streams.{newest_place};
 ghost use Rattle.rds_line.specs.Line.{IsFull, line_past, pulls_in};
 ghost use Rattle.rds_line.specs.Stays.{LineStays};
 ghost use Rattle.rds_line.specs.Steps.{HasBits, KeepsArrived, StaysQuiet};

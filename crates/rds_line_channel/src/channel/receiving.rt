@@ -1,8 +1,8 @@
 ghost use Rattle.std.specs.Prelude.{◌≡◌, ◌≢◌, ◌≤◌, ◌↔◌, ℕ, true, false, Ok, OnErr, [], length};
 ghost use Rattle.rds_link.specs.declared.end.Got.TheVariants as got;
 ghost use Rattle.rds_conn.specs.Connection.{IsReady};
-ghost use Rattle.rds_line_streams.specs.Changes.{ChangesAt, Receives};
-ghost use Rattle.rds_line_streams.specs.Streams.{EndAt, HasSaidOver, newest_place, with_list};
+ghost use Rattle.rds_line_channel.specs.StreamChanges.{ChangesAt, Receives};
+ghost use Rattle.rds_line_channel.specs.Streams.{EndAt, HasSaidOver, newest_place, with_list};
 ghost use Rattle.rds_line_channel.specs.declared.channel.Taken.TheVariants as taken;
 ghost use Rattle.rds_line_channel.specs.Changes.{EndsRefused, TakesBytes};
 

@@ -4,8 +4,8 @@ ghost use Rattle.rds_link.specs.Answers.{bytes_put};
 ghost use Rattle.rds_model.specs.Owed.{last_map, owed_frame};
 ghost use Rattle.rds_conn.specs.Connection.{IsReady, stream_of};
 ghost use Rattle.rds_conn.specs.Pulling.{Pulls, is_frame};
-ghost use Rattle.rds_line_streams.specs.Changes.{ChangesAt, Sends};
-ghost use Rattle.rds_line_streams.specs.Streams.{EndAt, HasSaidOver, newest_place, with_list};
+ghost use Rattle.rds_line_channel.specs.StreamChanges.{ChangesAt, Sends};
+ghost use Rattle.rds_line_channel.specs.Streams.{EndAt, HasSaidOver, newest_place, with_list};
 
 use super::Channel;
 use rds_cong::PortMap;

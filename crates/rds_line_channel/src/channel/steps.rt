@@ -2,7 +2,7 @@ ghost use Rattle.std.specs.Prelude.{◌≡◌, ◌⊎◌, ◌+◌, ◌<◌, ℕ,
 ghost use Rattle.rds_conn.specs.Connection.{IsReady, freed_bytes_of, stream_of};
 ghost use Rattle.rds_conn.specs.Released.{released_bytes};
 ghost use Rattle.rds_conn.specs.Orders.{IsOrderFor, after_order};
-ghost use Rattle.rds_line_streams.specs.Streams.{EndAt, HasSaidOver, newest_place};
+ghost use Rattle.rds_line_channel.specs.Streams.{EndAt, HasSaidOver, newest_place};
 ghost use Rattle.rds_line_channel.specs.Channel.{with_conn};
 ghost use Rattle.rds_line_channel.specs.Changes.{OpensNext, ShutsStream};
 

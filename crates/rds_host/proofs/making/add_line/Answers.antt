@@ -1,5 +1,5 @@
 use Rattle.std.proofs.Common.{ap, arith}
-use Rattle.rds_views.specs.ViewLaws.{total_snoc}
+use Rattle.rds_seats.specs.ViewLaws.{total_snoc}
 use Rattle.rds_meter.specs.Grounds.{seats_of}
 use Rattle.rds_meter.specs.Seats.{MeterSeat}
 use Rattle.rds_fmap.specs.Readers.{WriterView}

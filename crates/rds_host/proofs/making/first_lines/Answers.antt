@@ -6,8 +6,8 @@ use Rattle.std.proofs.lemmas.Option.{slice_get-map}
 use Rattle.std.proofs.lemmas.Iterator.Adapters.{YieldsList-from_vec}
 use Rattle.std.proofs.lemmas.Iterator.Consumers.{YieldsList-turn, YieldsList-end}
 use Rattle.std.proofs.lemmas.List.{map-id}
-use Rattle.rds_views.specs.Views.{Table}
-use Rattle.rds_line_streams.specs.Streams.{AreNumbered, IsUnused}
+use Rattle.rds_seats.specs.Views.{Table}
+use Rattle.rds_line_channel.specs.Streams.{AreNumbered, IsUnused}
 use Rattle.rds_host.specs.Ties.{ColumnView, AreLinesOf}
 use Rattle.rds_host.proofs.Pushing.{counted_on, next_of, one_left, push_one}
 use Rattle.rds_host.proofs.ColumnLines.{line_at, lines_push}

@@ -1,6 +1,6 @@
 use Rattle.std.proofs.Common.{◌≡◌, ◌+◌, All, length, map, drop}
 use Rattle.std.specs.Arc.{arc_value}
-use Rattle.rds_line_streams.specs.Streams.{AreNumbered, IsUnused}
+use Rattle.rds_line_channel.specs.Streams.{AreNumbered, IsUnused}
 use Rattle.rds_meter.specs.Grounds.{seats_of}
 use Rattle.rds_host.specs.Passes.{line_seats}
 use Rattle.rds_host.specs.Ties.{AreLinesOf}

@@ -3,10 +3,10 @@ use Rattle.std.specs.Arc.{arc_value}
 use Rattle.std.specs.Global.{Global}
 use Rattle.std.proofs.lemmas.List.{length-map, length_push, map_push}
 use Rattle.std.proofs.lemmas.List.Elements.{All-pop}
-use Rattle.rds_views.specs.Views.{Table}
+use Rattle.rds_seats.specs.Views.{Table}
 use Rattle.rds_fmap.specs.Readers.{WriterView}
 use Rattle.rds_line.specs.Line.{LineView}
-use Rattle.rds_line_streams.specs.Streams.{AreNumbered, IsUnused}
+use Rattle.rds_line_channel.specs.Streams.{AreNumbered, IsUnused}
 use Rattle.rds_host.specs.Ties.{ColumnView, AreLinesOf}
 use Rattle.rds_host.proofs.Columns.{pushed_here}
 use Rattle.rds_host.proofs.ColumnLines.{line_at, lines_among, lines_push}

@@ -2,12 +2,12 @@ use Rattle.std.proofs.Common.{◌≡◌, ℕ, List, Vec, [], All, Some, length, 
 use Rattle.std.specs.Arc.{arc_value}
 use Rattle.std.specs.Global.{Global}
 use Rattle.std.proofs.lemmas.List.{length-map}
-use Rattle.rds_views.specs.Views.{Table}
+use Rattle.rds_seats.specs.Views.{Table}
 use Rattle.rds_model.specs.declared.order.Datagram.{Datagram}
 use Rattle.rds_model.specs.declared.order.Order.{Order}
 use Rattle.rds_mail.specs.Passes.{Getter, Putter}
 use Rattle.rds_fmap.specs.Readers.{ReaderView}
-use Rattle.rds_parts.specs.Lanes.{Ascend}
+use Rattle.rds_socket_parts.specs.Lanes.{Ascend}
 use Rattle.rds_socket.specs.Holding.{Holding}
 use Rattle.rds_host.specs.Ties.{AreColumnsFilled, AreLinesOf, ColumnView, IsSlotOf, inbox_of, peers_to, ways_of}
 use Rattle.rds_host.proofs.Columns.{filled_boxes, lanes_peers}

@@ -4,7 +4,7 @@ use Rattle.std.proofs.lemmas.List.Edits.{map_over_more}
 use Rattle.std.proofs.lemmas.List.Elements.{All-push}
 use Rattle.std.proofs.lemmas.Option.{slice_get-get_or}
 use Rattle.rds_fmap.specs.Readers.{ReaderView}
-use Rattle.rds_parts.specs.Lanes.{Lane}
+use Rattle.rds_socket_parts.specs.Lanes.{Lane}
 use Rattle.rds_host.specs.Ties.{AreNextOf, ColumnView, IsNextOf, lane_way, popped, ways_of}
 use Rattle.rds_host.proofs.Columns.{next_push}
 use Rattle.rds_host.proofs.Pushing.{routes_more, untouched}

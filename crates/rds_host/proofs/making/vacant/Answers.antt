@@ -1,5 +1,5 @@
 use Rattle.std.proofs.Common.{sym, ap, subst, ◌∙◌}
-use Rattle.rds_parts.specs.Lanes.{Ascend}
+use Rattle.rds_socket_parts.specs.Lanes.{Ascend}
 use Rattle.rds_host.specs.Ties.{peers_to}
 use Rattle.rds_host.proofs.Columns.{lanes_peers}
 use Rattle.rds_host.proofs.making.vacant.Goals as goal

@@ -3,7 +3,7 @@ use Rattle.std.specs.Arc.{arc_value}
 use Rattle.std.proofs.lemmas.List.{length-map, length_push, map_push}
 use Rattle.std.proofs.lemmas.List.Elements.{All-nil, All-push}
 use Rattle.rds_mail.specs.Passes.{QueueId}
-use Rattle.rds_views.specs.ViewLaws.{total_snoc}
+use Rattle.rds_seats.specs.ViewLaws.{total_snoc}
 use Rattle.rds_meter.specs.Grounds.{seats_of}
 use Rattle.rds_meter.specs.Seats.{MeterSeat}
 use Rattle.rds_fmap.specs.Readers.{ReaderView}

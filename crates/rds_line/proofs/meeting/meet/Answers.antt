@@ -1,6 +1,6 @@
 use Rattle.std.proofs.Common.{ap, subst, ◌∙◌}
-use Rattle.rds_line_streams.specs.Meeting.{AreMet}
-use Rattle.rds_line_streams.specs.Streams.{numbers, with_list}
+use Rattle.rds_line_channel.specs.Meeting.{AreMet}
+use Rattle.rds_line_channel.specs.Streams.{numbers, with_list}
 use Rattle.rds_line_channel.specs.Channel.{ChannelView}
 use Rattle.rds_line.specs.Line.{LineView}
 use Rattle.rds_line.proofs.Fields.{view_in}

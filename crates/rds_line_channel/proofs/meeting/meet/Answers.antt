@@ -1,8 +1,8 @@
 use Rattle.std.proofs.Common.{◌≡◌, ◌++◌, sym, refl, ◌∙◌}
 use Rattle.rds_conn.specs.Connection.{taken_bytes}
-use Rattle.rds_line_streams.specs.ChangeLaws.{same_length}
-use Rattle.rds_line_streams.specs.MeetingLaws.{met_first, met_second}
-use Rattle.rds_line_streams.specs.Streams.{numbers}
+use Rattle.rds_line_channel.specs.ChangeLaws.{same_length}
+use Rattle.rds_line_channel.specs.MeetingLaws.{met_first, met_second}
+use Rattle.rds_line_channel.specs.Streams.{numbers}
 use Rattle.rds_line_channel.proofs.Honesty.{honest}
 use Rattle.rds_line_channel.proofs.Moving.{carried_met}
 use Rattle.rds_line_channel.proofs.Restated.{restated, same_numbers}
@@ -14,9 +14,9 @@ invariant_of-a g c =
     let one = c.a.inside in
     let list = one.streams.list in
     let other_list = c.b.inside.streams.list in
-    let now = c.meet.new.a.list in
-    let other_now = c.meet.new.b.list in
-    let did = c.meet.ensures in
+    let now = c.meet_streams.new.a.list in
+    let other_now = c.meet_streams.new.b.list in
+    let did = c.meet_streams.ensures in
     let same = same_numbers c.a.view_is c.b.view_is c.requires.numbers in
     let count = same_length other_list list same in
     let met = met_first m list now other_list other_now did.met count (same_length other_now other_list did.other_numbers) in
@@ -30,9 +30,9 @@ invariant_of-b g c =
     let one_list = c.a.inside.streams.list in
     let other = c.b.inside in
     let list = other.streams.list in
-    let one_now = c.meet.new.a.list in
-    let now = c.meet.new.b.list in
-    let did = c.meet.ensures in
+    let one_now = c.meet_streams.new.a.list in
+    let now = c.meet_streams.new.b.list in
+    let did = c.meet_streams.ensures in
     let same = same_numbers c.a.view_is c.b.view_is c.requires.numbers in
     let count = same_length list one_list same in
     let met = met_second m one_list one_now list now did.met count (same_length one_now one_list did.one_numbers) in
@@ -49,9 +49,9 @@ returns-clause-honest g c = λ tells.
     let b_arrived = taken_bytes b.conn ++ b.piece in
     let cuts = a.cuts.numbers in
     let b_cuts = b.cuts.numbers in
-    let now = c.meet.new.a in
-    let b_now = c.meet.new.b in
-    let did = c.meet.ensures in
+    let now = c.meet_streams.new.a in
+    let b_now = c.meet_streams.new.b in
+    let did = c.meet_streams.ensures in
     let same = same_numbers c.a.view_is c.b.view_is c.requires.numbers in
     let same_now : numbers b_now.list ≡ numbers now.list = did.other_numbers ∙ (same ∙ sym did.one_numbers) in
     let first = invariant_of-a g c in

@@ -7,9 +7,9 @@ use Rattle.rds_script.specs.Grammar.{meaning}
 use Rattle.rds_script.specs.Script.{IsCommand}
 use Rattle.rds_script.specs.declared.script.Placed.{Placed}
 use Rattle.rds_history.specs.History.{course}
-use Rattle.rds_world.specs.declared.stop.Stop.{Stop}
-use Rattle.rds_world.specs.declared.world.World.{World}
-use Rattle.rds_world.specs.Telling.{Tells, state}
+use Rattle.rds_play_world.specs.declared.stop.Stop.{Stop}
+use Rattle.rds_play_world.specs.declared.world.World.{World}
+use Rattle.rds_play_world.specs.Telling.{Tells, state}
 use Rattle.rds_play.specs.Following.{FollowsCourse}
 use Rattle.rds_play.proofs.Followings.{Plays, plays_more, plays_stopped, follows_made}
 use Rattle.rds_play.proofs.texting.played.Goals as goal

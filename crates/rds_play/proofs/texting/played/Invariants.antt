@@ -1,5 +1,5 @@
 use Rattle.std.proofs.Common.{◌≡◌, drop}
-use Rattle.rds_world.specs.Telling.{state}
+use Rattle.rds_play_world.specs.Telling.{state}
 use Rattle.rds_play.proofs.Followings.{Plays}
 use Rattle.rds_play.proofs.texting.played.Given as goal
 

@@ -1,14 +1,14 @@
 use Rattle.std.proofs.Common.{◌≡◌, ℕ, Global, String, List, ◌++◌, sym, ◌∙◌, ap, subst}
 use Rattle.std.specs.Prelude.{string_bytes}
-use Rattle.rds_final.specs.FinalState.{FinalHost}
-use Rattle.rds_final.specs.Report.{report}
-use Rattle.rds_final.specs.Views.{AreFinalHosts, host_views}
+use Rattle.rds_text.specs.FinalState.{FinalHost}
+use Rattle.rds_text.specs.Report.{report}
+use Rattle.rds_text.specs.FinalViews.{AreFinalHosts, host_views}
 use Rattle.rds_script.specs.Grammar.{meaning}
 use Rattle.rds_history.specs.Events.{Event}
 use Rattle.rds_history.specs.History.{course, final_hosts}
 use Rattle.rds_history.specs.Transcript.{lines}
-use Rattle.rds_world.specs.declared.world.World.{World}
-use Rattle.rds_world.specs.Telling.{Tells, state}
+use Rattle.rds_play_world.specs.declared.world.World.{World}
+use Rattle.rds_play_world.specs.Telling.{Tells, state}
 use Rattle.rds_play.proofs.Followings.{made_of, follows_made}
 use Rattle.rds_play.proofs.texting.text_of.Goals as goal
 

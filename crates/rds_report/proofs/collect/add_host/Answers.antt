@@ -1,9 +1,9 @@
 use Rattle.std.proofs.Common.{◌∙◌, ◌++◌, ℕ, List, [], filter, map, refl, ap, sym}
 use Rattle.std.proofs.lemmas.List.{append-nil}
 use Rattle.std.specs.List.{flat_map}
-use Rattle.rds_final.specs.declared.final_state.Kept.{Kept}
-use Rattle.rds_final.specs.FinalState.{FinalJournal}
-use Rattle.rds_final.specs.Views.{host_view, host_views, side_view, socket_view}
+use Rattle.rds_text.specs.declared.final_state.Kept.{Kept}
+use Rattle.rds_text.specs.FinalState.{FinalJournal}
+use Rattle.rds_text.specs.FinalViews.{host_view, host_views, side_view, socket_view}
 use Rattle.rds_report.specs.Items.{is_to, side_items, socket_items}
 use Rattle.rds_report.proofs.Gathered.{one_more}
 use Rattle.rds_report.proofs.Parted.{host_kept, sockets_gone, sockets_kept}

@@ -1,7 +1,7 @@
 use Rattle.std.proofs.Common.{◌≡◌, ◌++◌, filter, map, take}
 use Rattle.std.specs.List.{flat_map}
-use Rattle.rds_final.specs.FinalState.{FinalJournal}
-use Rattle.rds_final.specs.Views.{side_view, host_views}
+use Rattle.rds_text.specs.FinalState.{FinalJournal}
+use Rattle.rds_text.specs.FinalViews.{side_view, host_views}
 use Rattle.rds_report.specs.Items.{is_to, side_items}
 use Rattle.rds_report.proofs.collect.add_host.Given as goal
 

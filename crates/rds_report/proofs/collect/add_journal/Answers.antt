@@ -2,8 +2,8 @@ use Rattle.std.proofs.Common.{◌≡◌, ◌∙◌, ◌++◌, List, [], filter, 
 use Rattle.std.proofs.lemmas.List.{append-nil}
 use Rattle.rds_model.specs.declared.entry.Entry.{Entry}
 use Rattle.rds_report.specs.Item.{Item}
-use Rattle.rds_final.specs.FinalState.{FinalJournal}
-use Rattle.rds_final.specs.Views.{host_views}
+use Rattle.rds_text.specs.FinalState.{FinalJournal}
+use Rattle.rds_text.specs.FinalViews.{host_views}
 use Rattle.rds_report.specs.Items.{is_lost, is_to, came_items, sent_items}
 use Rattle.rds_report.proofs.Parted.{came_gone, came_kept, journal_kept, sent, sent_gone, sent_kept}
 use Rattle.rds_report.proofs.collect.add_journal.Goals as goal

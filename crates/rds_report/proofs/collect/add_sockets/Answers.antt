@@ -1,5 +1,5 @@
 use Rattle.std.proofs.Common.{refl}
-use Rattle.rds_final.specs.Views.{socket_view}
+use Rattle.rds_text.specs.FinalViews.{socket_view}
 use Rattle.rds_report.specs.Items.{socket_items}
 use Rattle.rds_report.proofs.Gathered.{two_more}
 use Rattle.rds_report.proofs.collect.add_sockets.Goals as goal

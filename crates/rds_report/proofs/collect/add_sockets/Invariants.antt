@@ -1,6 +1,6 @@
 use Rattle.std.proofs.Common.{◌≡◌, ◌++◌, map, take}
 use Rattle.std.specs.List.{flat_map}
-use Rattle.rds_final.specs.Views.{socket_view}
+use Rattle.rds_text.specs.FinalViews.{socket_view}
 use Rattle.rds_report.specs.Items.{socket_items}
 use Rattle.rds_report.proofs.collect.add_sockets.Given as goal
 

@@ -1,9 +1,9 @@
 use Rattle.std.proofs.Common.{◌∙◌, List, filter, map, ap, sym}
 use Rattle.std.proofs.lemmas.List.{take_all}
 use Rattle.std.specs.List.{flat_map}
-use Rattle.rds_final.specs.declared.final_state.HostEnd.{HostEnd}
-use Rattle.rds_final.specs.FinalState.{FinalHost}
-use Rattle.rds_final.specs.Views.{host_view, host_views}
+use Rattle.rds_text.specs.declared.final_state.HostEnd.{HostEnd}
+use Rattle.rds_text.specs.FinalState.{FinalHost}
+use Rattle.rds_text.specs.FinalViews.{host_view, host_views}
 use Rattle.rds_report.specs.Items.{host_items, is_to}
 use Rattle.rds_report.proofs.Parted.{filter_spread}
 use Rattle.rds_report.proofs.collect.items_to.Goals as goal

@@ -1,7 +1,7 @@
 use Rattle.std.proofs.Common.{◌≡◌, filter, map, take}
 use Rattle.std.specs.List.{flat_map}
-use Rattle.rds_final.specs.FinalState.{FinalHost}
-use Rattle.rds_final.specs.Views.{host_view, host_views}
+use Rattle.rds_text.specs.FinalState.{FinalHost}
+use Rattle.rds_text.specs.FinalViews.{host_view, host_views}
 use Rattle.rds_report.specs.Items.{host_items, is_to}
 use Rattle.rds_report.proofs.collect.items_to.Given as goal
 

@@ -1,6 +1,6 @@
 use Rattle.std.proofs.Common.{◌≡◌, drop}
-use Rattle.rds_final.specs.FinalState.{past_of}
-use Rattle.rds_final.specs.Views.{host_views}
+use Rattle.rds_text.specs.FinalState.{past_of}
+use Rattle.rds_text.specs.FinalViews.{host_views}
 use Rattle.rds_report.proofs.collect.journal_of.Given as goal
 
 abbrev pub invariant-loop-host : goal.invariant-loop-host

@@ -1,6 +1,6 @@
 use Rattle.std.proofs.Common.{◌≡◌, map, drop}
-use Rattle.rds_final.specs.FinalState.{past_with}
-use Rattle.rds_final.specs.Views.{side_view}
+use Rattle.rds_text.specs.FinalState.{past_with}
+use Rattle.rds_text.specs.FinalViews.{side_view}
 use Rattle.rds_report.proofs.collect.journal_with.Given as goal
 
 abbrev pub invariant-loop-with : goal.invariant-loop-with

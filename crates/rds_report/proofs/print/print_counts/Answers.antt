@@ -1,7 +1,7 @@
 use Rattle.std.proofs.Common.{rules, ◌≡◌, ◌∙◌, ◌++◌, ◌∷◌, ℕ, List, [], codes, ap, append_assoc, string_bytes}
 use Rattle.std.specs.Fmt.{decimal}
 use Rattle.rds_text.specs.Lines.{text_line}
-use Rattle.rds_final.specs.Report.{pending}
+use Rattle.rds_text.specs.Report.{pending}
 use Rattle.rds_report.specs.ItemTotals.{fate_words, fates, seen_counts}
 use Rattle.rds_report.proofs.Words.{phrase_line}
 use Rattle.rds_report.proofs.print.print_counts.Goals as goal

@@ -1,7 +1,7 @@
 use Rattle.std.proofs.Common.{◌≡◌, ◌∙◌, ◌++◌, ℕ, List, OnOk, ap, sym, subst, string_bytes}
 use Rattle.rds_report.specs.Item.{Item}
-use Rattle.rds_final.specs.Report.{Group}
-use Rattle.rds_final.specs.Views.{host_views}
+use Rattle.rds_text.specs.Report.{Group}
+use Rattle.rds_text.specs.FinalViews.{host_views}
 use Rattle.rds_report.specs.Items.{items_to}
 use Rattle.rds_report.specs.ItemReport.{of_pair, IsUp, groups_text, AreKnown}
 use Rattle.rds_report.proofs.Parting.{to_known, to_text}

@@ -1,8 +1,8 @@
 use Rattle.std.proofs.Common.{rules, ◌≡◌, ◌∙◌, ◌++◌, ℕ, List, IfOk, ap, sym, subst, string_bytes}
 use Rattle.std.specs.List.{flat_map}
-use Rattle.rds_final.specs.Hosts.{address_of}
-use Rattle.rds_final.specs.Report.{Group}
-use Rattle.rds_final.specs.Views.{host_views}
+use Rattle.rds_text.specs.Hosts.{address_of}
+use Rattle.rds_text.specs.Report.{Group}
+use Rattle.rds_text.specs.FinalViews.{host_views}
 use Rattle.rds_report.specs.Items.{items_to}
 use Rattle.rds_report.specs.ItemReport.{of_pair, IsUp, groups_text, AreKnown, part}
 use Rattle.rds_report.specs.Texts.{text_bytes}

@@ -4,8 +4,8 @@ use Rattle.std.proofs.lemmas.Grind.{flat_map-append}
 use Rattle.std.proofs.lemmas.List.{length-map}
 use Rattle.std.proofs.lemmas.Option.{get_or_from_slice_get, slice_get-map, slice_get_within}
 use Rattle.rds_wire.specs.declared.memory.Memory.{Memory}
-use Rattle.rds_final.specs.Report.{group_text, groups}
-use Rattle.rds_final.specs.Views.{host_views}
+use Rattle.rds_text.specs.Report.{group_text, groups}
+use Rattle.rds_text.specs.FinalViews.{host_views}
 use Rattle.rds_report.specs.ItemReport.{job_end, parts}
 use Rattle.rds_report.proofs.Parting.{all_parts, all_jobs}
 use Rattle.rds_report.proofs.Printing.{behind}

@@ -2,10 +2,10 @@ use Rattle.std.proofs.Common.{rules, arith, ◌≡◌, ◌∙◌, ◌++◌, ◌+
 use Rattle.std.specs.List.{flat_map}
 use Rattle.rds_text.specs.declared.host.TheConstants.{MAX_HOSTS}
 use Rattle.rds_text.specs.Lines.{end_line}
-use Rattle.rds_final.specs.Hosts.{address_of}
-use Rattle.rds_final.specs.Report.{group_text, groups}
+use Rattle.rds_text.specs.Hosts.{address_of}
+use Rattle.rds_text.specs.Report.{group_text, groups}
 use Rattle.rds_report.specs.ItemReport.{part, parts}
-use Rattle.rds_final.specs.Views.{host_views}
+use Rattle.rds_text.specs.FinalViews.{host_views}
 use Rattle.rds_report.proofs.Parting.{all_parts}
 use Rattle.rds_report.proofs.reporting.report.Goals as goal
 

@@ -1,6 +1,6 @@
 use Rattle.std.proofs.Common.{◌≡◌, ◌≤◌, ◌++◌, string_bytes}
 use Rattle.rds_text.specs.declared.host.TheConstants.{MAX_HOSTS}
-use Rattle.rds_final.specs.Views.{AreFinalHosts, host_views}
+use Rattle.rds_text.specs.FinalViews.{AreFinalHosts, host_views}
 use Rattle.rds_report.specs.ItemReport.{parts}
 use Rattle.rds_report.proofs.reporting.report.Given as goal
 

@@ -1,8 +1,8 @@
 use Rattle.std.proofs.Common.{arith, ◌≡◌, ◌++◌, ◌+◌, ◌∙◌, ℕ, suc, List, ap, sym, append_assoc, string_bytes}
 use Rattle.std.specs.List.{flat_map}
 use Rattle.std.proofs.lemmas.Grind.{flat_map-append}
-use Rattle.rds_final.specs.Hosts.{address_of}
-use Rattle.rds_final.specs.Views.{host_views}
+use Rattle.rds_text.specs.Hosts.{address_of}
+use Rattle.rds_text.specs.FinalViews.{host_views}
 use Rattle.rds_report.specs.ItemReport.{part, parts}
 use Rattle.rds_report.proofs.reporting.texts_between.Goals as goal
 

@@ -1,6 +1,6 @@
 use Rattle.std.proofs.Common.{◌≡◌, ◌≤◌, ◌++◌, string_bytes}
 use Rattle.std.specs.List.{flat_map}
-use Rattle.rds_final.specs.Views.{AreFinalHosts, host_views}
+use Rattle.rds_text.specs.FinalViews.{AreFinalHosts, host_views}
 use Rattle.rds_report.specs.ItemReport.{parts}
 use Rattle.rds_report.proofs.reporting.texts_between.Given as goal
 

@@ -2,8 +2,8 @@ use Rattle.std.proofs.Common.{◌≡◌, ◌-◌, ◌∙◌, subst, sym, ℕ, Li
 use Rattle.std.specs.List.{AllZip, range_with_len}
 use Rattle.rds_wire.specs.declared.memory.Memory.{Memory}
 use Rattle.rds_text.specs.declared.host.TheConstants.{MAX_HOSTS}
-use Rattle.rds_final.specs.Hosts.{address_of}
-use Rattle.rds_final.specs.Views.{host_views}
+use Rattle.rds_text.specs.Hosts.{address_of}
+use Rattle.rds_text.specs.FinalViews.{host_views}
 use Rattle.rds_report.specs.declared.totals.Totals.{Totals}
 use Rattle.rds_report.specs.ItemTotals.{AreTotalsTo}
 use Rattle.rds_report.proofs.Added.{AreEach, all_made, each_small, each_length}

@@ -1,7 +1,7 @@
 use Rattle.std.proofs.Common.{rules, ◌≡◌, ◌∙◌, ◌++◌, ℕ, List, ap, append_assoc, string_bytes}
 use Rattle.rds_text.specs.Lines.{end_line}
-use Rattle.rds_final.specs.Report.{Counts}
-use Rattle.rds_final.specs.Views.{host_views}
+use Rattle.rds_text.specs.Report.{Counts}
+use Rattle.rds_text.specs.FinalViews.{host_views}
 use Rattle.rds_report.specs.Summary.{all_counts, received_bytes, summary_line}
 use Rattle.rds_report.proofs.summing.summary.Goals as goal
 

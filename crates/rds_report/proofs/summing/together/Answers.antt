@@ -1,6 +1,6 @@
 use Rattle.std.proofs.Common.{◌∙◌, ◌+◌, ℕ, List, map, take, get_or, arith, ap, sym}
 use Rattle.std.specs.List.{sum_by}
-use Rattle.rds_final.specs.Report.{Counts}
+use Rattle.rds_text.specs.Report.{Counts}
 use Rattle.rds_report.specs.declared.totals.Totals.{Totals}
 use Rattle.rds_report.specs.Summary.{plus, total}
 use Rattle.rds_report.specs.ItemTotals.{IsSmall, count_all, totals_bytes, totals_counts}

@@ -1,7 +1,7 @@
 use Rattle.std.proofs.Common.{◌≡◌, ◌∙◌, List, ap, arith}
 use Rattle.rds_report.specs.Item.{Item}
-use Rattle.rds_final.specs.Report.{Group}
-use Rattle.rds_final.specs.Views.{host_views}
+use Rattle.rds_text.specs.Report.{Group}
+use Rattle.rds_text.specs.FinalViews.{host_views}
 use Rattle.rds_report.specs.Items.{items_to}
 use Rattle.rds_report.specs.ItemReport.{of_pair, tally}
 use Rattle.rds_report.specs.ItemTotals.{bytes_of, grouped}

@@ -1,7 +1,7 @@
 use Rattle.std.proofs.Common.{subst}
 use Rattle.rds_model.specs.declared.journal.TheConstants.{MAX_ENTRIES}
 use Rattle.rds_script.specs.Grammar.{meaning}
-use Rattle.rds_threads.specs.Ends.{IsEndOfRun, Written}
+use Rattle.rds_run_threads.specs.Ends.{IsEndOfRun, Written}
 use Rattle.rds_run.specs.RunStatus.{WireSeen}
 use Rattle.rds_run.proofs.Begun.{begun_of}
 use Rattle.rds_run.proofs.Ran.{filled_of, lacking_of, may_of, ran_of, unfinished_of}

@@ -1,9 +1,9 @@
 use Rattle.std.proofs.Common.{◌≤◌, Some, ap, codes, map, refl, rules, string_bytes, subst, ◌∙◌}
 use Rattle.rds_run.specs.Ending.{OfGen, OfMemory, OfNone}
-use Rattle.rds_words.specs.Gen.{AreGen, gen_word}
-use Rattle.rds_words.specs.Play.{ArePlay}
-use Rattle.rds_words.specs.Run.{AreRun}
-use Rattle.rds_words.specs.Works.{IsWorkOf}
+use Rattle.rds_run.specs.GenWords.{AreGen, gen_word}
+use Rattle.rds_run.specs.PlayWords.{ArePlay}
+use Rattle.rds_run.specs.RunWords.{AreRun}
+use Rattle.rds_run.specs.Works.{IsWorkOf}
 use Rattle.rds_run.proofs.Commands.{in_memory, play_or_gen, run_or_gen, sends_in}
 use Rattle.rds_run.proofs.Ended.{of_play, of_run, usage_of}
 use Rattle.rds_run.proofs.top_call.do_work.Goals as goal

@@ -1,6 +1,6 @@
 use Rattle.std.proofs.Common.{◌<◌, subst}
 use Rattle.std.specs.Arc.{arc_value}
-use Rattle.rds_views.specs.Views.{Table}
+use Rattle.rds_seats.specs.Views.{Table}
 use Rattle.rds_host.proofs.Drawn.{draw_gives, draw_keeps, slot_at}
 use Rattle.rds_host.proofs.seats.Seats.draw.Goals as goal
 

@@ -1,6 +1,6 @@
 use Rattle.std.proofs.Common.{◌≡◌, ℕ, List, Bool, subst, sym, ap, ◌∙◌, false}
 use Rattle.rds_line_channel.specs.Channel.{ChannelView, IsNewChannel}
-use Rattle.rds_line_streams.specs.Streams.{StreamsView}
+use Rattle.rds_line_channel.specs.Streams.{StreamsView}
 use Rattle.rds_line.specs.Keeps.{KeepsLine, IsPulled}
 use Rattle.rds_line.specs.Line.{LineView}
 use Rattle.rds_line.proofs.Fields.{view_in}

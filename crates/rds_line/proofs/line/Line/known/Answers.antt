@@ -3,7 +3,7 @@ use Rattle.rds_frame.specs.Splitting.{IsPartial}
 use Rattle.rds_model.specs.Legal.{IsWhole}
 use Rattle.rds_line_channel.specs.Carried.{IsCarriedBy}
 use Rattle.rds_line_channel.specs.Channel.{arrived_bytes}
-use Rattle.rds_line_streams.specs.Streams.{AreKept}
+use Rattle.rds_line_channel.specs.Streams.{AreKept}
 use Rattle.rds_line.specs.Keeps.{KeepsLine}
 use Rattle.rds_line.specs.Line.{LineView, line_past}
 use Rattle.rds_line.proofs.line.Line.known.Goals as goal

@@ -3,7 +3,7 @@ use Rattle.std.proofs.lemmas.Bool.{false≢true}
 use Rattle.rds_link.specs.declared.end.Got.TheVariants as got
 use Rattle.rds_model.specs.declared.entry.Entry.TheVariants.{Shut}
 use Rattle.rds_conn.specs.Connection.{Connection, stream_of, with_room}
-use Rattle.rds_line_streams.specs.Streams.{StreamsView, newest_place}
+use Rattle.rds_line_channel.specs.Streams.{StreamsView, newest_place}
 use Rattle.rds_line_channel.specs.Channel.{ChannelView}
 use Rattle.rds_line.specs.Line.{LineView, line_past}
 use Rattle.rds_line.specs.Turns.{GetsBytes}

@@ -1,5 +1,5 @@
 use Rattle.std.proofs.Common.{◌≡◌, ◌<◌, inl, Ok, length, refl, sym, ap, subst, ◌∙◌, arith}
-use Rattle.rds_line_streams.specs.Streams.{StreamsView, newest_place}
+use Rattle.rds_line_channel.specs.Streams.{StreamsView, newest_place}
 use Rattle.rds_line_channel.specs.Channel.{ChannelView}
 use Rattle.rds_line.specs.Line.{LineView, line_past}
 use Rattle.rds_line.specs.Stays.{LineStays}

@@ -1,5 +1,5 @@
 use Rattle.std.proofs.Common.{inr, Ok, ap, ◌∙◌}
-use Rattle.rds_line_streams.specs.Streams.{newest_place}
+use Rattle.rds_line_channel.specs.Streams.{newest_place}
 use Rattle.rds_line.specs.declared.outcome.Done.{Done}
 use Rattle.rds_line.specs.declared.outcome.Sent.TheVariants as sent
 use Rattle.rds_line.specs.Line.{LineView}

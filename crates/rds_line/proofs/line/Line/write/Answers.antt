@@ -2,7 +2,7 @@ use Rattle.std.proofs.Common.{◌≡◌, ◌<◌, ℕ, Some, true, [], take, dro
 use Rattle.rds_link.specs.declared.end.Put.TheVariants as put
 use Rattle.rds_model.specs.declared.entry.Entry.TheVariants.{Shut}
 use Rattle.rds_conn.specs.Connection.{Connection, stream_of, with_room}
-use Rattle.rds_line_streams.specs.Streams.{StreamsView, newest_place}
+use Rattle.rds_line_channel.specs.Streams.{StreamsView, newest_place}
 use Rattle.rds_line_channel.specs.Channel.{ChannelView}
 use Rattle.rds_line.specs.Line.{LineView, line_past}
 use Rattle.rds_line.specs.Turns.{SendsBytes}

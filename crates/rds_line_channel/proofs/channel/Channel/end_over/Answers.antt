@@ -1,6 +1,6 @@
 use Rattle.std.proofs.Common.{◌≡◌, ◌++◌, true, refl, sym, ap, subst, ◌∙◌}
 use Rattle.rds_conn.specs.Connection.{Connection, taken_bytes}
-use Rattle.rds_line_streams.specs.Streams.{EndAt, HasSaidOver, newest_place}
+use Rattle.rds_line_channel.specs.Streams.{EndAt, HasSaidOver, newest_place}
 use Rattle.rds_line_channel.specs.Channel.{ChannelView}
 use Rattle.rds_line_channel.proofs.Ending.{carried_over, ended_is_open}
 use Rattle.rds_line_channel.proofs.Restated.{is_shut, kept_inside, restated}

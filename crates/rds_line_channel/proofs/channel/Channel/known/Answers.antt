@@ -7,7 +7,7 @@ use Rattle.rds_model.specs.declared.journal.TheConstants.{MAX_ENTRIES}
 use Rattle.rds_model.specs.Legal.{IsWhole}
 use Rattle.rds_model.specs.Reading.{verdict_of}
 use Rattle.rds_frame.specs.Splitting.{IsPartial}
-use Rattle.rds_line_streams.specs.Streams.{AreKept}
+use Rattle.rds_line_channel.specs.Streams.{AreKept}
 use Rattle.rds_line_channel.specs.Carried.{IsCarriedBy}
 use Rattle.rds_line_channel.specs.Channel.{ChannelView, arrived_bytes}
 use Rattle.rds_line_channel.proofs.channel.Channel.known.Goals as goal

@@ -1,6 +1,6 @@
 use Rattle.std.proofs.Common.{◌∙◌, ◌≤◌, ◌∷◌, [], length, take, arith, ap, sym}
 use Rattle.std.proofs.lemmas.List.{length-take-le, take_all}
-use Rattle.rds_final.specs.Report.{Counts}
+use Rattle.rds_text.specs.Report.{Counts}
 use Rattle.rds_report.specs.ItemReport.{tally}
 use Rattle.rds_report.specs.ItemTotals.{count_all}
 use Rattle.rds_report.specs.Summary.{plus}

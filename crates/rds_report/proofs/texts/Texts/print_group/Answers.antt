@@ -2,7 +2,7 @@ use Rattle.std.proofs.Common.{◌≡◌, ◌∙◌, ◌++◌, ◌==◌, ℕ, Lis
 use Rattle.std.specs.List.{flat_map}
 use Rattle.std.proofs.lemmas.Result.{on_ok_weaker}
 use Rattle.std.proofs.lemmas.Bool.{ne_eqb}
-use Rattle.rds_final.specs.Report.{pair_text, counts_line}
+use Rattle.rds_text.specs.Report.{pair_text, counts_line}
 use Rattle.rds_report.specs.Items.{seen}
 use Rattle.rds_report.specs.ItemReport.{count_of, is_accepted}
 use Rattle.rds_report.specs.ItemTotals.{seen_counts}

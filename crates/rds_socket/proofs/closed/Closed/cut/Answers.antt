@@ -1,8 +1,8 @@
 use Rattle.std.proofs.Common.{sym, ap, subst}
 use Rattle.rds_model.specs.declared.order.Order.{Order}
 use Rattle.rds_socket.specs.Holding.{Holding}
-use Rattle.rds_parts.specs.Lanes.{IsOf}
-use Rattle.rds_parts.specs.Refusals.{AskRefused}
+use Rattle.rds_socket_parts.specs.Lanes.{IsOf}
+use Rattle.rds_socket_parts.specs.Refusals.{AskRefused}
 use Rattle.rds_socket.proofs.Orders.{of_ask, put_seen, refused_seen}
 use Rattle.rds_socket.proofs.Kept.{ended_routes}
 use Rattle.rds_socket.proofs.Staying.{holds_routes}

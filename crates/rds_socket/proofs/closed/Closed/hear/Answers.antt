@@ -1,6 +1,6 @@
 use Rattle.std.proofs.Common.{◌∙◌, sym, ap}
 use Rattle.rds_socket.specs.Holding.{Holding}
-use Rattle.rds_parts.specs.Boxes.{Box}
+use Rattle.rds_socket_parts.specs.Boxes.{Box}
 use Rattle.rds_socket.proofs.Kept.{ended_inbox}
 use Rattle.rds_socket.proofs.Staying.{holds_inbox}
 use Rattle.rds_socket.proofs.closed.Closed.hear.Goals as goal

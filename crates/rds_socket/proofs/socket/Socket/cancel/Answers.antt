@@ -2,8 +2,8 @@ use Rattle.std.proofs.Common.{◌∙◌, sym, ap, subst}
 use Rattle.rds_model.specs.declared.order.Order.{Order}
 use Rattle.rds_model.specs.declared.order.Order.TheVariants as order
 use Rattle.rds_socket.specs.Holding.{Open}
-use Rattle.rds_parts.specs.Lanes.{IsOf}
-use Rattle.rds_parts.specs.Refusals.{AskRefused}
+use Rattle.rds_socket_parts.specs.Lanes.{IsOf}
+use Rattle.rds_socket_parts.specs.Refusals.{AskRefused}
 use Rattle.rds_socket.proofs.Orders.{of_ask, routes_length, put_seen, refused_seen}
 use Rattle.rds_socket.proofs.Kept.{open_routes}
 use Rattle.rds_socket.proofs.Staying.{stays_routes}

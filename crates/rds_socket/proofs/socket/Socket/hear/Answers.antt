@@ -1,6 +1,6 @@
 use Rattle.std.proofs.Common.{◌∙◌, sym, ap}
 use Rattle.rds_socket.specs.Holding.{Open}
-use Rattle.rds_parts.specs.Boxes.{Box}
+use Rattle.rds_socket_parts.specs.Boxes.{Box}
 use Rattle.rds_socket.proofs.Kept.{open_inbox}
 use Rattle.rds_socket.proofs.Staying.{stays_inbox}
 use Rattle.rds_socket.proofs.socket.Socket.hear.Goals as goal

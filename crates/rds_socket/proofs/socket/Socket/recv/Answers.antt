@@ -1,5 +1,5 @@
 use Rattle.std.proofs.Common.{ap}
-use Rattle.rds_parts.specs.Boxes.{Box}
+use Rattle.rds_socket_parts.specs.Boxes.{Box}
 use Rattle.rds_socket.proofs.Receipts.{received_open, received_is, received_stays}
 use Rattle.rds_socket.proofs.Staying.{stays_inbox}
 use Rattle.rds_socket.proofs.socket.Socket.recv.Goals as goal

@@ -1,6 +1,6 @@
 use Rattle.std.proofs.Common.{[]}
 use Rattle.std.proofs.lemmas.List.Elements.{All-nil}
-use Rattle.rds_parts.specs.Ports.{IsTaken}
+use Rattle.rds_socket_parts.specs.Ports.{IsTaken}
 use Rattle.rds_socket.proofs.Ends.{bound_open, refused_vacant}
 use Rattle.rds_socket.proofs.vacant.Vacant.bind.Goals as goal
 

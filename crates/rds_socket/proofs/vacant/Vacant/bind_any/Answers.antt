@@ -1,4 +1,4 @@
-use Rattle.rds_parts.specs.Ports.{first_port}
+use Rattle.rds_socket_parts.specs.Ports.{first_port}
 use Rattle.rds_socket.proofs.Ends.{bound_open, still_vacant}
 use Rattle.rds_socket.proofs.vacant.Vacant.bind_any.Goals as goal
 

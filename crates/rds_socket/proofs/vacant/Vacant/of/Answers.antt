@@ -1,9 +1,9 @@
 use Rattle.std.proofs.Common.{◌≡◌, ◌∙◌, Some, None, unwrap_or, sym, ap, subst}
 use Rattle.rds_bindtab.specs.Seats as seats
 use Rattle.rds_meter.specs.Seats as meter
-use Rattle.rds_parts.specs.Ports.{HasClaimedOnly}
-use Rattle.rds_parts.specs.Words.{Purse, IsQuietSeat}
-use Rattle.rds_parts.specs.Lanes.{ArePutOf}
+use Rattle.rds_socket_parts.specs.Ports.{HasClaimedOnly}
+use Rattle.rds_socket_parts.specs.Words.{Purse, IsQuietSeat}
+use Rattle.rds_socket_parts.specs.Lanes.{ArePutOf}
 use Rattle.rds_socket.proofs.Kept.{vacant_of}
 use Rattle.rds_socket.proofs.vacant.Vacant.of.Goals as goal
 

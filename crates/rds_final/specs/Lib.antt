@@ -1,4 +1,0 @@
-pub mod Hosts
-pub mod FinalState
-pub mod Report
-pub mod Views

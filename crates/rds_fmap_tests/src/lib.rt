@@ -1,5 +1,0 @@
-//! Tests of the maps that a line publishes and reads.
-#![tactic(auto)]
-
-#[cfg(test)]
-mod maps;

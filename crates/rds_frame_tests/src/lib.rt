@@ -1,5 +1,0 @@
-//! Tests of the splitter of frames.
-#![tactic(auto)]
-
-#[cfg(test)]
-mod splitting;

@@ -1,5 +1,0 @@
-//! Tests of the generator of scripts.
-#![tactic(auto)]
-
-#[cfg(test)]
-mod scripts;

@@ -1,0 +1,13 @@
+pub mod Places
+pub mod Columns
+pub mod Marks
+pub mod Keys
+pub mod Showing
+pub mod Joining
+pub mod Looking
+pub mod Owning
+pub mod Cutting
+pub mod Raising
+pub mod Held
+pub mod Risen
+pub mod Joins

@@ -1,7 +1,0 @@
-use Rattle.std.proofs.Common.{◌≡◌, map}
-use Rattle.rds_final.specs.Views.{socket_view}
-use Rattle.rds_hosts.proofs.KeptSockets.{left_by}
-use Rattle.rds_hosts.proofs.host.ScriptHost.into_kept.Given as goal
-
-abbrev pub invariant-loop-socket : goal.invariant-loop-socket
-invariant-loop-socket l = map socket_view l.kept.items ≡ map left_by l.yielded

@@ -1,5 +1,0 @@
-use Rattle.rds_hosts.specs.HostLaws.{untouched}
-use Rattle.rds_hosts.proofs.laws.untouched.Goals as goal
-
-pub returns : goal.returns
-returns c = untouched

@@ -1,4 +1,0 @@
-pub mod Ends
-pub mod Steps
-pub mod OnTheWay
-pub mod Inside

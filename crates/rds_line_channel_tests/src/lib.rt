@@ -1,5 +1,0 @@
-//! Tests of two channels over a wire in memory.
-#![tactic(auto)]
-
-#[cfg(test)]
-mod carrying;

@@ -1,5 +1,0 @@
-mod Keeping
-mod Numbering
-mod Partly
-mod Over
-mod OtherTerms

@@ -1,5 +1,0 @@
-use Rattle.std.proofs.Common.{rules}
-use Rattle.rds_line_streams.proofs.streams.Streams.into_streams.Goals as goal
-
-pub returns : goal.returns
-returns g c = search rules

@@ -1,5 +1,0 @@
-//! Tests of a line's streams.
-#![tactic(auto)]
-
-#[cfg(test)]
-mod streams;

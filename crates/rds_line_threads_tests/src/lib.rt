@@ -1,5 +1,0 @@
-//! Tests of two lines that two threads turn at once.
-#![tactic(auto)]
-
-#[cfg(test)]
-mod threads;

@@ -1,7 +1,0 @@
-use Rattle.std.proofs.Common.{take}
-use Rattle.rds_pair.specs.Playing.{DoesAll}
-use Rattle.rds_pair.proofs.pair.ConnPair.do_all.Given as goal
-
--- the steps so far were done
-abbrev pub invariant-loop-step : goal.invariant-loop-step
-invariant-loop-step g l = DoesAll (take l.step-index l.steps) l.fn.self l.self

@@ -1,5 +1,0 @@
-//! Tests of two connections.
-#![tactic(auto)]
-
-#[cfg(test)]
-mod running;

@@ -1,7 +1,0 @@
-use Rattle.std.proofs.Common.{◌≡◌, length}
-use Rattle.rds_parties.proofs.Handing.{AreDoneBelow, IsGiven}
-use Rattle.rds_parties.proofs.giving.give_row.Given as goal
-
-abbrev pub invariant-loop-ends : goal.invariant-loop-ends
-invariant-loop-ends g l =
-    (l.place ≡ length l.yielded) × AreDoneBelow IsGiven (length l.yielded) l.fn.streams.items l.fn.lines.items l.lines.items

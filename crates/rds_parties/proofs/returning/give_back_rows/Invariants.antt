@@ -1,8 +1,0 @@
-use Rattle.std.proofs.Common.{◌≡◌, ◌-◌, ◌≤◌}
-use Rattle.rds_rounds.specs.Grid.{rows_of}
-use Rattle.rds_parties.specs.Held.{ends_prepared}
-use Rattle.rds_parties.proofs.returning.give_back_rows.Given as goal
-
-abbrev pub invariant-loop-row : goal.invariant-loop-row
-invariant-loop-row g l =
-    (g.W.Wire.out l.wire ≡ g.W.Wire.out l.fn.wire - ends_prepared (rows_of l.yielded)) × (g.W.Wire.faults l.fn.wire ≤ g.W.Wire.faults l.wire)

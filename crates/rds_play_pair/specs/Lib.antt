@@ -1,0 +1,10 @@
+pub mod Ends
+pub mod Steps
+pub mod OnTheWay
+pub mod Inside
+pub mod Sides
+pub mod Changes
+pub mod Playing
+pub mod Joined
+pub mod Half
+pub mod Invariant

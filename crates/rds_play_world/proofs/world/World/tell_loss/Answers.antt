@@ -1,0 +1,5 @@
+use Rattle.std.proofs.Common.{rules}
+use Rattle.rds_play_world.proofs.world.World.tell_loss.Goals as goal
+
+pub returns-clause-course : goal.returns-clause-course
+returns-clause-course c = search rules

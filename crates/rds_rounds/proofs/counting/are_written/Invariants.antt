@@ -1,6 +1,0 @@
-use Rattle.std.proofs.Common.{All, take}
-use Rattle.rds_rounds.specs.Sweep.{AreWritten}
-use Rattle.rds_rounds.proofs.counting.are_written.Given as goal
-
-abbrev pub invariant-loop-host : goal.invariant-loop-host
-invariant-loop-host g l = All (λ list. AreWritten list.items) (take l.host l.fn.lines.items)

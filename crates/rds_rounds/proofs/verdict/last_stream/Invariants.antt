@@ -1,7 +1,0 @@
-use Rattle.std.proofs.Common.{◌≡◌}
-use Rattle.rds_model.specs.Past.{newest_stream}
-use Rattle.rds_rounds.proofs.Counted.{oldest}
-use Rattle.rds_rounds.proofs.verdict.last_stream.Given as goal
-
-abbrev pub invariant-loop-i : goal.invariant-loop-i
-invariant-loop-i l = l.last ≡ newest_stream (oldest l.i l.journal.past)

@@ -1,0 +1,11 @@
+use Rattle.std.proofs.Common.{ap}
+use Rattle.rds_run_callers.specs.Doing.{AtPort}
+use Rattle.rds_run_callers.specs.Tenants.{Closes}
+use Rattle.rds_run_callers.proofs.Coming.{done_shown, keeps_shown}
+use Rattle.rds_run_callers.proofs.caller.Caller.close.Goals as goal
+
+pub returns-clause-keeps : goal.returns-clause-keeps
+returns-clause-keeps g c = keeps_shown (AtPort c.args.port Closes) c.self.inside.slots.states.items c.close_at.new.slots.states.items c.args.self.now.places c.close_at.result (ap (λ v. v.places) c.self.view_is) c.close_at.ensures
+
+pub returns-clause-done : goal.returns-clause-done
+returns-clause-done g c = done_shown (AtPort c.args.port Closes) c.self.inside.slots.states.items c.close_at.new.slots.states.items c.args.self.now.places c.close_at.result (ap (λ v. v.places) c.self.view_is) c.close_at.ensures

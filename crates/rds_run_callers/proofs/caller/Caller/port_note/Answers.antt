@@ -1,0 +1,30 @@
+use Rattle.std.proofs.Common.{List, length, sym, ap, subst, ◌∙◌, arith}
+use Rattle.rds_run_callers.specs.States.{AreSlots, shown_all}
+use Rattle.rds_run_callers.specs.declared.state.State.{State}
+use Rattle.rds_run_callers.proofs.Seen.{count_seen, put_same}
+use Rattle.rds_run_callers.proofs.Doings.{showing}
+use Rattle.rds_run_callers.proofs.caller.Caller.port_note.Goals as goal
+
+pub replace-state-requires : goal.replace-state-requires
+replace-state-requires c =
+    let small = c.requires in
+    let slot = c.from-slot.ensures in
+    let view = ap (λ v. length v.places) c.self.view_is in
+    let count = count_seen c.self.inside.slots.states.items c.self.invariant.whole in
+    let size = c.self.inside.slots.states.ok.0 in
+    omega arith
+
+pub invariant_of-self : goal.invariant_of-self
+invariant_of-self c =
+    subst (λ (l : List State). AreSlots l) (sym (put_same c.self.inside.slots.states.items c.replace-state.new.self.states.items c.replace.new.self.states.items c.from-slot.result c.replace-state.result c.port_note-note.new.self
+    c.replace-state.ensures.was c.replace-state.ensures.states c.replace.ensures.states c.port_note-note.ensures.same)) c.self.invariant
+
+pub returns-clause-same : goal.returns-clause-same
+returns-clause-same c =
+    let back = put_same c.self.inside.slots.states.items c.replace-state.new.self.states.items c.replace.new.self.states.items c.from-slot.result c.replace-state.result c.port_note-note.new.self
+    c.replace-state.ensures.was c.replace-state.ensures.states c.replace.ensures.states c.port_note-note.ensures.same in
+    (λ i. record { host = c.self.inside.host; places = shown_all (back i) }) ∙ c.self.view_is
+
+pub returns-clause-note : goal.returns-clause-note
+returns-clause-note c = λ p at.
+    c.port_note-note.ensures.note p (showing c.self.inside.slots.states.items c.args.self.now.places c.args.slot c.from-slot.result c.replace-state.result p c.self.invariant.whole (ap (λ v. v.places) c.self.view_is) c.from-slot.ensures c.replace-state.ensures.was at)

@@ -1,0 +1,11 @@
+use Rattle.std.proofs.Common.{ap}
+use Rattle.rds_run_callers.specs.Doing.{AtPort}
+use Rattle.rds_run_callers.specs.Tenants.{ReceivesNext}
+use Rattle.rds_run_callers.proofs.Coming.{done_shown, keeps_shown}
+use Rattle.rds_run_callers.proofs.caller.Caller.receive.Goals as goal
+
+pub returns-clause-keeps : goal.returns-clause-keeps
+returns-clause-keeps g c = keeps_shown (AtPort c.args.port ReceivesNext) c.self.inside.slots.states.items c.receive_at.new.slots.states.items c.args.self.now.places c.receive_at.result (ap (λ v. v.places) c.self.view_is) c.receive_at.ensures
+
+pub returns-clause-done : goal.returns-clause-done
+returns-clause-done g c = done_shown (AtPort c.args.port ReceivesNext) c.self.inside.slots.states.items c.receive_at.new.slots.states.items c.args.self.now.places c.receive_at.result (ap (λ v. v.places) c.self.view_is) c.receive_at.ensures

@@ -1,0 +1,18 @@
+use Rattle.std.proofs.Common.{Some, sym, ap, ◌∙◌}
+use Rattle.rds_model.specs.declared.order.Order.TheVariants as order
+use Rattle.rds_mail.specs.Numbers.{bare_items}
+use Rattle.rds_fmap.specs.Readers.{ReaderView}
+use Rattle.rds_socket.specs.Holding.{Holding}
+use Rattle.rds_run_callers.proofs.Asking.{asks_of}
+use Rattle.rds_run_callers.proofs.Claiming.{claims_same}
+use Rattle.rds_run_callers.proofs.former.FormerTenant.cut.Goals as goal
+
+pub returns-clause-done : goal.returns-clause-done
+returns-clause-done g c = asks_of c.args.peer order.Cut c.args.self.now.closed c.cut.new.self c.cut.result c.told.result
+    c.told.ensures.allowed c.cut.ensures.put c.cut.ensures.refused c.cut.ensures.same c.cut.ensures.rest
+
+pub invariant_of-self-clause-kept : goal.invariant_of-self-clause-kept
+invariant_of-self-clause-kept g c = c.args.self.now.kept ∙ sym (ap (λ (h : Holding ReaderView). bare_items h.inbox.get.got) c.cut.ensures.rest)
+
+pub invariant_of-self-clause-claimed : goal.invariant_of-self-clause-claimed
+invariant_of-self-clause-claimed g c = claims_same (Some c.args.self.now.port) c.args.self.now.closed c.cut.new.self (ap (λ (h : Holding ReaderView). h.ports) c.cut.ensures.rest) c.args.self.now.claimed

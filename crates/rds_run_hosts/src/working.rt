@@ -1,0 +1,133 @@
+//! The workers of a run: one for each line.
+ghost use Rattle.std.specs.Prelude.{◌≡◌, ◌∷◌, [], length};
+ghost use Rattle.rds_host.specs.Lines.{AreTurned, pair_of};
+ghost use Rattle.rds_line.specs.Stays.{LineStays};
+ghost use Rattle.rds_run_rounds.specs.Grid.{EachRow, rows_of};
+
+use core::mem::replace_with;
+use rds_fmap::Writer;
+use rds_host::{Stop, work};
+use rds_line::Line;
+use rds_link::End;
+use rds_run_rounds::Lines;
+use std::alloc::Global;
+use std::sync::Wait;
+use std::thread;
+use std::thread::Threads;
+
+/// The workers of all lines, beside each other. They end some time after the flag is set. Behind the rows stands one without lines, which
+/// is the calling thread's: that thread makes others and then sleeps. With two hosts each of them has a processor at once, as a rule; with more,
+/// some of them make others. Where there is no memory for that row, the calling thread has the last row.
+pub(crate) fn work_all<E: End + Send, R: Threads + Wait + Sync>(
+    rt: &R,
+    alloc: Global,
+    mut lines: Lines<E>,
+    stop: &Stop,
+) -> Lines<E>
+    ensures { EachRow (AreTurned E.means pair_of) (rows_of lines.items) (rows_of result.items) }
+{
+    if lines.push(Vec::new(alloc)).is_err() {
+        return work_on_rows(rt, alloc, lines, stop);
+    }
+    let mut lines = work_on_rows(rt, alloc, lines, stop);
+    lines.pop();
+    lines
+}
+
+// The workers of all lines of these rows, the last row's on the calling thread.
+fn work_on_rows<E: End + Send, R: Threads + Wait + Sync>(
+    rt: &R,
+    alloc: Global,
+    mut lines: Lines<E>,
+    stop: &Stop,
+) -> Lines<E>
+    ensures { EachRow (AreTurned E.means pair_of) (rows_of lines.items) (rows_of result.items) }
+{
+    work_rows(rt, alloc, &mut lines, stop);
+    lines
+}
+
+// Those of each host, beside those of the others.
+fn work_rows<E: End + Send, R: Threads + Wait + Sync>(
+    rt: &R,
+    alloc: Global,
+    rows: &mut [Vec<Line<E, Writer>>],
+    stop: &Stop,
+)
+    ensures { EachRow (AreTurned E.means pair_of) (rows_of rows.old) (rows_of rows.new) }
+{
+    let threads = rows.len().max(1);
+    let turn = |_host: usize, row: &mut Vec<Line<E, Writer>>|
+        ensures { AreTurned E.means pair_of row.entry.now.items row.exit.now.items }
+    { work_row(rt, alloc, row, stop) };
+    thread::for_each_mut(rt, rows, threads, &turn);
+}
+
+// The workers of the lines of a host.
+fn work_row<E: End + Send, R: Threads + Wait + Sync>(
+    rt: &R,
+    alloc: Global,
+    row: &mut Vec<Line<E, Writer>>,
+    stop: &Stop,
+)
+    ensures { AreTurned E.means pair_of row.old.items row.new.items }
+{
+    work_lines(rt, alloc, row, stop);
+}
+
+// A worker for each of these lines, beside the others.
+fn work_lines<E: End + Send, R: Threads + Wait + Sync>(
+    rt: &R,
+    alloc: Global,
+    lines: &mut [Line<E, Writer>],
+    stop: &Stop,
+)
+    ensures { AreTurned E.means pair_of lines.old lines.new }
+{
+    let threads = lines.len().max(1);
+    let turn = |_place: usize, line: &mut Line<E, Writer>|
+        ensures { LineStays E.means pair_of line.entry.now line.exit.now }
+    { work_on(rt, alloc, line, stop) };
+    thread::for_each_mut(rt, lines, threads, &turn);
+}
+
+// The worker of a line: turns it until the flag is set and no worker finds anything to do.
+fn work_on<E: End, R: Wait>(rt: &R, alloc: Global, line: &mut Line<E, Writer>, stop: &Stop)
+    ensures { LineStays E.means pair_of line.old line.new }
+{
+    replace_with(line, (rt, alloc, stop), worked);
+}
+
+// The line once its worker has ended. Where there is no memory for its list it has one turn, and the last rounds do the rest.
+fn worked<E: End, R: Wait>(
+    line: Line<E, Writer>,
+    with: (&R, Global, &Stop),
+) -> (Line<E, Writer>, ())
+    ensures { LineStays E.means pair_of line result.0 }
+{
+    let (rt, alloc, stop) = with;
+    let mut list = Vec::new(alloc);
+    match list.push(line) {
+        Ok(()) => (only(work(rt, list, stop)), ()),
+        Err(refused) => (turned(rt, refused.value), ()),
+    }
+}
+
+// The line of a list of one.
+fn only<E: End>(mut list: Vec<Line<E, Writer>>) -> Line<E, Writer>
+    requires { length list.items ≡ 1 }
+    ensures { list.items ≡ result ∷ [] }
+{
+    let Some(line) = list.pop() else {
+        unreachable!()
+    };
+    line
+}
+
+// The line after a turn.
+fn turned<E: End, R: Wait>(rt: &R, mut line: Line<E, Writer>) -> Line<E, Writer>
+    ensures { LineStays E.means pair_of line result }
+{
+    line.turn(rt);
+    line
+}

@@ -1,0 +1,7 @@
+use Rattle.std.proofs.Common.{◌≡◌}
+use Rattle.rds_run_rounds.specs.Causes.{refusals}
+use Rattle.rds_run_rounds.proofs.Counted.{oldest}
+use Rattle.rds_run_rounds.proofs.verdict.refusals_in.Given as goal
+
+abbrev pub invariant-loop-i : goal.invariant-loop-i
+invariant-loop-i l = l.count ≡ refusals (oldest l.i l.journal.past)

@@ -1,0 +1,7 @@
+use Rattle.rds_run_rounds.specs.Grid.{rows_of}
+use Rattle.rds_run_threads.specs.Settled.{AreToldBelow}
+use Rattle.rds_run_threads.proofs.running.tell_all.Given as goal
+
+abbrev pub invariant-loop-host : goal.invariant-loop-host
+invariant-loop-host g l =
+    AreToldBelow l.host l.fn.callers.items l.callers.items (rows_of l.fn.lines.items) (rows_of l.lines.items)

@@ -1,5 +1,0 @@
-//! Tests of the reader of scripts.
-#![tactic(auto)]
-
-#[cfg(test)]
-mod reading;

@@ -1,0 +1,110 @@
+//! What a text answers, read by threads and by one.
+
+use rds_script::*;
+use rds_script_pieces::read_by_threads;
+use std::alloc::{AllocError, Global};
+use std::thread::Threads;
+
+/// `LINE CAUSE` where the text is refused, `COMMANDS commands` where it is read; and `apart` where threads read something
+/// other than one thread does.
+pub fn answer<R: Threads + Sync>(rt: &R, alloc: Global, text: &[u8]) -> Result<String, AllocError> {
+    let one = read(alloc, text);
+    let other = read_by_threads(rt, alloc, text);
+    if !is_same(&one, &other) {
+        return String::from_str(alloc, "apart");
+    }
+    told(alloc, &other)
+}
+
+fn told(alloc: Global, answer: &Result<Script, ScriptError>) -> Result<String, AllocError> {
+    match answer {
+        Ok(script) => {
+            let count = script.commands.len();
+            format!(in alloc; "{count} commands")
+        }
+        Err(ScriptError::BadLine { line, cause }) => format!(in alloc; "{line} {cause}"),
+        Err(ScriptError::Memory) => String::from_str(alloc, "memory"),
+    }
+}
+
+fn is_same(one: &Result<Script, ScriptError>, other: &Result<Script, ScriptError>) -> bool {
+    match one {
+        Ok(script) => match other {
+            Ok(second) => is_same_script(script, second),
+            Err(_) => false,
+        },
+        Err(error) => match other {
+            Ok(_) => false,
+            Err(second) => *error == *second,
+        },
+    }
+}
+
+fn is_same_script(one: &Script, other: &Script) -> bool {
+    if one.hosts != other.hosts
+        || one.hosts_line != other.hosts_line
+        || one.commands.len() != other.commands.len()
+    {
+        return false;
+    }
+    for (first, second) in one.commands.iter().zip(other.commands.iter()) {
+        if !is_same_placed(first, second) {
+            return false;
+        }
+    }
+    true
+}
+
+fn is_same_placed(one: &Placed, other: &Placed) -> bool {
+    one.line == other.line
+        && numbers(&one.command) == numbers(&other.command)
+        && payload(&one.command) == payload(&other.command)
+}
+
+/// What kind of command it is, and its numbers.
+fn numbers(command: &Command) -> [u32; 4] {
+    match command {
+        Command::Bind {
+            host,
+            port,
+            sndbuf,
+            rcvbuf,
+        } => [1, place(*host, *port), *sndbuf, *rcvbuf],
+        Command::BindAny {
+            host,
+            port,
+            sndbuf,
+            rcvbuf,
+        } => [2, place(*host, *port), *sndbuf, *rcvbuf],
+        Command::Send {
+            host,
+            port,
+            to,
+            dport,
+            ..
+        } => [3, place(*host, *port), place(*to, *dport), 0],
+        Command::Recv { host, port } => [4, place(*host, *port), 0, 0],
+        Command::Cancel {
+            host,
+            port,
+            to,
+            dport,
+        } => [5, place(*host, *port), place(*to, *dport), 0],
+        Command::Close { host, port } => [6, place(*host, *port), 0, 0],
+        Command::Open { host, to } => [7, place(*host, 0), place(*to, 0), 0],
+        Command::Move { host, to, bytes } => [8, place(*host, 0), place(*to, 0), *bytes],
+        Command::Cut { host, to } => [9, place(*host, 0), place(*to, 0), 0],
+        Command::Drain => [10, 0, 0, 0],
+    }
+}
+
+fn place(host: u8, port: u16) -> u32 {
+    host as u32 * 65536 + port as u32
+}
+
+fn payload(command: &Command) -> &[u8] {
+    match command {
+        Command::Send { payload, .. } => payload.as_slice(),
+        _ => &[],
+    }
+}

@@ -1,5 +1,0 @@
-//! Tests of printed lines.
-#![tactic(auto)]
-
-#[cfg(test)]
-mod lines;

@@ -1,4 +1,0 @@
-pub mod Named
-pub mod Parsed
-pub mod Decimals
-pub mod Generated

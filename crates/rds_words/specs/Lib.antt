@@ -1,4 +1,0 @@
-pub mod Play
-pub mod Run
-pub mod Gen
-pub mod Works
