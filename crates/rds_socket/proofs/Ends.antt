@@ -12,7 +12,7 @@ use Rattle.rds_bindtab.specs.Answers.{ClaimFits, after_claim}
 use Rattle.rds_bindtab.specs.declared.error.BindError.{BindError}
 use Rattle.rds_bindtab.specs.declared.error.BindError.TheVariants.{Reserved, InUse, NoneFree}
 use Rattle.std.proofs.lemmas.List.Elements.{All-nil, All-cons}
-use Rattle.rds_socket.specs.Holding.{Holding, Open, IsHolding, IsVacant, IsOpen, IsEnded, told_of}
+use Rattle.rds_socket.specs.Holding.{Holding, Open, IsHolding, IsVacant, IsOpen, IsEnded, IsSendBuffer, IsReceiveBuffer, most_sent, told_of}
 use Rattle.rds_socket.specs.Calls.{with_routes, IsClosing}
 use Rattle.rds_socket.proofs.Claims.{claims_first, claims_many, claims_slot, claims_port, claims_released}
 use Rattle.rds_socket.proofs.Quiet.{quiet_store, quiet_clear}
@@ -21,7 +21,7 @@ use Rattle.rds_socket.proofs.Kept.{held_on}
 module _ {R : Type 0} where
   -- what is held after steps on both seats
   pub held_at : (old port : Option ℕ) (h : Holding R) (ports : seats.PortSeat) (v : port_view.View) (words : Purse) (w : View) (routes : List (Lane R)) (total : ℕ)
-      → ports ≡ seats.knowing h.ports v → v.slot ≡ h.ports.view.slot → HasClaimedOnly port v → words ≡ purse_with h.words w → IsQuietSeat h.words.slot w → ArePutOf h.words.slot routes → total ≤ 18442240474098958336
+      → ports ≡ seats.knowing h.ports v → v.slot ≡ h.ports.view.slot → HasClaimedOnly port v → words ≡ purse_with h.words w → IsQuietSeat h.words.slot w → ArePutOf h.words.slot routes → total ≤ most_sent
       → IsHolding old h → IsHolding port (record { ports = ports; words = words; inbox = h.inbox; routes = routes; total = total })
   held_at old port h ports v words w routes total at slot claimed is quiet orders most k =
       subst (λ (q : seats.PortSeat). IsHolding port (record { ports = q; words = words; inbox = h.inbox; routes = routes; total = total })) (sym at)
@@ -37,7 +37,7 @@ module _ {R : Type 0} where
 
     -- the claim of the port found 0
     pub bound_open : (p port sndbuf : ℕ) (taken : List ℕ) (ports : seats.PortSeat) → All IsTaken taken → ports ≡ seats.knowing h.ports (seats.after_exchange (after_claims h.ports.view p 0 taken) port 0)
-        → (1 ≤ sndbuf) × (sndbuf ≤ 16777216) → (2 ≤ rcvbuf) × (rcvbuf ≤ 16777216) → IsOpen (record { port = port; sndbuf = sndbuf; rcvbuf = rcvbuf; told = None; own = holding ports })
+        → IsSendBuffer sndbuf → IsReceiveBuffer rcvbuf → IsOpen (record { port = port; sndbuf = sndbuf; rcvbuf = rcvbuf; told = None; own = holding ports })
     bound_open p port sndbuf taken ports all at snd rcv =
         let before : port_view.View = after_claims h.ports.view p 0 taken in
         let v : port_view.View = seats.after_exchange before port 0 in

@@ -6,7 +6,7 @@ use Rattle.rds_socket_parts.specs.Ports.{HasClaimedOnly}
 use Rattle.rds_socket_parts.specs.Words.{Purse, purse_with, IsQuietSeat}
 use Rattle.rds_socket_parts.specs.Boxes.{Box}
 use Rattle.rds_socket_parts.specs.Lanes.{Lane, ArePutOf}
-use Rattle.rds_socket.specs.Holding.{Holding, Open, IsHolding, IsVacant, IsOpen, IsEnded, told_of}
+use Rattle.rds_socket.specs.Holding.{Holding, Open, IsHolding, IsVacant, IsOpen, IsEnded, most_sent, told_of}
 use Rattle.rds_socket.specs.Calls.{with_own}
 
 module _ {R : Type 0} where
@@ -15,12 +15,12 @@ module _ {R : Type 0} where
   moved h words inbox routes total = record { ports = h.ports; words = words; inbox = inbox; routes = routes; total = total }
 
   pub held_on : (port : Option ℕ) (h : Holding R) (words : Purse) (w : View) (inbox : Box) (routes : List (Lane R)) (total : ℕ)
-      → words ≡ purse_with h.words w → IsQuietSeat h.words.slot w → ArePutOf h.words.slot routes → total ≤ 18442240474098958336 → IsHolding port h → IsHolding port (moved h words inbox routes total)
+      → words ≡ purse_with h.words w → IsQuietSeat h.words.slot w → ArePutOf h.words.slot routes → total ≤ most_sent → IsHolding port h → IsHolding port (moved h words inbox routes total)
   held_on port h words w inbox routes total is quiet orders most k =
       subst (λ (p : Purse). IsHolding port (moved h p inbox routes total)) (sym is) (record { slot = k.slot; claimed = k.claimed; quiet = quiet; orders = orders; total = most })
 
   pub open_on : (o : Open R) (words : Purse) (w : View) (inbox : Box) (routes : List (Lane R)) (total : ℕ)
-      → words ≡ purse_with o.own.words w → IsQuietSeat o.own.words.slot w → ArePutOf o.own.words.slot routes → length routes ≡ length o.own.routes → total ≤ 18442240474098958336
+      → words ≡ purse_with o.own.words w → IsQuietSeat o.own.words.slot w → ArePutOf o.own.words.slot routes → length routes ≡ length o.own.routes → total ≤ most_sent
       → IsOpen o → IsOpen (with_own o (moved o.own words inbox routes total))
   open_on o words w inbox routes total is quiet orders same most k = record {
     port = k.port;

@@ -1,18 +1,19 @@
 -- What a send answers, by the numbers that its own steps find. This project's own.
 use Rattle.std.specs.Prelude.{◌≡◌, ◌+◌, ◌-◌, ◌<◌, ◌≤◌, ℕ, min, List, length, true, false, Ok, Err, Result}
+use Rattle.rds_wire.specs.declared.kind.TheConstants.{MAX_LENGTH}
 use Rattle.rds_model.specs.declared.order.Order.{Order}
 use Rattle.rds_model.specs.declared.order.Order.TheVariants as order
 use Rattle.rds_fmap.specs.declared.seen.Seen.{Seen}
 use Rattle.rds_socket_parts.specs.Lanes.{Lane, NoneTo, IsLookTo, IsPutTo}
 use Rattle.rds_socket.specs.declared.error.SendError.{SendError}
 use Rattle.rds_socket.specs.declared.error.SendError.TheVariants.{TooLong, NoRoute, Congested, SendFull, Memory}
-use Rattle.rds_socket.specs.Holding.{Open}
+use Rattle.rds_socket.specs.Holding.{Open, most_sent}
 use Rattle.rds_socket.specs.Calls.{with_own, with_words, with_routes, with_total, after_freed}
 
 module _ {R : Type 0} where
   -- the longest datagram that the socket may send
   abbrev pub limit_of : Open R → ℕ
-  limit_of o = min o.sndbuf 1048576
+  limit_of o = min o.sndbuf MAX_LENGTH
 
   abbrev pub order_of : Open R → ℕ → List ℕ → Order
   order_of o dport payload = order.Send o.own.words.slot o.port dport payload
@@ -24,6 +25,10 @@ module _ {R : Type 0} where
   -- then after a load that found so many bytes freed
   abbrev pub after_freed_load : Open R → List (Lane R) → ℕ → Open R
   after_freed_load o routes freed = with_own o (with_words (with_routes o.own routes) (after_freed o.own.words freed))
+
+  -- so many bytes fit into the send buffer beside those that a load found not freed, and with them the socket has sent no more than it can
+  abbrev pub FitsBuffer : ℕ → Open R → Open R → Type 0
+  FitsBuffer len old new = (freed : ℕ) × (old.own.total - freed + len ≤ old.sndbuf) × (new.own.total + len ≤ most_sent) × (new ≡ after_freed_load old new.own.routes freed)
 
   -- then once so many bytes were put
   abbrev pub after_send : Open R → List (Lane R) → ℕ → ℕ → Open R

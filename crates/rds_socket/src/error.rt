@@ -1,9 +1,10 @@
+//! Why a datagram is refused.
 use thiserror::Error;
 
 /// Why a datagram wasn't sent. After each refusal nothing was sent, and the payload is handed back.
 #[derive(Clone, Copy, Debug, PartialEq, Eq, Error)]
 pub enum SendError {
-    /// The payload is longer than the send buffer, or than 1,048,576 bytes.
+    /// The payload is longer than the send buffer, or than `MAX_LENGTH` of rds_wire.
     #[error("the datagram has {len} bytes, and this socket can send at most {limit}: split it, or bind with a larger send buffer")]
     TooLong { len: u32, limit: u32 },
     /// The peer isn't in the host's list.

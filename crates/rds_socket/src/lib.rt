@@ -1,6 +1,7 @@
 //! Sockets: what a program holds in its hand to bind a port, send and receive datagrams, cancel and close.
 #![tactic(auto)]
 
+mod buffers;
 mod closed;
 mod error;
 mod polling;
@@ -8,6 +9,7 @@ mod sending;
 mod socket;
 mod vacant;
 
+pub use buffers::MAX_BUFFER;
 pub use closed::{Closed, SocketParts};
 pub use error::SendError;
 pub use rds_bindtab::BindError;

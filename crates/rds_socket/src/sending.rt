@@ -1,7 +1,9 @@
 //! How a datagram is sent.
-ghost use Rattle.std.specs.Prelude.{◌≡◌, ◌+◌, ◌-◌, ◌<◌, ◌≤◌, ℕ, length, None, IfOk, IfErr, OnOk, OnErr};
+ghost use Rattle.std.specs.Prelude.{◌≡◌, ◌+◌, ◌<◌, ◌≤◌, length, None, IfOk, IfErr, OnOk, OnErr};
+ghost use Rattle.rds_wire.specs.declared.kind.TheConstants.{MAX_LENGTH};
 ghost use Rattle.rds_socket_parts.specs.Lanes.{LeadsTo, IsPutAt};
-ghost use Rattle.rds_socket.specs.Sends.{SendFits, RefusalFits, FindsPortClear, after_freed_load, order_of, IsSend, IsSendOf};
+ghost use Rattle.rds_socket.specs.Sends.{SendFits, RefusalFits, FindsPortClear, FitsBuffer, order_of, IsSend, IsSendOf};
+ghost use Rattle.rds_socket.specs.Holding.{most_sent};
 ghost use Rattle.rds_socket.specs.Calls.{with_own, with_routes, with_total};
 ghost use Rattle.rds_socket.specs.Stays.{Stays};
 ghost use Rattle.rds_socket.specs.declared.error.SendError.TheVariants as refusal;
@@ -43,7 +45,7 @@ impl<R: MapReader> Socket<R> {
     fn check(&mut self, peer: u32, dport: u16, payload: &Payload) -> Result<usize, SendError>
         ensures clear { IfOk result (λ place. FindsPortClear R.is_look peer dport payload.now self.old self.new.own.routes) }
         ensures place { IfOk result (λ place. LeadsTo self.new.own.routes peer place) }
-        ensures fits { IfOk result (λ place. (freed : ℕ) × (self.old.own.total - freed + length payload.now ≤ self.old.sndbuf) × (self.new.own.total + length payload.now ≤ 18442240474098958336) × (self.new ≡ after_freed_load self.old self.new.own.routes freed)) }
+        ensures fits { IfOk result (λ _. FitsBuffer (length payload.now) self.old self.new) }
         ensures refused { IfErr result (λ e. RefusalFits R.is_look peer dport payload.now self.old e self.new) }
         ensures stays { Stays R.pair R.has_seen self.old self.new }
     {
@@ -79,9 +81,9 @@ impl<R: MapReader> Socket<R> {
         dport: u16,
         payload: Payload,
     ) -> Result<(), (Payload, SendError)>
-        requires len { length payload ≤ 1048576 }
+        requires len { length payload ≤ MAX_LENGTH }
         requires place { place < length self.old.own.routes }
-        requires total { self.old.own.total + length payload ≤ 18442240474098958336 }
+        requires total { self.old.own.total + length payload ≤ most_sent }
         ensures put { OnOk result (IsPutAt place (order_of self.old dport payload) self.old.own.routes self.new.own.routes) }
         ensures counted { OnOk result (self.new ≡ with_own self.old (with_total (with_routes self.old.own self.new.own.routes) (self.old.own.total + length payload))) }
         ensures back { IfErr result (λ r. (r.0 ≡ payload) × (r.1 ≡ refusal.Memory)) }

@@ -12,7 +12,7 @@ ghost use Rattle.rds_socket_parts.specs.Lanes.{Ascend, peers_of, ArePutOf, IsPut
 ghost use Rattle.rds_socket_parts.specs.Refusals.{AskRefused};
 ghost use Rattle.rds_socket.specs.Binds.{BindFits, BindAnyFits};
 ghost use Rattle.rds_socket.specs.Calls.{with_routes};
-ghost use Rattle.rds_socket.specs.Holding.{IsVacant};
+ghost use Rattle.rds_socket.specs.Holding.{IsVacant, IsSendBuffer, IsReceiveBuffer};
 ghost use Rattle.rds_socket.specs.Stays.{HoldingStays};
 
 use crate::closed::Closed;
@@ -100,7 +100,7 @@ impl<R: MapReader> Vacant<R> {
         self.words.slot()
     }
 
-    /// Binds a port, with a send buffer of 1 to 16,777,216 bytes and a receive buffer of 2 to 16,777,216. The slot's receive limit
+    /// Binds a port, with a send buffer of 1 to `MAX_BUFFER` bytes and a receive buffer of 2 to `MAX_BUFFER`. The slot's receive limit
     /// is set first, and stays set where the port is refused.
     ///
     /// # Errors
@@ -112,8 +112,8 @@ impl<R: MapReader> Vacant<R> {
         sndbuf: u32,
         rcvbuf: u32,
     ) -> Result<Socket<R>, (Vacant<R>, BindError)>
-        requires sndbuf { (1 ≤ sndbuf) × (sndbuf ≤ 16777216) }
-        requires rcvbuf { (2 ≤ rcvbuf) × (rcvbuf ≤ 16777216) }
+        requires sndbuf { IsSendBuffer sndbuf }
+        requires rcvbuf { IsReceiveBuffer rcvbuf }
         ensures { BindFits self port sndbuf rcvbuf result }
     {
         let Vacant {
@@ -158,8 +158,8 @@ impl<R: MapReader> Vacant<R> {
         sndbuf: u32,
         rcvbuf: u32,
     ) -> Result<Socket<R>, (Vacant<R>, BindError)>
-        requires sndbuf { (1 ≤ sndbuf) × (sndbuf ≤ 16777216) }
-        requires rcvbuf { (2 ≤ rcvbuf) × (rcvbuf ≤ 16777216) }
+        requires sndbuf { IsSendBuffer sndbuf }
+        requires rcvbuf { IsReceiveBuffer rcvbuf }
         ensures { BindAnyFits self start sndbuf rcvbuf result }
     {
         let Vacant {

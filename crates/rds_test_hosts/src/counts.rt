@@ -13,7 +13,7 @@ use std::sync::Arc;
 const SLOT: u16 = 0;
 
 /// As many bytes as one seat may add to a word.
-const MOST: u64 = 4_503_599_627_370_496;
+const MOST_OF_A_SEAT: u64 = 1 << 52;
 
 /// Counts the bytes that reached a host's socket, and those of its own that the peer has acknowledged.
 pub struct LineCounts {
@@ -37,6 +37,8 @@ impl Drop for LineCounts {
 }
 
 impl LineCounts {
+    ghost use Rattle.rds_test_hosts.specs.declared.counts.TheConstants.{MOST_OF_A_SEAT};
+
     /// A new meter with one slot, the seat that owns it, and the line's counts.
     pub(crate) fn new(alloc: Global) -> Result<(Arc<Meter>, MeterSeat, LineCounts), Memory>
         ensures table { IfOk result (λ r. r.1.table ≡ arc_value r.0) }
@@ -73,8 +75,8 @@ impl LineCounts {
 
     // Whether the seat may add so many bytes.
     fn has_room(&self, bytes: u32) -> bool
-        ensures { result ≡ nat_le (self.now.added + bytes) 4503599627370496 }
+        ensures { result ≡ nat_le (self.now.added + bytes) MOST_OF_A_SEAT }
     {
-        self.added <= MOST - u64::from(bytes)
+        self.added <= MOST_OF_A_SEAT - u64::from(bytes)
     }
 }

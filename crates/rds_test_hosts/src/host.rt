@@ -1,6 +1,7 @@
 //! How a host is made by hand, with one slot and one peer.
-ghost use Rattle.std.specs.Prelude.{◌≡◌, ◌≤◌, ◌∷◌, ℕ, [], None, IfOk};
+ghost use Rattle.std.specs.Prelude.{◌≡◌, ◌∷◌, [], None, IfOk};
 ghost use Rattle.rds_socket_parts.specs.Lanes.{peers_of, ArePutOf};
+ghost use Rattle.rds_socket.specs.Holding.{IsSendBuffer, IsReceiveBuffer};
 
 use crate::line::LineEnd;
 use crate::queues::{Deliverer, Orders};
@@ -51,8 +52,8 @@ impl HandmadeHost {
 
     /// Binds its socket to a port. Where the port is refused, the host is given up.
     pub fn bind(self, port: u16, sndbuf: u32, rcvbuf: u32) -> Result<Bound, BindError>
-        requires sndbuf { (1 ≤ sndbuf) × (sndbuf ≤ 16777216) }
-        requires rcvbuf { (2 ≤ rcvbuf) × (rcvbuf ≤ 16777216) }
+        requires sndbuf { IsSendBuffer sndbuf }
+        requires rcvbuf { IsReceiveBuffer rcvbuf }
         ensures told { IfOk result (λ b. b.socket.told ≡ None) }
         ensures map { IfOk result (λ b. b.map ≡ self.map) }
     {

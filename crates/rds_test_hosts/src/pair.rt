@@ -1,6 +1,7 @@
 //! Two hosts of one slot, put together by hand, with a line of three streams in memory between them: what the tests of lines have.
 ghost use Rattle.std.specs.Prelude.{◌≤◌, All, IfOk, IfSome, length};
 ghost use Rattle.rds_line_channel.specs.Streams.{AreNumbered, IsUnused};
+ghost use Rattle.rds_wire.specs.declared.kind.TheConstants.{MAX_LENGTH};
 
 mod outcome;
 mod seed;
@@ -93,7 +94,7 @@ pub fn hosts<R: Threads + Wait + Net>(
 
 /// A datagram from the host's slot to the peer's port.
 pub fn send<E: End>(rt: &impl Wait, alloc: Global, host: &mut LineHost<E>, bytes: &[u8]) -> bool
-    requires { length bytes.now ≤ 1048576 }
+    requires { length bytes.now ≤ MAX_LENGTH }
 {
     let Ok(payload) = Payload::copy_of(alloc, bytes) else {
         return false;
