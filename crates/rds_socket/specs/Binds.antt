@@ -7,12 +7,13 @@ use Rattle.rds_bindtab.specs.declared.error.BindError.TheVariants.{NoneFree}
 use Rattle.rds_meter.specs.Seats.{after_store}
 use Rattle.rds_socket_parts.specs.Ports.{first_port, SearchFits}
 use Rattle.rds_socket_parts.specs.Words.{purse_with}
-use Rattle.rds_socket.specs.Holding.{Holding, Open}
+use Rattle.rds_socket.specs.Holding.{Holding, Open, parts_held}
 
 module _ {R : Type 0} where
   -- the limit word was set, and then the seat at the port table made its steps
   abbrev pub after_claims_of : Holding R → ℕ → seats.PortSeat → Holding R
-  after_claims_of h rcvbuf ports = record { ports = ports; words = purse_with h.words (after_store h.words.seat.view h.words.slot rcvbuf); inbox = h.inbox; routes = h.routes; total = h.total }
+  after_claims_of h rcvbuf ports =
+      parts_held ports (purse_with h.words (after_store h.words.seat.view h.words.slot rcvbuf)) h.inbox h.routes h.total
 
   -- a socket that was bound just now
   abbrev pub bound : Holding R → ℕ → ℕ → ℕ → seats.PortSeat → Open R

@@ -15,6 +15,10 @@ pub record Holding (R : Type 0) : Type 0 where
   pub routes : List (Lane R)
   pub total : ℕ
 
+-- these, in that order
+abbrev pub parts_held : {R : Type 0} → seats.PortSeat → Purse → Box → List (Lane R) → ℕ → Holding R
+parts_held ports words inbox routes total = record { ports = ports; words = words; inbox = inbox; routes = routes; total = total }
+
 -- a socket: its port and buffers, how many peers were told that it closes, where it is closing, and what it holds
 pub record Open (R : Type 0) : Type 0 where
   pub port : ℕ
@@ -31,8 +35,8 @@ IsSendBuffer bytes = (1 ≤ bytes) × (bytes ≤ MAX_BUFFER)
 abbrev pub IsReceiveBuffer : ℕ → Type 0
 IsReceiveBuffer bytes = (2 ≤ bytes) × (bytes ≤ MAX_BUFFER)
 
--- As many bytes as one socket can ever have sent. Each of the 4,095 seats at a meter adds 2^52 to a word at most, so no more than 4,095 times
--- 2^52 bytes of a slot are ever freed; and what was sent is ahead of what was freed by one send buffer at most.
+-- As many bytes as one socket can ever have sent. Each of the 4,095 seats at a meter adds 2^52 to a word at most, so no more than 4,095
+-- times 2^52 bytes of a slot are ever freed; and what was sent is ahead of what was freed by one send buffer at most.
 abbrev pub most_sent : ℕ
 most_sent = 4095 * 2 ^ 52 + MAX_BUFFER
 

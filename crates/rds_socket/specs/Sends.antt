@@ -28,9 +28,14 @@ module _ {R : Type 0} where
 
   -- so many bytes fit into the send buffer beside those that a load found not freed, and with them the socket has sent no more than it can
   abbrev pub FitsBuffer : ℕ → Open R → Open R → Type 0
-  FitsBuffer len old new = (freed : ℕ) × (old.own.total - freed + len ≤ old.sndbuf) × (new.own.total + len ≤ most_sent) × (new ≡ after_freed_load old new.own.routes freed)
+  FitsBuffer len old new = (freed : ℕ) × (old.own.total - freed + len ≤ old.sndbuf) × (new.own.total + len ≤ most_sent)
+      × (new ≡ after_freed_load old new.own.routes freed)
 
-  -- then once so many bytes were put
+  -- the socket once so many bytes were put, which left these routes
+  abbrev pub after_put : Open R → List (Lane R) → ℕ → Open R
+  after_put o routes len = with_own o (with_total (with_routes o.own routes) (o.own.total + len))
+
+  -- the socket once a look and a load were made and then so many bytes were put
   abbrev pub after_send : Open R → List (Lane R) → ℕ → ℕ → Open R
   after_send o routes freed len = with_own o (with_total (with_words (with_routes o.own routes) (after_freed o.own.words freed)) (o.own.total + len))
 
@@ -49,7 +54,8 @@ module _ {R : Type 0} where
         × IsLookTo looks peer dport (record { version = version; set = true }) old.own.routes new.own.routes × (new ≡ after_route_look old new.own.routes)
     RefusalFits old (SendFull queued len limit) new = FindsPortClear old new.own.routes × ((freed : ℕ) × (queued ≡ old.own.total - freed)
         × (len ≡ length payload) × (limit ≡ old.sndbuf) × (limit < queued + len) × (new ≡ after_freed_load old new.own.routes freed))
-    RefusalFits old Memory new = FindsPortClear old new.own.routes × ((freed : ℕ) × (old.own.total - freed + length payload ≤ old.sndbuf) × (new ≡ after_freed_load old new.own.routes freed))
+    RefusalFits old Memory new = FindsPortClear old new.own.routes × ((freed : ℕ) × (old.own.total - freed + length payload ≤ old.sndbuf)
+        × (new ≡ after_freed_load old new.own.routes freed))
 
     -- it was found short enough, clear and within the send buffer, and was put
     abbrev pub IsSent : Open R → Open R → Type 0

@@ -2,14 +2,12 @@
 ghost use Rattle.std.specs.Prelude.{◌≡◌, ◌<◌, ℕ, length, Option, IfErr, IfSome, IfNone, OnOk, OnErr};
 ghost use Rattle.std.specs.Arc.{arc_value};
 ghost use Rattle.rds_mail.specs.Learning.{AllGot};
-ghost use Rattle.rds_mail.specs.Numbers.{Number};
-ghost use Rattle.rds_mail.specs.Passes.{after_note};
 ghost use Rattle.rds_model.specs.declared.order.Order.TheVariants as order;
 ghost use Rattle.rds_socket_parts.specs.Lanes.{IsLaneAt, Lane, IsPutTo, ArePutOf};
 ghost use Rattle.rds_socket_parts.specs.Ports.{HasClaimedOnly};
 ghost use Rattle.rds_socket_parts.specs.Refusals.{AskRefused};
 ghost use Rattle.rds_socket_parts.specs.Words.{IsQuietSeat};
-ghost use Rattle.rds_socket.specs.Calls.{with_inbox, with_routes, after_taking_out};
+ghost use Rattle.rds_socket.specs.Calls.{with_inbox, with_routes, after_hearing, IsTakenOut};
 ghost use Rattle.rds_socket.specs.Stays.{HoldingStays};
 ghost use Rattle.rds_socket.specs.Holding.{IsEnded};
 
@@ -23,7 +21,7 @@ use std::marker::Model;
 use std::sync::{Arc, Wait};
 
 /// A slot whose socket was closed or finished, or that never had one. What is left in its mailbox can be taken out.
-/// Contracts see what they see of a socket, but its port and buffers.
+/// Contracts see what they see of a socket, but for its port and buffers.
 pub struct Closed<R: MapReader> {
     pub(crate) ports: Ports,
     pub(crate) words: Words,
@@ -46,13 +44,13 @@ impl<R: MapReader> Drop for Closed<R> {
 }
 
 impl<R: MapReader> Model for Closed<R> {
-    ghost use Rattle.rds_socket.specs.Holding.{Holding, IsEnded};
+    ghost use Rattle.rds_socket.specs.Holding.{Holding, IsEnded, parts_held};
 
     ghost Value = { Holding R };
 
-    ghost view = { λ c. record { ports = c.ports; words = c.words; inbox = c.inbox; routes = c.routes; total = c.total } };
+    ghost view = { λ c. parts_held c.ports c.words c.inbox c.routes c.total };
 
-    ghost invariant = { λ c. IsEnded (record { ports = c.ports; words = c.words; inbox = c.inbox; routes = c.routes; total = c.total }) };
+    ghost invariant = { λ c. IsEnded (parts_held c.ports c.words c.inbox c.routes c.total) };
 }
 
 /// What a slot was made from.
@@ -70,7 +68,7 @@ pub struct SocketParts<R: MapReader> {
 impl<R: MapReader> Closed<R> {
     /// Takes the first datagram of the mailbox. `None` where its own step found the mailbox empty.
     pub fn unread<W: Wait>(&mut self, rt: &W) -> Option<Datagram>
-        ensures got { IfSome result (λ item. (number : Number) × (self.new ≡ with_inbox self.old (after_taking_out self.old.inbox number item))) }
+        ensures got { IfSome result (λ item. IsTakenOut item self.old self.new) }
         ensures same { IfNone result (self.new ≡ self.old) }
         ensures empty { IfNone result (AllGot self.old.inbox.get) }
         ensures stays { HoldingStays R.pair R.has_seen self.old self.new }
@@ -105,7 +103,7 @@ impl<R: MapReader> Closed<R> {
     /// The mailbox is told of what one of its putters had put.
     pub fn hear(&mut self, note: Note<Datagram>)
         requires { note.mail ≡ self.old.inbox.get.mail }
-        ensures told { self.new ≡ with_inbox self.old (record self.old.inbox { get = after_note self.old.inbox.get note }) }
+        ensures told { self.new ≡ with_inbox self.old (after_hearing self.old.inbox note) }
         ensures stays { HoldingStays R.pair R.has_seen self.old self.new }
     {
         self.inbox.hear(note);

@@ -2,9 +2,8 @@
 ghost use Rattle.std.specs.Prelude.{◌≡◌, ◌+◌, ◌<◌, ◌≤◌, length, None, IfOk, IfErr, OnOk, OnErr};
 ghost use Rattle.rds_wire.specs.declared.kind.TheConstants.{MAX_LENGTH};
 ghost use Rattle.rds_socket_parts.specs.Lanes.{LeadsTo, IsPutAt};
-ghost use Rattle.rds_socket.specs.Sends.{SendFits, RefusalFits, FindsPortClear, FitsBuffer, order_of, IsSend, IsSendOf};
+ghost use Rattle.rds_socket.specs.Sends.{SendFits, RefusalFits, FindsPortClear, FitsBuffer, after_put, order_of, IsSend, IsSendOf};
 ghost use Rattle.rds_socket.specs.Holding.{most_sent};
-ghost use Rattle.rds_socket.specs.Calls.{with_own, with_routes, with_total};
 ghost use Rattle.rds_socket.specs.Stays.{Stays};
 ghost use Rattle.rds_socket.specs.declared.error.SendError.TheVariants as refusal;
 
@@ -85,7 +84,7 @@ impl<R: MapReader> Socket<R> {
         requires place { place < length self.old.own.routes }
         requires total { self.old.own.total + length payload ≤ most_sent }
         ensures put { OnOk result (IsPutAt place (order_of self.old dport payload) self.old.own.routes self.new.own.routes) }
-        ensures counted { OnOk result (self.new ≡ with_own self.old (with_total (with_routes self.old.own self.new.own.routes) (self.old.own.total + length payload))) }
+        ensures counted { OnOk result (self.new ≡ after_put self.old self.new.own.routes (length payload)) }
         ensures back { IfErr result (λ r. (r.0 ≡ payload) × (r.1 ≡ refusal.Memory)) }
         ensures same { OnErr result (self.new ≡ self.old) }
         ensures stays { Stays R.pair R.has_seen self.old self.new }

@@ -1,11 +1,10 @@
 //! A socket, how it is closed, and its smaller calls.
-ghost use Rattle.std.specs.Prelude.{◌≡◌, ◌<◌, ◌≤◌, ◌-◌, ℕ, nat_lt, length, is_some, None, IfOk, IfErr, OnOk, OnErr};
+ghost use Rattle.std.specs.Prelude.{◌≡◌, ◌<◌, length, is_some, None, IfOk, IfErr, OnOk, OnErr};
 ghost use Rattle.rds_bindtab.specs.Seats.{knowing, note_of};
-ghost use Rattle.rds_mail.specs.Passes.{after_note};
 ghost use Rattle.rds_model.specs.declared.order.Order.TheVariants as order;
 ghost use Rattle.rds_socket_parts.specs.Lanes.{IsLaneAt, Lane, NoneTo, IsPutTo, IsLookTo, RoutesStay};
 ghost use Rattle.rds_socket_parts.specs.Refusals.{AskRefused};
-ghost use Rattle.rds_socket.specs.Calls.{with_own, with_words, with_inbox, with_routes, after_freed, IsClosed, IsClosing};
+ghost use Rattle.rds_socket.specs.Calls.{with_own, with_inbox, with_routes, after_hearing, FindsRoom, IsClosed, IsClosing};
 ghost use Rattle.rds_socket.specs.Holding.{IsOpen};
 ghost use Rattle.rds_socket.specs.Stays.{Stays};
 
@@ -53,13 +52,25 @@ impl<R: MapReader> Drop for Socket<R> {
 }
 
 impl<R: MapReader> Model for Socket<R> {
-    ghost use Rattle.rds_socket.specs.Holding.{Open, IsOpen};
+    ghost use Rattle.rds_socket.specs.Holding.{Open, IsOpen, parts_held};
 
     ghost Value = { Open R };
 
-    ghost view = { λ s. record { port = s.port; sndbuf = s.sndbuf; rcvbuf = s.rcvbuf; told = s.told; own = record { ports = s.ports; words = s.words; inbox = s.inbox; routes = s.routes; total = s.total } } };
+    ghost view = { λ s. record {
+      port = s.port;
+      sndbuf = s.sndbuf;
+      rcvbuf = s.rcvbuf;
+      told = s.told;
+      own = parts_held s.ports s.words s.inbox s.routes s.total;
+    } };
 
-    ghost invariant = { λ s. IsOpen (record { port = s.port; sndbuf = s.sndbuf; rcvbuf = s.rcvbuf; told = s.told; own = record { ports = s.ports; words = s.words; inbox = s.inbox; routes = s.routes; total = s.total } }) };
+    ghost invariant = { λ s. IsOpen (record {
+      port = s.port;
+      sndbuf = s.sndbuf;
+      rcvbuf = s.rcvbuf;
+      told = s.told;
+      own = parts_held s.ports s.words s.inbox s.routes s.total;
+    }) };
 }
 
 impl<R: MapReader> Socket<R> {
@@ -126,7 +137,7 @@ impl<R: MapReader> Socket<R> {
 
     /// Whether fewer bytes than the send buffer holds are sent and not yet freed.
     pub fn writable(&mut self) -> bool
-        ensures answer { (freed : ℕ) × (result ≡ nat_lt (self.old.own.total - freed) self.old.sndbuf) × (self.new ≡ with_own self.old (with_words self.old.own (after_freed self.old.own.words freed))) }
+        ensures answer { FindsRoom self.old result self.new }
         ensures stays { Stays R.pair R.has_seen self.old self.new }
     {
         let freed = self.words.freed();
@@ -233,7 +244,7 @@ impl<R: MapReader> Socket<R> {
     /// The mailbox is told of what one of its putters had put.
     pub fn hear(&mut self, note: Note<Datagram>)
         requires { note.mail ≡ self.old.own.inbox.get.mail }
-        ensures told { self.new ≡ with_own self.old (with_inbox self.old.own (record self.old.own.inbox { get = after_note self.old.own.inbox.get note })) }
+        ensures told { self.new ≡ with_own self.old (with_inbox self.old.own (after_hearing self.old.own.inbox note)) }
         ensures stays { Stays R.pair R.has_seen self.old self.new }
     {
         self.inbox.hear(note);

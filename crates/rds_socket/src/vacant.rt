@@ -47,13 +47,13 @@ impl<R: MapReader> Drop for Vacant<R> {
 }
 
 impl<R: MapReader> Model for Vacant<R> {
-    ghost use Rattle.rds_socket.specs.Holding.{Holding, IsVacant};
+    ghost use Rattle.rds_socket.specs.Holding.{Holding, IsVacant, parts_held};
 
     ghost Value = { Holding R };
 
-    ghost view = { λ v. record { ports = v.ports; words = v.words; inbox = v.inbox; routes = v.routes; total = 0 } };
+    ghost view = { λ v. parts_held v.ports v.words v.inbox v.routes 0 };
 
-    ghost invariant = { λ v. IsVacant (record { ports = v.ports; words = v.words; inbox = v.inbox; routes = v.routes; total = 0 }) };
+    ghost invariant = { λ v. IsVacant (parts_held v.ports v.words v.inbox v.routes 0) };
 }
 
 impl<R: MapReader> Vacant<R> {
