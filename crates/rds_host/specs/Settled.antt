@@ -7,7 +7,7 @@ use Rattle.rds_fmap.specs.Readers.{ReaderView, WriterView}
 use Rattle.rds_socket.specs.Calls.{with_inbox, with_own}
 use Rattle.rds_socket.specs.Holding.{Holding, Open}
 use Rattle.rds_line.specs.Line.{LineView}
-use Rattle.rds_host.specs.Telling.{AreBoxesTold, AreOrdersTold}
+use Rattle.rds_host.specs.Telling.{AreAllBoxesTold, AreAllOrdersTold}
 use Rattle.rds_host.specs.Ties.{AreOfHost}
 
 module _ {R : Type 0} where
@@ -62,5 +62,5 @@ module _ {E : Type 0} where
   pub record AreSettled (ports : List Telling) (slots after : List (Holding ReaderView)) (lines told : List (LineView E WriterView)) : Type 0 where
     pub slots_stay : AreSlotsToldMore slots after
     pub lines_stay : AreLinesToldMore ports lines told
-    pub orders : (place : ℕ) (line : LineView E WriterView) → slice_get told place ≡ Some line → AreOrdersTold after place line
-    pub boxes : (slot : ℕ) (h : Holding ReaderView) → slice_get after slot ≡ Some h → AreBoxesTold h told
+    pub orders : AreAllOrdersTold after told
+    pub boxes : AreAllBoxesTold after told

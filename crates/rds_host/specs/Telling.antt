@@ -33,6 +33,14 @@ module _ {R E M : Type 0} where
   AreBoxesTold h lines = (place : ℕ) (line : LineView E M) (box : Putter Datagram) → slice_get lines place ≡ Some line → IsBoxOf line.boxes h.words.slot box →
       IsTold h.inbox.get.told box
 
+  -- each line was told of all orders that each slot has put for it
+  abbrev pub AreAllOrdersTold : List (Holding R) → List (LineView E M) → Type 0
+  AreAllOrdersTold slots lines = (place : ℕ) (line : LineView E M) → slice_get lines place ≡ Some line → AreOrdersTold slots place line
+
+  -- each slot was told of all datagrams that each line has put into its mailbox
+  abbrev pub AreAllBoxesTold : List (Holding R) → List (LineView E M) → Type 0
+  AreAllBoxesTold slots lines = (slot : ℕ) (h : Holding R) → slice_get slots slot ≡ Some h → AreBoxesTold h lines
+
   -- the seat of each line at the port table was told of the port of each of these slots
   abbrev pub ArePortsTold : List (Holding R) → List (LineView E M) → Type 0
   ArePortsTold slots lines = (slot place : ℕ) (h : Holding R) (line : LineView E M) → slice_get slots slot ≡ Some h → slice_get lines place ≡ Some line →

@@ -10,7 +10,7 @@ ghost use Rattle.rds_host.specs.Ties.{AreOfHost};
 
 use rds_link::End;
 
-/// Slots and lines of one host stay so while each is kept, and so do the putters of their queues.
+/// Slots and lines that are of one host still are once each of them was kept, and the putters of their queues are still all there are.
 pub fn host_keeps<E: End>()
     ensures host { (slots ended : List (Holding ReaderView)) (lines after : List (LineView E WriterView)) →
         AreOfHost slots lines → SlotsKeep slots ended → LinesKeep lines after → AreOfHost ended after }
@@ -18,7 +18,7 @@ pub fn host_keeps<E: End>()
         AreAllPasses slots lines → SlotsKeep slots ended → LinesKeep lines after → AreAllPasses ended after }
 {}
 
-/// Lines that turned are kept.
+/// Lines that only turned were kept.
 pub fn turned_keeps<E: End>()
     ensures { (old new : List (LineView E WriterView)) → AreTurned E.means pair_of old new → LinesKeep old new }
 {}
@@ -29,7 +29,7 @@ pub fn slots_keep()
     ensures through { (old middle new : List (Holding ReaderView)) → SlotsKeep old middle → SlotsKeep middle new → SlotsKeep old new }
 {}
 
-/// And so are lines.
+/// Lines are kept where nothing is done, and where they were kept twice.
 pub fn lines_keep<E: End>()
     ensures same { (lines : List (LineView E WriterView)) → LinesKeep lines lines }
     ensures through { (old middle new : List (LineView E WriterView)) → LinesKeep old middle → LinesKeep middle new → LinesKeep old new }

@@ -3,6 +3,7 @@
 #![tactic(auto)]
 
 mod column;
+mod host_lines;
 pub mod laws;
 mod making;
 mod resting;

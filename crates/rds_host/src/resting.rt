@@ -1,4 +1,4 @@
-//! How a worker rests while none of its lines has anything to do.
+//! How a worker rests, and where it sleeps, while none of its lines has anything to do.
 use crate::stop::Stop;
 use rds_fmap::Writer;
 use rds_line::Line;
@@ -6,35 +6,39 @@ use rds_link::End;
 use std::sync::Wait;
 use std::time::Duration;
 
-/// In so many idle rounds in a row the lines of a worker rest. After them it sleeps.
-const AWAKE: u32 = 32;
+/// After how many idle rounds in a row a worker sleeps. In the rounds before, its lines only rest.
+const ROUNDS_AWAKE: u32 = 32;
 
-/// In so many they do, once it is told to stop and has nothing left to do.
-const SOON: u32 = 2;
+/// After how many idle rounds since it was told to stop a worker that has nothing left to do sleeps.
+const ROUNDS_AWAKE_AT_STOP: u32 = 2;
 
-/// After so many it stops then, once no other worker has anything to do.
-const ENOUGH: u32 = 2;
+/// After how many idle rounds since it was told to stop a worker that has nothing left to do may stop.
+const ROUNDS_BEFORE_STOP: u32 = 2;
 
-/// After so many since it was told to stop it has nothing left to do, though a line has bytes to write: nobody reads them.
-const PATIENT: u32 = 96;
+/// After how many idle rounds since it was told to stop a worker has nothing left to do even where a line has bytes to write: nobody
+/// reads them.
+const ROUNDS_FOR_READERS: u32 = 96;
 
-/// How many microseconds it sleeps at first.
-const FIRST: u64 = 50;
+/// For how many microseconds a worker sleeps the first time.
+const FIRST_SLEEP: u64 = 50;
 
-/// How many it sleeps at most. Only that it is to stop wakes it, so this is how late it may see an order.
-const LONGEST: u64 = 50_000;
+/// For how many microseconds a worker sleeps at most. Nothing but the stop flag wakes it, so this is how late it may see an order.
+const LONGEST_SLEEP: u64 = 50_000;
 
-/// How many it sleeps at most, once it is told to stop.
-const SHORT: u64 = 100;
+/// For how many microseconds a worker sleeps at most once it is told to stop.
+const LONGEST_SLEEP_AT_STOP: u64 = 100;
 
-/// How many idle rounds in a row a worker has had, how many of them since it was told to stop, whether the flag counts it as one that has
-/// nothing to do, and how long it sleeps next.
+/// For how long a worker has been idle.
 #[derive(Drop)]
 pub(crate) struct Idle {
+    // How many idle rounds in a row it has had.
     rounds: u32,
-    told: u32,
+    // How many of these came since it was told to stop.
+    rounds_told: u32,
+    // Whether the stop flag counts it as a worker that has nothing to do.
     is_done: bool,
-    next: u64,
+    // For how many microseconds it sleeps next.
+    next_sleep: u64,
 }
 
 impl Idle {
@@ -42,57 +46,62 @@ impl Idle {
     pub(crate) fn new() -> Idle {
         Idle {
             rounds: 0,
-            told: 0,
+            rounds_told: 0,
             is_done: false,
-            next: FIRST,
+            next_sleep: FIRST_SLEEP,
         }
     }
 
     /// Whether the worker has been idle for so long that it may stop.
-    pub(crate) fn is_long(&self) -> bool {
-        self.is_done && self.told >= ENOUGH
+    pub(crate) fn may_stop(&self) -> bool {
+        self.is_done && self.rounds_told >= ROUNDS_BEFORE_STOP
     }
 
-    // A line moved. Where the worker had nothing to do, it has again.
-    fn end(&mut self, stop: &Stop) {
+    // Begins anew, since a line moved. Where the worker had nothing to do, it has again.
+    fn restart(&mut self, stop: &Stop) {
         if self.is_done {
             stop.begin();
         }
         *self = Idle::new();
     }
 
-    // One idle round more. With the first since it was told to stop the worker has nothing to do, unless a line has bytes to write.
-    fn add(&mut self, stop: &Stop, is_told: bool, is_written: bool) {
+    // Counts one idle round more. With the first since the worker was told to stop it has nothing left to do, unless a line has bytes to
+    // write.
+    fn add_round(&mut self, stop: &Stop, is_told: bool, is_written: bool) {
         self.rounds = self.rounds.saturating_add(1);
         if !is_told {
             return;
         }
-        self.told = self.told.saturating_add(1);
-        if !self.is_done && (is_written || self.told > PATIENT) {
+        self.rounds_told = self.rounds_told.saturating_add(1);
+        if !self.is_done && (is_written || self.rounds_told > ROUNDS_FOR_READERS) {
             stop.pause();
             self.is_done = true;
         }
     }
 
-    // Whether there were so many that the worker sleeps.
-    fn are_many(&self) -> bool {
+    // Whether there were so many idle rounds that the worker sleeps.
+    fn is_sleepy(&self) -> bool {
         if self.is_done {
-            self.told > SOON
+            self.rounds_told > ROUNDS_AWAKE_AT_STOP
         } else {
-            self.rounds > AWAKE
+            self.rounds > ROUNDS_AWAKE
         }
     }
 
-    // Sleeps, each time twice as long.
+    // The worker sleeps, each time twice as long.
     fn sleep<R: Wait>(&mut self, rt: &R, stop: &Stop, is_told: bool) {
-        let longest = if is_told { SHORT } else { LONGEST };
-        let time = self.next.min(longest);
+        let longest = if is_told {
+            LONGEST_SLEEP_AT_STOP
+        } else {
+            LONGEST_SLEEP
+        };
+        let time = self.next_sleep.min(longest);
         stop.sleep(rt, is_told, Duration::from_micros(time));
-        self.next = time.saturating_mul(2);
+        self.next_sleep = time.saturating_mul(2);
     }
 }
 
-/// Rests after a round, unless a line moved in it: each line rests, or after many such rounds the worker sleeps.
+/// What a worker does after a round in which no line moved: each line rests, or after many such rounds the worker sleeps.
 pub(crate) fn rest<E: End, R: Wait>(
     rt: &R,
     lines: &[Line<E, Writer>],
@@ -102,11 +111,11 @@ pub(crate) fn rest<E: End, R: Wait>(
     idle: &mut Idle,
 ) {
     if moved {
-        idle.end(stop);
+        idle.restart(stop);
         return;
     }
-    idle.add(stop, is_told, are_written(lines));
-    if idle.are_many() {
+    idle.add_round(stop, is_told, are_written(lines));
+    if idle.is_sleepy() {
         idle.sleep(rt, stop, is_told);
         return;
     }

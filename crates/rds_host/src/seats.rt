@@ -19,8 +19,8 @@ use rds_wire::Memory;
 use std::alloc::Global;
 use std::sync::Arc;
 
-/// A seat at the port table and one at the meter, beside the tables. They have no slot. They are a line's, or those that all
-/// others are split off.
+/// A seat at the port table and one at the meter, beside the two tables. Neither seat has a slot: both are a line's, or those that all
+/// other seats are split off.
 pub(crate) struct Seats {
     table: Arc<BindTable>,
     seat: BindSeat,

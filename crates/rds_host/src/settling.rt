@@ -1,12 +1,9 @@
 //! What the slots and the lines of a host are told of each other while its lines do not turn: before they turn, and once its sockets have
 //! ended.
-ghost use Rattle.std.specs.Prelude.{◌≡◌, ◌<◌, ◌∷◌, ℕ, [], All, Some, length, map, slice_get};
-ghost use Rattle.rds_fmap.specs.Readers.{ReaderView, WriterView};
-ghost use Rattle.rds_socket.specs.Holding.{Holding};
-ghost use Rattle.rds_line.specs.Line.{LineView};
+ghost use Rattle.std.specs.Prelude.{◌≡◌, ◌<◌, ◌∷◌, [], All, length, map};
 ghost use Rattle.rds_host.specs.Keeping.{LinesKeep, SlotsKeep};
 ghost use Rattle.rds_host.specs.Settled.{AreLinesToldMore, AreSameSockets, AreSettled, AreSlotsToldMore, CanTell, IsSameSocket, knowing_ports, ports_of};
-ghost use Rattle.rds_host.specs.Telling.{AreBoxesTold, AreOrdersTold, ArePortsTold, slots_of};
+ghost use Rattle.rds_host.specs.Telling.{AreAllBoxesTold, AreAllOrdersTold, ArePortsTold, slots_of};
 ghost use Rattle.rds_host.specs.Ties.{AreOfHost};
 
 use rds_fmap::{Reader, Writer};
@@ -27,8 +24,8 @@ pub fn settle<E: End>(
     requires host { AreOfHost (slots_of sockets.old closed.old) lines.old }
     requires routes { All (λ h. length h.routes ≡ length lines.old) (slots_of sockets.old closed.old) }
     requires boxes { All (λ h. All (λ line. h.words.slot < length line.boxes) lines.old) (slots_of sockets.old closed.old) }
-    ensures orders { (place : ℕ) (line : LineView E WriterView) → slice_get lines.new place ≡ Some line → AreOrdersTold (slots_of sockets.new closed.new) place line }
-    ensures boxes { (slot : ℕ) (h : Holding ReaderView) → slice_get (slots_of sockets.new closed.new) slot ≡ Some h → AreBoxesTold h lines.new }
+    ensures orders { AreAllOrdersTold (slots_of sockets.new closed.new) lines.new }
+    ensures boxes { AreAllBoxesTold (slots_of sockets.new closed.new) lines.new }
     ensures ports { ArePortsTold (map (λ s. s.own) sockets.new) lines.new }
     ensures slots { AreSlotsToldMore (slots_of sockets.old closed.old) (slots_of sockets.new closed.new) }
     ensures slots_keep { SlotsKeep (slots_of sockets.old closed.old) (slots_of sockets.new closed.new) }
@@ -67,6 +64,7 @@ fn settle_closed<E: End>(
     }
 }
 
+// Tells a socket and each line of each other: the line of the orders and the port, the socket of the datagrams in its mailbox.
 fn settle_socket<E: End>(socket: &mut Socket<Reader>, lines: &mut [Line<E, Writer>])
     requires { CanTell (socket.old.own ∷ []) lines.old }
     ensures told { AreSettled (ports_of (socket.old ∷ [])) (socket.old.own ∷ []) (socket.new.own ∷ []) lines.old lines.new }
@@ -92,6 +90,7 @@ fn tell_port<E: End>(socket: &mut Socket<Reader>, line: &mut Line<E, Writer>)
     line.hear_port(socket.port_note());
 }
 
+// Tells a slot that has ended and each line of each other: the line of the orders, the slot of the datagrams in its mailbox.
 fn settle_slot<E: End>(slot: u16, closed: &mut Closed<Reader>, lines: &mut [Line<E, Writer>])
     requires number { slot ≡ closed.old.words.slot }
     requires tell { CanTell (closed.old ∷ []) lines.old }

@@ -1,13 +1,15 @@
+//! The flag that tells the workers of lines to stop, on which they also sleep.
 use std::sync::Wait;
 use std::sync::atomic::{AtomicU64, AtomicUsize, Ordering};
 use std::time::Duration;
 
-/// A flag that tells workers to stop, and how many of those that have begun have something to do, or haven't seen it. No clause rests on
-/// either: a worker that sees the flag late, or stops early, turns its lines more or less often.
+/// A flag that tells workers to stop, and how many of the workers that have begun have something to do, or haven't seen the flag. No
+/// clause rests on either: a worker that sees the flag late, or stops early, turns its lines more or less often.
 #[derive(Drop)]
 pub struct Stop {
     // 1 once it is set, and 0 before.
     flag: AtomicU64,
+    // How many workers have something to do, or haven't seen the flag.
     busy: AtomicUsize,
 }
 
@@ -26,12 +28,12 @@ impl Stop {
         self.flag.wake_all();
     }
 
-    /// Whether it is set.
+    /// Whether the flag is set.
     pub fn is_set(&self) -> bool {
         self.flag.load(Ordering::SeqCst) == 1
     }
 
-    /// Sleeps for so long at most, where the flag is as it was seen. It ends once the flag is set.
+    /// A worker sleeps here: for so long at most, and only where the flag is as the worker saw it. The sleep ends once the flag is set.
     pub(crate) fn sleep<R: Wait>(&self, rt: &R, was_set: bool, time: Duration) {
         self.flag.park_timeout(rt, u32::from(was_set), time);
     }
@@ -41,14 +43,15 @@ impl Stop {
         self.busy.fetch_add(1, Ordering::SeqCst);
     }
 
-    /// One worker fewer has, and it has seen that the flag is set. Where it was the last one, those that sleep wake: they may stop.
+    /// One worker fewer has something to do, and it has seen that the flag is set. Where it was the last one, the workers that sleep wake,
+    /// since they may stop.
     pub(crate) fn pause(&self) {
         if self.busy.fetch_sub(1, Ordering::SeqCst) == 1 {
             self.flag.wake_all();
         }
     }
 
-    /// Whether none has.
+    /// Whether no worker has anything to do.
     pub(crate) fn is_quiet(&self) -> bool {
         self.busy.load(Ordering::SeqCst) == 0
     }

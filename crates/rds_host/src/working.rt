@@ -9,8 +9,8 @@ use rds_link::End;
 use std::sync::Wait;
 
 /// Turns each line in order, round after round, until the stop flag is set, no line moved for a while, and before the last round every
-/// worker with this flag had found nothing to do: one that finds something may have bytes for these lines yet. After a round in which
-/// none moved it rests. The lines come back in the same order.
+/// worker with this flag had found nothing to do: a worker that still finds something may have bytes for these lines yet. After a round
+/// in which no line moved this worker rests. The lines come back in the same order.
 pub fn work<E: End, R: Wait>(
     rt: &R,
     mut lines: Vec<Line<E, Writer>>,
@@ -24,7 +24,7 @@ pub fn work<E: End, R: Wait>(
         let is_told = stop.is_set();
         let others_rest = stop.is_quiet();
         let moved = turn_all(rt, &mut lines);
-        if !moved && is_told && others_rest && idle.is_long() {
+        if !moved && is_told && others_rest && idle.may_stop() {
             break;
         }
         rest(rt, &lines, moved, stop, is_told, &mut idle);

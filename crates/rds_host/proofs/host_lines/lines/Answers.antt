@@ -10,7 +10,7 @@ use Rattle.rds_line_channel.specs.Streams.{AreNumbered, IsUnused}
 use Rattle.rds_host.specs.Ties.{ColumnView, AreLinesOf}
 use Rattle.rds_host.proofs.Columns.{pushed_here}
 use Rattle.rds_host.proofs.ColumnLines.{line_at, lines_among, lines_push}
-use Rattle.rds_host.proofs.making.lines.Goals as goal
+use Rattle.rds_host.proofs.host_lines.lines.Goals as goal
 
 pub first_lines-requires-clause-unused : goal.first_lines-requires-clause-unused
 first_lines-requires-clause-unused g c =

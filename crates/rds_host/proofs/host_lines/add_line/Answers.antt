@@ -5,7 +5,7 @@ use Rattle.rds_meter.specs.Seats.{MeterSeat}
 use Rattle.rds_fmap.specs.Readers.{WriterView}
 use Rattle.rds_line.specs.Line.{LineView}
 use Rattle.rds_host.specs.Passes.{line_seats}
-use Rattle.rds_host.proofs.making.add_line.Goals as goal
+use Rattle.rds_host.proofs.host_lines.add_line.Goals as goal
 
 pub returns-clause-line : goal.returns-clause-line
 returns-clause-line g c =

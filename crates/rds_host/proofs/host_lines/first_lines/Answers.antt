@@ -11,7 +11,7 @@ use Rattle.rds_line_channel.specs.Streams.{AreNumbered, IsUnused}
 use Rattle.rds_host.specs.Ties.{ColumnView, AreLinesOf}
 use Rattle.rds_host.proofs.Pushing.{counted_on, next_of, one_left, push_one}
 use Rattle.rds_host.proofs.ColumnLines.{line_at, lines_push}
-use Rattle.rds_host.proofs.making.first_lines.Goals as goal
+use Rattle.rds_host.proofs.host_lines.first_lines.Goals as goal
 
 pub add_line-requires-clause-boxes : goal.add_line-requires-clause-boxes
 add_line-requires-clause-boxes g c =

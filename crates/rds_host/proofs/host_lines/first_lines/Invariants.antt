@@ -4,7 +4,7 @@ use Rattle.rds_line_channel.specs.Streams.{AreNumbered, IsUnused}
 use Rattle.rds_meter.specs.Grounds.{seats_of}
 use Rattle.rds_host.specs.Passes.{line_seats}
 use Rattle.rds_host.specs.Ties.{AreLinesOf}
-use Rattle.rds_host.proofs.making.first_lines.Given as goal
+use Rattle.rds_host.proofs.host_lines.first_lines.Given as goal
 
 abbrev pub invariant-loop-column : goal.invariant-loop-column
 invariant-loop-column g l =
