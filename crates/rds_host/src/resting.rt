@@ -53,7 +53,7 @@ impl Idle {
     }
 
     /// Whether the worker has been idle for so long that it may stop.
-    pub(crate) fn may_stop(&self) -> bool {
+    pub(crate) fn is_long(&self) -> bool {
         self.is_done && self.rounds_told >= ROUNDS_BEFORE_STOP
     }
 

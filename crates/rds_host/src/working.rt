@@ -24,7 +24,7 @@ pub fn work<E: End, R: Wait>(
         let is_told = stop.is_set();
         let others_rest = stop.is_quiet();
         let moved = turn_all(rt, &mut lines);
-        if !moved && is_told && others_rest && idle.may_stop() {
+        if !moved && is_told && others_rest && idle.is_long() {
             break;
         }
         rest(rt, &lines, moved, stop, is_told, &mut idle);
