@@ -57,3 +57,7 @@ module _ {E M : Type 0} where
   -- where the line notes that, the host's own map as it read that last is the one that was pulled last on the open stream
   abbrev pub IsPulled : Bool → LineView E M → Type 0
   IsPulled pulled v = pulled ≡ true → (s : ℕ) → stream_of v.channel.conn ≡ Some s → last_map s (line_past v) ≡ Some v.own.map
+
+  -- what is so of a line at all times
+  abbrev pub IsKept : (M → List (List ℕ)) → Bool → LineView E M → Type 0
+  IsKept published pulled v = KeepsLine published v × IsPulled pulled v

@@ -9,6 +9,7 @@ use Rattle.rds_bindtab.specs.Seats.{PortSeat}
 use Rattle.rds_meter.specs.Seats.{MeterSeat}
 use Rattle.rds_line_parts.specs.Own.{Own}
 use Rattle.rds_line_channel.specs.Channel.{ChannelView}
+use Rattle.rds_line_channel.specs.Streams.{with_list}
 
 -- its connection and its streams; the getter of its orders; its putter at the mailbox of each slot; its seats at the host's port
 -- table and meter; the host's own map as it read that last; and who publishes the peer's map
@@ -36,6 +37,10 @@ module _ {E M : Type 0} where
   -- its journal, the newest entry first
   abbrev pub line_past : LineView E M → List Entry
   line_past v = v.channel.conn.log.past
+
+  -- the same line, the ends of whose streams changed
+  abbrev pub with_ends : LineView E M → List (ℕ × E) → LineView E M
+  with_ends v list = record v { channel = record v.channel { streams = with_list v.channel.streams list } }
 
   -- a stream is open, or there is none that wasn't opened
   abbrev pub IsOpenOrLast : LineView E M → Type 0

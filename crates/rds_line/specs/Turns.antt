@@ -24,6 +24,8 @@ use Rattle.rds_line.specs.declared.outcome.Heard.{Heard}
 use Rattle.rds_line.specs.declared.outcome.Heard.TheVariants as heard
 use Rattle.rds_line.specs.declared.outcome.Sent.{Sent}
 use Rattle.rds_line.specs.declared.outcome.Sent.TheVariants as sent
+use Rattle.rds_line.specs.declared.outcome.Turn.{Turn}
+use Rattle.rds_line.specs.declared.outcome.Turn.TheVariants as turn
 
 -- bytes came
 abbrev pub is_bytes_heard : Heard → Bool
@@ -39,6 +41,10 @@ is_bytes_sent sent.Nothing = false
 is_bytes_sent sent.Full = false
 is_bytes_sent sent.Ended = false
 is_bytes_sent sent.Closed = false
+
+-- the turn came to its end, with no memory error and within the journal's limit
+abbrev pub WentThrough : Turn → Type 0
+WentThrough result = (result ≡ turn.Moved) ⊎ ((result ≡ turn.Idle) ⊎ (result ≡ turn.Over))
 
 -- one order was taken
 abbrev pub TakesOrder : Getter Order → Getter Order → Type 0

@@ -1,3 +1,4 @@
+//! A line, what it is made of and what it gives back.
 ghost use Rattle.std.specs.Prelude.{◌≡◌, ◌≤◌, ◌<◌, ℕ, All, IfOk, IfSome, IsSome, [], false, None, Some, length};
 ghost use Rattle.rds_cong.specs.Map.{no_ports};
 ghost use Rattle.rds_line_channel.specs.Channel.{new_channel};
@@ -61,15 +62,29 @@ impl<E: End, M: MapWriter> Drop for Line<E, M> {
 
 impl<E: End, M: MapWriter> Model for Line<E, M> {
     ghost use Rattle.rds_line.specs.Line.{LineView};
-    ghost use Rattle.rds_line.specs.Keeps.{IsPulled, KeepsLine};
+    ghost use Rattle.rds_line.specs.Keeps.{IsKept};
 
     ghost Value = { LineView E M };
 
-    ghost view = { λ l. record { channel = l.channel; orders = l.orders; boxes = l.boxes; ports = l.ports; words = l.words; own = l.own; map = l.map } };
+    ghost view = { λ l. record {
+      channel = l.channel;
+      orders = l.orders;
+      boxes = l.boxes;
+      ports = l.ports;
+      words = l.words;
+      own = l.own;
+      map = l.map;
+    } };
 
-    ghost invariant = { λ l.
-        KeepsLine M.published (record { channel = l.channel; orders = l.orders; boxes = l.boxes; ports = l.ports; words = l.words; own = l.own; map = l.map })
-        × IsPulled l.own_pulled (record { channel = l.channel; orders = l.orders; boxes = l.boxes; ports = l.ports; words = l.words; own = l.own; map = l.map }) };
+    ghost invariant = { λ l. IsKept M.published l.own_pulled (record {
+      channel = l.channel;
+      orders = l.orders;
+      boxes = l.boxes;
+      ports = l.ports;
+      words = l.words;
+      own = l.own;
+      map = l.map;
+    }) };
 }
 
 impl<E: End, M: MapWriter> Line<E, M> {
@@ -82,9 +97,9 @@ impl<E: End, M: MapWriter> Line<E, M> {
     ghost use Rattle.rds_mail.specs.Passes.{after_note};
     ghost use Rattle.rds_bindtab.specs.Seats as ports;
     ghost use Rattle.rds_line_parts.specs.Boxes.{IsBoxOf};
-    ghost use Rattle.rds_line_channel.specs.Channel.{IsNewChannel, arrived_bytes, new_channel};
-    ghost use Rattle.rds_line_channel.specs.Carried.{IsCarriedBy};
-    ghost use Rattle.rds_line_channel.specs.Streams.{AreKept, AreNumbered, IsUnused};
+    ghost use Rattle.rds_line_channel.specs.Channel.{IsNewChannel, new_channel};
+    ghost use Rattle.rds_line_channel.specs.Carried.{StreamsCarry};
+    ghost use Rattle.rds_line_channel.specs.Streams.{AreKept, AreNumbered, IsUnused, unopened};
     ghost use Rattle.rds_line.specs.Keeps.{KeepsLine};
 
     /// A line of these parts, with an empty journal of at most `limit` entries and no stream open. Nothing was moved yet: the
@@ -147,7 +162,7 @@ impl<E: End, M: MapWriter> Line<E, M> {
         requires new { IsNewChannel self.old.channel }
         requires numbered { AreNumbered streams.items }
         requires unused { All (λ stream. IsUnused E.means stream.1) streams.items }
-        ensures { self.new ≡ record self.old { channel = record self.old.channel { streams = record { list = streams.items; opened = 0; is_open = false } } } }
+        ensures { self.new ≡ record self.old { channel = record self.old.channel { streams = unopened streams.items } } }
     {
         self.channel.give_streams(streams);
     }
@@ -191,10 +206,10 @@ impl<E: End, M: MapWriter> Line<E, M> {
         (journal, parts)
     }
 
-    /// What every line keeps. It does nothing: a caller gets these facts from it.
+    /// Changes nothing: what every line keeps.
     pub fn known(&self)
         ensures keeps { KeepsLine M.published self.now }
-        ensures carried { IsCarriedBy E.means self.now.channel.conn.log.past (arrived_bytes self.now.channel) self.now.channel.out self.now.channel.streams self.now.channel.cuts.numbers }
+        ensures carried { StreamsCarry E.means self.now.channel }
         ensures streams { AreKept E.means self.now.channel.streams }
         ensures whole { IsWhole self.now.channel.conn.log.past }
         ensures partial { self.now.channel.conn.waiting ≡ None → IsPartial self.now.channel.conn.rest }

@@ -4,8 +4,8 @@ ghost use Rattle.rds_model.specs.Honest.{IsHonest};
 ghost use Rattle.rds_model.specs.Fifo.{HasNoBad};
 ghost use Rattle.rds_model.specs.Pairs.{IsDeliveredOnce};
 ghost use Rattle.rds_line_channel.specs.Meeting.{AreMet, AtEach};
-ghost use Rattle.rds_line_channel.specs.Streams.{numbers, with_list};
-ghost use Rattle.rds_line.specs.Line.{line_past};
+ghost use Rattle.rds_line_channel.specs.Streams.{numbers};
+ghost use Rattle.rds_line.specs.Line.{line_past, with_ends};
 
 use crate::Line;
 use rds_fmap::MapWriter;
@@ -26,8 +26,8 @@ pub fn meet<W: Wire, M: MapWriter>(a: &mut Line<W::End, M>, b: &mut Line<W::End,
     ensures pairs { AtEach W.End.means.meets a.new.channel.streams.list b.new.channel.streams.list }
     ensures one_numbers { numbers a.new.channel.streams.list ≡ numbers a.old.channel.streams.list }
     ensures other_numbers { numbers b.new.channel.streams.list ≡ numbers b.old.channel.streams.list }
-    ensures one { a.new ≡ record a.old { channel = record a.old.channel { streams = with_list a.old.channel.streams a.new.channel.streams.list } } }
-    ensures other { b.new ≡ record b.old { channel = record b.old.channel { streams = with_list b.old.channel.streams b.new.channel.streams.list } } }
+    ensures one { a.new ≡ with_ends a.old a.new.channel.streams.list }
+    ensures other { b.new ≡ with_ends b.old b.new.channel.streams.list }
 {
     rds_line_channel::meet::<W>(&mut a.channel, &mut b.channel);
     a.channel.known();

@@ -1,3 +1,4 @@
+//! What a turn of a line answers, and what its steps did.
 ghost use Rattle.std.specs.Prelude.{◌≡◌, ◌||◌};
 ghost use Rattle.rds_line.specs.Turns.{is_bytes_heard, is_bytes_sent};
 
@@ -21,7 +22,7 @@ pub enum Turn {
 pub(crate) enum Heard {
     /// Bytes came.
     Bytes,
-    /// None were there.
+    /// No bytes were there.
     Nothing,
     /// The stream has ended, or a header that came was refused.
     Ended,

@@ -1,3 +1,4 @@
+//! What a line is made of.
 use rds_fmap::MapWriter;
 use rds_line_parts::{Boxes, LineOrders, LinePorts, LineWords};
 use rds_link::End;

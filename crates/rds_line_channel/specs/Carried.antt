@@ -7,6 +7,7 @@ use Rattle.rds_model.specs.Honest.{Begins}
 use Rattle.rds_model.specs.Past.{open_stream}
 use Rattle.rds_model.specs.Streams.{read_bytes, refused_bytes, written_bytes}
 use Rattle.rds_model.specs.Sums.{opens}
+use Rattle.rds_line_channel.specs.Channel.{ChannelView, arrived_bytes}
 use Rattle.rds_line_channel.specs.Streams.{StreamsView, HasSaidOver, IsEndedAt, newest_place, open_number, opened_numbers}
 
 -- the numbers of the streams that were shut, in the order in which they were
@@ -74,3 +75,7 @@ module _ {E : Type 0} where
       pub cut : AreSomeOf (cut_streams cuts) (shut_streams past)
       -- after a cut that found no stream open none is open, and no further one is left
       pub late : Contains cuts 0 → (s.is_open ≡ false) × (s.opened ≡ length s.list)
+
+  -- the streams of the channel carry its connection
+  abbrev pub StreamsCarry : Means E → ChannelView E → Type 0
+  StreamsCarry m c = IsCarriedBy m c.conn.log.past (arrived_bytes c) c.out c.streams c.cuts.numbers

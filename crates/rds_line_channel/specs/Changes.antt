@@ -1,14 +1,17 @@
 -- What the calls of a channel do. Source: this project's own.
-use Rattle.std.specs.Prelude.{◌≡◌, ℕ, ◌+◌, Bool, true, false, Some, None, [], ◌∷◌, drop, slice_get}
+use Rattle.std.specs.Prelude.{◌≡◌, ◌<◌, ℕ, ◌+◌, Bool, true, false, Some, None, [], ◌∷◌, drop, slice_get}
 use Rattle.rds_wire.specs.declared.kind.Malformed.{Malformed}
 use Rattle.rds_link.specs.Ends.{Means}
 use Rattle.rds_model.specs.declared.entry.Entry.TheVariants as entry
 use Rattle.rds_conn.specs.declared.conn.Fed.{Fed}
-use Rattle.rds_conn.specs.Connection.{with_entries, stream_of}
+use Rattle.rds_conn.specs.Connection.{freed_bytes_of, with_entries, stream_of}
 use Rattle.rds_conn.specs.Feeding.{Feeds, RefusesHeader}
+use Rattle.rds_conn.specs.Orders.{after_order}
+use Rattle.rds_conn.specs.Released.{released_bytes}
+use Rattle.rds_model.specs.declared.order.Order.{Order}
 use Rattle.rds_line_channel.specs.StreamChanges.{ChangesAt, IsShutDown}
 use Rattle.rds_line_channel.specs.Streams.{StreamsView, newest_place, numbers}
-use Rattle.rds_line_channel.specs.Channel.{ChannelView}
+use Rattle.rds_line_channel.specs.Channel.{ChannelView, noted_cut, with_conn}
 
 module _ {E : Type 0} where
   -- the next stream was opened, which has this number
@@ -43,6 +46,19 @@ module _ {E : Type 0} where
       pub out : new.out ≡ []
       pub piece : new.piece ≡ []
       pub cuts : new.cuts ≡ old.cuts
+
+    -- a cut was taken that found the stream of this number open
+    abbrev pub CutsStream : ℕ → ChannelView E → ChannelView E → Type 0
+    CutsStream number old new = ShutsStream number old new × (new.cuts ≡ noted_cut old.cuts number)
+
+  -- an order was taken that isn't a cut; what it freed stands in the table of freed bytes
+  abbrev pub AppendsOrder : Order → ChannelView E → ChannelView E → Type 0
+  AppendsOrder order old new = new ≡ with_conn old (record (after_order order old.conn) { freed = new.conn.freed })
+
+  -- of each slot the bytes that the journal released since stand in the table of freed bytes
+  abbrev pub FreesReleased : ChannelView E → ChannelView E → Type 0
+  FreesReleased old new = (slot : ℕ) → slot < old.conn.slots →
+      freed_bytes_of slot new.conn + released_bytes slot old.conn.log.past ≡ freed_bytes_of slot old.conn + released_bytes slot new.conn.log.past
 
   -- the connection took bytes from the front of the piece, and now a whole frame waits or not
   pub record TakesBytes (waits : Bool) (old new : ChannelView E) : Type 0 where

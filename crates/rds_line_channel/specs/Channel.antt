@@ -1,7 +1,7 @@
 -- What contracts see of a connection and the streams that carry it. Source: this project's own.
-use Rattle.std.specs.Prelude.{◌≡◌, ℕ, Bool, false, List, [], ◌++◌, replicate, None}
+use Rattle.std.specs.Prelude.{◌≡◌, ℕ, Bool, false, List, [], ◌∷◌, ◌++◌, replicate, None}
 use Rattle.rds_conn.specs.Connection.{Connection, taken_bytes}
-use Rattle.rds_line_channel.specs.Streams.{StreamsView}
+use Rattle.rds_line_channel.specs.Streams.{StreamsView, unopened}
 
 -- for each cut that was taken the number of the stream that it shut, or 0 where none was open; and whether there is room for one
 -- more
@@ -32,6 +32,10 @@ new_connection me peer slots limit = record {
   freed = replicate slots 0;
 }
 
+-- the cuts once one was taken that shut the stream of this number, or found none open
+abbrev pub noted_cut : CutsView → ℕ → CutsView
+noted_cut cuts number = record { numbers = cuts.numbers ++ number ∷ []; has_room = false }
+
 module _ {E : Type 0} where
   -- a channel on which nothing has happened
   abbrev pub new_channel : (me peer slots limit : ℕ) → List (ℕ × E) → ChannelView E
@@ -39,7 +43,7 @@ module _ {E : Type 0} where
     conn = new_connection me peer slots limit;
     out = [];
     piece = [];
-    streams = record { list = streams; opened = 0; is_open = false };
+    streams = unopened streams;
     cuts = record { numbers = []; has_room = false };
   }
 

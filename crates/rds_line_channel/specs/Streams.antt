@@ -39,6 +39,10 @@ module _ {E : Type 0} where
   abbrev pub with_list : StreamsView E → List (ℕ × E) → StreamsView E
   with_list s list = record s { list = list }
 
+  -- streams none of which was opened
+  abbrev pub unopened : List (ℕ × E) → StreamsView E
+  unopened list = record { list = list; opened = 0; is_open = false }
+
   -- this holds of the end at this place
   pub record EndAt (Holds : E → Type 0) (place : ℕ) (list : List (ℕ × E)) : Type 0 where
     pub at : (stream : ℕ × E) → slice_get list place ≡ Some stream → Holds stream.1

@@ -1,3 +1,4 @@
+//! A connection and the streams that carry it.
 ghost use Rattle.std.specs.Prelude.{◌≡◌, ◌≤◌, ◌<◌, ◌+◌, ◌↔◌, ℕ, All, IfOk, IfSome, IsSome, IsTrue, OnOk, OnErr, length, true, false, None, [], Err};
 ghost use Rattle.std.specs.Option.{option_map, option_copied};
 ghost use Rattle.rds_wire.specs.declared.frame.Frame.{Frame};
@@ -32,7 +33,7 @@ pub enum Taken {
 }
 
 /// A connection and the streams that carry it: all that one host's line has of the way to its peer. At most one stream is open
-/// at a time, in the journal and at its end. Contracts see the connection, the bytes on their way, the streams and the cuts.
+/// at a time, both in the journal and at the host's end of it. Contracts see the connection, the bytes on their way, the streams and the cuts.
 pub struct Channel<E: End> {
     pub(crate) conn: Conn,
     // What was pulled and isn't written yet.
@@ -79,9 +80,9 @@ impl<E: End> Channel<E> {
     ghost use Rattle.rds_wire.specs.declared.kind.TheConstants.{MAP_LENGTH, MAX_LENGTH};
     ghost use Rattle.rds_frame.specs.Splitting.{IsPartial};
     ghost use Rattle.rds_conn.specs.Connection.{stream_of, with_room};
-    ghost use Rattle.rds_line_channel.specs.Streams.{AreKept, AreNumbered, IsUnused};
-    ghost use Rattle.rds_line_channel.specs.Carried.{IsCarriedBy};
-    ghost use Rattle.rds_line_channel.specs.Channel.{IsNewChannel, arrived_bytes, new_channel, with_conn};
+    ghost use Rattle.rds_line_channel.specs.Streams.{AreKept, AreNumbered, IsUnused, unopened};
+    ghost use Rattle.rds_line_channel.specs.Carried.{StreamsCarry};
+    ghost use Rattle.rds_line_channel.specs.Channel.{IsNewChannel, new_channel, with_conn};
 
     /// A channel of the host `me` to `peer`, both IPv4 addresses, over these streams, each with its number: an empty journal
     /// of at most `limit` entries, and no stream open. The numbers ascend from above 0, and the ends are unused. The sockets of
@@ -120,7 +121,7 @@ impl<E: End> Channel<E> {
         requires new { IsNewChannel self.old }
         requires numbered { AreNumbered streams.items }
         requires unused { All (λ stream. IsUnused E.means stream.1) streams.items }
-        ensures { self.new ≡ record self.old { streams = record { list = streams.items; opened = 0; is_open = false } } }
+        ensures { self.new ≡ record self.old { streams = unopened streams.items } }
     {
         self.streams = Streams::new(streams);
     }
@@ -140,9 +141,9 @@ impl<E: End> Channel<E> {
         (conn.into_journal(), streams.into_streams())
     }
 
-    /// What every channel keeps. It does nothing: a caller gets these facts from it.
+    /// Changes nothing: what every channel keeps.
     pub fn known(&self)
-        ensures carried { IsCarriedBy E.means self.now.conn.log.past (arrived_bytes self.now) self.now.out self.now.streams self.now.cuts.numbers }
+        ensures carried { StreamsCarry E.means self.now }
         ensures streams { AreKept E.means self.now.streams }
         ensures open { (self.now.streams.is_open ≡ true) ↔ IsSome (stream_of self.now.conn) }
         ensures whole { IsWhole self.now.conn.log.past }
@@ -229,7 +230,7 @@ impl<E: End> Channel<E> {
         self.conn.waiting()
     }
 
-    /// What has to become of that frame.
+    /// What has to become of the whole frame that came and wasn't passed, if there is one.
     pub fn verdict(&self) -> Option<Verdict>
         ensures { result ≡ option_map (λ (f : Frame). verdict_of self.now.conn.log.past f.header) self.now.conn.waiting }
     {
@@ -240,7 +241,7 @@ impl<E: End> Channel<E> {
     ///
     /// # Errors
     ///
-    /// `Spent` exactly where two more entries would pass the limit of the journal, and `Memory` where there is none for them.
+    /// `Spent` exactly where two more entries would pass the limit of the journal, and `Memory` where there is no memory for them.
     /// The channel is as before.
     pub fn reserve(&mut self) -> Result<(), JournalError>
         ensures ok { OnOk result (self.new ≡ with_conn self.old (with_room self.old.conn)) }
@@ -260,7 +261,7 @@ impl<E: End> Channel<E> {
     ///
     /// # Errors
     ///
-    /// Where there is no memory for it. The channel is as before.
+    /// Where there is no memory for that note. The channel is as before.
     pub fn reserve_cut(&mut self) -> Result<(), Memory>
         ensures ok { OnOk result (self.new ≡ record self.old { cuts = record self.old.cuts { has_room = true } }) }
         ensures err { OnErr result (self.new ≡ self.old) }

@@ -1,5 +1,6 @@
 //! The cuts that a line took.
-ghost use Rattle.std.specs.Prelude.{◌≡◌, true, false, [], ◌∷◌, ◌++◌, OnOk, OnErr};
+ghost use Rattle.std.specs.Prelude.{◌≡◌, true, false, [], OnOk, OnErr};
+ghost use Rattle.rds_line_channel.specs.Channel.{noted_cut};
 
 use rds_wire::Memory;
 use std::alloc::Global;
@@ -35,11 +36,11 @@ impl Cuts {
         }
     }
 
-    /// Makes room for one more.
+    /// Makes room for the number of one cut more.
     ///
     /// # Errors
     ///
-    /// Where there is no memory for it.
+    /// Where there is no memory for that number.
     pub fn reserve(&mut self) -> Result<(), Memory>
         ensures ok { OnOk result (self.new ≡ record self.old { has_room = true }) }
         ensures err { OnErr result (self.new ≡ self.old) }
@@ -54,7 +55,7 @@ impl Cuts {
     /// Notes a cut that shut the stream of this number, or none.
     pub fn push(&mut self, number: u32)
         requires { self.old.has_room ≡ true }
-        ensures { self.new ≡ record { numbers = self.old.numbers ++ number ∷ []; has_room = false } }
+        ensures { self.new ≡ noted_cut self.old number }
     {
         match self.numbers.push(number) {
             Ok(()) => self.has_room = false,

@@ -12,5 +12,6 @@ mod streams;
 
 pub use channel::{Channel, Taken};
 pub use meeting::meet;
+pub use piece::MAX_READ;
 pub use stream_meeting::meet_streams;
 pub use streams::Streams;

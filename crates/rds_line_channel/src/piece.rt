@@ -1,4 +1,4 @@
-//! Bytes that came from a stream.
+//! Bytes that came from a stream and that its connection hasn't taken.
 ghost use Rattle.std.specs.Prelude.{◌≡◌, ◌≢◌, ◌≤◌, ◌<◌, ℕ, [], length, drop, true, IfOk};
 ghost use Rattle.rds_link.specs.declared.end.Got.TheVariants as got;
 ghost use Rattle.rds_line_channel.specs.StreamChanges.{ChangesAt, Receives};
@@ -11,14 +11,14 @@ use rds_wire::Memory;
 use std::alloc::Global;
 use std::marker::Model;
 
-/// How many bytes one read takes at most.
-const MOST: usize = 65_536;
+/// How many bytes one read of a stream takes at most.
+pub const MAX_READ: usize = 65_536;
 
 /// Bytes that came from a stream and that the connection hasn't taken. Contracts see them.
 #[derive(Drop)]
 pub(crate) struct Piece {
     buf: Vec<u8>,
-    // They stand from here on, up to `end`.
+    // The bytes stand from here on, up to `end`.
     start: usize,
     end: usize,
 }
@@ -43,7 +43,7 @@ impl Piece {
         ensures { IfOk result (λ p. p ≡ []) }
     {
         Ok(Piece {
-            buf: room(alloc, MOST)?,
+            buf: room(alloc, MAX_READ)?,
             start: 0,
             end: 0,
         })

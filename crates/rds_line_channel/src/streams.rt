@@ -1,11 +1,11 @@
-//! The streams of a line.
+//! The streams of a line, one of which is open at a time.
 ghost use Rattle.std.specs.Prelude.{◌≡◌, ◌<◌, ◌≤◌, ◌+◌, ◌↔◌, ℕ, All, true, false, length, take, drop, slice_get, IsTrue, IfSome, IfNone, IsSome};
 ghost use Rattle.rds_link.specs.Answers.{bytes_got, bytes_put};
 ghost use Rattle.rds_link.specs.declared.end.Got.TheVariants as got;
 ghost use Rattle.rds_link.specs.declared.end.Put.TheVariants as put;
 ghost use Rattle.rds_line_channel.specs.StreamChanges.{ChangesAt, Receives, Sends, IsShutDown};
 ghost use Rattle.rds_line_channel.specs.Meeting.{StayPaired};
-ghost use Rattle.rds_line_channel.specs.Streams.{AreKept, AreNumbered, IsUnused, HasSaidOver, EndAt, numbers, newest_place, open_number, opened_numbers, with_list};
+ghost use Rattle.rds_line_channel.specs.Streams.{AreKept, AreNumbered, IsUnused, HasSaidOver, EndAt, numbers, newest_place, open_number, opened_numbers, unopened, with_list};
 
 use crate::places::{read_at, shut_at, write_at};
 use rds_link::{End, Got, Put};
@@ -42,7 +42,7 @@ impl<E: End> Streams<E> {
     pub fn new(streams: Vec<(u32, E)>) -> Streams<E>
         requires numbered { AreNumbered streams.items }
         requires unused { All (λ stream. IsUnused E.means stream.1) streams.items }
-        ensures { result ≡ record { list = streams.items; opened = 0; is_open = false } }
+        ensures { result ≡ unopened streams.items }
     {
         Streams {
             streams,
@@ -156,7 +156,7 @@ impl<E: End> Streams<E> {
         streams
     }
 
-    /// What the streams of every line keep.
+    /// Changes nothing: what the streams of every line keep.
     pub fn known(&self)
         ensures { AreKept E.means self.now }
     {

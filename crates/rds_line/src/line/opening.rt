@@ -1,3 +1,4 @@
+//! How a turn opens the next stream.
 ghost use Rattle.std.specs.Prelude.{◌≡◌, ◌<◌, ◌+◌, ℕ, Err, OnErr, OnOk, length};
 ghost use Rattle.rds_model.specs.declared.journal.JournalError.TheVariants as errors;
 ghost use Rattle.rds_line.specs.Line.{IsFull, IsOpenOrLast, line_past};
@@ -9,7 +10,7 @@ use rds_link::End;
 use rds_model::JournalError;
 
 impl<E: End, M: MapWriter> Line<E, M> {
-    // Opens the next stream, where none is open. After it one is open, or none is left.
+    // Opens the next stream, where none is open. After that a stream is open, or none is left.
     pub(super) fn open_next(&mut self) -> Result<(), JournalError>
         ensures quiet { StaysQuiet E.means M.pair self.old self.new }
         ensures alone { self.new ≡ record self.old { channel = self.new.channel } }

@@ -1,3 +1,4 @@
+//! How a turn reads, and passes what came.
 ghost use Rattle.std.specs.Prelude.{◌≡◌, ◌≢◌, ◌<◌, ◌*◌, ℕ, true, false, None, Ok, Err, IfErr, IsSome, [], length, OnOk};
 ghost use Rattle.rds_model.specs.declared.entry.Verdict.TheVariants as verdict;
 ghost use Rattle.rds_model.specs.declared.journal.JournalError.TheVariants as errors;
@@ -25,7 +26,8 @@ impl<E: End, M: MapWriter> Line<E, M> {
         ensures closed { result ≡ Ok heard.Closed → (self.old.channel.streams.is_open ≡ false) × (self.new ≡ self.old) }
         ensures nothing { result ≡ Ok heard.Nothing → HearsNothing E.means self.old.channel self.new.channel }
         ensures on { result ≡ Ok heard.Nothing → self.new.channel.streams.is_open ≡ true }
-        ensures bytes { result ≡ Ok heard.Bytes → GetsBytes E.means (newest_place self.old.channel.streams) self.old.channel.streams.list self.new.channel.streams.list }
+        ensures bytes { result ≡ Ok heard.Bytes →
+            GetsBytes E.means (newest_place self.old.channel.streams) self.old.channel.streams.list self.new.channel.streams.list }
         ensures more { result ≡ Ok heard.Bytes → HoldsMore self.old.channel self.new.channel }
         ensures unwritten { OnOk result (KeepsUnwritten self.old.channel self.new.channel) }
         ensures out { OnOk result (KeepsOut self.old.channel self.new.channel) }

@@ -1,3 +1,4 @@
+//! How a turn pulls the frame that is owed, and writes.
 ghost use Rattle.std.specs.Prelude.{◌≡◌, ◌≢◌, ◌⊎◌, ◌<◌, ℕ, Bool, true, false, Ok, Err, IfErr, IfSome, OnOk, OnErr, [], length};
 ghost use Rattle.rds_model.specs.declared.journal.JournalError.TheVariants as errors;
 ghost use Rattle.rds_conn.specs.Connection.{IsReady};
@@ -27,7 +28,8 @@ impl<E: End, M: MapWriter> Line<E, M> {
         ensures shut { self.old.channel.streams.is_open ≡ false → result ≡ Ok sent.Closed }
         ensures nothing { result ≡ Ok sent.Nothing → FindsNothingOwed self.old self.new × (line_past self.new ≡ line_past self.old) }
         ensures full { result ≡ Ok sent.Full → FindsNoRoom E.means self.old.channel self.new.channel }
-        ensures bytes { result ≡ Ok sent.Bytes → SendsBytes E.means (newest_place self.old.channel.streams) self.old.channel.streams.list self.new.channel.streams.list }
+        ensures bytes { result ≡ Ok sent.Bytes →
+            SendsBytes E.means (newest_place self.old.channel.streams) self.old.channel.streams.list self.new.channel.streams.list }
         ensures less { result ≡ Ok sent.Bytes → HasLessToWrite self.old.channel self.new.channel }
         ensures looked { result ≡ Ok sent.Nothing → LoadsOwn self.old self.new }
         ensures pulls { (pulls_in (line_past self.new) ≡ pulls_in (line_past self.old)) ⊎ PullsOwn self.old self.new }
@@ -44,7 +46,7 @@ impl<E: End, M: MapWriter> Line<E, M> {
         self.write()
     }
 
-    // Pulls the frame that is owed, and answers whether one is. Before it the host's own map is looked at.
+    // Pulls the frame that is owed, and answers whether one is. Before the pull the host's own map is looked at.
     fn pull(&mut self) -> Result<bool, JournalError>
         requires ready { IsReady self.old.channel.conn }
         requires open { self.old.channel.streams.is_open ≡ true }
@@ -77,7 +79,7 @@ impl<E: End, M: MapWriter> Line<E, M> {
         }
     }
 
-    // Looks at the host's own map: reads it, if it may have changed. It is to be pulled then.
+    // Looks at the host's own map, and reads it where it may have changed. A map that was read is to be pulled.
     fn look(&mut self)
         ensures alone { self.new ≡ record self.old { own = self.new.own; words = self.new.words } }
         ensures refresh { (read : Bool) × IsRefresh self.old.own self.new.own self.old.words self.new.words read }
@@ -99,7 +101,8 @@ impl<E: End, M: MapWriter> Line<E, M> {
         ensures arrived { KeepsArrived self.old.channel self.new.channel }
         ensures written { (result ≢ Ok sent.Closed) × (result ≢ Ok sent.Nothing) }
         ensures full { result ≡ Ok sent.Full → FindsNoRoom E.means self.old.channel self.new.channel }
-        ensures bytes { result ≡ Ok sent.Bytes → SendsBytes E.means (newest_place self.old.channel.streams) self.old.channel.streams.list self.new.channel.streams.list }
+        ensures bytes { result ≡ Ok sent.Bytes →
+            SendsBytes E.means (newest_place self.old.channel.streams) self.old.channel.streams.list self.new.channel.streams.list }
         ensures less { result ≡ Ok sent.Bytes → length self.new.channel.out < length self.old.channel.out }
         ensures ended { result ≡ Ok sent.Ended → length (line_past self.old) < length (line_past self.new) }
         ensures spent { (entries : ℕ) → result ≡ Err (errors.Spent entries) → IsFull entries self.new }

@@ -1,11 +1,11 @@
-ghost use Rattle.std.specs.Prelude.{◌≡◌, ◌≢◌, ◌⊎◌, ◌+◌, ◌<◌, ℕ, true, false, Some, Ok, Err, OnOk, OnErr, [], ◌∷◌, ◌++◌, length};
+//! How a turn takes an order of a socket.
+ghost use Rattle.std.specs.Prelude.{◌≡◌, ◌≢◌, ◌⊎◌, ℕ, true, false, Some, Ok, Err, OnOk, OnErr, length};
 ghost use Rattle.rds_model.specs.declared.journal.JournalError.TheVariants as errors;
 ghost use Rattle.rds_model.specs.declared.order.Order.TheVariants as orders;
-ghost use Rattle.rds_conn.specs.Connection.{IsReady, freed_bytes_of, stream_of};
-ghost use Rattle.rds_conn.specs.Orders.{IsOrderFor, after_order};
-ghost use Rattle.rds_conn.specs.Released.{released_bytes};
-ghost use Rattle.rds_line_channel.specs.Changes.{ShutsStream};
-ghost use Rattle.rds_line_channel.specs.Channel.{with_conn};
+ghost use Rattle.rds_conn.specs.Connection.{IsReady, stream_of};
+ghost use Rattle.rds_conn.specs.Orders.{IsOrderFor};
+ghost use Rattle.rds_line_channel.specs.Changes.{AppendsOrder, CutsStream, FreesReleased};
+ghost use Rattle.rds_line_channel.specs.Channel.{noted_cut};
 ghost use Rattle.rds_line.specs.Line.{IsFull, IsOpenOrLast, line_past, pulls_in};
 ghost use Rattle.rds_line.specs.Stays.{LineStays};
 ghost use Rattle.rds_line.specs.Steps.{KeepsArrived, KeepsOut, KeepsUnwritten};
@@ -55,12 +55,11 @@ fn obey<E: End>(channel: &mut Channel<E>, order: Order)
     requires last { (channel.old.streams.is_open ≡ true) ⊎ (channel.old.streams.opened ≡ length channel.old.streams.list) }
     requires allowed { order ≢ orders.Cut → IsOrderFor channel.old.conn.slots order }
     ensures shut { order ≡ orders.Cut → (number : ℕ) → stream_of channel.old.conn ≡ Some number →
-        ShutsStream E.means number channel.old channel.new × (channel.new.cuts ≡ record { numbers = channel.old.cuts.numbers ++ number ∷ []; has_room = false }) }
+        CutsStream E.means number channel.old channel.new }
     ensures late { order ≡ orders.Cut → channel.old.streams.is_open ≡ false →
-        channel.new ≡ record channel.old { cuts = record { numbers = channel.old.cuts.numbers ++ 0 ∷ []; has_room = false } } }
-    ensures entry { order ≢ orders.Cut → channel.new ≡ with_conn channel.old (record (after_order order channel.old.conn) { freed = channel.new.conn.freed }) }
-    ensures freed { order ≢ orders.Cut → (slot : ℕ) → slot < channel.old.conn.slots →
-        freed_bytes_of slot channel.new.conn + released_bytes slot channel.old.conn.log.past ≡ freed_bytes_of slot channel.old.conn + released_bytes slot channel.new.conn.log.past }
+        channel.new ≡ record channel.old { cuts = noted_cut channel.old.cuts 0 } }
+    ensures entry { order ≢ orders.Cut → AppendsOrder order channel.old channel.new }
+    ensures freed { order ≢ orders.Cut → FreesReleased channel.old channel.new }
 {
     match order {
         Order::Cut => channel.cut(),

@@ -1,9 +1,10 @@
+//! A turn of a line: its steps in their order, and what it answers.
 ghost use Rattle.std.specs.Prelude.{◌≡◌, ◌⊎◌, ◌<◌, ◌+◌, nat_lt, ℕ, true, Err, IfOk, OnOk, length, sum};
 ghost use Rattle.rds_model.specs.declared.journal.JournalError.TheVariants as errors;
 ghost use Rattle.rds_line.specs.Line.{IsFull, line_past, pulls_in};
 ghost use Rattle.rds_line.specs.Stays.{LineStays};
 ghost use Rattle.rds_line.specs.Steps.{StaysQuiet};
-ghost use Rattle.rds_line.specs.Turns.{HasMoved, IsIdleTurn, IsOverTurn, LooksForOrder, PullsOwn, TakesOrder};
+ghost use Rattle.rds_line.specs.Turns.{HasMoved, IsIdleTurn, IsOverTurn, LooksForOrder, PullsOwn, TakesOrder, WentThrough};
 ghost use Rattle.rds_line.specs.Doing.{Did, IsRelieved, answer_of};
 ghost use Rattle.rds_line.specs.declared.outcome.Turn.TheVariants as turn;
 
@@ -15,7 +16,7 @@ use rds_model::JournalError;
 use std::sync::Wait;
 
 impl<E: End, M: MapWriter> Line<E, M> {
-    /// Does what there is to do, once: opens the next stream where none is open, takes one order, reads at most 65,536 bytes and
+    /// Does what there is to do, once: opens the next stream where none is open, takes one order, reads at most `MAX_READ` bytes and
     /// passes every whole frame, writes what is to be written or else pulls a frame and writes that, and counts all freed bytes.
     /// It answers `Moved`, `Idle` or `Over` only where it looked at the queue of orders. After `Spent` and `Memory` nothing is lost.
     pub fn turn<W: Wait>(&mut self, rt: &W) -> Turn
@@ -24,14 +25,14 @@ impl<E: End, M: MapWriter> Line<E, M> {
         ensures moved { result ≡ turn.Moved → HasMoved E.means self.old self.new }
         ensures idle { result ≡ turn.Idle → IsIdleTurn E.means self.old self.new }
         ensures over { result ≡ turn.Over → IsOverTurn self.old self.new }
-        ensures ordered { (result ≡ turn.Moved) ⊎ ((result ≡ turn.Idle) ⊎ (result ≡ turn.Over)) → LooksForOrder self.old.orders self.new.orders }
+        ensures ordered { WentThrough result → LooksForOrder self.old.orders self.new.orders }
         ensures at_most { LooksForOrder self.old.orders self.new.orders ⊎ (self.new.orders ≡ self.old.orders) }
         ensures goes_on { (result ≡ turn.Moved) ⊎ (result ≡ turn.Idle) →
             TakesOrder self.old.orders self.new.orders ⊎ ((self.new.channel.streams.is_open ≡ true)
             ⊎ (self.new.channel.streams.opened < length self.new.channel.streams.list)) }
         ensures spent { (entries : ℕ) → result ≡ turn.Spent entries → IsFull entries self.new }
         ensures full { self.old.channel.conn.log.limit < length (line_past self.old) + 2 → result ≡ turn.Spent (length (line_past self.old)) }
-        ensures freed { (result ≡ turn.Moved) ⊎ ((result ≡ turn.Idle) ⊎ (result ≡ turn.Over)) → sum self.new.channel.conn.freed ≡ 0 }
+        ensures freed { WentThrough result → sum self.new.channel.conn.freed ≡ 0 }
     {
         let before = self.channel.journal().len();
         match self.steps(rt) {
@@ -72,9 +73,10 @@ impl<E: End, M: MapWriter> Line<E, M> {
         self.channel.relieve(&mut self.words);
     }
 
-    // What a turn answers that did this, where the journal had so many entries before it.
+    // What a turn answers whose steps did this, where the journal had so many entries before the turn.
     fn judged(&self, done: Done, before: u32) -> Turn
-        ensures { result ≡ answer_of done (self.now.channel.streams.is_open) (nat_lt self.now.channel.streams.opened (length self.now.channel.streams.list)) (nat_lt before (length (line_past self.now))) }
+        ensures { result ≡ answer_of done self.now.channel.streams.is_open
+            (nat_lt self.now.channel.streams.opened (length self.now.channel.streams.list)) (nat_lt before (length (line_past self.now))) }
     {
         if !done.took && !self.channel.is_open() && !self.channel.has_next() {
             return Turn::Over;

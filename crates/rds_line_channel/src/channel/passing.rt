@@ -1,3 +1,4 @@
+//! How a channel passes the frame that waits, and hands out what was freed.
 ghost use Rattle.std.specs.Prelude.{◌≡◌, ◌+◌, ◌≤◌, ◌<◌, ◌^◌, ℕ, IfOk, IfSome, IsSome, IsOk, length, sum, None};
 ghost use Rattle.rds_wire.specs.declared.kind.TheConstants.{MAP_LENGTH, MAX_LENGTH};
 ghost use Rattle.rds_meter.specs.Places.{freed_word, part};
@@ -51,7 +52,8 @@ impl<E: End> Channel<E> {
 
     /// Adds to the freed word of each slot all freed bytes that the connection holds.
     pub fn relieve(&mut self, words: &mut LineWords)
-        requires { (slot : ℕ) → slot < self.old.conn.slots → part (freed_word slot) words.old.view.steps + freed_bytes_of slot self.old.conn ≤ 2 ^ 52 }
+        requires { (slot : ℕ) → slot < self.old.conn.slots →
+            part (freed_word slot) words.old.view.steps + freed_bytes_of slot self.old.conn ≤ 2 ^ 52 }
         ensures none { sum self.new.conn.freed ≡ 0 }
         ensures rest { self.new ≡ with_conn self.old (record self.old.conn { freed = self.new.conn.freed }) }
         ensures words { IsRelief self.old.conn.freed words.old words.new }

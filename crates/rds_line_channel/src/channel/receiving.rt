@@ -1,3 +1,4 @@
+//! How a channel reads from its open stream and takes what came.
 ghost use Rattle.std.specs.Prelude.{◌≡◌, ◌≢◌, ◌≤◌, ◌↔◌, ℕ, true, false, Ok, OnErr, [], length};
 ghost use Rattle.rds_link.specs.declared.end.Got.TheVariants as got;
 ghost use Rattle.rds_conn.specs.Connection.{IsReady};
@@ -12,7 +13,7 @@ use rds_link::{End, Got};
 use rds_wire::Memory;
 
 impl<E: End> Channel<E> {
-    /// Reads once from the open stream, at most 65,536 bytes, where all that came before was taken.
+    /// Reads once from the open stream, at most `MAX_READ` bytes, where all that came before was taken.
     pub fn receive(&mut self) -> Got
         requires open { self.old.streams.is_open ≡ true }
         requires empty { self.old.piece ≡ [] }

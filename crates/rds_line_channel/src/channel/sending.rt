@@ -1,3 +1,4 @@
+//! How a channel pulls the frame that is owed and writes it to its open stream.
 ghost use Rattle.std.specs.Prelude.{◌≡◌, ◌≢◌, ◌≤◌, ℕ, true, Some, IfErr, IfOk, IfSome, IsSome, OnErr, OnOk, List, [], drop, length, take};
 ghost use Rattle.rds_link.specs.declared.end.Put.TheVariants as put;
 ghost use Rattle.rds_link.specs.Answers.{bytes_put};
@@ -67,7 +68,10 @@ impl<E: End> Channel<E> {
         ensures count { (n : ℕ) → result ≡ put.Took n → (1 ≤ n) × (n ≤ length self.old.out) }
         ensures sent { ChangesAt (Sends E.means result (take (bytes_put result) self.old.out)) (newest_place self.old.streams) self.old.streams.list self.new.streams.list }
         ensures over { result ≡ put.Over → EndAt (HasSaidOver E.means) (newest_place self.new.streams) self.new.streams.list }
-        ensures rest { self.new ≡ record self.old { out = drop (bytes_put result) self.old.out; streams = with_list self.old.streams self.new.streams.list } }
+        ensures rest { self.new ≡ record self.old {
+          out = drop (bytes_put result) self.old.out;
+          streams = with_list self.old.streams self.new.streams.list;
+        } }
     {
         let put = self.streams.send(self.out.rest());
         if let Put::Took(n) = put {

@@ -1,10 +1,10 @@
-ghost use Rattle.std.specs.Prelude.{◌≡◌, ◌⊎◌, ◌+◌, ◌<◌, ℕ, false, true, Some, IsTrue, IsSome, [], ◌∷◌, ◌++◌, length};
-ghost use Rattle.rds_conn.specs.Connection.{IsReady, freed_bytes_of, stream_of};
-ghost use Rattle.rds_conn.specs.Released.{released_bytes};
-ghost use Rattle.rds_conn.specs.Orders.{IsOrderFor, after_order};
+//! How a channel opens a stream, cuts or ends it, and takes an order.
+ghost use Rattle.std.specs.Prelude.{◌≡◌, ◌⊎◌, ℕ, false, true, Some, IsTrue, length};
+ghost use Rattle.rds_conn.specs.Connection.{IsReady, stream_of};
+ghost use Rattle.rds_conn.specs.Orders.{IsOrderFor};
 ghost use Rattle.rds_line_channel.specs.Streams.{EndAt, HasSaidOver, newest_place};
-ghost use Rattle.rds_line_channel.specs.Channel.{with_conn};
-ghost use Rattle.rds_line_channel.specs.Changes.{OpensNext, ShutsStream};
+ghost use Rattle.rds_line_channel.specs.Channel.{noted_cut};
+ghost use Rattle.rds_line_channel.specs.Changes.{CutsStream, FreesReleased, OpensNext, ShutsStream, AppendsOrder};
 
 use super::{Channel, give_up};
 use rds_link::End;
@@ -33,10 +33,8 @@ impl<E: End> Channel<E> {
         requires ready { IsReady self.old.conn }
         requires room { self.old.cuts.has_room ≡ true }
         requires last { (self.old.streams.is_open ≡ true) ⊎ (self.old.streams.opened ≡ length self.old.streams.list) }
-        ensures on { (number : ℕ) → stream_of self.old.conn ≡ Some number →
-            ShutsStream E.means number self.old self.new × (self.new.cuts ≡ record { numbers = self.old.cuts.numbers ++ number ∷ []; has_room = false }) }
-        ensures off { self.old.streams.is_open ≡ false →
-            self.new ≡ record self.old { cuts = record { numbers = self.old.cuts.numbers ++ 0 ∷ []; has_room = false } } }
+        ensures on { (number : ℕ) → stream_of self.old.conn ≡ Some number → CutsStream E.means number self.old self.new }
+        ensures off { self.old.streams.is_open ≡ false → self.new ≡ record self.old { cuts = noted_cut self.old.cuts 0 } }
     {
         self.known();
         match self.conn.stream() {
@@ -62,13 +60,12 @@ impl<E: End> Channel<E> {
         give_up(&mut self.out, &mut self.piece, &mut self.streams);
     }
 
-    /// Takes an order of a socket.
+    /// Takes an order of a socket that isn't a cut.
     pub fn order(&mut self, order: Order)
         requires ready { IsReady self.old.conn }
         requires allowed { IsOrderFor self.old.conn.slots order }
-        ensures entry { self.new ≡ with_conn self.old (record (after_order order self.old.conn) { freed = self.new.conn.freed }) }
-        ensures freed { (slot : ℕ) → slot < self.old.conn.slots →
-            freed_bytes_of slot self.new.conn + released_bytes slot self.old.conn.log.past ≡ freed_bytes_of slot self.old.conn + released_bytes slot self.new.conn.log.past }
+        ensures entry { AppendsOrder order self.old self.new }
+        ensures freed { FreesReleased self.old self.new }
     {
         self.streams.known();
         self.conn.order_uncounted(order);
