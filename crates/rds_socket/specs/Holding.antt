@@ -31,7 +31,7 @@ pub record Open (R : Type 0) : Type 0 where
 abbrev pub IsSendBuffer : ℕ → Type 0
 IsSendBuffer bytes = (1 ≤ bytes) × (bytes ≤ MAX_BUFFER)
 
--- a receive buffer may have so many bytes: at least 2, since a port is relieved below half of them
+-- a receive buffer may have so many bytes: at least 2, since a port's bit is lowered only below half of them
 abbrev pub IsReceiveBuffer : ℕ → Type 0
 IsReceiveBuffer bytes = (2 ≤ bytes) × (bytes ≤ MAX_BUFFER)
 

@@ -7,7 +7,7 @@ ghost use Rattle.rds_tcp.specs.Threads.{HaveEnded, unjoined};
 use crate::dialing::dial;
 use crate::handles::Handles;
 use crate::pipe::Pipe;
-use crate::pumps::{reads, writes};
+use crate::pumps::{run_reader, run_writer};
 use crate::rings::Far;
 use crossbeam_channel::{Receiver, SendError, Sender, bounded};
 use rds_link::WireError;
@@ -18,12 +18,13 @@ use std::net::{Net, TcpListener, TcpStream};
 use std::sync::Wait;
 use std::thread::Threads;
 
-/// What the threads of the two ends of a stream are to hold.
+/// What the threads of the two ends of a stream are to hold of the ends' rings.
 type Job = (Far, Far);
 
-/// Both ends' holds of their threads.
+/// What each of the two ends shares with its threads, or why there are none.
 type Answer = Result<(Pipe, Pipe), WireError>;
 
+/// The thread that starts and joins all others, and the channels to it and back.
 pub(crate) struct Crew {
     jobs: Sender<Job>,
     answers: Receiver<Answer>,
@@ -31,7 +32,7 @@ pub(crate) struct Crew {
 }
 
 impl Crew {
-    /// Starts its thread.
+    /// Starts the crew's thread.
     ///
     /// # Errors
     ///
@@ -47,7 +48,7 @@ impl Crew {
         };
         let own = *rt;
         let mut thread = Handles::new(alloc);
-        if let Err(cause) = thread.start(rt, move || work(own, alloc, orders, replies)) {
+        if let Err(cause) = thread.start(rt, move || serve(own, alloc, orders, replies)) {
             thread.join(rt);
             return Err(cause);
         }
@@ -82,7 +83,8 @@ impl Crew {
     }
 }
 
-fn work<
+// What the crew's thread does: it opens a stream for each job, and joins all threads once the crew finishes.
+fn serve<
     R: Threads + Wait + Net<Listener = TcpListener, Stream = TcpStream> + Copy + Send + 'static,
 >(rt: R, alloc: Global, jobs: Receiver<Job>, replies: Sender<Answer>) {
     let mut threads = Handles::new(alloc);
@@ -98,6 +100,7 @@ fn work<
     threads.join(&rt);
 }
 
+// Connects two TCP streams and starts the four threads of their ends.
 fn open<
     R: Threads + Wait + Net<Listener = TcpListener, Stream = TcpStream> + Copy + Send + 'static,
 >(rt: R, alloc: Global, threads: &mut Handles, job: Job) -> Answer
@@ -124,7 +127,7 @@ fn cause_of(error: &io::Error) -> WireError
     }
 }
 
-// Starts both threads of an end. Where the second is refused the first ends, since the pipe is dropped.
+// Starts the reader and the writer of an end. Where the second is refused the first ends, since the pipe is dropped.
 fn attended<R: Threads + Wait + Copy + Send + 'static>(
     rt: R,
     alloc: Global,
@@ -141,7 +144,7 @@ fn attended<R: Threads + Wait + Copy + Send + 'static>(
         return Err(WireError::Memory);
     };
     let Far { incoming, outgoing } = far;
-    threads.start(&rt, move || reads(&rt, &one, incoming))?;
-    threads.start(&rt, move || writes(&rt, &other, outgoing))?;
+    threads.start(&rt, move || run_reader(&rt, &one, incoming))?;
+    threads.start(&rt, move || run_writer(&rt, &other, outgoing))?;
     Ok(pipe)
 }

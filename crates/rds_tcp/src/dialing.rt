@@ -5,8 +5,14 @@ use std::sync::Wait;
 use std::thread::Parker;
 use std::time::Duration;
 
-/// How often it is asked at most, a millisecond apart, whether a stream that was connected has come.
+/// How many times at most the listener is asked whether a stream that was connected has come.
 const ASKS: u32 = 5_000;
+
+/// How many milliseconds pass from one such question to the next.
+const ASK_PAUSE: u64 = 1;
+
+/// After how many milliseconds a write that moves nothing comes back, so that its thread can look whether the end closes.
+const WRITE_TIMEOUT: u64 = 50;
 
 /// The two TCP streams of one connection on this machine, the first of which connected.
 pub(crate) fn dial<R: Wait + Net<Listener = TcpListener, Stream = TcpStream>>(
@@ -33,7 +39,7 @@ fn accepted<R: Wait>(rt: &R, listener: &TcpListener) -> io::Result<(TcpStream, S
         if !is_early(&came) {
             return came;
         }
-        pause.park_timeout(rt, Duration::from_millis(1));
+        pause.park_timeout(rt, Duration::from_millis(ASK_PAUSE));
     }
     Err(io::Error::from(io::ErrorKind::TimedOut))
 }
@@ -46,8 +52,8 @@ fn is_early(came: &io::Result<(TcpStream, SocketAddr)>) -> bool {
     }
 }
 
-// A write that has waited so long comes back, so that its thread can look whether the end closes.
+// Sets up a stream: small pieces go at once, and a write comes back after `WRITE_TIMEOUT` milliseconds.
 fn prepare(tcp: &TcpStream) -> io::Result<()> {
     tcp.set_nodelay(true)?;
-    tcp.set_write_timeout(Some(Duration::from_millis(50)))
+    tcp.set_write_timeout(Some(Duration::from_millis(WRITE_TIMEOUT)))
 }

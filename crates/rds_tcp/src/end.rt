@@ -33,6 +33,7 @@ pub struct TcpEnd {
 impl TcpEnd {
     ghost use Rattle.rds_tcp.specs.Tcp.{taken, waiting};
 
+    /// An end of these parts that has counted nothing.
     pub(crate) fn new(pipe: Pipe, near: Near, standing: Standing) -> TcpEnd
         ensures out { result.out ≡ near.out }
         ensures inp { result.inp ≡ Some near.inp }

@@ -18,12 +18,13 @@ impl Promise<()> for Ends {
     ghost kept_by = { λ p _. p.0.value ≡ true };
 }
 
-/// The threads that were started and are still to be joined. It can't be let go but by `join`.
+/// The threads that were started and are still to be joined. Only `join` lets them go.
 pub(crate) struct Handles {
     all: Vec<PromisedHandle<(), Ends>>,
 }
 
 impl Handles {
+    /// No threads.
     pub(crate) fn new(alloc: Global) -> Handles
         ensures { unjoined result ≡ 0 }
     {
@@ -56,7 +57,7 @@ impl Handles {
         Ok(())
     }
 
-    /// Returns once all have ended.
+    /// Returns once all these threads have ended.
     pub(crate) fn join<R: Threads>(self, rt: &R)
         ensures { HaveEnded self }
     {

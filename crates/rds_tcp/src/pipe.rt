@@ -11,6 +11,9 @@ use std::sync::{Arc, OnceLock, OnceToken, Wait};
 use std::thread::Parker;
 use std::time::Duration;
 
+/// For how many milliseconds a line that can't move a byte sleeps at most before it looks again.
+const LONGEST_REST: u64 = 1;
+
 /// One of the two threads: its bell, and whether it has ended.
 #[derive(Drop)]
 pub(crate) struct Hand {
@@ -26,7 +29,7 @@ impl Hand {
         }
     }
 
-    /// Sleeps until its bell is rung.
+    /// The thread sleeps here until its bell is rung.
     pub(crate) fn sleep<R: Wait>(&self, rt: &R) {
         self.bell.park(rt);
     }
@@ -68,39 +71,40 @@ impl Shared {
         }
     }
 
-    /// Where the reader reads, and the writer writes.
+    /// The TCP stream, from which the reader reads and to which the writer writes.
     pub(crate) fn stream(&self) -> &TcpStream {
         &self.tcp
     }
 
-    /// Whether what waits is still to be written, and nothing more comes.
+    /// Whether the end closes: what waits is still to be written, and nothing more comes.
     pub(crate) fn is_closing(&self) -> bool {
         self.is_closing.load(Ordering::SeqCst)
     }
 
+    /// Whether the end has stopped its threads.
     pub(crate) fn has_stopped(&self) -> bool {
         self.has_stopped.load(Ordering::SeqCst)
     }
 
-    /// Bytes came for the line.
+    /// Wakes the line, for which bytes came.
     pub(crate) fn ring_line(&self) {
         self.line.unpark();
     }
 
-    /// The TCP stream has ended, or a call on it failed. The first thread that finds it says so.
+    /// Notes that the TCP stream has ended, or that a call on it failed. Only the first note counts.
     pub(crate) fn note_broken(&self, broken: Break) {
         let _ = self.broken.try_set(broken);
         self.line.unpark();
     }
 
-    /// There is room in the ring again, of which a line that found none is told.
+    /// Wakes the line where it had found no room in the ring, since there is room again.
     pub(crate) fn note_room(&self) {
         if self.wants_room.swap(false, Ordering::SeqCst) {
             self.line.unpark();
         }
     }
 
-    /// The last step of a thread.
+    /// Notes that this thread has ended: its last step.
     pub(crate) fn note_end(&self, hand: &Hand) {
         let _ = hand.end.try_set(());
         self.closer.unpark();
@@ -147,7 +151,7 @@ impl Pipe {
         })
     }
 
-    /// A thread's hold.
+    /// What a thread holds of the pipe.
     pub(crate) fn share(&self) -> Result<Arc<Shared>, AllocError> {
         Arc::try_clone(&self.shared)
     }
@@ -157,24 +161,26 @@ impl Pipe {
         self.shared.broken.get().copied()
     }
 
-    /// There is room in the reader's ring.
+    /// Wakes the reader, for whose bytes there is room in the ring.
     pub(crate) fn ring_reader(&self) {
         self.shared.reader.bell.unpark();
     }
 
-    /// Bytes came for the writer.
+    /// Wakes the writer, for which bytes came.
     pub(crate) fn ring_writer(&self) {
         self.shared.writer.bell.unpark();
     }
 
-    /// The line found no room, and is to be rung once there is.
+    /// Notes that the line found no room in the ring, and is to be woken once there is some.
     pub(crate) fn note_full(&self) {
         self.shared.wants_room.store(true, Ordering::SeqCst);
     }
 
-    /// Sleeps until the line's bell is rung, a millisecond at most.
+    /// The line sleeps here until it is woken, for `LONGEST_REST` milliseconds at most.
     pub(crate) fn rest<R: Wait>(&self, rt: &R) {
-        self.shared.line.park_timeout(rt, Duration::from_millis(1));
+        self.shared
+            .line
+            .park_timeout(rt, Duration::from_millis(LONGEST_REST));
     }
 
     /// Ends the TCP stream and both threads. An end calls it only once it has shut, so that a peer whose TCP stream ends finds the

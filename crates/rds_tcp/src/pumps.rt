@@ -1,4 +1,4 @@
-//! What the two threads of an end do.
+//! What the two threads of an end do: the reader moves bytes from the TCP stream into a ring, and the writer from the other ring to it.
 ghost use Rattle.std.specs.Prelude.{◌≡◌, ◌≤◌, ◌++◌, length, take, IfOk, OnOk, OnErr, IsSome, IsNone, IsTrue};
 ghost use Rattle.rtrb.specs.Ring.{sent, received};
 ghost use Rattle.std.specs.Io.KnownBytes.{Appends, Consumes, Keeps};
@@ -11,21 +11,21 @@ use std::io;
 use std::io::{Read, Write};
 use std::sync::Wait;
 
-/// How many bytes a thread moves at once at most.
+/// How many bytes the reader or the writer of an end moves at once at most.
 const PIECE: usize = 16_384;
 
-/// How often the last bytes of an end wait for a peer that doesn't read, each time for as long as a write may wait.
+/// How many times the last bytes of a closing end wait for a peer that doesn't read, each time for as long as a write may wait.
 const PATIENCE: u32 = 20;
 
-/// What the thread does that reads.
-pub(crate) fn reads<R: Wait>(rt: &R, shared: &Shared, mut ring: Producer<u8>) {
+/// What the reader thread of an end does: it reads the TCP stream until that has ended or failed, or the end stops.
+pub(crate) fn run_reader<R: Wait>(rt: &R, shared: &Shared, mut ring: Producer<u8>) {
     if let Some(broken) = read_on(rt, shared, &mut shared.stream(), &mut ring) {
         shared.note_broken(broken);
     }
     shared.note_end(&shared.reader);
 }
 
-// Puts what the reader hands out into the ring, until that has ended or failed, of which it shows the latter two, or the end stops.
+// Puts what the reader hands out into the ring, until the reader has ended or failed, which the answer shows, or the end stops.
 fn read_on<R: Wait, S: Read>(
     rt: &R,
     shared: &Shared,
@@ -49,7 +49,7 @@ fn read_on<R: Wait, S: Read>(
     unreachable!()
 }
 
-// How many bytes came, none where a signal came first, or what shows that the reader has ended or failed.
+// How many bytes came, which are none where a signal came first; or what shows that the reader has ended or failed.
 fn next_piece<S: Read>(reader: &mut S, piece: &mut [u8]) -> Result<usize, Break>
     ensures count { IfOk result (λ count. count ≤ length piece.new) }
     ensures came { IfOk result (λ count. Consumes (S.remaining reader.old) (S.remaining reader.new) (take count piece.new)) }
@@ -62,7 +62,7 @@ fn next_piece<S: Read>(reader: &mut S, piece: &mut [u8]) -> Result<usize, Break>
     }
 }
 
-// Puts the whole piece into the ring, and sleeps where there is no room. Whether it did: it doesn't where the end stops.
+// Puts the whole piece into the ring, and sleeps where there is no room. Answers whether all of it was put: where the end stops, it isn't.
 fn put_all<R: Wait>(rt: &R, shared: &Shared, ring: &mut Producer<u8>, piece: &[u8]) -> bool
     ensures all { IsTrue result → sent ring.new ≡ sent ring.old ++ piece.now }
     ensures front { GrowsByFront (sent ring.old) (sent ring.new) piece.now }
@@ -86,15 +86,15 @@ fn put_all<R: Wait>(rt: &R, shared: &Shared, ring: &mut Producer<u8>, piece: &[u
     unreachable!()
 }
 
-/// What the thread does that writes.
-pub(crate) fn writes<R: Wait>(rt: &R, shared: &Shared, mut ring: Consumer<u8>) {
+/// What the writer thread of an end does: it writes to the TCP stream until that fails, or the end stops or has closed.
+pub(crate) fn run_writer<R: Wait>(rt: &R, shared: &Shared, mut ring: Consumer<u8>) {
     if let Some(broken) = write_on(rt, shared, &mut shared.stream(), &mut ring) {
         shared.note_broken(broken);
     }
     shared.note_end(&shared.writer);
 }
 
-// Writes what stands in the ring, until the writer fails, which it shows, the end stops, or it closes and nothing waits any more.
+// Writes what stands in the ring, until the writer fails, which the answer shows, or the end stops, or closes and nothing waits any more.
 fn write_on<R: Wait, W: Write>(
     rt: &R,
     shared: &Shared,

@@ -21,6 +21,7 @@ impl Model for TcpStanding {
 }
 
 impl TcpStanding {
+    /// An end over TCP that stands so.
     pub(crate) fn new(standing: Standing) -> TcpStanding
         ensures { result ≡ standing }
     {
@@ -43,9 +44,9 @@ impl TcpStanding {
         self.standing.is_over()
     }
 
-    /// Looks whether the stream is over, and counts the end's first fault, which shuts the end, where it isn't. Whether it did. What is
-    /// handed in shows that the TCP stream broke before that look. An end shuts before it ends its TCP stream; so where the other's
-    /// shut broke it, the look finds that shut.
+    /// Looks whether the stream is over, and where it isn't counts the end's first fault, which shuts the end. Answers whether a fault was
+    /// counted. `broken` shows that the TCP stream broke before that look. An end shuts before it ends its TCP stream; so where the other
+    /// end's shut broke the TCP stream, the look finds that shut.
     pub(crate) fn fail(&mut self, broken: &Break) -> bool
         ensures stream { self.new ≡ standing_of self.old self.new.stand }
         ensures failed { IsTrue result → (self.old.stand.other_shut ≡ false) × Failed self.old.stand self.new.stand }

@@ -1,3 +1,4 @@
+//! Tests of the threads of an end: what goes out before an end, and what they leave where a stream breaks.
 use crate::dialing::dial;
 use crate::handles::Handles;
 use crate::pipe::{Pipe, Shared};

@@ -17,7 +17,7 @@ use std::net::{Net, TcpListener, TcpStream};
 use std::sync::Wait;
 use std::thread::Threads;
 
-/// A wire whose streams go over TCP from this machine to itself. It can't be let go but by `finish`, which joins its threads.
+/// A wire whose streams go over TCP from this machine to itself. Only `finish`, which joins its threads, lets it go.
 pub struct TcpWire {
     alloc: Global,
     crew: Result<Crew, WireError>,
@@ -37,7 +37,8 @@ impl Model for TcpWire {
 }
 
 impl TcpWire {
-    /// Starts the thread that opens streams. Where that is refused, each opening is, for the same cause: want of memory, or a fault.
+    /// Starts the thread that opens streams. Where that thread is refused, each opening is refused for the same cause: no memory, or a
+    /// fault.
     pub fn new<
         R: Threads + Wait + Net<Listener = TcpListener, Stream = TcpStream> + Copy + Send + 'static,
     >(rt: &R, alloc: Global) -> TcpWire
@@ -88,7 +89,7 @@ impl TcpWire {
         self.fulls
     }
 
-    /// Returns once all threads have ended. Those of an end do once it was given back, has shut or was dropped.
+    /// Returns once all threads have ended. The threads of an end do so once the end was given back, has shut or was dropped.
     pub fn finish<R: Threads>(self, rt: &R) {
         let TcpWire {
             alloc: _,
@@ -103,6 +104,7 @@ impl TcpWire {
         }
     }
 
+    // Both ends of a new stream, or why there is none.
     fn pair<R: Wait>(&self, rt: &R) -> Result<(TcpEnd, TcpEnd), WireError>
         ensures refused { IfSome self.now.refused (λ cause. result ≡ Err cause) }
         ensures fresh { IfOk result (λ ends. IsFresh tcp_means ends.0 × IsFresh tcp_means ends.1) }
