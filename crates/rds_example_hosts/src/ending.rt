@@ -17,7 +17,7 @@ use std::net::Ipv4Addr;
 use std::sync::Wait;
 
 /// Ends a host: closes its socket, turns its line a last time, takes the host apart, and shows how many datagrams it accepted.
-pub fn end<R: Print + Wait + AllocGlobal>(
+pub fn end_host<R: Print + Wait + AllocGlobal>(
     rt: &R,
     wire: &mut MemWire,
     address: u32,

@@ -7,7 +7,7 @@ mod hosts;
 mod talking;
 mod working;
 
-use ending::end;
+use ending::end_host;
 use hosts::{A, B, two_hosts};
 use rds_link::MemWire;
 use working::run;
@@ -17,6 +17,6 @@ fn main(rt: HostRuntime) -> anyhow::Result<()> {
     let mut wire = MemWire::new(alloc, Vec::new(alloc), Vec::new(alloc));
     let (a, b) = two_hosts(&rt, &mut wire)?;
     let (a, b) = run(&rt, a, b)?;
-    end(&rt, &mut wire, A, a)?;
-    end(&rt, &mut wire, B, b)
+    end_host(&rt, &mut wire, A, a)?;
+    end_host(&rt, &mut wire, B, b)
 }

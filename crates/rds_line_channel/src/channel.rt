@@ -201,7 +201,7 @@ impl<E: End> Channel<E> {
     pub fn untaken(&self) -> usize
         ensures { result ≡ length self.now.piece }
     {
-        self.piece.rest().len()
+        self.piece.bytes().len()
     }
 
     /// Whether a stream is open.

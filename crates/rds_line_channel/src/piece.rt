@@ -49,8 +49,8 @@ impl Piece {
         })
     }
 
-    /// The bytes.
-    pub fn rest(&self) -> &[u8]
+    /// The bytes that are left.
+    pub fn bytes(&self) -> &[u8]
         ensures { result.now ≡ self.now }
     {
         &self.buf[self.start..self.end]

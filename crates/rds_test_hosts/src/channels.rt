@@ -176,7 +176,7 @@ pub fn cut(c: &mut Line) -> Option<()> {
 }
 
 /// Reads from a stream that the other host has shut, ends it, and answers whether it is still open.
-pub fn end(c: &mut Line) -> Option<bool> {
+pub fn end_if_over(c: &mut Line) -> Option<bool> {
     if !c.is_open() || c.untaken() > 0 {
         return None;
     }

@@ -8,7 +8,7 @@ mod seed;
 mod ways;
 
 use crate::{LineHost, PORT};
-pub use outcome::{Outcome, settle};
+pub use outcome::{Outcome, run_out};
 use rds_line::Turn;
 use rds_link::{End, MemEnd, MemWire, Wire};
 use rds_model::Order;

@@ -62,7 +62,7 @@ fn carried(a: &mut Line, b: &mut Line, alloc: Global) -> Option<Carried>
     let sent = sends(a, alloc)?;
     let came = gets(b)?;
     cut(a)?;
-    Some((sent, came, end(b)?))
+    Some((sent, came, end_if_over(b)?))
 }
 
 fn carry<R: Threads + Wait + Net>(rt: &R, alloc: Global) -> Option<Carried> {
@@ -91,7 +91,7 @@ fn met(a: &mut Line, b: &mut Line) -> Option<(Got, bool)>
     meet::<MemWire>(a, b);
     let came = receive(b)?;
     cut(a)?;
-    Some((came, end(b)?))
+    Some((came, end_if_over(b)?))
 }
 
 fn meeting<R: Threads + Wait + Net>(rt: &R, alloc: Global) -> Option<(Got, bool)> {

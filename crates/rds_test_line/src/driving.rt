@@ -3,7 +3,7 @@
 use rds_link::End;
 use rds_model::Order;
 use rds_test_hosts::pair::{
-    Both, NEW, Outcome, Seed, Way, cancel, hosts, send_next, settle, take_next,
+    Both, NEW, Outcome, Seed, Way, cancel, hosts, run_out, send_next, take_next,
 };
 use std::alloc::Global;
 use std::net::Net;
@@ -91,7 +91,7 @@ fn run<R: Threads + Wait + Net>(
 ) -> Option<Outcome> {
     let mut both = hosts(rt, alloc, fail)?;
     let ways = drive(rt, alloc, &mut both, &mut Seed::new(seed), cancels);
-    Some(settle(rt, &mut both, ways))
+    Some(run_out(rt, &mut both, ways))
 }
 
 // Whether all came that was not taken back, where no call fails.

@@ -4,7 +4,7 @@ use rds_link::MemEnd;
 use rds_model::Order;
 use rds_test_hosts::LineHost;
 use rds_test_hosts::pair::{
-    Both, NEW, Outcome, Seed, Way, cancel, hosts, send_next, settle, take_next,
+    Both, NEW, Outcome, Seed, Way, cancel, hosts, run_out, send_next, take_next,
 };
 use std::alloc::Global;
 use std::net::Net;
@@ -103,7 +103,7 @@ fn run<R: Threads + Wait + Net + Sync>(
     act_both(rt, alloc, &mut both, &mut works);
     let (forth, back) = works;
     let ways = [way(forth.went, back.came), way(back.went, forth.came)];
-    Some(settle(rt, &mut both, ways))
+    Some(run_out(rt, &mut both, ways))
 }
 
 // Whether all came that was not taken back, where no call fails.

@@ -40,7 +40,7 @@ impl<E: End> Channel<E> {
         ensures err { OnErr result (self.new ≡ self.old) }
     {
         self.known();
-        match self.conn.feed(self.piece.rest()) {
+        match self.conn.feed(self.piece.bytes()) {
             Ok(fed) => {
                 self.piece.took(fed.used);
                 Ok(if fed.waiting {

@@ -44,7 +44,7 @@ impl Outcome {
 }
 
 /// Both lines turn until nothing moves any more, and both hosts take all that came.
-pub fn settle<E: End>(rt: &impl Wait, both: &mut Both<E>, mut ways: [Way; 2]) -> Outcome {
+pub fn run_out<E: End>(rt: &impl Wait, both: &mut Both<E>, mut ways: [Way; 2]) -> Outcome {
     let last = last_turns(rt, both);
     take_all(rt, &mut both.1, &mut ways[0]);
     take_all(rt, &mut both.0, &mut ways[1]);

@@ -30,7 +30,7 @@ invariant_of-self-in-Err-Malformed g c =
     let legal = legal_inside view_is c.known.ensures.whole in
     let is_open = ended_is_open m past arrived inside.out cuts s c.self.invariant kept on now given.streams in
     let number_is : refuses.s ≡ number = same_Some refuses.s number (sym refuses.on ∙ is_open) in
-    let bytes = refuses.bytes ∙ ap (λ (l : List ℕ). taken ++ take refuses.used l) c.rest.ensures in
+    let bytes = refuses.bytes ∙ ap (λ (l : List ℕ). taken ++ take refuses.used l) c.bytes.ensures in
     let refused = carried_refused m past arrived inside.out cuts s c.self.invariant kept on now given.streams header fault in
     let entry_is = ap (λ (conn : Connection). conn.log.past) refuses.entry in
     restated m (entry_is ∙ ap (λ (n : ℕ). entry.Bad n header fault ∷ past) number_is)
