@@ -1,3 +1,4 @@
+//! What is left of a host, taken apart and told beside its journals.
 ghost use Rattle.std.specs.Prelude.{◌≡◌, ◌-◌, IfOk, OnOk, map};
 ghost use Rattle.rds_text.specs.FinalViews.{side_view};
 ghost use Rattle.rds_host.specs.Held.{ends_in};

@@ -29,7 +29,7 @@ pub(crate) fn find_grounds(
     Ok(())
 }
 
-// Adds the seats of these lines.
+// Adds the seats of these lines to those of the slots.
 fn add_lines(seats: &mut Vec<MeterSeat>, lines: Vec<LineWords>) -> Result<(), Memory>
     ensures { OnOk result (seats.new.items ≡ seats.old.items ++ lines.items) }
 {

@@ -1,4 +1,4 @@
-//! The joins of a slot's mailbox.
+//! The join of all putters of a slot's mailbox.
 ghost use Rattle.std.specs.Prelude.{◌≡◌, ◌++◌, ℕ, All, map};
 ghost use Rattle.rds_seats.specs.Views.{Each};
 ghost use Rattle.rds_mail.specs.Numbers.{Number};
@@ -12,7 +12,7 @@ use rds_model::Datagram;
 use std::sync::Wait;
 
 /// Ends all putters of a slot's mailbox, one of each line. What the slot's socket got from each host, in order, begins what the line
-/// to that host has put. It is all of it where the socket was told of all that the lines put, and then found its mailbox empty.
+/// to that host has put, and is all of that where the socket was told of all that the lines put, and then found its mailbox empty.
 pub fn join_receipts<W: Wait>(
     rt: &W,
     mail: &Mail<Datagram>,
@@ -24,8 +24,10 @@ pub fn join_receipts<W: Wait>(
     requires all { AreAll (get.old.joined ++ map account_of puts.items) }
     ensures joined { get.new ≡ with_joined get.old (map account_of puts.items) }
     ensures merged { IsMerged get.new.got get.new.joined }
-    ensures begin { (host_at : Number → ℕ) → AreMarked IsFrom host_at get.new.joined → KeysBegin sender_in host_at get.new.got get.new.joined }
-    ensures emptied { (host_at : Number → ℕ) → AreMarked IsFrom host_at get.new.joined → Each get.new.told (IsPart get.new.got) → PutsAreTold get.new.told get.new.joined → KeysAre sender_in host_at get.new.got get.new.joined }
+    ensures begin { (host_at : Number → ℕ) → AreMarked IsFrom host_at get.new.joined →
+        KeysBegin sender_in host_at get.new.got get.new.joined }
+    ensures emptied { (host_at : Number → ℕ) → AreMarked IsFrom host_at get.new.joined → Each get.new.told (IsPart get.new.got) →
+        PutsAreTold get.new.told get.new.joined → KeysAre sender_in host_at get.new.got get.new.joined }
 {
     mail.gather_keyed(rt, get, puts);
 }

@@ -1,4 +1,4 @@
-//! Lines that are taken apart.
+//! How the lines of a host are taken apart.
 ghost use Rattle.std.specs.Prelude.{◌≡◌, ◌-◌, ◌∷◌, ◌++◌, [], All, IfOk, OnOk, map};
 ghost use Rattle.rds_text.specs.FinalViews.{side_view};
 ghost use Rattle.rds_host.specs.Held.{ends_in, ends_of};

@@ -1,4 +1,4 @@
-//! The order queues of a host's lines, and the congestion maps that its slots looked at.
+//! The joins of the order queues of a host's lines, and of the readers of the congestion maps that its slots looked at.
 ghost use Rattle.std.specs.Prelude.{◌≡◌, ◌++◌, All, IfOk, OnOk, Option, drop, map};
 ghost use Rattle.std.specs.Option.{option_to_list};
 ghost use Rattle.rds_socket_parts.specs.Lanes.{IsOf};
@@ -26,7 +26,8 @@ pub(crate) fn join_all_orders<R: Wait>(
 ) -> Result<(), Memory>
     requires putters { AtEachPlace (λ line lanes. ArePuttersOf line.0 (passes_of lanes)) lines.items (rows_left routes.old) }
     requires readers { AtEachPlace (λ line lanes. AreReadersOf line.1 lanes) lines.items (rows_left routes.old) }
-    ensures shown { OnOk result (AtEachPlace (λ line lanes. ShowsAllPuts slot_of_order IsOf line.0 (passes_of lanes)) lines.items (rows_left routes.old)) }
+    ensures shown { OnOk result
+        (AtEachPlace (λ line lanes. ShowsAllPuts slot_of_order IsOf line.0 (passes_of lanes)) lines.items (rows_left routes.old)) }
     ensures looks { OnOk result (AtEachPlace (λ line lanes. HaveLookedAt line.1.published lanes) lines.items (rows_left routes.old)) }
 {
     for line in lines {
@@ -56,7 +57,7 @@ fn next_passes(
     Ok(passes)
 }
 
-// Adds the putter of a route, and joins its reader into the writer, if there is one.
+// Adds the putter of a route, if there is one, and joins the route's reader into the writer.
 fn add_pass(
     passes: &mut Vec<PutPass<Asked>>,
     route: Option<Route<Reader>>,
@@ -94,7 +95,7 @@ fn pass_of(route: Route<Reader>, writer: &mut Writer) -> PutPass<Asked>
     pass
 }
 
-// Joins all putters of a line's order queue into its getter. A host without slots has none.
+// Joins all putters of a line's order queue into its getter. A host without slots has no putter.
 fn join_line<R: Wait>(rt: &R, own: LineOrders, passes: Vec<PutPass<Asked>>)
     requires putters { ArePuttersOf own passes.items }
     ensures shown { ShowsAllPuts slot_of_order IsOf own passes.items }

@@ -23,7 +23,7 @@ pub(crate) fn find_owners(mut lines: Vec<LinePorts>, slots: Vec<Ports>)
     }
 }
 
-// The seat of a line hears of the steps of the others.
+// The seat of one line hears of the steps of the other lines' seats.
 fn hear_lines(lines: Vec<LinePorts>, seen: &mut BindSeat)
     requires tables { All (λ line. seen.old.table ≡ line.table) lines.items }
     requires claims { All (λ line. ClaimsNothing line.view.steps) lines.items }
@@ -35,6 +35,7 @@ fn hear_lines(lines: Vec<LinePorts>, seen: &mut BindSeat)
     }
 }
 
+// The seat of one line hears of the steps of another line's seat.
 fn hear_line(line: LinePorts, seen: &mut BindSeat)
     requires { seen.old.table ≡ line.table }
     ensures { seen.new ≡ knowing seen.old (joined seen.old.view (note_of_steps line.view)) }
@@ -55,7 +56,7 @@ fn show_slots(slots: Vec<Ports>, seen: &mut BindSeat)
     }
 }
 
-// A load after that shows what holds of all seats.
+// The seat of one slot hears what the lines have seen, and a load after that shows what holds of all seats.
 fn show_slot(slot: Ports, seen: &mut BindSeat)
     requires table { slot.table ≡ seen.old.table }
     requires claims { ClaimsNothing seen.old.view.steps }

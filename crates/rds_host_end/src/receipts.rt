@@ -1,4 +1,4 @@
-//! The mailboxes of a host's slots.
+//! The joins of the mailboxes of a host's slots.
 ghost use Rattle.std.specs.Prelude.{◌≡◌, ◌++◌, IfOk, OnOk, Option, drop, map};
 ghost use Rattle.std.specs.Option.{option_to_list};
 ghost use Rattle.rds_host_end.specs.Joins.{IsFrom, sender_in};
@@ -15,7 +15,7 @@ use std::alloc::Global;
 use std::sync::Wait;
 use std::vec::IntoIter;
 
-/// Joins the putters of each slot's mailbox into its getter. The putters of each line are at the mailboxes in their order.
+/// Joins the putters of each slot's mailbox into its getter. The putters of each line stand in the order of the slots.
 pub(crate) fn join_all_receipts<R: Wait>(
     rt: &R,
     alloc: Global,
@@ -59,7 +59,7 @@ fn add_pass(passes: &mut Vec<PutPass<Datagram>>, held: Option<SlotBox>) -> Resul
     Ok(())
 }
 
-// Joins all putters of a slot's mailbox into its getter. A host without lines has none.
+// Joins all putters of a slot's mailbox into its getter. A host without lines has no putter.
 fn join_slot<R: Wait>(rt: &R, own: Inbox, passes: Vec<PutPass<Datagram>>)
     requires putters { ArePuttersOf own.get passes.items }
     ensures shown { ShowsAllPuts sender_in IsFrom own.get passes.items }

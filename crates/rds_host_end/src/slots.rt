@@ -1,4 +1,4 @@
-//! Slots that are taken apart.
+//! How the slots of a host are taken apart.
 ghost use Rattle.std.specs.Prelude.{◌≡◌, All, IfOk, OnOk, map};
 ghost use Rattle.std.specs.Vec.Iter.{into_iter_items};
 ghost use Rattle.rds_socket.specs.Holding.{IsEnded};

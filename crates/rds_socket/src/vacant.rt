@@ -1,5 +1,5 @@
 //! A slot without a port, and how it gets one.
-ghost use Rattle.std.specs.Prelude.{◌≡◌, ◌<◌, ◌≤◌, ℕ, [], Some, None, OnOk, OnErr, IfErr};
+ghost use Rattle.std.specs.Prelude.{◌≡◌, ◌<◌, ℕ, [], Some, None, OnOk, OnErr, IfErr};
 ghost use Rattle.rds_model.specs.declared.entry.TheConstants.{MAX_SLOTS};
 ghost use Rattle.std.specs.Arc.{arc_value};
 ghost use Rattle.rds_bindtab.specs.Seats.{slot_of};
