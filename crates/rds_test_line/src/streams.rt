@@ -96,7 +96,7 @@ fn met<W: Wire>(a: &mut Streams<W::End>, b: &mut Streams<W::End>) -> Option<(Put
     a.open_next()?;
     b.open_next()?;
     let sent = b.send(b"bye");
-    meet::<W>(a, b);
+    meet_streams::<W>(a, b);
     Some((sent, a.receive(&mut [0; 8])))
 }
 
