@@ -1,80 +1,27 @@
-//! How many claims, looks and additions a second the shared tables give. By itself the program makes a few of each and
-//! writes one line; with a number of rounds it measures them from one thread and from four.
+//! Measures the tables and queues that threads share: the port table and the meter, mailboxes, and the maps of peers. With no word
+//! the program makes a few rounds of each benchmark, measures nothing and writes one line for each. The words `tables ROUNDS`,
+//! `mail COUNT` and `map LOOKS` measure one of them.
 #![tactic(auto)]
 
-mod adds;
-mod claims;
-mod looks;
+mod mail;
+mod map;
+mod tables;
 
-use std::alloc::{AllocError, Global};
+use anyhow::{Context, bail};
 use std::env;
-use std::io::Print;
-use std::thread::Threads;
-use std::time::{Clock, Duration, Instant};
-
-const FEW: u32 = 1000;
 
 fn main(rt: HostRuntime) -> anyhow::Result<()> {
-    let mut words = env::args(&rt)?;
-    words.next();
-    match words.next() {
-        None => show(&rt, rt.alloc()),
-        Some(word) => measure(&rt, rt.alloc(), word.parse()?),
+    let mut words = env::args(&rt)?.skip(1);
+    let Some(benchmark) = words.next() else {
+        tables::show(&rt, rt.alloc())?;
+        mail::show(&rt, rt.alloc())?;
+        return map::show(&rt, rt.alloc());
+    };
+    let count = words.next().context("a number is missing")?.parse()?;
+    match benchmark.as_str() {
+        "tables" => tables::measure(&rt, rt.alloc(), count),
+        "mail" => mail::measure(&rt, rt.alloc(), count),
+        "map" => map::measure(&rt, rt.alloc(), count),
+        _ => bail!("no benchmark has this name"),
     }
-}
-
-// What the tables have counted after a few steps.
-fn show<R: Print + Threads + Sync>(rt: &R, alloc: Global) -> anyhow::Result<()> {
-    let claimed = claims::by_one(alloc, FEW).ok_or(AllocError)?;
-    let all_claimed = claims::by_four(rt, alloc, FEW).ok_or(AllocError)?;
-    let found = looks::by_one(alloc, FEW).ok_or(AllocError)?;
-    let all_found = looks::by_four(rt, alloc, FEW).ok_or(AllocError)?;
-    let added = adds::by_one(alloc, FEW).ok_or(AllocError)?;
-    let all_added = adds::by_four(rt, alloc, FEW).ok_or(AllocError)?;
-    println!(rt;
-        "claims {claimed} {all_claimed}, looks {found} {all_found}, additions {added} {all_added}"
-    )?;
-    Ok(())
-}
-
-fn measure<R: Print + Threads + Clock + Sync>(
-    rt: &R,
-    alloc: Global,
-    rounds: u32,
-) -> anyhow::Result<()> {
-    let start = Instant::now(rt)?;
-    let done = claims::by_one(alloc, rounds).ok_or(AllocError)?;
-    tell(
-        rt,
-        "claims and releases, 1 thread",
-        done,
-        start.elapsed(rt)?,
-    )?;
-    let start = Instant::now(rt)?;
-    let done = claims::by_four(rt, alloc, rounds).ok_or(AllocError)?;
-    tell(
-        rt,
-        "claims and releases, 4 threads",
-        done,
-        start.elapsed(rt)?,
-    )?;
-    let start = Instant::now(rt)?;
-    let done = looks::by_one(alloc, rounds).ok_or(AllocError)?;
-    tell(rt, "looks, 1 thread", done, start.elapsed(rt)?)?;
-    let start = Instant::now(rt)?;
-    let done = looks::by_four(rt, alloc, rounds).ok_or(AllocError)?;
-    tell(rt, "looks, 4 threads", done, start.elapsed(rt)?)?;
-    let start = Instant::now(rt)?;
-    let done = adds::by_one(alloc, rounds).ok_or(AllocError)?;
-    tell(rt, "additions, 1 thread", done, start.elapsed(rt)?)?;
-    let start = Instant::now(rt)?;
-    let done = adds::by_four(rt, alloc, rounds).ok_or(AllocError)?;
-    tell(rt, "additions, 4 threads", done, start.elapsed(rt)?)
-}
-
-// So many steps in so long a time, as thousands a second.
-fn tell(rt: &impl Print, kind: &str, done: u64, took: Duration) -> anyhow::Result<()> {
-    let thousands = u128::from(done) * 1_000_000 / took.as_nanos().max(1);
-    println!(rt; "{kind}: {thousands} thousand a second")?;
-    Ok(())
 }

@@ -1,3 +1,4 @@
+//! When a frame carries the flag ACK_REQUIRED: what was asked on the open stream, and what may still go unasked.
 ghost use Rattle.std.specs.Prelude.{◌≡◌, ◌+◌, ◌<◌, ◌^◌, ◌||◌, nat_le, nat_lt, ◌&&◌, false, true, if◌then◌else◌};
 ghost use Rattle.rds_model.specs.declared.owed.TheConstants.{MAX_UNASKED as most, MAX_UNASKED_BYTES as most_bytes};
 ghost use Rattle.rds_model.specs.Owed.{answers_kind};

@@ -53,7 +53,7 @@ pub fn gather<W: Wire, R: Wait>(
     ensures found { OnOk result (AreFound closed.items lines.items) }
     ensures grounded { OnOk result (AreMapsGrounded closed.items lines.items) }
     ensures cut { OnOk result (AreCutsOfSlots closed.items lines.items) }
-    ensures risen { StaysRisen (W.faults wire.old) (W.faults wire.new) }
+    ensures risen { StaysRisen (W.counted wire.old).faults (W.counted wire.new).faults }
     ensures out { W.out wire.new ≡ W.out wire.old - ends_in lines.items }
 {
     let mut left = take_lines(rt, alloc, wire, lines)?;

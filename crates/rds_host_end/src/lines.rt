@@ -100,7 +100,7 @@ pub(crate) fn take_lines<W: Wire, R: Wait>(
     ensures words { IfOk result (λ left. left.words.items ≡ map (λ line. line.words) lines.items) }
     ensures kept { All (KeepsLine (λ w. w.published)) lines.items }
     ensures cut { All HasCut lines.items }
-    ensures risen { StaysRisen (W.faults wire.old) (W.faults wire.new) }
+    ensures risen { StaysRisen (W.counted wire.old).faults (W.counted wire.new).faults }
     ensures out { W.out wire.new ≡ W.out wire.old - ends_in lines.items }
 {
     let mut left = LinesLeft {
@@ -130,7 +130,7 @@ fn take_line<W: Wire, R: Wait>(rt: &R, wire: &mut W, line: Line<W::End, Writer>)
     ensures words { result.words ≡ line.words }
     ensures kept { KeepsLine (λ w. w.published) line }
     ensures cut { HasCut line }
-    ensures risen { StaysRisen (W.faults wire.old) (W.faults wire.new) }
+    ensures risen { StaysRisen (W.counted wire.old).faults (W.counted wire.new).faults }
     ensures out { W.out wire.new ≡ W.out wire.old - ends_of line }
 {
     line.known();
@@ -162,7 +162,7 @@ fn take_line<W: Wire, R: Wait>(rt: &R, wire: &mut W, line: Line<W::End, Writer>)
 /// Takes a line apart and gives the ends of all its streams back to the wire. The journal is left.
 pub fn end_line<W: Wire, R: Wait>(rt: &R, wire: &mut W, line: Line<W::End, Writer>) -> Journal
     ensures past { result.past ≡ line_past line }
-    ensures risen { StaysRisen (W.faults wire.old) (W.faults wire.new) }
+    ensures risen { StaysRisen (W.counted wire.old).faults (W.counted wire.new).faults }
     ensures out { W.out wire.new ≡ W.out wire.old - ends_of line }
 {
     let LineLeft {

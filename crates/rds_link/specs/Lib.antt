@@ -7,3 +7,4 @@ pub mod Ends
 pub mod Answers
 pub mod Failing
 pub mod Memory
+pub mod Seen

@@ -95,11 +95,7 @@ impl MemWire {
 impl Wire for MemWire {
     type End = MemEnd;
 
-    ghost faults = { λ w. w.faults };
-
-    ghost nothings = { λ w. w.nothings };
-
-    ghost fulls = { λ w. w.fulls };
+    ghost counted = { λ w. record { faults = w.faults; nothings = w.nothings; fulls = w.fulls } };
 
     ghost out = { λ w. w.out };
 

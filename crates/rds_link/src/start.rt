@@ -18,7 +18,7 @@ pub struct Start {
 impl Start {
     /// What is known of the wire now.
     pub fn of<W: Wire>(wire: &W, budget: u64) -> Start
-        ensures counts { result.counts ≡ record { faults = W.faults wire.now; nothings = W.nothings wire.now; fulls = W.fulls wire.now } }
+        ensures counts { result.counts ≡ W.counted wire.now }
         ensures can_fail { result.can_fail ≡ true ↔ W.may_fail wire.now }
         ensures budget { result.budget ≡ budget }
     {

@@ -2,6 +2,7 @@ ghost use Rattle.std.specs.Prelude.{◌≡◌, ◌≤◌, ◌+◌, ◌-◌, ◌�
 ghost use Rattle.rds_link.specs.Ends.{Remains, MovesNothing, CountsStay, IsFresh, HasAll, RisesBy};
 ghost use Rattle.rds_link.specs.Standing.{LearnsOther, HaveCause, HaveFirst};
 ghost use Rattle.rds_link.specs.Streaming.{HasRisen};
+ghost use Rattle.rds_link.specs.declared.wire.WireCounts.{WireCounts};
 ghost use Rattle.rds_link.specs.declared.wire.WireError.TheVariants as errors;
 
 use crate::End;
@@ -34,13 +35,8 @@ pub trait Wire {
     /// The ends of its streams.
     type End: End;
 
-    /// How many faults there were, of openings and of ends that were given back.
-    ghost faults: { Self → ℕ };
-
-    /// How many answers `Nothing` and `Full` the ends that were given back had counted.
-    ghost nothings: { Self → ℕ };
-
-    ghost fulls: { Self → ℕ };
+    /// What it has counted.
+    ghost counted: { Self → WireCounts };
 
     /// How many ends of its streams are out: an opening handed them out, and they weren't given back.
     ghost out: { Self → ℕ };
@@ -58,7 +54,7 @@ pub trait Wire {
 
     /// What it has counted so far.
     fn counts(&self) -> WireCounts
-        ensures { result ≡ record { faults = faults self.now; nothings = nothings self.now; fulls = fulls self.now } };
+        ensures { result ≡ counted self.now };
 
     /// Opens the stream with this number between two hosts, the lower of which gets the first end.
     fn open<R: Threads + Wait + Net>(
@@ -70,13 +66,13 @@ pub trait Wire {
     ) -> Result<(Self::End, Self::End), WireError>
         ensures fresh { IfOk result (λ ends. IsFresh Self.End.means ends.0 × IsFresh Self.End.means ends.1) }
         ensures pair { IfOk result (λ ends. Self.End.means.meets ends.0 ends.1) }
-        ensures fault { IsErrOf result errors.Fault → HasRisen (faults self.old) (faults self.new) }
-        ensures once { IsErrOf result errors.Fault → RisesBy 1 (faults self.old) (faults self.new) }
-        ensures short { IsErrOf result errors.Memory → faults self.new ≡ faults self.old }
-        ensures quiet { IfOk result (λ _. faults self.new ≡ faults self.old) }
-        ensures faults { faults self.old ≤ faults self.new }
-        ensures nothings { nothings self.new ≡ nothings self.old }
-        ensures fulls { fulls self.new ≡ fulls self.old }
+        ensures fault { IsErrOf result errors.Fault → HasRisen (counted self.old).faults (counted self.new).faults }
+        ensures once { IsErrOf result errors.Fault → RisesBy 1 (counted self.old).faults (counted self.new).faults }
+        ensures short { IsErrOf result errors.Memory → (counted self.new).faults ≡ (counted self.old).faults }
+        ensures quiet { IfOk result (λ _. (counted self.new).faults ≡ (counted self.old).faults) }
+        ensures faults { (counted self.old).faults ≤ (counted self.new).faults }
+        ensures nothings { (counted self.new).nothings ≡ (counted self.old).nothings }
+        ensures fulls { (counted self.new).fulls ≡ (counted self.old).fulls }
         ensures out { IfOk result (λ _. out self.new ≤ out self.old + 2) }
         ensures opened { IfOk result (λ _. RisesBy 2 (out self.old) (out self.new)) }
         ensures none { OnErr result (out self.new ≡ out self.old) };
@@ -96,8 +92,8 @@ pub trait Wire {
 
     /// Takes an end back and finishes it. The wire's counts grow by the end's.
     fn give_back<R: Wait>(&mut self, rt: &R, end: Self::End)
-        ensures faults { RisesBy (Self.End.means.stand end).faults (faults self.old) (faults self.new) }
-        ensures nothings { RisesBy (Self.End.means.nothings end) (nothings self.old) (nothings self.new) }
-        ensures fulls { RisesBy (Self.End.means.fulls end) (fulls self.old) (fulls self.new) }
+        ensures faults { RisesBy (Self.End.means.stand end).faults (counted self.old).faults (counted self.new).faults }
+        ensures nothings { RisesBy (Self.End.means.nothings end) (counted self.old).nothings (counted self.new).nothings }
+        ensures fulls { RisesBy (Self.End.means.fulls end) (counted self.old).fulls (counted self.new).fulls }
         ensures out { out self.new ≡ out self.old - 1 };
 }

@@ -1,5 +1,6 @@
 -- What was written where the sink failed.
 use Rattle.std.proofs.Common.{◌≡◌, ◌⊎◌, inl, inr, ℕ, Bool, true, List, String, sym, subst, ◌∙◌}
+use Rattle.rds_link.specs.Seen.{SinkSeen, SourceSeen}
 use Rattle.std.specs.Global.{Global}
 use Rattle.rds_link.specs.Streaming.{HasRisen, SinkGainedFront}
 use Rattle.rds_link.specs.declared.wire.WireCounts.{WireCounts}
@@ -11,7 +12,7 @@ use Rattle.rds_run_hosts.specs.Streams.{prepared_streams}
 use Rattle.rds_run_threads.specs.Begun.{HasBegun}
 use Rattle.rds_run_threads.specs.Counted.{IsCountedEnd}
 use Rattle.rds_run_threads.specs.Cuts.{IsCutEnd}
-use Rattle.rds_run_threads.specs.Ends.{HasToWrite, Written}
+use Rattle.rds_run_threads.specs.Ends.{HasToWrite}
 use Rattle.rds_run_threads.specs.declared.form.Form.{Form}
 use Rattle.rds_run_threads.specs.declared.form.Form.TheVariants as form
 use Rattle.rds_run_threads.specs.declared.form.RunEnd.{RunEnd}
@@ -21,7 +22,7 @@ use Rattle.rds_run.specs.GenWords.{AreGen}
 use Rattle.rds_run.specs.RunWords.{AreRun}
 use Rattle.rds_run.specs.declared.status.Status.{Status}
 use Rattle.rds_run.specs.declared.status.Status.TheVariants as ended
-use Rattle.rds_run.specs.ExitStatus.{HasFailedIn, SinkSeen, SourceSeen, code}
+use Rattle.rds_run.specs.ExitStatus.{HasFailedIn, code}
 use Rattle.rds_run.specs.RunStatus.{IsEndOfGenCall, IsEndOfScript, IsRunAnswer, IsRunText, OfNoScript, OfRunScript, OfTooMany, WireSeen, memory_seen, none_counted, seen_over}
 use Rattle.rds_run.specs.Texts.{too_many_line}
 use Rattle.rds_run.proofs.Ended.{Ends, HasRun, by_run, ends_at, gen_at, run_at}
@@ -58,7 +59,7 @@ cut_none m may_fail never before after was now run_end.WriteFault counted cut = 
 cut_none m may_fail never before after was now run_end.Memory counted cut = tt
 
 -- where the sink failed, it took a beginning of what the run has to write
-pub begun_of : (seen : WireSeen) (form : Form) (m : Meaning) (may_fail : Type 0) (sink : Written) → HasRisen sink.faults_before sink.faults_after →
+pub begun_of : (seen : WireSeen) (form : Form) (m : Meaning) (may_fail : Type 0) (sink : SinkSeen) → HasRisen sink.faults_before sink.faults_after →
     HasBegun form seen.tells MAX_ENTRIES m.hosts m.commands (IsCountedEnd seen.tells may_fail 20000000 m.commands seen.before seen.after) seen.before.faults seen.after.faults
     sink.held_before sink.held_after →
     (text : List ℕ) × IsRunText seen form m text × (HasRisen sink.faults_before sink.faults_after × SinkGainedFront sink.held_before sink.held_after text)

@@ -1,11 +1,11 @@
 -- How a call of `run` ends.
 use Rattle.std.proofs.Common.{◌≡◌, ◌⊎◌, inl, inr, ℕ, List, Err, sym, subst}
+use Rattle.rds_link.specs.Seen.{SinkSeen, SourceSeen}
 use Rattle.rds_link.specs.Streaming.{HasRisen, SinkGained, SinkGainedFront}
 use Rattle.rds_script.specs.Grammar.{Meaning}
 use Rattle.rds_run.specs.declared.wire.RunWire.{RunWire}
 use Rattle.rds_run.specs.declared.status.Status.{Status}
 use Rattle.rds_run.specs.declared.status.Status.TheVariants as ended
-use Rattle.rds_run.specs.ExitStatus.{SourceSeen, SinkSeen}
 use Rattle.rds_run.specs.Reading.{IsEndOfReading, IsReadAs}
 use Rattle.rds_run.specs.RunStatus.{IsEndOfRunOver, IsEndOfTooMany, IsTooMany, Ran, TooMany, WireSeen}
 use Rattle.rds_run_hosts.specs.Streams.{prepared_streams}

@@ -1,10 +1,11 @@
 -- The numbers of the statuses, and which of them a call may exit with.
 use Rattle.std.proofs.Common.{◌≡◌, ◌⊎◌, inl, inr, ℕ, ◌==◌, ◌≤◌, cond, sym, ap, subst, ◌∙◌, refl, arith}
+use Rattle.rds_link.specs.Seen.{SinkSeen}
 use Rattle.rds_script.specs.declared.cause.Cause.{Cause}
 use Rattle.rds_script.specs.Cause.{cause_text}
 use Rattle.rds_run.specs.declared.status.Status.{Status}
 use Rattle.rds_run.specs.declared.status.Status.TheVariants as ended
-use Rattle.rds_run.specs.ExitStatus.{HasTaken, code, IsEndOfRefusal, SinkSeen}
+use Rattle.rds_run.specs.ExitStatus.{HasTaken, code, IsEndOfRefusal}
 use Rattle.rds_run.specs.RunStatus.{IsEndOfTooMany}
 use Rattle.rds_run.specs.Texts.{bad_line, too_many_line}
 use Rattle.rds_run.specs.Ending.{IsEndOfUsage}

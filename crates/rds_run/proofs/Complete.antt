@@ -1,5 +1,6 @@
 -- Where nothing failed, a script is run.
 use Rattle.std.proofs.Common.{◌≡◌, ◌⊎◌, ⊎_elim, inl, inr, ℕ, List, String, refl, sym, ap, subst}
+use Rattle.rds_link.specs.Seen.{SinkSeen, SourceSeen}
 use Rattle.std.specs.Global.{Global}
 use Rattle.rds_link.specs.Streaming.{HasRisen}
 use Rattle.rds_script.specs.Grammar.{Meaning}
@@ -13,7 +14,7 @@ use Rattle.rds_run.specs.GenWords.{AreGen}
 use Rattle.rds_run.specs.RunWords.{AreRun}
 use Rattle.rds_run.specs.declared.status.Status.{Status}
 use Rattle.rds_run.specs.declared.status.Status.TheVariants as ended
-use Rattle.rds_run.specs.ExitStatus.{IsToldSpelled, SinkSeen, SourceSeen, code}
+use Rattle.rds_run.specs.ExitStatus.{IsToldSpelled, code}
 use Rattle.rds_run.specs.RunStatus.{IsEndOfRunOver, IsEndOfScript, IsEndOfTooMany, Ran, TooMany, WireSeen, memory_seen, seen_over}
 use Rattle.rds_run.specs.Ending.{IsEndOfProgram, OfGen, OfMemory, OfNone, OfPlay, OfRun}
 use Rattle.rds_run.proofs.Commands.{play_or_gen, play_or_run, run_or_gen, same_wire}

@@ -1,5 +1,6 @@
 -- What the program's exit status says, by how it ends.
 use Rattle.std.proofs.Common.{◌≡◌, ◌⊎◌, inl, inr, ℕ, ◌<◌, ◌≤◌, ◌++◌, Bool, true, false, List, String, sym, ap, subst, ⊎_elim, ◌∙◌, refl, arith}
+use Rattle.rds_link.specs.Seen.{SinkSeen, SourceSeen}
 use Rattle.std.specs.Global.{Global}
 use Rattle.rds_link.specs.Streaming.{HasRisen, SinkGained, SinkGainedFront}
 use Rattle.rds_script.specs.declared.cause.Cause.{Cause}
@@ -8,7 +9,7 @@ use Rattle.rds_text.specs.Lines.{end_line, spent_line}
 use Rattle.rds_history.specs.History.{text_of as played_text}
 use Rattle.rds_run.specs.declared.status.Status.{Status}
 use Rattle.rds_run.specs.declared.status.Status.TheVariants as ended
-use Rattle.rds_run.specs.ExitStatus.{HasTaken, IsAnswer, code, IsEndOfCall, IsEndOfRefusal, IsPlayed, IsRefusal, IsSpelled, IsSpent, IsToldRefused, IsToldSpelled, SinkSeen, SourceSeen}
+use Rattle.rds_run.specs.ExitStatus.{HasTaken, IsAnswer, code, IsEndOfCall, IsEndOfRefusal, IsPlayed, IsRefusal, IsSpelled, IsSpent, IsToldRefused, IsToldSpelled}
 use Rattle.rds_run.specs.Reading.{IsEndOfReading}
 use Rattle.rds_run.specs.RunStatus.{HasFilled, IsEndOfGenCall, IsEndOfRunCall, IsEndOfRunOver, IsEndOfScript, IsEndOfTooMany, IsRan, IsRunUnfinished, IsTooMany, IsWireFault, Ran, TooMany, WireSeen, memory_seen, seen_over, tells_over}
 use Rattle.rds_run_hosts.specs.Streams.{prepared_streams}

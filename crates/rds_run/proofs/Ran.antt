@@ -1,12 +1,13 @@
 -- A run that ended so is one of which the status says so.
 use Rattle.std.proofs.Common.{◌≡◌, ◌≢◌, ◌⊎◌, inl, inr, ℕ, true, List, [], Vec, refl, subst}
+use Rattle.rds_link.specs.Seen.{SinkSeen}
 use Rattle.std.specs.Global.{Global}
 use Rattle.rds_link.specs.Streaming.{SinkGained}
 use Rattle.rds_script.specs.Grammar.{Meaning}
 use Rattle.rds_text.specs.FinalViews.{host_views}
 use Rattle.rds_text.specs.declared.final_state.HostEnd.{HostEnd}
 use Rattle.rds_run_threads.specs.Cuts.{IsCutEnd}
-use Rattle.rds_run_threads.specs.Ends.{IsEndOfRun, Written}
+use Rattle.rds_run_threads.specs.Ends.{IsEndOfRun}
 use Rattle.rds_run_threads.specs.declared.form.Form.{Form}
 use Rattle.rds_run_threads.specs.declared.form.RunEnd.{RunEnd}
 use Rattle.rds_run_threads.specs.declared.form.RunEnd.TheVariants as ended
@@ -16,10 +17,9 @@ use Rattle.rds_run_threads.specs.Counted.{IsCountedEnd}
 use Rattle.rds_link.specs.declared.wire.WireCounts.{WireCounts}
 use Rattle.rds_run.specs.declared.status.Status.{Status}
 use Rattle.rds_run.specs.declared.status.Status.TheVariants as status
-use Rattle.rds_run.specs.ExitStatus.{SinkSeen}
 use Rattle.rds_run.specs.RunStatus.{HasFilled, IsEndOfScript, IsRan, IsRunUnfinished, IsWireFault, WireSeen, memory_seen}
 
-pub ran_of : (seen : WireSeen) (form : Form) (s : Meaning) (sink : Written) (result : RunEnd) (ends : Vec HostEnd Global) → result ≡ ended.Ok ends →
+pub ran_of : (seen : WireSeen) (form : Form) (s : Meaning) (sink : SinkSeen) (result : RunEnd) (ends : Vec HostEnd Global) → result ≡ ended.Ok ends →
     IsEndOfRun form seen.tells MAX_ENTRIES s.hosts s.commands sink result → IsCutEnd s.commands seen.before.faults seen.after.faults result →
     IsRan seen form s sink.held_before sink.held_after
 ran_of seen form s sink result ends is end cut =
@@ -36,7 +36,7 @@ ran_of seen form s sink result ends is end cut =
     }
 
 -- and so for the other ends of a run
-module _ (seen : WireSeen) (form : Form) (s : Meaning) (sink : Written) (result : RunEnd) where
+module _ (seen : WireSeen) (form : Form) (s : Meaning) (sink : SinkSeen) (result : RunEnd) where
   abbrev IsEnd : RunEnd → Type 0
   IsEnd end = IsEndOfRun form seen.tells MAX_ENTRIES s.hosts s.commands sink end
 

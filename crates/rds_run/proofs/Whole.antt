@@ -1,5 +1,6 @@
 -- What is read of a source is the whole of its text, unless that is too large; and what follows for the answers of a call.
 use Rattle.std.proofs.Common.{◌≡◌, ◌⊎◌, inl, inr, ℕ, ◌+◌, ◌≤◌, List, ◌++◌, append_assoc, length, take, Option, Some, None, refl, sym, ap, subst, ◌∙◌, arith}
+use Rattle.rds_link.specs.Seen.{SinkSeen, SourceSeen}
 use Rattle.std.proofs.lemmas.List.{length-take, take_all}
 use Rattle.rds_link.specs.Streaming.{SourceGaveFront, HasRisen, SinkGained, SinkGainedFront}
 use Rattle.rds_model.specs.declared.journal.TheConstants.{MAX_ENTRIES}
@@ -14,7 +15,7 @@ use Rattle.rds_script.specs.Grammar.{Meaning, Spells}
 use Rattle.rds_script.specs.Refusal.{Refused}
 use Rattle.rds_run.specs.declared.status.Status.{Status}
 use Rattle.rds_run.specs.declared.status.Status.TheVariants as ended
-use Rattle.rds_run.specs.ExitStatus.{SourceSeen, SinkSeen, IsSpelled, IsRefusedAt, IsToldSpelled, IsToldRefused, IsPlayed, HasTaken, OfReadFault, OfRefusal, OfScript, OfUnread, IsEndOfRefusal, IsEndOfPlay, IsEndOfCall}
+use Rattle.rds_run.specs.ExitStatus.{IsSpelled, IsRefusedAt, IsToldSpelled, IsToldRefused, IsPlayed, HasTaken, OfReadFault, OfRefusal, OfScript, OfUnread, IsEndOfRefusal, IsEndOfPlay, IsEndOfCall}
 use Rattle.rds_run.specs.Reading.{IsEndOfReading}
 use Rattle.rds_run.specs.Texts.{bad_line, read_fault_line}
 

@@ -1,12 +1,13 @@
 -- How the program ends, by what its words ask for. Source: this project's own.
 use Rattle.std.specs.Prelude.{◌≡◌, ◌⊎◌, ℕ, List, String}
+use Rattle.rds_link.specs.Seen.{SinkSeen, SourceSeen}
 use Rattle.std.specs.Global.{Global}
 use Rattle.rds_link.specs.Streaming.{HasRisen}
 use Rattle.rds_script.specs.declared.cause.Cause.{Cause}
 use Rattle.rds_script.specs.Grammar.{Meaning}
 use Rattle.rds_run.specs.declared.status.Status.{Status}
 use Rattle.rds_run.specs.declared.status.Status.TheVariants as status
-use Rattle.rds_run.specs.ExitStatus.{HasFailedIn, HasTaken, HasTakenNothing, IsEndOfCall, IsEndOfRefusal, IsToldRefused, IsToldSpelled, SinkSeen, SourceSeen}
+use Rattle.rds_run.specs.ExitStatus.{HasFailedIn, HasTaken, HasTakenNothing, IsEndOfCall, IsEndOfRefusal, IsToldRefused, IsToldSpelled}
 use Rattle.rds_run.specs.RunStatus.{IsEndOfGenCall, IsEndOfRunCall, IsEndOfRunOver, IsEndOfTooMany, IsTooMany, WireSeen, seen_over}
 use Rattle.rds_run_hosts.specs.Streams.{prepared_streams}
 use Rattle.rds_run.specs.Texts.{usage_line}

@@ -1,6 +1,7 @@
 -- What the exit status of a call says of its source and its sink. Source: this project's own; docs/COMMAND.md has the
 -- table.
 use Rattle.std.specs.Prelude.{◌≡◌, ℕ, Option, Ok, Err, List, MatchOption, IsSomeAnd}
+use Rattle.rds_link.specs.Seen.{SinkSeen, SourceSeen}
 use Rattle.rds_link.specs.Streaming.{HasRisen, SinkGained, SinkGainedFront}
 use Rattle.rds_model.specs.declared.journal.TheConstants.{MAX_ENTRIES}
 use Rattle.rds_script.specs.declared.cause.Cause.{Cause}
@@ -27,19 +28,6 @@ code status.Memory = 6
 code status.Spent = 7
 code status.Unfinished = 8
 code status.TooManyStreams = 9
-
--- what a call sees of its source: the bytes that it had left, where it tells them, and how often it has failed
-pub record SourceSeen : Type 0 where
-  pub left : Option (List ℕ)
-  pub faults_before : ℕ
-  pub faults_after : ℕ
-
--- what a call does to its sink: the bytes that it holds, where it tells them, and how often it has failed
-pub record SinkSeen : Type 0 where
-  pub held_before : Option (List ℕ)
-  pub held_after : Option (List ℕ)
-  pub faults_before : ℕ
-  pub faults_after : ℕ
 
 -- the sink took these bytes, and the call wrote no others
 abbrev pub HasTaken : SinkSeen → List ℕ → Type 0

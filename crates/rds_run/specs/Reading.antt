@@ -1,12 +1,13 @@
 -- What comes of reading a script. Source: this project's own.
 use Rattle.std.specs.Prelude.{◌≡◌, ◌⊎◌, ℕ, List, Result, Ok, Err}
+use Rattle.rds_link.specs.Seen.{SinkSeen, SourceSeen}
 use Rattle.rds_link.specs.Streaming.{HasRisen}
 use Rattle.rds_script.specs.declared.cause.Cause.{Cause}
 use Rattle.rds_script.specs.declared.script.Script.{Script}
 use Rattle.rds_script.specs.Grammar.{Meaning, meaning}
 use Rattle.rds_run.specs.declared.status.Status.{Status}
 use Rattle.rds_run.specs.declared.status.Status.TheVariants as status
-use Rattle.rds_run.specs.ExitStatus.{HasFailedIn, HasTaken, HasTakenNothing, IsEndOfRefusal, IsRefusal, SinkSeen, SourceSeen, IsNoScriptAnswer}
+use Rattle.rds_run.specs.ExitStatus.{HasFailedIn, HasTaken, HasTakenNothing, IsEndOfRefusal, IsRefusal, IsNoScriptAnswer}
 use Rattle.rds_run.specs.Texts.{read_fault_line}
 
 -- The status where no script was read. A status for which `⊥` stands can't come.

@@ -1,5 +1,6 @@
 -- What the exit status of a run says of its source and its sink. Source: this project's own; docs/COMMAND.md has the table.
 use Rattle.std.specs.Prelude.{◌≡◌, ◌⊎◌, ℕ, ◌<◌, Bool, true, Option, List}
+use Rattle.rds_link.specs.Seen.{SinkSeen, SourceSeen}
 use Rattle.rds_link.specs.Streaming.{HasRisen, HasRisenBy, SinkGained}
 use Rattle.rds_link.specs.declared.wire.WireCounts.{WireCounts}
 use Rattle.rds_model.specs.declared.entry.Entry.{Entry}
@@ -21,7 +22,7 @@ use Rattle.rds_run.specs.declared.wire.RunWire.{RunWire}
 use Rattle.rds_run.specs.declared.wire.RunWire.TheVariants as wire
 use Rattle.rds_run.specs.declared.status.Status.{Status}
 use Rattle.rds_run.specs.declared.status.Status.TheVariants as status
-use Rattle.rds_run.specs.ExitStatus.{HasFailedIn, HasTaken, HasTakenNothing, IsNoScriptAnswer, IsSpelled, SinkSeen, SourceSeen}
+use Rattle.rds_run.specs.ExitStatus.{HasFailedIn, HasTaken, HasTakenNothing, IsNoScriptAnswer, IsSpelled}
 use Rattle.rds_run.specs.Reading.{IsEndOfReading}
 use Rattle.rds_run.specs.Texts.{too_many_line}
 
@@ -35,6 +36,10 @@ pub record WireSeen : Type 0 where
   pub tells : Bool
   pub before : WireCounts
   pub after : WireCounts
+
+-- a wire before and after, by what it has counted
+abbrev pub wire_seen : {W : Type 0} → (tells : Bool) → (counted : W → WireCounts) → (old new : W) → WireSeen
+wire_seen tells counted old new = record { tells = tells; before = counted old; after = counted new }
 
 -- nothing was counted
 abbrev pub none_counted : WireCounts

@@ -1,4 +1,5 @@
 ghost use Rattle.std.specs.Prelude.{◌≤◌};
+ghost use Rattle.rds_link.specs.Seen.{sink_seen};
 ghost use Rattle.rds_run.specs.RunStatus.{IsEndOfGenCall};
 
 use crate::running::run_in_memory;
@@ -25,7 +26,7 @@ pub fn gen_text<K: Sink, G: Gate + Sync, R: Threads + Wait + Net + Sync>(
     requires least { 1 ≤ sends }
     requires most { sends ≤ 100000 }
     ensures { IsEndOfGenCall sends seed
-        record { held_before = K.held sink.old; held_after = K.held sink.new; faults_before = K.faults sink.old; faults_after = K.faults sink.new }
+        (sink_seen K.held K.faults sink.old sink.new)
         result }
 {
     match generate(alloc, sends, seed) {

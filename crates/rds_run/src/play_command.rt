@@ -1,4 +1,5 @@
 ghost use Rattle.std.specs.Prelude.{◌≡◌, ◌≢◌, ◌⊎◌, ℕ};
+ghost use Rattle.rds_link.specs.Seen.{sink_seen, source_seen};
 ghost use Rattle.rds_script.specs.Script.{IsScript};
 ghost use Rattle.rds_script.specs.declared.cause.Cause.{Cause as Why};
 ghost use Rattle.rds_script.specs.Grammar.{Meaning, meaning};
@@ -25,12 +26,12 @@ pub fn play_text<S: Source, K: Sink, R: Threads + Sync>(
     sink: &mut K,
 ) -> Status
     ensures ends { IsEndOfCall
-        record { left = S.left source.old; faults_before = S.faults source.old; faults_after = S.faults source.new }
-        record { held_before = K.held sink.old; held_after = K.held sink.new; faults_before = K.faults sink.old; faults_after = K.faults sink.new }
+        (source_seen S.left S.faults source.old source.new)
+        (sink_seen K.held K.faults sink.old sink.new)
         result }
     ensures refuses { (line : ℕ) → (cause : Why) → IsToldRefused (S.left source.old) line cause →
         IsEndOfRefusal line cause
-        record { held_before = K.held sink.old; held_after = K.held sink.new; faults_before = K.faults sink.old; faults_after = K.faults sink.new }
+        (sink_seen K.held K.faults sink.old sink.new)
         result
         ⊎ ((result ≡ ended.ReadFault) ⊎ (result ≡ ended.WriteFault)) }
     ensures plays { (s : Meaning) → IsToldSpelled (S.left source.old) s →
@@ -48,7 +49,7 @@ pub fn play_text<S: Source, K: Sink, R: Threads + Sync>(
 fn play_script<K: Sink>(alloc: Global, script: &Script, sink: &mut K) -> Status
     requires { IsScript script.now }
     ensures { IsEndOfPlay (meaning script.now)
-        record { held_before = K.held sink.old; held_after = K.held sink.new; faults_before = K.faults sink.old; faults_after = K.faults sink.new }
+        (sink_seen K.held K.faults sink.old sink.new)
         result }
 {
     sound();

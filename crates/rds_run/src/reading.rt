@@ -1,4 +1,5 @@
 ghost use Rattle.std.specs.Prelude.{◌≡◌, ℕ, IfOk, IfErr, OnOk};
+ghost use Rattle.rds_link.specs.Seen.{sink_seen, source_seen};
 ghost use Rattle.rds_script.specs.Script.{IsScript};
 ghost use Rattle.rds_script.specs.declared.cause.Cause.{Cause as Why};
 ghost use Rattle.rds_script.specs.Grammar.{Meaning, meaning};
@@ -30,16 +31,16 @@ pub fn read_script<S: Source, K: Sink, R: Threads + Sync>(
     ensures spelled { IfOk result (λ script. IsSpelled (S.left source.old) (meaning script)) }
     ensures same { OnOk result (sink.new ≡ sink.old) }
     ensures ends { IfErr result (IsEndOfReading
-        record { left = S.left source.old; faults_before = S.faults source.old; faults_after = S.faults source.new }
-        record { held_before = K.held sink.old; held_after = K.held sink.new; faults_before = K.faults sink.old; faults_after = K.faults sink.new }) }
+        (source_seen S.left S.faults source.old source.new)
+        (sink_seen K.held K.faults sink.old sink.new)) }
     // A text that is refused gives no script, and is answered by its line unless the source or the sink fails or memory runs out.
     ensures refuses { (line : ℕ) → (cause : Why) → IsToldRefused (S.left source.old) line cause →
         IsRefusedBy line cause
-        record { held_before = K.held sink.old; held_after = K.held sink.new; faults_before = K.faults sink.old; faults_after = K.faults sink.new }
+        (sink_seen K.held K.faults sink.old sink.new)
         result }
     // A text that spells a script gives that script, unless the source fails or memory runs out.
     ensures reads { (s : Meaning) → IsToldSpelled (S.left source.old) s → IsReadAs s
-        record { left = S.left source.old; faults_before = S.faults source.old; faults_after = S.faults source.new }
+        (source_seen S.left S.faults source.old source.new)
         result }
 {
     let text = match read_all(alloc, source, MAX_TEXT + 1) {
@@ -57,7 +58,7 @@ pub fn read_script<S: Source, K: Sink, R: Threads + Sync>(
 // Says which line is refused, and why.
 fn refuse<K: Sink>(alloc: Global, line: u32, cause: Cause, sink: &mut K) -> Status
     ensures { IsEndOfRefusal line cause
-        record { held_before = K.held sink.old; held_after = K.held sink.new; faults_before = K.faults sink.old; faults_after = K.faults sink.new }
+        (sink_seen K.held K.faults sink.old sink.new)
         result }
 {
     match format!(in alloc; "bad line {line}: {cause}\n") {

@@ -1,11 +1,12 @@
 ghost use Rattle.std.specs.Prelude.{◌≡◌, ◌≤◌, ◌⊎◌, ℕ, IfNone, IfSome};
+ghost use Rattle.rds_link.specs.Seen.{sink_seen, source_seen};
 ghost use Rattle.rds_link.specs.Streaming.{HasRisen};
 ghost use Rattle.rds_script.specs.Script.{IsScript};
 ghost use Rattle.rds_script.specs.declared.cause.Cause.{Cause as Why};
 ghost use Rattle.rds_script.specs.Grammar.{Meaning, meaning};
 ghost use Rattle.rds_run.specs.declared.wire.RunWire.TheVariants as wires;
 ghost use Rattle.rds_run.specs.ExitStatus.{IsEndOfRefusal, IsToldRefused, IsToldSpelled};
-ghost use Rattle.rds_run.specs.RunStatus.{IsEndOfRunCall, IsEndOfRunOver, IsEndOfTooMany, IsTooMany, seen_over};
+ghost use Rattle.rds_run.specs.RunStatus.{IsEndOfRunCall, IsEndOfRunOver, IsEndOfTooMany, IsTooMany, seen_over, wire_seen};
 ghost use Rattle.rds_run_hosts.specs.Streams.{prepared_streams as streams_of};
 ghost use Rattle.rds_run.specs.declared.status.Status.TheVariants as ended;
 
@@ -41,32 +42,24 @@ pub fn run_text<S: Source, K: Sink, W: Wire, G: Gate + Sync, R: Threads + Wait +
 where
     W::End: Send,
     ensures ends { IsEndOfRunCall (seen_over wire
-        record {
-          tells = W.End.means.tells;
-          before = record { faults = W.faults tcp.old; nothings = W.nothings tcp.old; fulls = W.fulls tcp.old };
-          after = record { faults = W.faults tcp.new; nothings = W.nothings tcp.new; fulls = W.fulls tcp.new };
-        }) wire
-        record { left = S.left source.old; faults_before = S.faults source.old; faults_after = S.faults source.new }
-        record { held_before = K.held sink.old; held_after = K.held sink.new; faults_before = K.faults sink.old; faults_after = K.faults sink.new }
+        (wire_seen W.End.means.tells W.counted tcp.old tcp.new)) wire
+        (source_seen S.left S.faults source.old source.new)
+        (sink_seen K.held K.faults sink.old sink.new)
         result }
     ensures refuses { (line : ℕ) → (cause : Why) → IsToldRefused (S.left source.old) line cause →
         IsEndOfRefusal line cause
-        record { held_before = K.held sink.old; held_after = K.held sink.new; faults_before = K.faults sink.old; faults_after = K.faults sink.new }
+        (sink_seen K.held K.faults sink.old sink.new)
         result
         ⊎ ((result ≡ ended.ReadFault) ⊎ (result ≡ ended.WriteFault)) }
     ensures too_many { (s : Meaning) → IsToldSpelled (S.left source.old) s → IsTooMany wire s →
         IsEndOfTooMany (streams_of s)
-        record { held_before = K.held sink.old; held_after = K.held sink.new; faults_before = K.faults sink.old; faults_after = K.faults sink.new }
+        (sink_seen K.held K.faults sink.old sink.new)
         result
         ⊎ ((result ≡ ended.ReadFault) ⊎ (result ≡ ended.WriteFault)) }
     ensures runs { (s : Meaning) → IsToldSpelled (S.left source.old) s → (HasRisen (S.faults source.old) (S.faults source.new) → ⊥) →
         IsEndOfRunOver (seen_over wire
-        record {
-          tells = W.End.means.tells;
-          before = record { faults = W.faults tcp.old; nothings = W.nothings tcp.old; fulls = W.fulls tcp.old };
-          after = record { faults = W.faults tcp.new; nothings = W.nothings tcp.new; fulls = W.fulls tcp.new };
-        }) wire s
-        record { held_before = K.held sink.old; held_after = K.held sink.new; faults_before = K.faults sink.old; faults_after = K.faults sink.new }
+        (wire_seen W.End.means.tells W.counted tcp.old tcp.new)) wire s
+        (sink_seen K.held K.faults sink.old sink.new)
         result
         ⊎ (result ≡ ended.Memory) }
     ensures tcp_unused { wire ≡ wires.Memory → tcp.new ≡ tcp.old }
@@ -92,12 +85,8 @@ where
     W::End: Send,
     requires { IsScript script }
     ensures ends { IsEndOfRunOver (seen_over wire
-        record {
-          tells = W.End.means.tells;
-          before = record { faults = W.faults tcp.old; nothings = W.nothings tcp.old; fulls = W.fulls tcp.old };
-          after = record { faults = W.faults tcp.new; nothings = W.nothings tcp.new; fulls = W.fulls tcp.new };
-        }) wire (meaning script)
-        record { held_before = K.held sink.old; held_after = K.held sink.new; faults_before = K.faults sink.old; faults_after = K.faults sink.new }
+        (wire_seen W.End.means.tells W.counted tcp.old tcp.new)) wire (meaning script)
+        (sink_seen K.held K.faults sink.old sink.new)
         result }
     ensures tcp_unused { wire ≡ wires.Memory → tcp.new ≡ tcp.old }
     ensures given_back { W.out tcp.new ≤ W.out tcp.old }
@@ -131,7 +120,7 @@ fn too_many(wire: RunWire, script: &Script) -> Option<u64>
 // Says how many streams would be prepared for the script.
 fn refuse_streams<K: Sink>(alloc: Global, streams: u64, sink: &mut K) -> Status
     ensures { IsEndOfTooMany streams
-        record { held_before = K.held sink.old; held_after = K.held sink.new; faults_before = K.faults sink.old; faults_after = K.faults sink.new }
+        (sink_seen K.held K.faults sink.old sink.new)
         result }
 {
     match format!(in alloc; "too many streams {streams}\n") {

@@ -1,10 +1,11 @@
 ghost use Rattle.std.specs.Prelude.{◌≡◌, ◌≤◌};
+ghost use Rattle.rds_link.specs.Seen.{sink_seen};
 ghost use Rattle.rds_script.specs.Script.{IsScript};
 ghost use Rattle.rds_script.specs.Grammar.{meaning};
 ghost use Rattle.rds_model.specs.declared.journal.TheConstants.{MAX_ENTRIES};
 ghost use Rattle.rds_run_threads.specs.Begun.{HasBegun};
 ghost use Rattle.rds_run_threads.specs.Counted.{IsCountedEnd};
-ghost use Rattle.rds_run.specs.RunStatus.{IsEndOfScript, memory_seen};
+ghost use Rattle.rds_run.specs.RunStatus.{IsEndOfScript, memory_seen, wire_seen};
 ghost use Rattle.rds_run.specs.declared.status.Status.TheVariants as status;
 
 use crate::status::Status;
@@ -32,7 +33,7 @@ pub(crate) fn run_in_memory<K: Sink, G: Gate + Sync, R: Threads + Wait + Net + S
 ) -> Status
     requires script { IsScript script }
     ensures { IsEndOfScript memory_seen form (meaning script)
-        record { held_before = K.held sink.old; held_after = K.held sink.new; faults_before = K.faults sink.old; faults_after = K.faults sink.new }
+        (sink_seen K.held K.faults sink.old sink.new)
         result }
 {
     let mut wire = MemWire::new(alloc, Vec::new(alloc), Vec::new(alloc));
@@ -53,21 +54,17 @@ where
     W::End: Send,
     requires script { IsScript script }
     ensures ends { IsEndOfScript
-        record {
-          tells = W.End.means.tells;
-          before = record { faults = W.faults wire.old; nothings = W.nothings wire.old; fulls = W.fulls wire.old };
-          after = record { faults = W.faults wire.new; nothings = W.nothings wire.new; fulls = W.fulls wire.new };
-        }
+        (wire_seen W.End.means.tells W.counted wire.old wire.new)
         form (meaning script)
-        record { held_before = K.held sink.old; held_after = K.held sink.new; faults_before = K.faults sink.old; faults_after = K.faults sink.new }
+        (sink_seen K.held K.faults sink.old sink.new)
         result }
     ensures may_fail { result ≡ status.WireFault → W.may_fail wire.old }
     ensures given_back { W.out wire.new ≤ W.out wire.old }
     ensures begun { result ≡ status.WriteFault → HasBegun form W.End.means.tells MAX_ENTRIES script.hosts script.commands.items
         (IsCountedEnd W.End.means.tells (W.may_fail wire.old) 20000000 script.commands.items
-        record { faults = W.faults wire.old; nothings = W.nothings wire.old; fulls = W.fulls wire.old }
-        record { faults = W.faults wire.new; nothings = W.nothings wire.new; fulls = W.fulls wire.new })
-        (W.faults wire.old) (W.faults wire.new) (K.held sink.old) (K.held sink.new) }
+        W.counted wire.old
+        W.counted wire.new)
+        (W.counted wire.old).faults (W.counted wire.new).faults (K.held sink.old) (K.held sink.new) }
 {
     match run(
         rt,

@@ -1,4 +1,5 @@
 ghost use Rattle.std.specs.Prelude.{◌≡◌, ◌⊎◌, ◌≤◌, ◌<◌, ◌++◌, ℕ, true, false, List};
+ghost use Rattle.rds_link.specs.Seen.{sink_seen, source_seen};
 ghost use Rattle.rds_link.specs.Streaming.{HasRisen, SinkGained, SinkGainedFront};
 ghost use Rattle.rds_script.specs.Cause.{cause_text};
 ghost use Rattle.rds_script.specs.declared.cause.Cause.{Cause as Why};
@@ -13,7 +14,7 @@ ghost use Rattle.rds_run.specs.GenWords.{AreGen};
 ghost use Rattle.rds_run.specs.PlayWords.{ArePlay};
 ghost use Rattle.rds_run.specs.RunWords.{AreRun};
 ghost use Rattle.rds_run.specs.Works.{AreNoCommand};
-ghost use Rattle.rds_run.specs.RunStatus.{HasFilled, IsRan, IsRunAnswer, IsRunText, IsRunUnfinished, IsWireFault, memory_seen, seen_over, tells_over};
+ghost use Rattle.rds_run.specs.RunStatus.{HasFilled, IsRan, IsRunAnswer, IsRunText, IsRunUnfinished, IsWireFault, memory_seen, seen_over, tells_over, wire_seen};
 ghost use Rattle.rds_run_hosts.specs.Streams.{prepared_streams};
 ghost use Rattle.rds_run.specs.Ending.{IsEndOfProgram, ReadsScript};
 ghost use Rattle.rds_run.specs.Texts.{usage_line, read_fault_line, bad_line, too_many_line};
@@ -74,16 +75,12 @@ where
     ensures write_fault { result ≡ 4 → HasRisen (K.faults sink.old) (K.faults sink.new) }
     ensures usage_begun { result ≡ 4 → AreNoCommand words.now → SinkGainedFront (K.held sink.old) (K.held sink.new) usage_line }
     ensures answer_begun { result ≡ 4 → ArePlay words.now → (answer : List ℕ)
-        × IsAnswer record { left = S.left source.old; faults_before = S.faults source.old; faults_after = S.faults source.new } answer
+        × IsAnswer (source_seen S.left S.faults source.old source.new) answer
         × SinkGainedFront (K.held sink.old) (K.held sink.new) answer }
     // And of what `run` has to write: of the line that no script was read or that its streams are too many, or of the text of its run.
     ensures run_begun { (over : RunWire) → AreRun words.now over → result ≡ 4 → (answer : List ℕ)
-        × IsRunAnswer (seen_over over
-        record {
-          tells = W.End.means.tells;
-          before = record { faults = W.faults tcp.old; nothings = W.nothings tcp.old; fulls = W.fulls tcp.old };
-          after = record { faults = W.faults tcp.new; nothings = W.nothings tcp.new; fulls = W.fulls tcp.new };
-        }) over record { left = S.left source.old; faults_before = S.faults source.old; faults_after = S.faults source.new } answer
+        × IsRunAnswer (seen_over over (wire_seen W.End.means.tells W.counted tcp.old tcp.new)) over
+        (source_seen S.left S.faults source.old source.new) answer
         × SinkGainedFront (K.held sink.old) (K.held sink.new) answer }
     // And of what `gen` has to write, which is the text of the run of its script.
     ensures gen_begun { (sends seed : ℕ) → AreGen words.now sends seed → result ≡ 4 → (answer : List ℕ)
@@ -111,13 +108,7 @@ where
     // each TCP stream gives a beginning of the bytes written to it.
     ensures ran_over_tcp { AreRun words.now wires.Tcp → result ≡ 0 →
         (s : Meaning) × IsSpelled (S.left source.old) s × (prepared_streams s ≤ 96)
-        × IsRan
-        record {
-          tells = W.End.means.tells;
-          before = record { faults = W.faults tcp.old; nothings = W.nothings tcp.old; fulls = W.fulls tcp.old };
-          after = record { faults = W.faults tcp.new; nothings = W.nothings tcp.new; fulls = W.fulls tcp.new };
-        }
-        form.Report s (K.held sink.old) (K.held sink.new) }
+        × IsRan (wire_seen W.End.means.tells W.counted tcp.old tcp.new) form.Report s (K.held sink.old) (K.held sink.new) }
     // The script of so many sends and this seed was run to its end, its hosts did its commands, at least as many streams ended as they cut,
     // what the hosts have then is sound, no journal is full, and exactly the summary of it was written.
     ensures summed { (sends seed : ℕ) → AreGen words.now sends seed → result ≡ 0 →
@@ -142,26 +133,14 @@ where
 
     // Over TCP alone: two hosts of the script that was run lack a stream, the wire counted a fault in this call, and exactly the line that
     // says so was written.
-    ensures wire_fault { result ≡ 5 → AreRun words.now wires.Tcp × HasRisen (W.faults tcp.old) (W.faults tcp.new)
-        × ((s : Meaning) × IsSpelled (S.left source.old) s × IsWireFault
-        record {
-          tells = W.End.means.tells;
-          before = record { faults = W.faults tcp.old; nothings = W.nothings tcp.old; fulls = W.fulls tcp.old };
-          after = record { faults = W.faults tcp.new; nothings = W.nothings tcp.new; fulls = W.fulls tcp.new };
-        }
-        s (K.held sink.old) (K.held sink.new)) }
+    ensures wire_fault { result ≡ 5 → AreRun words.now wires.Tcp × HasRisen (W.counted tcp.old).faults (W.counted tcp.new).faults
+        × ((s : Meaning) × IsSpelled (S.left source.old) s × IsWireFault (wire_seen W.End.means.tells W.counted tcp.old tcp.new) s (K.held sink.old) (K.held sink.new)) }
     // Over TCP alone, and where its ends don't tell their bytes: some datagrams of the hosts of the script aren't acknowledged, at least as many
     // streams ended as its commands cut, no journal is full, and exactly the line that says how many aren't was written. The wire counted in
     // this call 20,000,000 times that no bytes were there, or each two hosts have used up their streams and refused at least three headers
     // together; and it counted that there was no room, or no journal owes anything to its open stream.
     ensures unfinished { result ≡ 8 → AreRun words.now wires.Tcp × (W.End.means.tells ≡ false)
-        × ((s : Meaning) × IsSpelled (S.left source.old) s × IsRunUnfinished
-        record {
-          tells = W.End.means.tells;
-          before = record { faults = W.faults tcp.old; nothings = W.nothings tcp.old; fulls = W.fulls tcp.old };
-          after = record { faults = W.faults tcp.new; nothings = W.nothings tcp.new; fulls = W.fulls tcp.new };
-        }
-        s (K.held sink.old) (K.held sink.new)) }
+        × ((s : Meaning) × IsSpelled (S.left source.old) s × IsRunUnfinished (wire_seen W.End.means.tells W.counted tcp.old tcp.new) s (K.held sink.old) (K.held sink.new)) }
 
     // The source's bytes spell a script, which would need so many streams over TCP, and exactly the line that says so was written.
     ensures too_many { result ≡ 9 → AreRun words.now wires.Tcp × ((s : Meaning) × IsSpelled (S.left source.old) s
@@ -174,7 +153,7 @@ where
     // it may be left unfinished, or need too many streams.
     ensures runs { (over : RunWire) → AreRun words.now over → (s : Meaning) → IsToldSpelled (S.left source.old) s →
         (HasRisen (S.faults source.old) (S.faults source.new) → ⊥) → (HasRisen (K.faults sink.old) (K.faults sink.new) → ⊥) →
-        (HasRisen (W.faults tcp.old) (W.faults tcp.new) → ⊥) →
+        (HasRisen (W.counted tcp.old).faults (W.counted tcp.new).faults → ⊥) →
         (result ≡ 0) ⊎ ((result ≡ 6) ⊎ ((result ≡ 7) ⊎ ((over ≡ wires.Tcp) × ((result ≡ 8) ⊎ (result ≡ 9))))) }
     // And so is a generated script by `gen`.
     ensures generates { (sends seed : ℕ) → AreGen words.now sends seed → (HasRisen (K.faults sink.old) (K.faults sink.new) → ⊥) →
@@ -202,14 +181,9 @@ fn do_work<S: Source, K: Sink, W: Wire, G: Gate + Sync, R: Threads + Wait + Net 
 ) -> Status
 where
     W::End: Send,
-    ensures ends { IsEndOfProgram
-        record {
-          tells = W.End.means.tells;
-          before = record { faults = W.faults tcp.old; nothings = W.nothings tcp.old; fulls = W.fulls tcp.old };
-          after = record { faults = W.faults tcp.new; nothings = W.nothings tcp.new; fulls = W.fulls tcp.new };
-        } words.now
-        record { left = S.left source.old; faults_before = S.faults source.old; faults_after = S.faults source.new }
-        record { held_before = K.held sink.old; held_after = K.held sink.new; faults_before = K.faults sink.old; faults_after = K.faults sink.new }
+    ensures ends { IsEndOfProgram (wire_seen W.End.means.tells W.counted tcp.old tcp.new) words.now
+        (source_seen S.left S.faults source.old source.new)
+        (sink_seen K.held K.faults sink.old sink.new)
         result }
     ensures unread { (sends seed : ℕ) → AreGen words.now sends seed → source.new ≡ source.old }
     ensures usage_unread { AreNoCommand words.now → source.new ≡ source.old }

@@ -11,7 +11,7 @@ use std::sync::Wait;
 /// Gives every end of the streams of all hosts back to the wire.
 pub(crate) fn give_back_rows<W: Wire, R: Wait>(rt: &R, wire: &mut W, rows: Vec<Vec<Ends<W::End>>>)
     ensures out { W.out wire.new ≡ W.out wire.old - ends_prepared (rows_of rows.items) }
-    ensures faults { W.faults wire.old ≤ W.faults wire.new }
+    ensures faults { (W.counted wire.old).faults ≤ (W.counted wire.new).faults }
 {
     for row in rows {
         give_back_row(rt, wire, row);
@@ -21,7 +21,7 @@ pub(crate) fn give_back_rows<W: Wire, R: Wait>(rt: &R, wire: &mut W, rows: Vec<V
 /// Gives every end of a host's streams back to the wire.
 pub(crate) fn give_back_row<W: Wire, R: Wait>(rt: &R, wire: &mut W, row: Vec<Ends<W::End>>)
     ensures out { W.out wire.new ≡ W.out wire.old - ends_of_row row.items }
-    ensures faults { W.faults wire.old ≤ W.faults wire.new }
+    ensures faults { (W.counted wire.old).faults ≤ (W.counted wire.new).faults }
 {
     for ends in row {
         give_back_ends(rt, wire, ends);
@@ -31,7 +31,7 @@ pub(crate) fn give_back_row<W: Wire, R: Wait>(rt: &R, wire: &mut W, row: Vec<End
 /// Gives a host's ends of the streams to a peer back to the wire.
 pub(crate) fn give_back_ends<W: Wire, R: Wait>(rt: &R, wire: &mut W, ends: Ends<W::End>)
     ensures out { W.out wire.new ≡ W.out wire.old - length ends.items }
-    ensures faults { W.faults wire.old ≤ W.faults wire.new }
+    ensures faults { (W.counted wire.old).faults ≤ (W.counted wire.new).faults }
 {
     for (_, end) in ends {
         give_back_end(rt, wire, end);
@@ -41,7 +41,7 @@ pub(crate) fn give_back_ends<W: Wire, R: Wait>(rt: &R, wire: &mut W, ends: Ends<
 // Gives an end back to the wire.
 fn give_back_end<W: Wire, R: Wait>(rt: &R, wire: &mut W, end: W::End)
     ensures out { W.out wire.new ≡ W.out wire.old - 1 }
-    ensures faults { W.faults wire.old ≤ W.faults wire.new }
+    ensures faults { (W.counted wire.old).faults ≤ (W.counted wire.new).faults }
 {
     // Called for its promise alone: the count of faults is a number of 64 bits.
     faults_of(wire);
@@ -50,8 +50,8 @@ fn give_back_end<W: Wire, R: Wait>(rt: &R, wire: &mut W, end: W::End)
 
 /// How many faults the wire has counted, which is a number of 64 bits.
 pub(crate) fn faults_of<W: Wire>(wire: &W) -> u64
-    ensures value { result ≡ W.faults wire.now }
-    ensures fits { IsCount (W.faults wire.now) }
+    ensures value { result ≡ (W.counted wire.now).faults }
+    ensures fits { IsCount (W.counted wire.now).faults }
 {
     wire.counts().faults
 }

@@ -1,12 +1,13 @@
 -- What a run had written where the sink failed.
 use Rattle.std.proofs.Common.{◌≡◌, inl, inr, ℕ, Bool, List, Option, Result, IfOk, sym, subst, ◌∙◌}
+use Rattle.rds_link.specs.Seen.{SinkSeen}
 use Rattle.rds_wire.specs.declared.memory.Memory.{Memory}
 use Rattle.rds_link.specs.declared.wire.WireCounts.{WireCounts}
 use Rattle.rds_script.specs.declared.script.Placed.{Placed}
 use Rattle.rds_run_threads.specs.Begun.{BeginsAtFault}
 use Rattle.rds_run_threads.specs.Counted.{IsCountedEnd}
 use Rattle.rds_run_threads.specs.Cuts.{IsCutEnd}
-use Rattle.rds_run_threads.specs.Ends.{HasToWrite, Writes, Written}
+use Rattle.rds_run_threads.specs.Ends.{HasToWrite, Writes}
 use Rattle.rds_run_threads.specs.declared.form.Form.{Form}
 use Rattle.rds_run_threads.specs.declared.form.RunEnd.{RunEnd}
 use Rattle.rds_run_threads.specs.declared.form.RunEnd.TheVariants as ended
@@ -19,7 +20,7 @@ module _ (form : Form) (tells : Bool) (limit hosts : ℕ) (commands : List Place
   never text end has is = subst (λ (e : RunEnd). HasToWrite form tells limit hosts commands e text) is has
 
   -- where the sink failed, it took a beginning of what was to be written
-  begun_written : (IsCounted : RunEnd → Type 0) (was now : ℕ) (sink : Written) (text : List ℕ) (end : RunEnd) →
+  begun_written : (IsCounted : RunEnd → Type 0) (was now : ℕ) (sink : SinkSeen) (text : List ℕ) (end : RunEnd) →
       HasToWrite form tells limit hosts commands end text → IsCounted end → IsCutEnd commands was now end → (result : RunEnd) → Writes sink text end result →
       BeginsAtFault form tells limit hosts commands IsCounted was now sink.held_before sink.held_after result
   begun_written IsCounted was now sink text end has counted cut result (inl said) = λ fault. absurd (never text end has (sym said.0 ∙ fault))
@@ -27,7 +28,7 @@ module _ (form : Form) (tells : Bool) (limit hosts : ℕ) (commands : List Place
 
   module _ (may_fail : Type 0) (budget : ℕ) (before after : WireCounts) where
     -- and so of what was to be written in the end
-    pub begun_ok : (was now : ℕ) (sink : Written) (text : List ℕ) (end : RunEnd) → HasToWrite form tells limit hosts commands end text →
+    pub begun_ok : (was now : ℕ) (sink : SinkSeen) (text : List ℕ) (end : RunEnd) → HasToWrite form tells limit hosts commands end text →
         IsCountedEnd tells may_fail budget commands before after end → IsCutEnd commands was now end → (result : Result RunEnd Memory) → IfOk result (Writes sink text end) →
         IfOk result (BeginsAtFault form tells limit hosts commands (IsCountedEnd tells may_fail budget commands before after) was now sink.held_before sink.held_after)
     begun_ok was now sink text end has counted cut result =

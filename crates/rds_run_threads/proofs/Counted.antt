@@ -1,5 +1,6 @@
 -- What the counts of a wire say of how a run ended.
 use Rattle.std.proofs.Common.{◌≡◌, ◌⊎◌, inl, inr, ℕ, Bool, true, false, List, All, Result, IfOk, length, map, refl, sym, subst, ◌∙◌}
+use Rattle.rds_link.specs.Seen.{SinkSeen}
 use Rattle.rds_wire.specs.declared.memory.Memory.{Memory}
 use Rattle.rds_link.specs.Streaming.{HasRisen, HasRisenBy}
 use Rattle.rds_link.specs.declared.wire.WireCounts.{WireCounts}
@@ -17,7 +18,7 @@ use Rattle.rds_text.specs.FinalState.{FinalHost, FinalJournal}
 use Rattle.rds_text.specs.FinalViews.{host_view, host_views}
 use Rattle.rds_text.specs.declared.final_state.HostEnd.{HostEnd}
 use Rattle.rds_run_threads.specs.Counted.{IsCountedEnd}
-use Rattle.rds_run_threads.specs.Ends.{OfEachJournal, Writes, Written}
+use Rattle.rds_run_threads.specs.Ends.{OfEachJournal, Writes}
 use Rattle.rds_run_threads.specs.Settled.{AreLeftOf}
 use Rattle.rds_run_threads.specs.declared.form.RunEnd.{RunEnd}
 use Rattle.rds_run_threads.specs.declared.form.RunEnd.TheVariants as ended
@@ -53,7 +54,7 @@ module _ (Holds : List Entry → Type 0) where
         (subst (All OfSide) (sym (left.each host caller.0 row.0 of.0 caller.1 row.1 of.1).journals) (in_sides row.0 (all_at (All OfLine) rows host row.0 each row.1))))
 
 -- what was written leaves what the counts say
-pub counted_written : (tells : Bool) (may_fail : Type 0) (budget : ℕ) (commands : List Placed) (before after : WireCounts) (sink : Written) (text : List ℕ) (end result : RunEnd) →
+pub counted_written : (tells : Bool) (may_fail : Type 0) (budget : ℕ) (commands : List Placed) (before after : WireCounts) (sink : SinkSeen) (text : List ℕ) (end result : RunEnd) →
     IsCountedEnd tells may_fail budget commands before after end → Writes sink text end result → IsCountedEnd tells may_fail budget commands before after result
 counted_written tells may_fail budget commands before after sink text end result counted (inl said) =
     subst (IsCountedEnd tells may_fail budget commands before after) (sym said.0) counted
@@ -71,7 +72,7 @@ counted_since tells can may why budget commands before after ended.WriteFault co
 counted_since tells can may why budget commands before after ended.Memory counted = tt
 
 -- so it is of what was to be written in the end
-pub counted_ok : (tells : Bool) (may_fail : Type 0) (budget : ℕ) (commands : List Placed) (before after : WireCounts) (sink : Written) (text : List ℕ) (end : RunEnd)
+pub counted_ok : (tells : Bool) (may_fail : Type 0) (budget : ℕ) (commands : List Placed) (before after : WireCounts) (sink : SinkSeen) (text : List ℕ) (end : RunEnd)
     (result : Result RunEnd Memory) → IsCountedEnd tells may_fail budget commands before after end → IfOk result (Writes sink text end) →
     IfOk result (IsCountedEnd tells may_fail budget commands before after)
 counted_ok tells may_fail budget commands before after sink text end result counted =

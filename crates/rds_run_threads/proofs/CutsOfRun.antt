@@ -1,5 +1,6 @@
 -- What became of the cuts that the commands of a run ask for, in what its hosts have in the end.
 use Rattle.std.proofs.Common.{◌≡◌, ℕ, inl, inr, List, Some, Result, IfOk, length, map, slice_get, sym, ap, subst, ◌∙◌}
+use Rattle.rds_link.specs.Seen.{SinkSeen}
 use Rattle.rds_wire.specs.declared.memory.Memory.{Memory}
 use Rattle.rds_link.specs.Ends.{Means}
 use Rattle.rds_fmap.specs.Readers.{WriterView}
@@ -15,7 +16,7 @@ use Rattle.rds_run_callers.specs.Places.{CallerView}
 use Rattle.rds_run_rounds.specs.Done.{AreDone}
 use Rattle.rds_run_rounds.specs.Grid.{IsAt, peer_at}
 use Rattle.rds_run_threads.specs.Cuts.{AreCutsOfEnds, HasLostNoCut, IsCutEnd}
-use Rattle.rds_run_threads.specs.Ends.{Writes, Written}
+use Rattle.rds_run_threads.specs.Ends.{Writes}
 use Rattle.rds_run_threads.specs.Known.{AreOpenOrUsed}
 use Rattle.rds_run_threads.specs.Outcome.{cuts_to}
 use Rattle.rds_run_threads.specs.Settled.{AreLeftOf, HaveDoneSpared}
@@ -49,12 +50,12 @@ cuts_of_ends {E} m limit hosts callers rows ends done same left commands did use
     (subst (λ (p : ℕ). AreCutsDone (cuts_to host p commands) (numbers line.0.channel.streams.list) past) peer asked) is.is))
 
 -- what was written changes nothing of that
-cut_written : (commands : List Placed) (before after : ℕ) (sink : Written) (text : List ℕ) (end result : RunEnd) → IsCutEnd commands before after end →
+cut_written : (commands : List Placed) (before after : ℕ) (sink : SinkSeen) (text : List ℕ) (end result : RunEnd) → IsCutEnd commands before after end →
     Writes sink text end result → IsCutEnd commands before after result
 cut_written commands before after sink text end result cut (inl said) = subst (IsCutEnd commands before after) (sym said.0) cut
 cut_written commands before after sink text end result cut (inr failed) = subst (IsCutEnd commands before after) (sym failed.0) tt
 
-pub cut_ok : (commands : List Placed) (before after : ℕ) (sink : Written) (text : List ℕ) (end : RunEnd) (result : Result RunEnd Memory) →
+pub cut_ok : (commands : List Placed) (before after : ℕ) (sink : SinkSeen) (text : List ℕ) (end : RunEnd) (result : Result RunEnd Memory) →
     IsCutEnd commands before after end → IfOk result (Writes sink text end) → IfOk result (IsCutEnd commands before after)
 cut_ok commands before after sink text end result cut =
     on_ok (Writes sink text end) (IsCutEnd commands before after) result (λ e written. cut_written commands before after sink text end e cut written)

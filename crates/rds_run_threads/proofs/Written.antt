@@ -1,14 +1,15 @@
 -- A run that wrote its text, or whose sink failed.
 use Rattle.std.proofs.Common.{inl, inr, ℕ, Bool, List, Result, Ok, Err, IfOk, sym, subst}
+use Rattle.rds_link.specs.Seen.{SinkSeen}
 use Rattle.rds_wire.specs.declared.memory.Memory.{Memory}
 use Rattle.rds_link.specs.Streaming.{SinkGained}
 use Rattle.rds_script.specs.declared.script.Placed.{Placed}
-use Rattle.rds_run_threads.specs.Ends.{HasToWrite, IsEndOfRun, Writes, Written}
+use Rattle.rds_run_threads.specs.Ends.{HasToWrite, IsEndOfRun, Writes}
 use Rattle.rds_run_threads.specs.declared.form.Form.{Form}
 use Rattle.rds_run_threads.specs.declared.form.RunEnd.{RunEnd}
 use Rattle.rds_run_threads.specs.declared.form.RunEnd.TheVariants as ended
 
-module _ (form : Form) (tells : Bool) (limit hosts : ℕ) (commands : List Placed) (sink : Written) where
+module _ (form : Form) (tells : Bool) (limit hosts : ℕ) (commands : List Placed) (sink : SinkSeen) where
   ended_so : (text : List ℕ) (end : RunEnd) → HasToWrite form tells limit hosts commands end text → SinkGained sink.held_before sink.held_after text →
       IsEndOfRun form tells limit hosts commands sink end
   ended_so text (ended.Ok ends) has gain = (text, has, gain)

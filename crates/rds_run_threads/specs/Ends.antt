@@ -1,5 +1,6 @@
 -- What a run comes to: what its hosts have in the end, and what was written. Source: this project's own.
 use Rattle.std.specs.Prelude.{◌≡◌, ◌⊎◌, ◌≤◌, ◌+◌, ℕ, suc, All, Bool, true, List, Some, length, map, Option, slice_get}
+use Rattle.rds_link.specs.Seen.{SinkSeen}
 use Rattle.rds_link.specs.Streaming.{HasRisen, SinkGained, SinkGainedFront}
 use Rattle.rds_model.specs.declared.entry.Entry.{Entry}
 use Rattle.rds_model.specs.Honest.{IsHonest}
@@ -88,15 +89,8 @@ pub record AreAcknowledged (ends : List FinalHost) : Type 0 where
 abbrev pub AreSettledHosts : List FinalHost → Type 0
 AreSettledHosts ends = AreDrainedHosts ends × NonePending ends
 
--- what a run does to its sink: the bytes that it holds, where it tells them, and how often it has failed
-pub record Written : Type 0 where
-  pub held_before : Option (List ℕ)
-  pub held_after : Option (List ℕ)
-  pub faults_before : ℕ
-  pub faults_after : ℕ
-
 -- the whole text was written, and the run ended so; or the sink failed, after it took a beginning of the text
-abbrev pub Writes : Written → List ℕ → (end result : RunEnd) → Type 0
+abbrev pub Writes : SinkSeen → List ℕ → (end result : RunEnd) → Type 0
 Writes sink text end result =
     ((result ≡ end) × SinkGained sink.held_before sink.held_after text)
     ⊎ ((result ≡ ended.WriteFault) × HasRisen sink.faults_before sink.faults_after × SinkGainedFront sink.held_before sink.held_after text)
@@ -119,7 +113,7 @@ HasToWrite form tells limit hosts commands ended.Memory text = ⊥
 
 -- How a run ended. The sink failed; or memory ran out, and nothing was written; or the run came to an end at which it has something to write,
 -- and the sink took the whole of that.
-abbrev pub IsEndOfRun : (form : Form) (tells : Bool) (limit hosts : ℕ) (commands : List Placed) → Written → RunEnd → Type 0
+abbrev pub IsEndOfRun : (form : Form) (tells : Bool) (limit hosts : ℕ) (commands : List Placed) → SinkSeen → RunEnd → Type 0
 IsEndOfRun form tells limit hosts commands sink ended.WriteFault = HasRisen sink.faults_before sink.faults_after
 IsEndOfRun form tells limit hosts commands sink ended.Memory = sink.held_after ≡ sink.held_before
 IsEndOfRun form tells limit hosts commands sink end =

@@ -1,5 +1,6 @@
 //! What a run writes at its end.
 ghost use Rattle.std.specs.Prelude.{◌≡◌, ◌<◌, IfOk, OnErr, string_bytes};
+ghost use Rattle.rds_link.specs.Seen.{sink_seen};
 ghost use Rattle.std.specs.List.{flat_map};
 ghost use Rattle.rds_model.specs.Past.{newest_stream};
 ghost use Rattle.rds_text.specs.FinalViews.{AreFinalHosts, host_views};
@@ -29,7 +30,7 @@ pub(crate) fn end_by_report<K: Sink, R: Threads + Sync>(
 ) -> Result<RunEnd, Memory>
     requires { AreFinalHosts (host_views ends.items) }
     ensures end { IfOk result (Writes
-        record { held_before = K.held sink.old; held_after = K.held sink.new; faults_before = K.faults sink.old; faults_after = K.faults sink.new }
+        (sink_seen K.held K.faults sink.old sink.new)
         (text_of_form form (host_views ends.items)) (ended.Ok ends)) }
     ensures memory { OnErr result (K.held sink.new ≡ K.held sink.old) }
 {
@@ -68,7 +69,7 @@ pub(crate) fn end_unfinished<K: Sink>(
     sink: &mut K,
 ) -> Result<RunEnd, Memory>
     ensures end { IfOk result (Writes
-        record { held_before = K.held sink.old; held_after = K.held sink.new; faults_before = K.faults sink.old; faults_after = K.faults sink.new }
+        (sink_seen K.held K.faults sink.old sink.new)
         (unfinished_line count) (ended.Unfinished count ends)) }
     ensures memory { OnErr result (K.held sink.new ≡ K.held sink.old) }
 {
@@ -88,7 +89,7 @@ pub(crate) fn end_by_fault<K: Sink>(
     requires low { low < 26 }
     requires high { high < 26 }
     ensures end { IfOk result (Writes
-        record { held_before = K.held sink.old; held_after = K.held sink.new; faults_before = K.faults sink.old; faults_after = K.faults sink.new }
+        (sink_seen K.held K.faults sink.old sink.new)
         (fault_line low high (newest_stream own.past)) (ended.WireFault low high (newest_stream own.past) own other)) }
     ensures memory { OnErr result (K.held sink.new ≡ K.held sink.old) }
 {
@@ -128,7 +129,7 @@ pub(crate) fn end_by_spent<K: Sink>(
     requires host { host < 26 }
     requires peer { peer < 26 }
     ensures end { IfOk result (Writes
-        record { held_before = K.held sink.old; held_after = K.held sink.new; faults_before = K.faults sink.old; faults_after = K.faults sink.new }
+        (sink_seen K.held K.faults sink.old sink.new)
         (line_of_spent host peer entries) (ended.Spent host peer entries own other)) }
     ensures memory { OnErr result (K.held sink.new ≡ K.held sink.old) }
 {
@@ -147,7 +148,7 @@ pub(crate) fn end_by_spent<K: Sink>(
 // Writes the whole text, and answers how that ended.
 fn write<K: Sink>(sink: &mut K, text: &str, end: RunEnd) -> RunEnd
     ensures { Writes
-        record { held_before = K.held sink.old; held_after = K.held sink.new; faults_before = K.faults sink.old; faults_after = K.faults sink.new }
+        (sink_seen K.held K.faults sink.old sink.new)
         text.now end result }
 {
     match write_all(sink, text.as_bytes()) {

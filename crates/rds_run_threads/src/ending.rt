@@ -1,5 +1,6 @@
 //! How a run ends, and what is written then.
 ghost use Rattle.std.specs.Prelude.{◌≡◌, ◌<◌, ◌-◌, ◌^◌, ℕ, Bool, List, All, IfOk, OnErr, length, true, false};
+ghost use Rattle.rds_link.specs.Seen.{sink_seen};
 ghost use Rattle.rds_host.specs.Held.{ends_of_all};
 ghost use Rattle.rds_run_hosts.specs.Preparing.{HaveCounted};
 ghost use Rattle.rds_run_rounds.specs.Causes.{AreClosed, AreUnacked, HaveRoom, OweNothing, alive_in_rows};
@@ -59,22 +60,22 @@ pub(crate) fn end_run<K: Sink, W: Wire, R: Threads + Wait + Sync>(
     ensures end { (limit hosts : ℕ) (commands : List Placed) (before after : ℕ) → AreDone W.End.means limit hosts (rows_of lines.items) →
         HaveDoneSpared hosts commands callers.items (rows_of lines.items) → HaveCounted commands before after (rows_of lines.items) →
         MissAtFault W.End.means.tells commands end (rows_of lines.items) → IfOk result (IsEndOfRun form W.End.means.tells limit hosts commands
-        record { held_before = K.held sink.old; held_after = K.held sink.new; faults_before = K.faults sink.old; faults_after = K.faults sink.new }) }
+        (sink_seen K.held K.faults sink.old sink.new)) }
     ensures counted { (commands : List Placed) → (IsQuietEnd end → AreOpenOrUsed commands (rows_of lines.items)) →
         IfOk result (IsCountedEnd W.End.means.tells (start.can_fail ≡ true) start.budget commands start.counts
-        record { faults = W.faults wire.new; nothings = W.nothings wire.new; fulls = W.fulls wire.new }) }
+        W.counted wire.new) }
     ensures cut { (limit hosts : ℕ) (commands : List Placed) (before : ℕ) → AreDone W.End.means limit hosts (rows_of lines.items) →
-        HaveDoneSpared hosts commands callers.items (rows_of lines.items) → HaveCounted commands before (W.faults wire.old) (rows_of lines.items) →
+        HaveDoneSpared hosts commands callers.items (rows_of lines.items) → HaveCounted commands before (W.counted wire.old).faults (rows_of lines.items) →
         MissAtFault W.End.means.tells commands end (rows_of lines.items) →
-        (IsQuietEnd end → AreOpenOrUsed commands (rows_of lines.items)) → before < 2 ^ 64 → IfOk result (IsCutEnd commands before (W.faults wire.new)) }
+        (IsQuietEnd end → AreOpenOrUsed commands (rows_of lines.items)) → before < 2 ^ 64 → IfOk result (IsCutEnd commands before (W.counted wire.new).faults) }
     ensures begun { (limit hosts : ℕ) (commands : List Placed) (before : ℕ) → AreDone W.End.means limit hosts (rows_of lines.items) →
-        HaveDoneSpared hosts commands callers.items (rows_of lines.items) → HaveCounted commands before (W.faults wire.old) (rows_of lines.items) →
+        HaveDoneSpared hosts commands callers.items (rows_of lines.items) → HaveCounted commands before (W.counted wire.old).faults (rows_of lines.items) →
         MissAtFault W.End.means.tells commands end (rows_of lines.items) →
         (IsQuietEnd end → AreOpenOrUsed commands (rows_of lines.items)) → before < 2 ^ 64 →
         IfOk result (BeginsAtFault form W.End.means.tells limit hosts commands
         (IsCountedEnd W.End.means.tells (start.can_fail ≡ true) start.budget commands start.counts
-        record { faults = W.faults wire.new; nothings = W.nothings wire.new; fulls = W.fulls wire.new })
-        before (W.faults wire.new) (K.held sink.old) (K.held sink.new)) }
+        W.counted wire.new)
+        before (W.counted wire.new).faults (K.held sink.old) (K.held sink.new)) }
     ensures memory { OnErr result (K.held sink.new ≡ K.held sink.old) }
     ensures out { W.out wire.new ≡ W.out wire.old - ends_of_all (rows_of lines.items) }
 {

@@ -14,7 +14,7 @@ use std::sync::Wait;
 /// Gives every end of the lines of all hosts back to the wire.
 pub(crate) fn end_lines<W: Wire, R: Wait>(rt: &R, wire: &mut W, lines: Lines<W::End>)
     ensures out { W.out wire.new ≡ W.out wire.old - ends_of_all (rows_of lines.items) }
-    ensures risen { StaysRisen (W.faults wire.old) (W.faults wire.new) }
+    ensures risen { StaysRisen (W.counted wire.old).faults (W.counted wire.new).faults }
 {
     for row in lines {
         end_row(rt, wire, row);
@@ -24,7 +24,7 @@ pub(crate) fn end_lines<W: Wire, R: Wait>(rt: &R, wire: &mut W, lines: Lines<W::
 /// Gives every end of a host's lines back to the wire.
 pub(crate) fn end_row<W: Wire, R: Wait>(rt: &R, wire: &mut W, row: Vec<Line<W::End, Writer>>)
     ensures out { W.out wire.new ≡ W.out wire.old - ends_in row.items }
-    ensures risen { StaysRisen (W.faults wire.old) (W.faults wire.new) }
+    ensures risen { StaysRisen (W.counted wire.old).faults (W.counted wire.new).faults }
 {
     for line in row {
         end_line(rt, wire, line);

@@ -1,5 +1,6 @@
 //! A run.
 ghost use Rattle.std.specs.Prelude.{◌≡◌, ◌≤◌, ◌-◌, ℕ, List, IfOk, OnErr, length, true};
+ghost use Rattle.rds_link.specs.Seen.{sink_seen};
 ghost use Rattle.rds_model.specs.declared.journal.TheConstants.{MAX_ENTRIES, MIN_ENTRIES};
 ghost use Rattle.rds_script.specs.Script.{IsScript};
 ghost use Rattle.rds_run_rounds.specs.Connection.{AreHosts};
@@ -57,18 +58,18 @@ where
     requires least { MIN_ENTRIES ≤ limit }
     requires most { limit ≤ MAX_ENTRIES }
     ensures end { IsEndOfRun form W.End.means.tells limit script.now.hosts script.now.commands.items
-        record { held_before = K.held sink.old; held_after = K.held sink.new; faults_before = K.faults sink.old; faults_after = K.faults sink.new }
+        (sink_seen K.held K.faults sink.old sink.new)
         result }
     ensures counted { IsCountedEnd W.End.means.tells (W.may_fail wire.old) budget script.now.commands.items
-        record { faults = W.faults wire.old; nothings = W.nothings wire.old; fulls = W.fulls wire.old }
-        record { faults = W.faults wire.new; nothings = W.nothings wire.new; fulls = W.fulls wire.new } result }
-    ensures cut { IsCutEnd script.now.commands.items (W.faults wire.old) (W.faults wire.new) result }
+        W.counted wire.old
+        W.counted wire.new result }
+    ensures cut { IsCutEnd script.now.commands.items (W.counted wire.old).faults (W.counted wire.new).faults result }
     // Where the sink failed, it took a beginning of what the run had to write at an end that the wire's counts tell of, and of cuts as well.
     ensures begun { BeginsAtFault form W.End.means.tells limit script.now.hosts script.now.commands.items
         (IsCountedEnd W.End.means.tells (W.may_fail wire.old) budget script.now.commands.items
-        record { faults = W.faults wire.old; nothings = W.nothings wire.old; fulls = W.fulls wire.old }
-        record { faults = W.faults wire.new; nothings = W.nothings wire.new; fulls = W.fulls wire.new })
-        (W.faults wire.old) (W.faults wire.new) (K.held sink.old) (K.held sink.new) result }
+        W.counted wire.old
+        W.counted wire.new)
+        (W.counted wire.old).faults (W.counted wire.new).faults (K.held sink.old) (K.held sink.new) result }
     ensures given_back { W.out wire.new ≤ W.out wire.old }
 {
     match ended(rt, alloc, script, wire, gate, form, limit, budget, sink) {
@@ -95,16 +96,16 @@ where
     requires least { MIN_ENTRIES ≤ limit }
     requires most { limit ≤ MAX_ENTRIES }
     ensures end { IfOk result (IsEndOfRun form W.End.means.tells limit script.now.hosts script.now.commands.items
-        record { held_before = K.held sink.old; held_after = K.held sink.new; faults_before = K.faults sink.old; faults_after = K.faults sink.new }) }
+        (sink_seen K.held K.faults sink.old sink.new)) }
     ensures counted { IfOk result (IsCountedEnd W.End.means.tells (W.may_fail wire.old) budget script.now.commands.items
-        record { faults = W.faults wire.old; nothings = W.nothings wire.old; fulls = W.fulls wire.old }
-        record { faults = W.faults wire.new; nothings = W.nothings wire.new; fulls = W.fulls wire.new }) }
-    ensures cut { IfOk result (IsCutEnd script.now.commands.items (W.faults wire.old) (W.faults wire.new)) }
+        W.counted wire.old
+        W.counted wire.new) }
+    ensures cut { IfOk result (IsCutEnd script.now.commands.items (W.counted wire.old).faults (W.counted wire.new).faults) }
     ensures begun { IfOk result (BeginsAtFault form W.End.means.tells limit script.now.hosts script.now.commands.items
         (IsCountedEnd W.End.means.tells (W.may_fail wire.old) budget script.now.commands.items
-        record { faults = W.faults wire.old; nothings = W.nothings wire.old; fulls = W.fulls wire.old }
-        record { faults = W.faults wire.new; nothings = W.nothings wire.new; fulls = W.fulls wire.new })
-        (W.faults wire.old) (W.faults wire.new) (K.held sink.old) (K.held sink.new)) }
+        W.counted wire.old
+        W.counted wire.new)
+        (W.counted wire.old).faults (W.counted wire.new).faults (K.held sink.old) (K.held sink.new)) }
     ensures memory { OnErr result (K.held sink.new ≡ K.held sink.old) }
     ensures out { W.out wire.new ≤ W.out wire.old }
 {
@@ -138,19 +139,19 @@ fn finish<K: Sink, W: Wire, R: Threads + Wait + Sync>(
     ensures end { (limit hosts : ℕ) (commands : List Placed) (before after : ℕ) → AreHosts W.End.means limit hosts (rows_of lines.items) →
         HaveDoneLed hosts commands callers.items (rows_of lines.items) → HaveCounted commands before after (rows_of lines.items) →
         AreKnownOf (rows_of wanted.now) commands (rows_of lines.items) → IfOk result (IsEndOfRun form W.End.means.tells limit hosts commands
-        record { held_before = K.held sink.old; held_after = K.held sink.new; faults_before = K.faults sink.old; faults_after = K.faults sink.new }) }
+        (sink_seen K.held K.faults sink.old sink.new)) }
     ensures counted { (commands : List Placed) → AreKnownOf (rows_of wanted.now) commands (rows_of lines.items) →
         IfOk result (IsCountedEnd W.End.means.tells (start.can_fail ≡ true) start.budget commands start.counts
-        record { faults = W.faults wire.new; nothings = W.nothings wire.new; fulls = W.fulls wire.new }) }
+        W.counted wire.new) }
     ensures cut { (limit hosts : ℕ) (commands : List Placed) → AreHosts W.End.means limit hosts (rows_of lines.items) →
-        HaveDoneLed hosts commands callers.items (rows_of lines.items) → HaveCounted commands start.counts.faults (W.faults wire.old) (rows_of lines.items) →
-        AreKnownOf (rows_of wanted.now) commands (rows_of lines.items) → IfOk result (IsCutEnd commands start.counts.faults (W.faults wire.new)) }
+        HaveDoneLed hosts commands callers.items (rows_of lines.items) → HaveCounted commands start.counts.faults (W.counted wire.old).faults (rows_of lines.items) →
+        AreKnownOf (rows_of wanted.now) commands (rows_of lines.items) → IfOk result (IsCutEnd commands start.counts.faults (W.counted wire.new).faults) }
     ensures begun { (limit hosts : ℕ) (commands : List Placed) → AreHosts W.End.means limit hosts (rows_of lines.items) →
-        HaveDoneLed hosts commands callers.items (rows_of lines.items) → HaveCounted commands start.counts.faults (W.faults wire.old) (rows_of lines.items) →
+        HaveDoneLed hosts commands callers.items (rows_of lines.items) → HaveCounted commands start.counts.faults (W.counted wire.old).faults (rows_of lines.items) →
         AreKnownOf (rows_of wanted.now) commands (rows_of lines.items) → IfOk result (BeginsAtFault form W.End.means.tells limit hosts commands
         (IsCountedEnd W.End.means.tells (start.can_fail ≡ true) start.budget commands start.counts
-        record { faults = W.faults wire.new; nothings = W.nothings wire.new; fulls = W.fulls wire.new })
-        start.counts.faults (W.faults wire.new) (K.held sink.old) (K.held sink.new)) }
+        W.counted wire.new)
+        start.counts.faults (W.counted wire.new).faults (K.held sink.old) (K.held sink.new)) }
     ensures memory { OnErr result (K.held sink.new ≡ K.held sink.old) }
     ensures out { W.out wire.new ≡ W.out wire.old - ends_of_all (rows_of lines.items) }
 {

@@ -40,7 +40,7 @@ fn end_host<W: Wire, R: Wait>(
     ensures journal { (line : LineView W.End WriterView) → slice_get lines.items place ≡ Some line → IfOk result (λ journal. IsJournalOfLine line journal.past) }
     ensures orders { IfOk result (λ journal. HasOrdersAt place caller.places journal.past) }
     ensures grounded { OnOk result (AreMapsGrounded (holdings caller.places) lines.items) }
-    ensures risen { StaysRisen (W.faults wire.old) (W.faults wire.new) }
+    ensures risen { StaysRisen (W.counted wire.old).faults (W.counted wire.new).faults }
     ensures out { W.out wire.new ≡ W.out wire.old - ends_in lines.items }
 {
     let line = &lines[place];
@@ -90,7 +90,7 @@ fn low_and_high<W: Wire, R: Wait>(
         IfOk result (λ journals. HasOrders high low caller.places journals.1.past) }
     ensures low_grounded { OnOk result (IsGroundedAt callers.items (rows_of lines.items) low) }
     ensures high_grounded { OnOk result (IsGroundedAt callers.items (rows_of lines.items) high) }
-    ensures risen { StaysRisen (W.faults wire.old) (W.faults wire.new) }
+    ensures risen { StaysRisen (W.counted wire.old).faults (W.counted wire.new).faults }
     ensures out { W.out wire.new ≡ W.out wire.old - ends_of_all (rows_of lines.items) }
 {
     let one = usize::from(low);
@@ -129,7 +129,7 @@ pub(crate) fn journals<W: Wire, R: Wait>(
         IfOk result (λ journals. HasOrders peer host caller.places journals.1.past) }
     ensures own_grounded { OnOk result (IsGroundedAt callers.items (rows_of lines.items) host) }
     ensures other_grounded { OnOk result (IsGroundedAt callers.items (rows_of lines.items) peer) }
-    ensures risen { StaysRisen (W.faults wire.old) (W.faults wire.new) }
+    ensures risen { StaysRisen (W.counted wire.old).faults (W.counted wire.new).faults }
     ensures out { W.out wire.new ≡ W.out wire.old - ends_of_all (rows_of lines.items) }
 {
     if host < peer {

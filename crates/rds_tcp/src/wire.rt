@@ -134,11 +134,7 @@ impl TcpWire {
 impl Wire for TcpWire {
     type End = TcpEnd;
 
-    ghost faults = { λ w. w.faults };
-
-    ghost nothings = { λ w. w.nothings };
-
-    ghost fulls = { λ w. w.fulls };
+    ghost counted = { λ w. record { faults = w.faults; nothings = w.nothings; fulls = w.fulls } };
 
     ghost out = { λ w. w.out };
 

@@ -85,11 +85,7 @@ impl<'a> CountingWire<'a> {
 impl<'a> Wire for CountingWire<'a> {
     type End = CountingEnd<'a>;
 
-    ghost faults = { λ w. w.own.faults };
-
-    ghost nothings = { λ w. w.own.nothings };
-
-    ghost fulls = { λ w. w.own.fulls };
+    ghost counted = { λ w. record { faults = w.own.faults; nothings = w.own.nothings; fulls = w.own.fulls } };
 
     ghost out = { λ w. w.own.out };
 

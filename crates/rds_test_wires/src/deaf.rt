@@ -82,11 +82,7 @@ impl DeafWire {
 impl Wire for DeafWire {
     type End = DeafEnd;
 
-    ghost faults = { λ w. w.own.faults };
-
-    ghost nothings = { λ w. w.nothings };
-
-    ghost fulls = { λ w. w.own.fulls };
+    ghost counted = { λ w. record { faults = w.own.faults; nothings = w.nothings; fulls = w.own.fulls } };
 
     ghost out = { λ w. w.own.out };
 

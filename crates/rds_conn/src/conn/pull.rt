@@ -135,7 +135,8 @@ impl Conn {
         msg.num <= self.highest
     }
 
-    // Whether a datagram has to ask for an acknowledgement.
+    // Whether a datagram has to ask for an acknowledgement, by the flag ACK_REQUIRED: it was pulled before, or enough datagrams went unasked, or
+    // it is the last one.
     fn has_to_ask(&self, stream: u32, msg: Msg) -> bool
         requires on { stream_of self.now ≡ Some stream }
         requires due { IsFirstDue stream self.now.log.past msg }

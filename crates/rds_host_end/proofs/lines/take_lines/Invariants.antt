@@ -19,4 +19,4 @@ invariant-loop-line g l =
     × (l.left.ports.items ≡ map (λ line. line.ports) l.yielded)
     × (l.left.words.items ≡ map (λ line. line.words) l.yielded))
     × (g.W.Wire.out l.wire ≡ g.W.Wire.out l.fn.wire - ends_in l.yielded)
-    × StaysRisen (g.W.Wire.faults l.fn.wire) (g.W.Wire.faults l.wire)
+    × StaysRisen (g.W.Wire.counted l.fn.wire).faults (g.W.Wire.counted l.wire).faults

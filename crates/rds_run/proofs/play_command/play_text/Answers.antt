@@ -1,5 +1,5 @@
+use Rattle.rds_link.specs.Seen.{SinkSeen, SourceSeen}
 use Rattle.rds_script.specs.Grammar.{meaning}
-use Rattle.rds_run.specs.ExitStatus.{SourceSeen, SinkSeen}
 use Rattle.rds_run.proofs.Whole.{ends_of_played, ends_unread}
 use Rattle.rds_run.proofs.play_command.play_text.Goals as goal
 

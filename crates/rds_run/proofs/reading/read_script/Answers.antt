@@ -1,5 +1,5 @@
 use Rattle.std.proofs.Common.{inl, rules}
-use Rattle.rds_run.specs.ExitStatus.{SourceSeen, SinkSeen}
+use Rattle.rds_link.specs.Seen.{SinkSeen, SourceSeen}
 use Rattle.rds_run.proofs.Whole.{spelled, ends_of_refused, refused_told, refuses_same, spelled_told, ends_of_fault}
 use Rattle.rds_run.proofs.reading.read_script.Goals as goal
 

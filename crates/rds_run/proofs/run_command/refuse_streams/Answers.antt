@@ -1,5 +1,5 @@
 use Rattle.std.proofs.Common.{◌∙◌}
-use Rattle.rds_run.specs.ExitStatus.{SinkSeen}
+use Rattle.rds_link.specs.Seen.{SinkSeen}
 use Rattle.rds_run.proofs.Calling.{many_said}
 use Rattle.rds_run.proofs.run_command.refuse_streams.Goals as goal
 

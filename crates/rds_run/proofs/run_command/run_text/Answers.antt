@@ -1,6 +1,6 @@
 use Rattle.std.proofs.Common.{inl, inr}
+use Rattle.rds_link.specs.Seen.{SinkSeen, SourceSeen}
 use Rattle.rds_script.specs.Grammar.{meaning}
-use Rattle.rds_run.specs.ExitStatus.{SourceSeen, SinkSeen}
 use Rattle.rds_run.proofs.Calling.{run_read, run_unread, too_many_read, too_many_unread}
 use Rattle.rds_run.proofs.run_command.run_text.Goals as goal
 

@@ -1,6 +1,6 @@
 use Rattle.std.proofs.Common.{rules}
+use Rattle.rds_link.specs.Seen.{SinkSeen}
 use Rattle.rds_script.specs.Grammar.{meaning}
-use Rattle.rds_run.specs.ExitStatus.{SinkSeen}
 use Rattle.rds_run.proofs.Begun.{begun_in_memory, risen_of}
 use Rattle.rds_run.proofs.Ran.{in_memory_of, never_fails}
 use Rattle.rds_run.proofs.running.run_in_memory.Goals as goal

@@ -33,11 +33,11 @@ loop-low-init g c =
       wanted = c.requires.wanted;
       row = ap length c.new-2.ensures.items;
       counted = λ before least small all.
-          let holds = IsCounted c.args.all_cuts.now before (g.W.Wire.faults c.args.wire.now) in
+          let holds = IsCounted c.args.all_cuts.now before (g.W.Wire.counted c.args.wire.now).faults in
           subst (λ (l : List (EndsOf g.row.W-End.Denot)). IsHalfway holds c.args.host 0 rows l) (sym c.new.ensures.items)
           (halfway_start holds c.args.host rows c.requires.prepared.shape all);
       missing = λ small.
-          none_missing (ends_prepared rows) (ends_prepared rows + ends_of_row c.new.result.items) (g.W.Wire.faults c.args.wire.now) (g.W.Wire.faults c.args.wire.now)
+          none_missing (ends_prepared rows) (ends_prepared rows + ends_of_row c.new.result.items) (g.W.Wire.counted c.args.wire.now).faults (g.W.Wire.counted c.args.wire.now).faults
           (omega arith) (omega arith);
       grows = omega arith;
       out = λ others least. let none : ends_of_row c.new.result.items ≡ 0 = ap ends_of_row c.new.ensures.items in omega (arith, none, least);
@@ -80,8 +80,8 @@ loop-low-preserved g c =
     let host = c.args.host in
     let low = c.loop-low.low in
     let commands = c.args.all_cuts.now in
-    let faults = g.W.Wire.faults c.loop-low.wire in
-    let after = g.W.Wire.faults c.add_pair.new.wire in
+    let faults = (g.W.Wire.counted c.loop-low.wire).faults in
+    let after = (g.W.Wire.counted c.add_pair.new.wire).faults in
     let rows = rows_of c.loop-low.prepared.streams.items in
     let new = rows_of c.add_pair.new.prepared.streams.items in
     let row = c.loop-low.row.streams.items in
@@ -102,10 +102,10 @@ loop-low-preserved g c =
           (c.loop-low.invariant.counted before least (omega (arith, more, small)) all));
       missing = λ small.
           let old = rows_of c.args.prepared.now.streams.items in
-          subst (λ n. AreMissingBeside n (ends_prepared old) (ends_prepared new + ends_of_row own) (g.W.Wire.faults c.args.wire.now) after)
+          subst (λ n. AreMissingBeside n (ends_prepared old) (ends_prepared new + ends_of_row own) (g.W.Wire.counted c.args.wire.now).faults after)
           (sym (sum_below_more (λ low. streams_between low host commands) low))
           (missing_both (sum_by (λ low. streams_between low host commands) (range_with_len 0 low)) (streams_between low host commands) (ends_prepared old)
-          (ends_prepared rows + ends_of_row row) (ends_prepared new + ends_of_row own) (g.W.Wire.faults c.args.wire.now) faults after more small
+          (ends_prepared rows + ends_of_row row) (ends_prepared new + ends_of_row own) (g.W.Wire.counted c.args.wire.now).faults faults after more small
           (c.loop-low.invariant.missing (omega (arith, more, small))) (c.in-Ok.ensures.missing small));
       grows = omega (arith, more, so_far);
       out = λ others least. c.add_pair.ensures.out others (c.loop-low.invariant.out others least);
@@ -153,8 +153,8 @@ returns-clause-wanted g c =
 pub returns-clause-counted : goal.returns-clause-counted
 returns-clause-counted g c = λ before least small counted.
     let commands = c.args.all_cuts.now in
-    let after = g.W.Wire.faults c.loop-low.wire in
-    let same : g.W.Wire.faults c.add_row.new.wire ≡ after = ap (λ (w : g.row.W.Denot). g.W.Wire.faults w) c.in_ok-add_row.ensures.same in
+    let after = (g.W.Wire.counted c.loop-low.wire).faults in
+    let same : (g.W.Wire.counted c.add_row.new.wire).faults ≡ after = ap (λ (w : g.row.W.Denot). (g.W.Wire.counted w).faults) c.in_ok-add_row.ensures.same in
     let holds = IsCounted commands before after in
     let host = c.args.host in
     let rows = rows_of c.loop-low.prepared.streams.items in
@@ -179,9 +179,9 @@ returns-in_default-clause-out g c = λ others least.
 
 pub returns-clause-missing : goal.returns-clause-missing
 returns-clause-missing g c = λ small.
-    let before = g.W.Wire.faults c.args.wire.now in
-    let after = g.W.Wire.faults c.loop-low.wire in
-    let same : g.W.Wire.faults c.add_row.new.wire ≡ after = ap (λ (w : g.row.W.Denot). g.W.Wire.faults w) c.in_ok-add_row.ensures.same in
+    let before = (g.W.Wire.counted c.args.wire.now).faults in
+    let after = (g.W.Wire.counted c.loop-low.wire).faults in
+    let same : (g.W.Wire.counted c.add_row.new.wire).faults ≡ after = ap (λ (w : g.row.W.Denot). (g.W.Wire.counted w).faults) c.in_ok-add_row.ensures.same in
     let host = c.args.host in
     let old = ends_prepared (rows_of c.args.prepared.now.streams.items) in
     let rows = rows_of c.loop-low.prepared.streams.items in

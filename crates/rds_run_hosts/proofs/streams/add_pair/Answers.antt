@@ -36,7 +36,7 @@ returns-clause-grows g c =
       later = (joined c.in_ok-opened.opened.high c.push_reserved-2.ensures.items c.reserve-2.ensures.items);
       prepared = c.in_ok-opened.ensures.prepared.1;
       counted = λ small.
-          subst (λ n. AreNumbersOf n (g.W.Wire.faults c.args.wire.now) (g.W.Wire.faults c.open_all.new.wire) (numbers c.in_ok-opened.opened.low.items))
+          subst (λ n. AreNumbersOf n (g.W.Wire.counted c.args.wire.now).faults (g.W.Wire.counted c.open_all.new.wire).faults (numbers c.in_ok-opened.opened.low.items))
           (ap (λ n. n + 3) c.cuts_between-cuts.ensures.count) (c.in_ok-opened.ensures.counted small);
     }
 
@@ -93,8 +93,8 @@ pub returns-clause-missing : goal.returns-clause-missing
 returns-clause-missing g c = λ small.
     let rows = c.args.prepared.now.streams.items in
     let stood = c.index_mut-stood.result.now in
-    let before = g.W.Wire.faults c.args.wire.now in
-    let after = g.W.Wire.faults c.open_all.new.wire in
+    let before = (g.W.Wire.counted c.args.wire.now).faults in
+    let after = (g.W.Wire.counted c.open_all.new.wire).faults in
     let opened = c.in_ok-opened.opened in
     let of = subst (λ n. AreNumbersOf n before after (numbers opened.low.items)) (ap (λ n. n + 3) c.cuts_between-cuts.ensures.count) (c.in_ok-opened.ensures.counted small) in
     let put = ends_put rows c.from-place.result c.args.low stood c.push_reserved.new.self c.args.row.now.streams.items _ opened.low opened.high

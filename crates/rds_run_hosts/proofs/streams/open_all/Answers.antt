@@ -18,7 +18,7 @@ loop-before-init g c =
           (subst (λ (h : List (ℕ × g.row.W-End.Denot)). ArePrepared m 0 [] h) (sym high) (none_prepared m));
       lacks = subst (λ (l : List (ℕ × g.row.W-End.Denot)). AreAllUnlessLacking 0 false (numbers l)) (sym low) none_lacks;
       whole =
-          subst (λ (l : List (ℕ × g.row.W-End.Denot)). AreAllUnlessRisen 0 (g.W.Wire.faults c.args.wire.now) (g.W.Wire.faults c.args.wire.now) (numbers l)) (sym low)
+          subst (λ (l : List (ℕ × g.row.W-End.Denot)). AreAllUnlessRisen 0 (g.W.Wire.counted c.args.wire.now).faults (g.W.Wire.counted c.args.wire.now).faults (numbers l)) (sym low)
           (λ calm. refl);
       missing = λ small. inl (omega arith);
       grows = omega arith;
@@ -29,8 +29,8 @@ pub loop-before-preserved : goal.loop-before-preserved
 loop-before-preserved g c = record {
   prepared = c.in-Ok.ensures.prepared;
   lacks = c.in-Ok.ensures.lacks c.loop-before.invariant.lacks;
-  whole = c.in-Ok.ensures.whole (g.W.Wire.faults c.args.wire.now) c.loop-before.invariant.grows c.loop-before.invariant.whole;
-  missing = λ small. c.in-Ok.ensures.missing (g.W.Wire.faults c.args.wire.now) small
+  whole = c.in-Ok.ensures.whole (g.W.Wire.counted c.args.wire.now).faults c.loop-before.invariant.grows c.loop-before.invariant.whole;
+  missing = λ small. c.in-Ok.ensures.missing (g.W.Wire.counted c.args.wire.now).faults small
       (c.loop-before.invariant.missing (let more = c.open_next.ensures.grows in omega (arith, more, small)));
   grows = (let more = c.open_next.ensures.grows in let so_far = c.loop-before.invariant.grows in omega (arith, more, so_far));
   out = c.open_next.ensures.out (g.W.Wire.out c.args.wire.now) c.loop-before.invariant.out;
@@ -44,8 +44,8 @@ returns-clause-counted g c = λ small.
     let test = c.loop-before-test.false in
     let most = c.loop-before.auto.before-end in
     let end : c.loop-before.before ≡ c.args.count = omega (arith, test, most) in
-    subst (λ n. AreNumbersOf n (g.W.Wire.faults c.args.wire.now) (g.W.Wire.faults c.loop-before.wire) (numbers c.loop-before.opened.low.items)) end
-    (numbers_of g.W.End.End.means c.loop-before.before (g.W.Wire.faults c.args.wire.now) (g.W.Wire.faults c.loop-before.wire) c.loop-before.opened.low.items
+    subst (λ n. AreNumbersOf n (g.W.Wire.counted c.args.wire.now).faults (g.W.Wire.counted c.loop-before.wire).faults (numbers c.loop-before.opened.low.items)) end
+    (numbers_of g.W.End.End.means c.loop-before.before (g.W.Wire.counted c.args.wire.now).faults (g.W.Wire.counted c.loop-before.wire).faults c.loop-before.opened.low.items
     c.loop-before.opened.high.items c.loop-before.invariant.prepared c.loop-before.invariant.whole (c.loop-before.invariant.missing small))
 
 pub returns-clause-lacks : goal.returns-clause-lacks

@@ -10,8 +10,8 @@ abbrev pub invariant-loop-before : goal.invariant-loop-before
 invariant-loop-before g l = record {
   prepared : ArePrepared g.W.End.End.means l.before l.opened.low.items l.opened.high.items;
   lacks : AreAllUnlessLacking l.before l.opened.lacks (numbers l.opened.low.items);
-  whole : AreAllUnlessRisen l.before (g.W.Wire.faults l.fn.wire) (g.W.Wire.faults l.wire) (numbers l.opened.low.items);
-  missing : IsCount (g.W.Wire.faults l.wire) → HasRisenBy (l.before - length (numbers l.opened.low.items)) (g.W.Wire.faults l.fn.wire) (g.W.Wire.faults l.wire);
-  grows : g.W.Wire.faults l.fn.wire ≤ g.W.Wire.faults l.wire;
+  whole : AreAllUnlessRisen l.before (g.W.Wire.counted l.fn.wire).faults (g.W.Wire.counted l.wire).faults (numbers l.opened.low.items);
+  missing : IsCount (g.W.Wire.counted l.wire).faults → HasRisenBy (l.before - length (numbers l.opened.low.items)) (g.W.Wire.counted l.fn.wire).faults (g.W.Wire.counted l.wire).faults;
+  grows : (g.W.Wire.counted l.fn.wire).faults ≤ (g.W.Wire.counted l.wire).faults;
   out : g.W.Wire.out l.wire ≤ g.W.Wire.out l.fn.wire + (length l.opened.low.items + length l.opened.high.items);
 }

@@ -31,14 +31,14 @@ returns-in-Err-Fault-clause-prepared g c =
 pub returns-in-Ok-clause-whole : goal.returns-in-Ok-clause-whole
 returns-in-Ok-clause-whole g c = λ first least whole.
     let n = c.args.before + 1 in
-    subst (λ (l : List (ℕ × g.row.W-End.Denot)). AreAllUnlessRisen n first (g.W.Wire.faults c.open.new.self) (numbers l)) (sym (joined (c.args.before + 1, c.in-Ok.first) c.add.ensures.low c.reserve.ensures.low))
-    (all_more c.args.before first (g.W.Wire.faults c.args.wire.now) (g.W.Wire.faults c.open.new.self) c.args.opened.now.low.items c.in-Ok.first least
+    subst (λ (l : List (ℕ × g.row.W-End.Denot)). AreAllUnlessRisen n first (g.W.Wire.counted c.open.new.self).faults (numbers l)) (sym (joined (c.args.before + 1, c.in-Ok.first) c.add.ensures.low c.reserve.ensures.low))
+    (all_more c.args.before first (g.W.Wire.counted c.args.wire.now).faults (g.W.Wire.counted c.open.new.self).faults c.args.opened.now.low.items c.in-Ok.first least
     c.open.ensures.faults whole)
 
 pub returns-in-Err-Fault-clause-whole : goal.returns-in-Err-Fault-clause-whole
 returns-in-Err-Fault-clause-whole g c = λ first least whole.
-    let before = g.W.Wire.faults c.args.wire.now in
-    let after = g.W.Wire.faults c.open.new.self in
+    let before = (g.W.Wire.counted c.args.wire.now).faults in
+    let after = (g.W.Wire.counted c.open.new.self).faults in
     let risen : HasRisen before after = search rules in
     all_refused c.args.before first before after (numbers c.reserve.new.self.low.items) least risen
 
@@ -58,14 +58,14 @@ returns-in-Err-Fault-clause-lacks g c = λ are.
 pub returns-in-Ok-clause-missing : goal.returns-in-Ok-clause-missing
 returns-in-Ok-clause-missing g c = λ first small risen.
     let n = c.args.before + 1 in
-    let after = g.W.Wire.faults c.open.new.self in
+    let after = (g.W.Wire.counted c.open.new.self).faults in
     subst (λ (l : List (ℕ × g.row.W-End.Denot)). HasRisenBy (n - length (numbers l)) first after) (sym (joined (c.args.before + 1, c.in-Ok.first) c.add.ensures.low c.reserve.ensures.low))
-    (missing_more c.args.before first (g.W.Wire.faults c.args.wire.now) after c.args.opened.now.low.items (n, c.in-Ok.first) c.open.ensures.faults small risen)
+    (missing_more c.args.before first (g.W.Wire.counted c.args.wire.now).faults after c.args.opened.now.low.items (n, c.in-Ok.first) c.open.ensures.faults small risen)
 
 pub returns-in-Err-Fault-clause-missing : goal.returns-in-Err-Fault-clause-missing
 returns-in-Err-Fault-clause-missing g c = λ first small risen.
-    let before = g.W.Wire.faults c.args.wire.now in
-    let after = g.W.Wire.faults c.open.new.self in
+    let before = (g.W.Wire.counted c.args.wire.now).faults in
+    let after = (g.W.Wire.counted c.open.new.self).faults in
     let refused : HasRisen before after = search rules in
     subst (λ (l : List (ℕ × g.row.W-End.Denot)). HasRisenBy (c.args.before + 1 - length (numbers l)) first after) (sym c.reserve.ensures.low)
     (missing_refused c.args.before (length (numbers c.args.opened.now.low.items)) first before after c.open.ensures.faults small refused risen)

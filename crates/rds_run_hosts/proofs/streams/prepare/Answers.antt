@@ -28,10 +28,10 @@ loop-host-init g c = record {
       (none_known c.in_ok-cuts.cuts.items));
   counted = λ small.
       subst (λ (l : List (Vec (Vec (ℕ × g.row.W-End.Denot) Global) Global)).
-      AreAllCounted c.in_ok-cuts.cuts.items (g.W.Wire.faults c.args.wire.now) (g.W.Wire.faults c.args.wire.now) (rows_of l)) (sym c.new.ensures.items)
-      (none_counted c.in_ok-cuts.cuts.items (g.W.Wire.faults c.args.wire.now) (g.W.Wire.faults c.args.wire.now));
+      AreAllCounted c.in_ok-cuts.cuts.items (g.W.Wire.counted c.args.wire.now).faults (g.W.Wire.counted c.args.wire.now).faults (rows_of l)) (sym c.new.ensures.items)
+      (none_counted c.in_ok-cuts.cuts.items (g.W.Wire.counted c.args.wire.now).faults (g.W.Wire.counted c.args.wire.now).faults);
   missing = λ small.
-      none_missing 0 (ends_prepared (rows_of c.new.result.items)) (g.W.Wire.faults c.args.wire.now) (g.W.Wire.faults c.args.wire.now) (omega arith) (omega arith);
+      none_missing 0 (ends_prepared (rows_of c.new.result.items)) (g.W.Wire.counted c.args.wire.now).faults (g.W.Wire.counted c.args.wire.now).faults (omega arith) (omega arith);
   grows = omega arith;
   out = omega arith;
 }
@@ -44,20 +44,20 @@ loop-host-preserved g c = record {
       c.in-Ok.ensures.wanted;
   counted = λ small.
       let more = c.add_host.ensures.grows in
-      let first = g.W.Wire.faults c.args.wire.now in
+      let first = (g.W.Wire.counted c.args.wire.now).faults in
       let same = c.as_slice.ensures.value in
-      subst (λ (l : List Placed). AreAllCounted l first (g.W.Wire.faults c.add_host.new.wire) (rows_of c.add_host.new.prepared.streams.items)) same
+      subst (λ (l : List Placed). AreAllCounted l first (g.W.Wire.counted c.add_host.new.wire).faults (rows_of c.add_host.new.prepared.streams.items)) same
       (c.in-Ok.ensures.counted first c.loop-host.invariant.grows small
-      (subst (λ (l : List Placed). AreAllCounted l first (g.W.Wire.faults c.loop-host.wire) (rows_of c.loop-host.prepared.streams.items)) (sym same)
+      (subst (λ (l : List Placed). AreAllCounted l first (g.W.Wire.counted c.loop-host.wire).faults (rows_of c.loop-host.prepared.streams.items)) (sym same)
       (c.loop-host.invariant.counted (omega (arith, more, small)))));
   missing = λ small.
       let more = c.add_host.ensures.grows in
       let host = c.loop-host.host in
       let old = ends_prepared (rows_of c.loop-host.prepared.streams.items) in
       let new = ends_prepared (rows_of c.add_host.new.prepared.streams.items) in
-      let first = g.W.Wire.faults c.args.wire.now in
-      let before = g.W.Wire.faults c.loop-host.wire in
-      let after = g.W.Wire.faults c.add_host.new.wire in
+      let first = (g.W.Wire.counted c.args.wire.now).faults in
+      let before = (g.W.Wire.counted c.loop-host.wire).faults in
+      let after = (g.W.Wire.counted c.add_host.new.wire).faults in
       let cuts = c.in_ok-cuts.cuts.items in
       subst (λ n. AreMissingBeside n 0 new first after) (sym (sum_below_more (λ h. streams_below h cuts) host))
       (missing_both (sum_by (λ h. streams_below h cuts) (range_with_len 0 host)) (streams_below host cuts) 0 old new first before after more small
@@ -79,7 +79,7 @@ returns-clause-wanted g c =
 
 pub returns-clause-counted : goal.returns-clause-counted
 returns-clause-counted g c =
-    counted_alike c.in_ok-cuts.cuts.items c.args.script.now.commands.items (g.W.Wire.faults c.args.wire.now) (g.W.Wire.faults c.loop-host.wire)
+    counted_alike c.in_ok-cuts.cuts.items c.args.script.now.commands.items (g.W.Wire.counted c.args.wire.now).faults (g.W.Wire.counted c.loop-host.wire).faults
     (rows_of c.loop-host.prepared.streams.items) c.in_ok-cuts.ensures.all (c.loop-host.invariant.counted c.faults_of.ensures.fits)
 
 -- for all hosts of a script
@@ -95,8 +95,8 @@ of_script s hosts ends before after cuts all same missing =
 pub returns-clause-missing : goal.returns-clause-missing
 returns-clause-missing g c =
     let end : c.loop-host.host ≡ c.args.script.now.hosts = (let t = c.loop-host-test.false in let a = c.loop-host.auto.host-end in omega (arith, t, a)) in
-    of_script c.args.script.now c.loop-host.host (ends_prepared (rows_of c.loop-host.prepared.streams.items)) (g.W.Wire.faults c.args.wire.now)
-    (g.W.Wire.faults c.loop-host.wire) c.in_ok-cuts.cuts.items end c.in_ok-cuts.ensures.all (c.loop-host.invariant.missing c.faults_of.ensures.fits)
+    of_script c.args.script.now c.loop-host.host (ends_prepared (rows_of c.loop-host.prepared.streams.items)) (g.W.Wire.counted c.args.wire.now).faults
+    (g.W.Wire.counted c.loop-host.wire).faults c.in_ok-cuts.cuts.items end c.in_ok-cuts.ensures.all (c.loop-host.invariant.missing c.faults_of.ensures.fits)
 
 -- refused where the ends of some host aren't given back
 pub returns-in_default-clause-memory : goal.returns-in_default-clause-memory

@@ -11,10 +11,10 @@ abbrev pub invariant-loop-host : goal.invariant-loop-host
 invariant-loop-host g l = record {
   prepared : AreAllPrepared g.W.End.End.means l.host (rows_of l.prepared.streams.items);
   wanted : AreRowsKnown l.cuts.items (rows_of l.prepared.streams.items) (rows_of l.prepared.wanted.items);
-  counted : IsCount (g.W.Wire.faults l.wire) → AreAllCounted l.cuts.items (g.W.Wire.faults l.fn.wire) (g.W.Wire.faults l.wire) (rows_of l.prepared.streams.items);
-  missing : IsCount (g.W.Wire.faults l.wire) →
+  counted : IsCount (g.W.Wire.counted l.wire).faults → AreAllCounted l.cuts.items (g.W.Wire.counted l.fn.wire).faults (g.W.Wire.counted l.wire).faults (rows_of l.prepared.streams.items);
+  missing : IsCount (g.W.Wire.counted l.wire).faults →
       AreMissingBeside (sum_by (λ host. streams_below host l.cuts.items) (range_with_len 0 l.host)) 0 (ends_prepared (rows_of l.prepared.streams.items))
-      (g.W.Wire.faults l.fn.wire) (g.W.Wire.faults l.wire);
-  grows : g.W.Wire.faults l.fn.wire ≤ g.W.Wire.faults l.wire;
+      (g.W.Wire.counted l.fn.wire).faults (g.W.Wire.counted l.wire).faults;
+  grows : (g.W.Wire.counted l.fn.wire).faults ≤ (g.W.Wire.counted l.wire).faults;
   out : g.W.Wire.out l.wire ≤ g.W.Wire.out l.fn.wire + ends_prepared (rows_of l.prepared.streams.items);
 }

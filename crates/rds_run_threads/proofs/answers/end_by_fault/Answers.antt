@@ -1,5 +1,6 @@
 use Rattle.std.proofs.Common.{ℕ, List, subst, ◌∙◌}
-use Rattle.rds_run_threads.specs.Ends.{Writes, Written}
+use Rattle.rds_link.specs.Seen.{SinkSeen}
+use Rattle.rds_run_threads.specs.Ends.{Writes}
 use Rattle.rds_run_threads.specs.Texts.{fault_line}
 use Rattle.rds_run_threads.specs.declared.form.RunEnd.TheVariants as ended
 use Rattle.rds_run_threads.proofs.answers.end_by_fault.Goals as goal
@@ -9,7 +10,7 @@ returns-clause-end g c =
     let low = c.args.low in
     let high = c.args.high in
     let stream = c.last_stream-stream.result in
-    let sink : Written = record {
+    let sink : SinkSeen = record {
       held_before = g.K.Sink.held c.args.sink.now;
       held_after = g.K.Sink.held c.write.new.sink;
       faults_before = g.K.Sink.faults c.args.sink.now;

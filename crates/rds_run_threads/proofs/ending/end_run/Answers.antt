@@ -1,4 +1,5 @@
 use Rattle.std.proofs.Common.{Bool, ap, arith, length, refl, rules, subst, sym, true, ◌<◌, ◌^◌, ◌∙◌, ◌≡◌}
+use Rattle.rds_link.specs.Seen.{SinkSeen}
 use Rattle.rds_link.specs.Streaming.{HasRisen, HasRisenBy}
 use Rattle.rds_link.specs.declared.wire.WireCounts.{WireCounts}
 use Rattle.rds_model.specs.Past.{newest_stream}
@@ -7,7 +8,7 @@ use Rattle.rds_run_rounds.specs.Grid.{rows_of}
 use Rattle.rds_run_threads.specs.Causes.{AreUnacknowledged}
 use Rattle.rds_run_rounds.specs.declared.rounds.Rounds.TheVariants as rounds
 use Rattle.rds_run_threads.specs.Counted.{EndsOweNothing, HaveAllUsedUp}
-use Rattle.rds_run_threads.specs.Ends.{IsEndOfRun, Writes, Written}
+use Rattle.rds_run_threads.specs.Ends.{IsEndOfRun, Writes}
 use Rattle.rds_run_threads.specs.Texts.{fault_line, text_of, unfinished_line}
 use Rattle.rds_run_threads.specs.declared.form.RunEnd.TheVariants as ended
 use Rattle.rds_run_threads.proofs.Counted.{as_tested, counted_fault, counted_ok, quiet_done, quiet_of}
@@ -49,7 +50,7 @@ returns-in_ok-own-in-Spent-clause-end g c = λ limit hosts commands before after
     (c.requires.spent host peer entries c.in-Spent.is) own.past other.past c.in_ok-own-in-Spent.ensures.own c.in_ok-own-in-Spent.ensures.other
     c.in_ok-own-in-Spent.ensures.own_orders c.in_ok-own-in-Spent.ensures.other_orders c.in_ok-own-in-Spent.ensures.own_grounded
     c.in_ok-own-in-Spent.ensures.other_grounded in
-    let sink : Written = record {
+    let sink : SinkSeen = record {
       held_before = g.K.Sink.held c.args.sink.now;
       held_after = g.K.Sink.held c.end_by_spent.new.sink;
       faults_before = g.K.Sink.faults c.args.sink.now;
@@ -64,7 +65,7 @@ pub returns-in_ok-ends-in-Done-clause-end : goal.returns-in_ok-ends-in-Done-clau
 returns-in_ok-ends-in-Done-clause-end g c = λ limit hosts commands before after done did counted missed.
     let ends = c.in_ok-ends-in-Done.ends in
     let text = text_of c.args.form (host_views ends.items) in
-    let sink : Written = record {
+    let sink : SinkSeen = record {
       held_before = g.K.Sink.held c.args.sink.now;
       held_after = g.K.Sink.held c.end_by_report.new.sink;
       faults_before = g.K.Sink.faults c.args.sink.now;
@@ -88,7 +89,7 @@ returns-else-not-has_waited-clause-end g c = λ limit hosts commands before afte
     record { untold = alive.untold; some = alive.some; all = alive.all ∙ sym c.in_ok-ends-in-Unfinished.ensures.alive } in
     let room = c.in_ok-ends-in-Unfinished.ensures.room limit hosts done
     (c.requires.room (quiet_of c.args.end count c.in-Unfinished.unwritten c.in-Unfinished.connected c.in-Unfinished.is)) in
-    let sink : Written = record {
+    let sink : SinkSeen = record {
       held_before = g.K.Sink.held c.args.sink.now;
       held_after = g.K.Sink.held c.end_unfinished.new.sink;
       faults_before = g.K.Sink.faults c.args.sink.now;
@@ -114,7 +115,7 @@ returns-else-not-has_faulted-clause-end g c = λ limit hosts commands before aft
     c.requires.streams low high misses found_hosts.0 known own.past other.past c.in_ok-one-in-Fault.ensures.own
     c.in_ok-one-in-Fault.ensures.other c.in_ok-one-in-Fault.ensures.own_orders c.in_ok-one-in-Fault.ensures.other_orders
     c.in_ok-one-in-Fault.ensures.own_grounded c.in_ok-one-in-Fault.ensures.other_grounded in
-    let sink : Written = record {
+    let sink : SinkSeen = record {
       held_before = g.K.Sink.held c.args.sink.now;
       held_after = g.K.Sink.held c.end_by_fault.new.sink;
       faults_before = g.K.Sink.faults c.args.sink.now;
@@ -128,7 +129,7 @@ returns-else-not-has_faulted-clause-end g c = λ limit hosts commands before aft
 pub returns-in_ok-ends-in-Done-clause-counted : goal.returns-in_ok-ends-in-Done-clause-counted
 returns-in_ok-ends-in-Done-clause-counted g c = λ commands used.
     let ends = c.in_ok-ends-in-Done.ends in
-    let sink : Written = record {
+    let sink : SinkSeen = record {
       held_before = g.K.Sink.held c.args.sink.now;
       held_after = g.K.Sink.held c.end_by_report.new.sink;
       faults_before = g.K.Sink.faults c.args.sink.now;
@@ -140,7 +141,7 @@ pub returns-in_ok-own-in-Spent-clause-counted : goal.returns-in_ok-own-in-Spent-
 returns-in_ok-own-in-Spent-clause-counted g c = λ commands used.
     let own = c.in_ok-own-in-Spent.own in
     let other = c.in_ok-own-in-Spent.other in
-    let sink : Written = record {
+    let sink : SinkSeen = record {
       held_before = g.K.Sink.held c.args.sink.now;
       held_after = g.K.Sink.held c.end_by_spent.new.sink;
       faults_before = g.K.Sink.faults c.args.sink.now;
@@ -158,13 +159,13 @@ returns-else-not-has_faulted-clause-counted g c = λ commands used.
     let other = c.in_ok-one-in-Fault.other in
     let stream = newest_stream own.past in
     let wire = c.journals.new.wire in
-    let now : WireCounts = record { faults = g.W.Wire.faults wire; nothings = g.W.Wire.nothings wire; fulls = g.W.Wire.fulls wire } in
+    let now : WireCounts = g.W.Wire.counted wire in
     let start = c.args.start in
     let is : c.has_faulted.result ≡ true = search rules in
     let found =
     counted_fault g.W.End.End.means.tells c.tells.result (start.can_fail ≡ true) start.budget commands start.counts c.counts-in-Fault.result now low high stream own other
     c.tells.ensures c.counts-in-Fault.ensures (c.has_faulted.ensures.0 is) in
-    let sink : Written = record {
+    let sink : SinkSeen = record {
       held_before = g.K.Sink.held c.args.sink.now;
       held_after = g.K.Sink.held c.end_by_fault.new.sink;
       faults_before = g.K.Sink.faults c.args.sink.now;
@@ -183,10 +184,10 @@ returns-else-not-has_waited-clause-counted g c = λ commands used.
     let is : c.has_waited.result ≡ true = search rules in
     let wire = c.host_ends-in-Unfinished.new.wire in
     let start = c.args.start in
-    let after : WireCounts = record { faults = g.W.Wire.faults wire; nothings = g.W.Wire.nothings wire; fulls = g.W.Wire.fulls wire } in
+    let after : WireCounts = g.W.Wire.counted wire in
     let found = subst (λ (now : WireCounts). (unwritten ≡ true → HasRisen start.counts.fulls now.fulls)
     × (connected ≡ true → HasRisenBy start.budget start.counts.nothings now.nothings)) c.counts.ensures (c.has_waited.ensures.0 is) in
-    let sink : Written = record {
+    let sink : SinkSeen = record {
       held_before = g.K.Sink.held c.args.sink.now;
       held_after = g.K.Sink.held c.end_unfinished.new.sink;
       faults_before = g.K.Sink.faults c.args.sink.now;
@@ -209,9 +210,9 @@ pub returns-in_ok-ends-in-Done-clause-begun : goal.returns-in_ok-ends-in-Done-cl
 returns-in_ok-ends-in-Done-clause-begun g c = λ limit hosts commands before done did counted missed used fits.
     let ends = c.in_ok-ends-in-Done.ends in
     let wire = c.host_ends.new.wire in
-    let now : WireCounts = record { faults = g.W.Wire.faults wire; nothings = g.W.Wire.nothings wire; fulls = g.W.Wire.fulls wire } in
+    let now : WireCounts = g.W.Wire.counted wire in
     let start = c.args.start in
-    let sink : Written = record {
+    let sink : SinkSeen = record {
       held_before = g.K.Sink.held c.args.sink.now;
       held_after = g.K.Sink.held c.end_by_report.new.sink;
       faults_before = g.K.Sink.faults c.args.sink.now;
@@ -236,14 +237,14 @@ returns-in_ok-own-in-Spent-clause-begun g c = λ limit hosts commands before don
     let m = g.W.End.End.means in
     let rows = rows_of c.args.lines.items in
     let full =
-    full_in_run m limit hosts c.args.callers.items rows done c.requires.tied commands did before (g.W.Wire.faults c.args.wire.now) counted host peer entries
+    full_in_run m limit hosts c.args.callers.items rows done c.requires.tied commands did before (g.W.Wire.counted c.args.wire.now).faults counted host peer entries
     (c.requires.spent host peer entries c.in-Spent.is) own.past other.past c.in_ok-own-in-Spent.ensures.own c.in_ok-own-in-Spent.ensures.other
     c.in_ok-own-in-Spent.ensures.own_orders c.in_ok-own-in-Spent.ensures.other_orders c.in_ok-own-in-Spent.ensures.own_grounded
     c.in_ok-own-in-Spent.ensures.other_grounded in
     let wire = c.journals-in-Spent.new.wire in
-    let now : WireCounts = record { faults = g.W.Wire.faults wire; nothings = g.W.Wire.nothings wire; fulls = g.W.Wire.fulls wire } in
+    let now : WireCounts = g.W.Wire.counted wire in
     let start = c.args.start in
-    let sink : Written = record {
+    let sink : SinkSeen = record {
       held_before = g.K.Sink.held c.args.sink.now;
       held_after = g.K.Sink.held c.end_by_spent.new.sink;
       faults_before = g.K.Sink.faults c.args.sink.now;
@@ -264,18 +265,18 @@ returns-else-not-has_faulted-clause-begun g c = λ limit hosts commands before d
     let misses = missed low high c.in-Fault.is in
     let known : high < length (rows_of c.args.lines.items) = omega (arith, found_hosts.1, rows_count c.args.lines.items) in
     let lacking =
-    lacking_in_run g.W.End.End.means limit hosts c.args.callers.items (rows_of c.args.lines.items) done c.requires.tied commands did before (g.W.Wire.faults c.args.wire.now) counted
+    lacking_in_run g.W.End.End.means limit hosts c.args.callers.items (rows_of c.args.lines.items) done c.requires.tied commands did before (g.W.Wire.counted c.args.wire.now).faults counted
     c.requires.streams low high misses found_hosts.0 known own.past other.past c.in_ok-one-in-Fault.ensures.own
     c.in_ok-one-in-Fault.ensures.other c.in_ok-one-in-Fault.ensures.own_orders c.in_ok-one-in-Fault.ensures.other_orders
     c.in_ok-one-in-Fault.ensures.own_grounded c.in_ok-one-in-Fault.ensures.other_grounded in
     let wire = c.journals.new.wire in
-    let now : WireCounts = record { faults = g.W.Wire.faults wire; nothings = g.W.Wire.nothings wire; fulls = g.W.Wire.fulls wire } in
+    let now : WireCounts = g.W.Wire.counted wire in
     let start = c.args.start in
     let is : c.has_faulted.result ≡ true = search rules in
     let found =
     counted_fault g.W.End.End.means.tells c.tells.result (start.can_fail ≡ true) start.budget commands start.counts c.counts-in-Fault.result now low high stream own other
     c.tells.ensures c.counts-in-Fault.ensures (c.has_faulted.ensures.0 is) in
-    let sink : Written = record {
+    let sink : SinkSeen = record {
       held_before = g.K.Sink.held c.args.sink.now;
       held_after = g.K.Sink.held c.end_by_fault.new.sink;
       faults_before = g.K.Sink.faults c.args.sink.now;
@@ -284,7 +285,7 @@ returns-else-not-has_faulted-clause-begun g c = λ limit hosts commands before d
     let fits_now : c.counts-in-Fault.result.faults < 2 ^ 64 = search rules in
     let short =
     short_of (rows_of c.args.lines.items) c.requires.streams g.W.End.End.means.tells misses.wanted low high misses.misses commands before
-    (g.W.Wire.faults c.args.wire.now) (g.W.Wire.faults c.journals.new.wire) counted
+    (g.W.Wire.counted c.args.wire.now).faults (g.W.Wire.counted c.journals.new.wire).faults counted
     (subst (λ (w : WireCounts). w.faults < 2 ^ 64) c.counts-in-Fault.ensures fits_now) c.journals.ensures.risen own.past other.past
     c.in_ok-one-in-Fault.ensures.own c.in_ok-one-in-Fault.ensures.other in
     begun_ok c.args.form g.W.End.End.means.tells limit hosts commands (start.can_fail ≡ true) start.budget start.counts now before now.faults sink
@@ -303,11 +304,11 @@ returns-else-not-has_waited-clause-begun g c = λ limit hosts commands before do
     let room = c.in_ok-ends-in-Unfinished.ensures.room limit hosts done
     (c.requires.room (quiet_of c.args.end count c.in-Unfinished.unwritten c.in-Unfinished.connected c.in-Unfinished.is)) in
     let wire = c.host_ends-in-Unfinished.new.wire in
-    let now : WireCounts = record { faults = g.W.Wire.faults wire; nothings = g.W.Wire.nothings wire; fulls = g.W.Wire.fulls wire } in
+    let now : WireCounts = g.W.Wire.counted wire in
     let start = c.args.start in
     let found = subst (λ (n : WireCounts). (unwritten ≡ true → HasRisen start.counts.fulls n.fulls)
     × (connected ≡ true → HasRisenBy start.budget start.counts.nothings n.nothings)) c.counts.ensures (c.has_waited.ensures.0 is) in
-    let sink : Written = record {
+    let sink : SinkSeen = record {
       held_before = g.K.Sink.held c.args.sink.now;
       held_after = g.K.Sink.held c.end_unfinished.new.sink;
       faults_before = g.K.Sink.faults c.args.sink.now;
@@ -330,13 +331,13 @@ returns-else-not-has_waited-clause-begun g c = λ limit hosts commands before do
 pub returns-in_ok-ends-in-Done-clause-cut : goal.returns-in_ok-ends-in-Done-clause-cut
 returns-in_ok-ends-in-Done-clause-cut g c = λ limit hosts commands before done did counted missed used fits.
     let ends = c.in_ok-ends-in-Done.ends in
-    let sink : Written = record {
+    let sink : SinkSeen = record {
       held_before = g.K.Sink.held c.args.sink.now;
       held_after = g.K.Sink.held c.end_by_report.new.sink;
       faults_before = g.K.Sink.faults c.args.sink.now;
       faults_after = g.K.Sink.faults c.end_by_report.new.sink;
     } in
-    cut_ok commands before (g.W.Wire.faults c.host_ends.new.wire) sink (text_of c.args.form (host_views ends.items)) (ended.Ok ends) c.end_by_report.result
+    cut_ok commands before (g.W.Wire.counted c.host_ends.new.wire).faults sink (text_of c.args.form (host_views ends.items)) (ended.Ok ends) c.end_by_report.result
     (c.in_ok-ends-in-Done.ensures.cut limit hosts commands done did (used (quiet_done c.args.end c.in-Done.is))) c.end_by_report.ensures.end
 
 -- refused where a line's cuts are lost
@@ -344,13 +345,13 @@ pub returns-else-not-has_waited-clause-cut : goal.returns-else-not-has_waited-cl
 returns-else-not-has_waited-clause-cut g c = λ limit hosts commands before done did counted missed used fits.
     let ends = c.in_ok-ends-in-Unfinished.ends in
     let count = c.in-Unfinished.count in
-    let sink : Written = record {
+    let sink : SinkSeen = record {
       held_before = g.K.Sink.held c.args.sink.now;
       held_after = g.K.Sink.held c.end_unfinished.new.sink;
       faults_before = g.K.Sink.faults c.args.sink.now;
       faults_after = g.K.Sink.faults c.end_unfinished.new.sink;
     } in
-    cut_ok commands before (g.W.Wire.faults c.host_ends-in-Unfinished.new.wire) sink (unfinished_line count) (ended.Unfinished count ends) c.end_unfinished.result
+    cut_ok commands before (g.W.Wire.counted c.host_ends-in-Unfinished.new.wire).faults sink (unfinished_line count) (ended.Unfinished count ends) c.end_unfinished.result
     (c.in_ok-ends-in-Unfinished.ensures.cut limit hosts commands done did (used (quiet_of c.args.end count c.in-Unfinished.unwritten c.in-Unfinished.connected c.in-Unfinished.is))) c.end_unfinished.ensures.end
 
 pub returns-else-not-has_faulted-clause-cut : goal.returns-else-not-has_faulted-clause-cut
@@ -360,7 +361,7 @@ returns-else-not-has_faulted-clause-cut g c = λ limit hosts commands before don
     let own = c.in_ok-one-in-Fault.one in
     let other = c.in_ok-one-in-Fault.other in
     let stream = newest_stream own.past in
-    let sink : Written = record {
+    let sink : SinkSeen = record {
       held_before = g.K.Sink.held c.args.sink.now;
       held_after = g.K.Sink.held c.end_by_fault.new.sink;
       faults_before = g.K.Sink.faults c.args.sink.now;
@@ -370,7 +371,7 @@ returns-else-not-has_faulted-clause-cut g c = λ limit hosts commands before don
     let fits_now : c.counts-in-Fault.result.faults < 2 ^ 64 = search rules in
     let short =
     short_of (rows_of c.args.lines.items) c.requires.streams g.W.End.End.means.tells misses.wanted low high misses.misses commands before
-    (g.W.Wire.faults c.args.wire.now) (g.W.Wire.faults c.journals.new.wire) counted
+    (g.W.Wire.counted c.args.wire.now).faults (g.W.Wire.counted c.journals.new.wire).faults counted
     (subst (λ (w : WireCounts). w.faults < 2 ^ 64) c.counts-in-Fault.ensures fits_now) c.journals.ensures.risen own.past other.past
     c.in_ok-one-in-Fault.ensures.own c.in_ok-one-in-Fault.ensures.other in
     cut_ok commands before _ sink (fault_line low high stream) (ended.WireFault low high stream own other) c.end_by_fault.result short c.end_by_fault.ensures.end
@@ -379,7 +380,7 @@ pub returns-in_ok-own-in-Spent-clause-cut : goal.returns-in_ok-own-in-Spent-clau
 returns-in_ok-own-in-Spent-clause-cut g c = λ limit hosts commands before done did counted missed used fits.
     let own = c.in_ok-own-in-Spent.own in
     let other = c.in_ok-own-in-Spent.other in
-    let sink : Written = record {
+    let sink : SinkSeen = record {
       held_before = g.K.Sink.held c.args.sink.now;
       held_after = g.K.Sink.held c.end_by_spent.new.sink;
       faults_before = g.K.Sink.faults c.args.sink.now;

@@ -7,4 +7,4 @@ use Rattle.rds_run_threads.proofs.giving.end_lines.Given as goal
 abbrev pub invariant-loop-row : goal.invariant-loop-row
 invariant-loop-row g l =
     (g.W.Wire.out l.wire ≡ g.W.Wire.out l.fn.wire - ends_of_all (rows_of l.yielded))
-    × StaysRisen (g.W.Wire.faults l.fn.wire) (g.W.Wire.faults l.wire)
+    × StaysRisen (g.W.Wire.counted l.fn.wire).faults (g.W.Wire.counted l.wire).faults

@@ -6,4 +6,4 @@ use Rattle.rds_run_threads.proofs.giving.end_row.Given as goal
 abbrev pub invariant-loop-line : goal.invariant-loop-line
 invariant-loop-line g l =
     (g.W.Wire.out l.wire ≡ g.W.Wire.out l.fn.wire - ends_in l.yielded)
-    × StaysRisen (g.W.Wire.faults l.fn.wire) (g.W.Wire.faults l.wire)
+    × StaysRisen (g.W.Wire.counted l.fn.wire).faults (g.W.Wire.counted l.wire).faults

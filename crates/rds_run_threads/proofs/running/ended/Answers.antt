@@ -41,8 +41,8 @@ returns-clause-end g c =
     let obeyed = rw c.in-Ok.is at c.play-callers.ensures.obeyed in
     let led = rw c.in-Ok.is at c.play-callers.ensures.led in
     let commands = c.args.script.now.commands.items in
-    let before = g.W.Wire.faults c.args.wire.now in
-    let after = g.W.Wire.faults c.prepare.new.wire in
+    let before = (g.W.Wire.counted c.args.wire.now).faults in
+    let after = (g.W.Wire.counted c.prepare.new.wire).faults in
     c.finish.ensures.end c.args.limit hosts commands before after
     (c.play-callers.ensures.hosts c.args.limit hosts (c.give_streams.ensures.hosts c.args.limit c.args.script.now.hosts c.requires.script.hosts_high c.in_ok-callers.ensures.lines))
     (all_done hosts commands _ _ _ c.in_ok-callers.ensures.new obeyed led)
@@ -57,7 +57,7 @@ returns-clause-counted g c =
     let wire = c.args.wire.now in
     let start = c.of-start.result in
     counted_of g.W.End.End.means.tells (start.can_fail ≡ true) (g.W.Wire.may_fail wire) c.of-start.ensures.can_fail.0 start.budget c.args.budget commands start.counts
-    (record { faults = g.W.Wire.faults wire; nothings = g.W.Wire.nothings wire; fulls = g.W.Wire.fulls wire }) _ c.of-start.ensures.budget
+    (g.W.Wire.counted wire) _ c.of-start.ensures.budget
     c.of-start.ensures.counts c.finish.result
     (c.finish.ensures.counted commands
     (subst (λ (l : List (Vec Wanted Global)). AreKnownOf (rows_of l) commands (rows_of c.play-callers.result.1.items)) (sym c.as_slice-wanted.ensures.value)
@@ -70,17 +70,17 @@ returns-clause-begun g c =
     let obeyed = rw c.in-Ok.is at c.play-callers.ensures.obeyed in
     let led = rw c.in-Ok.is at c.play-callers.ensures.led in
     let commands = c.args.script.now.commands.items in
-    let before = g.W.Wire.faults c.args.wire.now in
-    let middle = g.W.Wire.faults c.prepare.new.wire in
+    let before = (g.W.Wire.counted c.args.wire.now).faults in
+    let middle = (g.W.Wire.counted c.prepare.new.wire).faults in
     let wire = c.args.wire.now in
     let now = c.finish.new.wire in
     let start = c.of-start.result in
     let same : start.counts.faults ≡ before = ap (λ (w : WireCounts). w.faults) c.of-start.ensures.counts in
     begun_of c.args.form g.W.End.End.means.tells c.args.limit hosts commands (g.W.Wire.may_fail wire) c.args.budget
-    (record { faults = g.W.Wire.faults wire; nothings = g.W.Wire.nothings wire; fulls = g.W.Wire.fulls wire })
-    (record { faults = g.W.Wire.faults now; nothings = g.W.Wire.nothings now; fulls = g.W.Wire.fulls now })
+    (g.W.Wire.counted wire)
+    (g.W.Wire.counted now)
     (start.can_fail ≡ true) c.of-start.ensures.can_fail.0 start.budget start.counts c.of-start.ensures.budget c.of-start.ensures.counts
-    (g.W.Wire.faults now) (g.K.Sink.held c.args.sink.now) (g.K.Sink.held c.finish.new.sink) c.finish.result
+    (g.W.Wire.counted now).faults (g.K.Sink.held c.args.sink.now) (g.K.Sink.held c.finish.new.sink) c.finish.result
     (c.finish.ensures.begun c.args.limit hosts commands
     (c.play-callers.ensures.hosts c.args.limit hosts (c.give_streams.ensures.hosts c.args.limit c.args.script.now.hosts c.requires.script.hosts_high c.in_ok-callers.ensures.lines))
     (all_done hosts commands _ _ _ c.in_ok-callers.ensures.new obeyed led)
@@ -103,10 +103,10 @@ returns-clause-cut g c =
     let obeyed = rw c.in-Ok.is at c.play-callers.ensures.obeyed in
     let led = rw c.in-Ok.is at c.play-callers.ensures.led in
     let commands = c.args.script.now.commands.items in
-    let before = g.W.Wire.faults c.args.wire.now in
-    let middle = g.W.Wire.faults c.prepare.new.wire in
+    let before = (g.W.Wire.counted c.args.wire.now).faults in
+    let middle = (g.W.Wire.counted c.prepare.new.wire).faults in
     let same : c.of-start.result.counts.faults ≡ before = ap (λ (w : WireCounts). w.faults) c.of-start.ensures.counts in
-    subst (λ (n : ℕ). IfOk c.finish.result (IsCutEnd commands n (g.W.Wire.faults c.finish.new.wire))) same
+    subst (λ (n : ℕ). IfOk c.finish.result (IsCutEnd commands n (g.W.Wire.counted c.finish.new.wire).faults)) same
     (c.finish.ensures.cut c.args.limit hosts commands
     (c.play-callers.ensures.hosts c.args.limit hosts (c.give_streams.ensures.hosts c.args.limit c.args.script.now.hosts c.requires.script.hosts_high c.in_ok-callers.ensures.lines))
     (all_done hosts commands _ _ _ c.in_ok-callers.ensures.new obeyed led)

@@ -110,7 +110,7 @@ returns-clause-begun g c = λ limit hosts commands are did counted known.
     let same : length c.args.callers.items ≡ length old = omega (arith, callers, rows) in
     let kept = rows_same c.args.callers.items c.tell_all.new.callers.items old told same c.tell_all.ensures in
     let before = c.args.start.counts.faults in
-    let middle = g.W.Wire.faults c.args.wire.now in
+    let middle = (g.W.Wire.counted c.args.wire.now).faults in
     c.end_run.ensures.begun limit hosts commands before
     (c.last_rounds-end.ensures.done limit hosts (c.connected_keeps.ensures.same limit hosts old told are kept))
     (done_spared hosts commands c.args.callers.items c.tell_all.new.callers.items old told (rows_of c.last_rounds-end.new.lines.items) same c.tell_all.ensures
@@ -165,7 +165,7 @@ returns-clause-cut g c = λ limit hosts commands are did counted known.
     let same : length c.args.callers.items ≡ length old = omega (arith, callers, rows) in
     let kept = rows_same c.args.callers.items c.tell_all.new.callers.items old told same c.tell_all.ensures in
     let before = c.args.start.counts.faults in
-    let middle = g.W.Wire.faults c.args.wire.now in
+    let middle = (g.W.Wire.counted c.args.wire.now).faults in
     c.end_run.ensures.cut limit hosts commands before
     (c.last_rounds-end.ensures.done limit hosts (c.connected_keeps.ensures.same limit hosts old told are kept))
     (done_spared hosts commands c.args.callers.items c.tell_all.new.callers.items old told (rows_of c.last_rounds-end.new.lines.items) same c.tell_all.ensures

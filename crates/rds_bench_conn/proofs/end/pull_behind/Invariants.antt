@@ -1,6 +1,0 @@
-use Rattle.std.proofs.Common.{◌≡◌}
-use Rattle.rds_bench_conn.specs.Behind.{IsBehind}
-use Rattle.rds_bench_conn.proofs.end.pull_behind.Given as goal
-
-abbrev pub invariant-loop : goal.invariant-loop
-invariant-loop l = IsBehind l.conn × (l.conn.slots ≡ l.initial.conn.slots)

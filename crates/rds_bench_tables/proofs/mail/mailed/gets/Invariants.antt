@@ -1,0 +1,5 @@
+use Rattle.std.proofs.Common.{◌≡◌, ◌≤◌}
+use Rattle.rds_bench_tables.proofs.mail.mailed.gets.Given as goal
+
+abbrev pub invariant-loop : goal.invariant-loop
+invariant-loop g l = (l.get.mail ≡ l.mail.line) × (l.got ≤ l.counter)
