@@ -6,6 +6,7 @@ ghost use Rattle.rds_line_channel.specs.Streams.{AreNumbered, IsUnused};
 ghost use Rattle.rds_model.specs.declared.entry.TheConstants.{MAX_SLOTS};
 ghost use Rattle.rds_model.specs.declared.journal.TheConstants.{MIN_ENTRIES, MAX_ENTRIES};
 
+mod making;
 mod opening;
 mod receiving;
 mod sending;
@@ -13,6 +14,7 @@ mod taking;
 mod turn;
 
 use crate::parts::LineParts;
+use making::tables;
 use rds_bindtab::BindNote;
 use rds_cong::PortMap;
 use rds_fmap::MapWriter;
@@ -20,7 +22,7 @@ use rds_line_channel::Channel;
 use rds_line_parts::{Boxes, LineOrders, LinePorts, LineWords, OwnMap};
 use rds_link::End;
 use rds_mail::{Asked, Note};
-use rds_model::{Datagram, Journal, MAX_SLOTS};
+use rds_model::{Datagram, Journal};
 use rds_wire::Memory;
 use std::alloc::Global;
 use std::marker::Model;
@@ -283,25 +285,4 @@ impl<E: End, M: MapWriter> Line<E, M> {
     {
         self.ports.hear(note);
     }
-}
-
-// A connection without a past over these streams, and the maps of both hosts, not read yet.
-fn tables<E: End>(
-    alloc: Global,
-    me: u32,
-    peer: u32,
-    streams: Vec<(u32, E)>,
-    limit: u32,
-) -> Result<(Channel<E>, OwnMap, PortMap), Memory>
-    requires least { MIN_ENTRIES ≤ limit }
-    requires most { limit ≤ MAX_ENTRIES }
-    requires numbered { AreNumbered streams.items }
-    requires unused { All (λ stream. IsUnused E.means stream.1) streams.items }
-    ensures channel { IfOk result (λ made. made.0 ≡ new_channel me peer MAX_SLOTS limit streams.items) }
-    ensures own { IfOk result (λ made. made.1 ≡ record { map = no_ports; change = None }) }
-{
-    let own = OwnMap::new(alloc)?;
-    let peer_map = PortMap::new(alloc)?;
-    let channel = Channel::new(alloc, me, peer, MAX_SLOTS, limit, streams)?;
-    Ok((channel, own, peer_map))
 }
