@@ -29,7 +29,7 @@ edits:
 # Puts the program that make built, and the manual pages, below PREFIX.
 install:
 	@test -x $(PROGRAM) || { echo "there is no $(PROGRAM): make builds it" >&2; exit 1; }
-	install -d $(DESTDIR)$(PREFIX)/bin
-	install -m 755 $(PROGRAM) $(DESTDIR)$(PREFIX)/bin/rds
-	$(foreach page,$(wildcard man/*.1),install -D -m 644 $(page) $(MANUAL)/man1/$(notdir $(page)) &&) true
-	$(foreach page,$(wildcard man/*.7),install -D -m 644 $(page) $(MANUAL)/man7/$(notdir $(page)) &&) true
+	@install -v -D -m 755 $(PROGRAM) $(DESTDIR)$(PREFIX)/bin/rds
+	@for page in $(wildcard man/*.1 man/*.7); do \
+		install -v -D -m 644 $$page $(MANUAL)/man$${page##*.}/$${page##*/} || exit 1; \
+	done

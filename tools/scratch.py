@@ -79,7 +79,11 @@ def removed(room):
 @contextlib.contextmanager
 def started(words, room):
     """Starts the command in the scratch folder, and ends it where this is interrupted."""
-    child = subprocess.Popen(words, cwd=room, stdin=subprocess.DEVNULL, stdout=subprocess.PIPE, stderr=subprocess.STDOUT, text=True, errors="replace")
+    how = {"stdin": subprocess.DEVNULL, "stdout": subprocess.PIPE, "stderr": subprocess.STDOUT}
+    try:
+        child = subprocess.Popen(words, cwd=room, text=True, errors="replace", **how)
+    except FileNotFoundError:
+        stop(f"{words[0]}, the command of the kit of Rattle, isn't on this machine's PATH")
     try:
         yield child
     finally:
