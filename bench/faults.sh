@@ -2,8 +2,7 @@
 # Runs `rds run --wire tcp` over a loopback of its own that loses packets, while sockets are closed from outside, and says whether each
 # run ended with a status and received nothing twice or out of order: sh bench/faults.sh [RUNS]. It needs nft, ss and unshare.
 cd "$(dirname "$0")/.." || exit 2
-PROGRAM=${RDS:-crates/rds/out/rds}
-[ -x "$PROGRAM" ] || (cd crates/rds && rt run -- play < ../../examples/hello.rds > /dev/null) || exit 1
+. bench/program.sh
 if [ -z "$INSIDE" ]; then
     exec env INSIDE=1 RDS="$PROGRAM" unshare -rn sh bench/faults.sh "$@"
 fi

@@ -1,9 +1,8 @@
 #!/bin/sh
 # Times `rds gen N SEED` as a whole process, beside the same sends over libzmq and ENet where those are installed: sh bench/gen.sh [N ..]
 cd "$(dirname "$0")/.." || exit 2
-PROGRAM=${RDS:-crates/rds/out/rds}
+. bench/program.sh
 SEED=${SEED:-7}
-[ -x "$PROGRAM" ] || (cd crates/rds && rt run -- play < ../../examples/hello.rds > /dev/null) || exit 1
 [ $# -gt 0 ] || set -- 1000 10000 100000
 PEERS=$(mktemp -d)
 trap 'rm -rf "$PEERS"' EXIT

@@ -1,8 +1,7 @@
 #!/bin/sh
 # Times `rds run` of scripts with two, four and eight hosts, each of which sends to the next one in a circle: sh bench/hosts.sh [COUNT ..]
 cd "$(dirname "$0")/.." || exit 2
-PROGRAM=${RDS:-crates/rds/out/rds}
-[ -x "$PROGRAM" ] || (cd crates/rds && rt run -- play < ../../examples/hello.rds > /dev/null) || exit 1
+. bench/program.sh
 [ $# -gt 0 ] || set -- 1000 10000 100000
 folder=$(mktemp -d)
 trap 'rm -rf "$folder"' EXIT

@@ -1,8 +1,7 @@
 #!/bin/sh
 # Runs `rds gen` with so many random numbers of sends and seeds, and says whether each ended well within a minute: sh bench/many.sh [RUNS]
 cd "$(dirname "$0")/.." || exit 2
-PROGRAM=${RDS:-crates/rds/out/rds}
-[ -x "$PROGRAM" ] || (cd crates/rds && rt run -- play < ../../examples/hello.rds > /dev/null) || exit 1
+. bench/program.sh
 exec python3 - "$PROGRAM" "${1:-500}" <<'PY'
 import random, subprocess, sys, time
 program, runs = sys.argv[1], int(sys.argv[2])

@@ -4,10 +4,9 @@
 # may also end with status 5, where a thread is refused, which doesn't tell why.
 set -eu
 cd "$(dirname "$0")/.."
+. bench/program.sh
 EXCHANGE=crates/rds_test_exchange/out/rds_test_exchange
-PROGRAM=${RDS:-crates/rds/out/rds}
 [ -x "$EXCHANGE" ] || (cd crates/rds_test_exchange && rt run >/dev/null)
-[ -x "$PROGRAM" ] || (cd crates/rds && rt run -- play < ../../examples/hello.rds > /dev/null)
 room=$(mktemp -d)
 trap 'rm -rf "$room"' EXIT
 cc -O2 -shared -fPIC -o "$room/refuse.so" bench/peers/refuse.c -ldl
