@@ -10,11 +10,11 @@ use crate::grouping::sort;
 use crate::lists::{all_of, joined};
 use crate::texts::Texts;
 use crate::{collect, print};
+use rds_beside::map_indices;
 use rds_model::Journal;
 use rds_text::{HostEnd, MAX_HOSTS, address};
 use rds_wire::Memory;
 use std::alloc::Global;
-use std::thread;
 use std::thread::Threads;
 
 /// The report over what the hosts have in the end: a group for each port pair with an accepted datagram, in ascending
@@ -88,8 +88,7 @@ fn one_text(alloc: Global, hosts: &[HostEnd]) -> Result<Vec<String>, Memory>
 }
 
 // The report in texts one behind another: the parts on the first hosts, as many as these, each by a thread of its own, and the parts on all
-// others, which as a rule have nothing, by the calling thread. The calling thread has hardly anything to do, and sleeps: where the maker of a
-// thread runs on, a kernel can leave the new thread on the maker's processor, and it waits there for some milliseconds.
+// others, which as a rule have nothing, by one thread more.
 fn parts_beside<R: Threads + Sync>(
     rt: &R,
     alloc: Global,
@@ -105,7 +104,7 @@ fn parts_beside<R: Threads + Sync>(
             IfOk result (λ texts. parts (host_views hosts.entry.now) (job_end count job) ≡
             parts (host_views hosts.entry.now) job ++ flat_map string_bytes texts.items) }
     { job_texts(rt, alloc, hosts, job as u8, count) };
-    let made = thread::map_indices(rt, alloc, usize::from(count) + 1, &do_job)?;
+    let made = map_indices(rt, alloc, usize::from(count) + 1, &do_job)?;
     let mut texts = joined(alloc, all_of(alloc, made)?)?;
     texts.push(format!(in alloc; "end ok\n")?)?;
     Ok(texts)

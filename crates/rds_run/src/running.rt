@@ -9,12 +9,13 @@ ghost use Rattle.rds_run.specs.RunStatus.{IsEndOfScript, memory_seen, wire_seen}
 ghost use Rattle.rds_run.specs.declared.status.Status.TheVariants as status;
 
 use crate::status::Status;
+use rds_beside::map_vec;
 use rds_link::{Gate, MemWire, Sink, Wire};
 use rds_model::MAX_ENTRIES;
 use rds_run_threads::{Form, RunEnd, run};
 use rds_script::Script;
+use rds_text::HostEnd;
 use std::alloc::Global;
-use std::mem::forget;
 use std::net::Net;
 use std::sync::Wait;
 use std::thread::Threads;
@@ -78,9 +79,7 @@ where
         sink,
     ) {
         RunEnd::Ok { ends } => {
-            // The program ends soon after this, and its memory goes back at once: these two are not let go of piece by piece.
-            forget(ends);
-            forget(script);
+            let_go(rt, ends, script);
             Status::Written
         }
         RunEnd::WireFault { .. } => Status::WireFault,
@@ -89,4 +88,13 @@ where
         RunEnd::WriteFault => Status::WriteFault,
         RunEnd::Memory => Status::Memory,
     }
+}
+
+// Lets go of what the hosts of a run have, that of each host in a thread of its own, and then of the script. Both have shares of the same
+// blocks of memory, and threads that count the owners of one block beside one another wait for each other: so the script goes last.
+fn let_go<R: Threads + Sync>(rt: &R, ends: Vec<HostEnd>, script: Script) {
+    let end = |host: HostEnd| drop(host);
+    // Where memory runs out, the hosts whose turn it wasn't are let go of by this thread.
+    let _ = map_vec(rt, ends, &end);
+    drop(script);
 }

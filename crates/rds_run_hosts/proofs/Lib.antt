@@ -15,4 +15,3 @@ pub mod Missing
 pub mod Summing
 pub mod Held
 pub mod Known
-pub mod Resting

@@ -1,5 +1,6 @@
 //! How the hosts of a run are made.
 ghost use Rattle.std.specs.Prelude.{◌≡◌, ◌≤◌, ◌<◌, ℕ, All, IfOk, [], filter, length, map};
+ghost use Rattle.rds_text.specs.declared.host.TheConstants.{MAX_HOSTS};
 ghost use Rattle.rds_model.specs.declared.entry.TheConstants.{MAX_SLOTS};
 ghost use Rattle.rds_model.specs.declared.journal.TheConstants.{MAX_ENTRIES, MIN_ENTRIES};
 ghost use Rattle.rds_text.specs.Hosts.{address_of};
@@ -12,6 +13,7 @@ ghost use Rattle.rds_run_hosts.specs.Parties.{AreNewCallers, AreParties};
 ghost use Rattle.rds_run_settling.specs.Tied.{AreTied};
 
 use crate::streams::Ends;
+use rds_beside::map_indices;
 use rds_fmap::Writer;
 use rds_host::make;
 use rds_line::Line;
@@ -24,7 +26,6 @@ use rds_script::{Placed, Script};
 use rds_text::address;
 use rds_wire::Memory;
 use std::alloc::Global;
-use std::thread;
 use std::thread::Threads;
 
 // Whether the command binds a socket of the host.
@@ -90,8 +91,7 @@ pub fn parties<E: End + Send, R: Threads + Sync>(
 // The caller of a host, and its lines.
 type Party<E> = (Caller, Vec<Line<E, Writer>>);
 
-// The party of each host, made beside those of the others. The calling thread has the number behind the last one, for which nothing is made:
-// it makes threads and then sleeps. With two hosts each thread has a processor at once, as a rule; with more, some of them make others.
+// The party of each host, made by a thread of its own.
 fn made_beside<E: End + Send, R: Threads + Sync>(
     rt: &R,
     alloc: Global,
@@ -104,35 +104,33 @@ fn made_beside<E: End + Send, R: Threads + Sync>(
     ensures { IfOk result (λ made. AreMadeBeside limit script.now.hosts script.now.commands.items made.items) }
 {
     let make = |host: usize| -> Result<Party<E>, Memory>
-        requires { (2 ≤ script.now.hosts) × (script.now.hosts ≤ 8) × (MIN_ENTRIES ≤ limit) × (limit ≤ MAX_ENTRIES) }
+        requires { (host < script.now.hosts) × (2 ≤ script.now.hosts) × (script.now.hosts ≤ MAX_HOSTS) × (MIN_ENTRIES ≤ limit) ×
+            (limit ≤ MAX_ENTRIES) }
         ensures { IfOk result (IsParty limit script.entry.now.hosts host script.entry.now.commands.items) }
-    { party_or_none(alloc, script, host, limit) };
-    let mut made = thread::map_indices(rt, alloc, usize::from(script.hosts) + 1, &make)?;
-    made.pop();
+    { party_of(alloc, script, host, limit) };
+    let made = map_indices(rt, alloc, usize::from(script.hosts), &make)?;
     Ok(made)
 }
 
-// The party of the host with this number, if there is one.
-fn party_or_none<E: End>(
+// The party of the host with this number.
+fn party_of<E: End>(
     alloc: Global,
     script: &Script,
     host: usize,
     limit: u32,
 ) -> Result<Party<E>, Memory>
-    requires hosts { (2 ≤ script.now.hosts) × (script.now.hosts ≤ 8) }
+    requires host { host < script.now.hosts }
+    requires hosts { (2 ≤ script.now.hosts) × (script.now.hosts ≤ MAX_HOSTS) }
     requires least { MIN_ENTRIES ≤ limit }
     requires most { limit ≤ MAX_ENTRIES }
     ensures { IfOk result (IsParty limit script.now.hosts host script.now.commands.items) }
 {
-    if host >= usize::from(script.hosts) {
-        return Err(Memory);
-    }
     party(alloc, script, host as u8, limit)
 }
 
 // The caller of a host, and its lines, a line to each other host.
 fn party<E: End>(alloc: Global, script: &Script, host: u8, limit: u32) -> Result<Party<E>, Memory>
-    requires hosts { (2 ≤ script.now.hosts) × (script.now.hosts ≤ 8) }
+    requires hosts { (2 ≤ script.now.hosts) × (script.now.hosts ≤ MAX_HOSTS) }
     requires host { host < script.now.hosts }
     requires least { MIN_ENTRIES ≤ limit }
     requires most { limit ≤ MAX_ENTRIES }
@@ -163,7 +161,7 @@ fn no_streams<E: End>(alloc: Global, peers: usize) -> Result<Vec<Ends<E>>, Memor
 
 // The addresses of the other hosts, ascending.
 fn peers(alloc: Global, hosts: u8, host: u8) -> Result<Vec<u32>, Memory>
-    requires { (1 ≤ hosts) × (hosts ≤ 8) }
+    requires { (1 ≤ hosts) × (hosts ≤ MAX_HOSTS) }
     ensures { IfOk result (λ peers. peers.items ≡ map address_of (others hosts host)) }
 {
     let mut peers = Vec::new(alloc);

@@ -1,5 +1,6 @@
 //! The callers of a run, beside its workers.
 ghost use Rattle.std.specs.Prelude.{◌≡◌, ◌≤◌, ℕ, All, IfOk, List, OnOk, Ok, Vec, length, map};
+ghost use Rattle.rds_text.specs.declared.host.TheConstants.{MAX_HOSTS};
 ghost use Rattle.std.specs.Global.{Global};
 ghost use Rattle.rds_run_callers.specs.Places.{PlacesKeep};
 ghost use Rattle.rds_run_hosts.specs.Leading.{AreJobs, CallersKeep, HasCalled};
@@ -15,6 +16,7 @@ ghost use Rattle.rds_run_rounds.specs.Grid.{EachRow, rows_of};
 
 use crate::leading::{commands_from, lead};
 use crate::working::work_all;
+use rds_beside::map_vec;
 use rds_host::Stop;
 use rds_host::laws::turned_keeps;
 use rds_link::{End, Gate};
@@ -85,35 +87,7 @@ fn call_all<R: Wait, G: Gate>(
     Ok(caller)
 }
 
-// The callers of all hosts and then the word to stop, by threads of their own. The calling thread only sleeps, so that the thread that it
-// made for the workers has its processor at once.
-fn call_apart<R: Threads + Wait + Sync, G: Gate + Sync>(
-    rt: &R,
-    alloc: Global,
-    commands: &[Placed],
-    gate: &G,
-    callers: Vec<Caller>,
-    stop: &Stop,
-) -> Result<Vec<Caller>, Memory>
-    requires few { length callers.items ≤ 8 }
-    requires commands { (hosts : ℕ) × All (λ p. IsCommand hosts p.command) commands.now }
-    ensures obeyed { IfOk result (λ after. HaveObeyed commands.now callers.items after.items) }
-    ensures keeps { IfOk result (λ after. CallersKeep callers.items after.items) }
-{
-    let (after, ()) = thread::join(
-        rt,
-        move || -> Result<Vec<Caller>, Memory>
-            requires few { length callers.items ≤ 8 }
-            requires commands { (hosts : ℕ) × All (λ p. IsCommand hosts p.command) commands.now }
-            ensures obeyed { IfOk result (λ after. HaveObeyed commands.entry.now callers.items after.items) }
-            ensures keeps { IfOk result (λ after. CallersKeep callers.items after.items) }
-        { call_then_stop(rt, alloc, commands, gate, callers, stop) },
-        || (),
-    );
-    after
-}
-
-// The callers of all hosts, beside each other. When they have ended, the workers are told to stop.
+// The callers of all hosts, each by a thread of its own. When they have ended, the workers are told to stop.
 fn call_then_stop<R: Threads + Wait + Sync, G: Gate + Sync>(
     rt: &R,
     alloc: Global,
@@ -122,7 +96,7 @@ fn call_then_stop<R: Threads + Wait + Sync, G: Gate + Sync>(
     callers: Vec<Caller>,
     stop: &Stop,
 ) -> Result<Vec<Caller>, Memory>
-    requires few { length callers.items ≤ 8 }
+    requires few { length callers.items ≤ MAX_HOSTS }
     requires commands { (hosts : ℕ) × All (λ p. IsCommand hosts p.command) commands.now }
     ensures obeyed { IfOk result (λ after. HaveObeyed commands.now callers.items after.items) }
     ensures keeps { IfOk result (λ after. CallersKeep callers.items after.items) }
@@ -132,7 +106,8 @@ fn call_then_stop<R: Threads + Wait + Sync, G: Gate + Sync>(
     after
 }
 
-// The callers of all hosts, beside each other.
+// The callers of all hosts, each by a thread of its own. The calling thread only waits for them, so that the thread that it made for the
+// workers has its processor at once.
 fn call_beside<R: Threads + Wait + Sync, G: Gate + Sync>(
     rt: &R,
     alloc: Global,
@@ -140,7 +115,7 @@ fn call_beside<R: Threads + Wait + Sync, G: Gate + Sync>(
     gate: &G,
     callers: Vec<Caller>,
 ) -> Result<Vec<Caller>, Memory>
-    requires few { length callers.items ≤ 8 }
+    requires few { length callers.items ≤ MAX_HOSTS }
     requires commands { (hosts : ℕ) × All (λ p. IsCommand hosts p.command) commands.now }
     ensures obeyed { IfOk result (λ after. HaveObeyed commands.now callers.items after.items) }
     ensures keeps { IfOk result (λ after. CallersKeep callers.items after.items) }
@@ -150,13 +125,13 @@ fn call_beside<R: Threads + Wait + Sync, G: Gate + Sync>(
         requires { (hosts : ℕ) × All (λ p. IsCommand hosts p.command) commands.now }
         ensures { IfOk result (HasCalled job.0 commands.entry.now job.1) }
     { call_all(rt, alloc, commands, job.0, gate, job.1) };
-    let done = thread::map_vec(rt, jobs, &call)?;
+    let done = map_vec(rt, jobs, &call)?;
     all_of(alloc, done)
 }
 
 // Each caller with the number of its host.
 fn numbered(alloc: Global, callers: Vec<Caller>) -> Result<Vec<(u8, Caller)>, Memory>
-    requires { length callers.items ≤ 8 }
+    requires { length callers.items ≤ MAX_HOSTS }
     ensures { IfOk result (λ jobs. AreJobs callers.items jobs.items) }
 {
     let mut jobs = Vec::new(alloc);
@@ -230,7 +205,7 @@ fn play_beside<E: End + Send, R: Threads + Wait + Sync, G: Gate + Sync>(
     callers: Vec<Caller>,
     lines: Lines<E>,
 ) -> (Result<Vec<Caller>, Memory>, Lines<E>)
-    requires few { length callers.items ≤ 8 }
+    requires few { length callers.items ≤ MAX_HOSTS }
     requires commands { (hosts : ℕ) × All (λ p. IsCommand hosts p.command) commands.now }
     ensures turned { EachRow (AreTurned E.means pair_of) (rows_of lines.items) (rows_of result.1.items) }
     ensures obeyed { IfOk result.0 (λ after. HaveObeyed commands.now callers.items after.items) }
@@ -244,11 +219,11 @@ fn play_beside<E: End + Send, R: Threads + Wait + Sync, G: Gate + Sync>(
             ensures { EachRow (AreTurned E.means pair_of) (rows_of lines.items) (rows_of result.items) }
         { work_all(rt, alloc, lines, stop) },
         move || -> Result<Vec<Caller>, Memory>
-            requires few { length callers.items ≤ 8 }
+            requires few { length callers.items ≤ MAX_HOSTS }
             requires commands { (hosts : ℕ) × All (λ p. IsCommand hosts p.command) commands.now }
             ensures obeyed { IfOk result (λ after. HaveObeyed commands.entry.now callers.items after.items) }
             ensures keeps { IfOk result (λ after. CallersKeep callers.items after.items) }
-        { call_apart(rt, alloc, commands, gate, callers, stop) },
+        { call_then_stop(rt, alloc, commands, gate, callers, stop) },
     );
     (callers, lines)
 }

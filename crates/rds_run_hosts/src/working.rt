@@ -5,6 +5,7 @@ ghost use Rattle.rds_line.specs.Stays.{LineStays};
 ghost use Rattle.rds_run_rounds.specs.Grid.{EachRow, rows_of};
 
 use core::mem::replace_with;
+use rds_beside::for_each_mut;
 use rds_fmap::Writer;
 use rds_host::{Stop, work};
 use rds_line::Line;
@@ -15,9 +16,7 @@ use std::sync::Wait;
 use std::thread;
 use std::thread::Threads;
 
-/// The workers of all lines, beside each other. They end some time after the flag is set. Behind the rows stands one without lines, which
-/// is the calling thread's: that thread makes others and then sleeps. With two hosts each of them has a processor at once, as a rule; with more,
-/// some of them make others. Where there is no memory for that row, the calling thread has the last row.
+/// The workers of all lines. Those of a host are made by a thread of its own. They end some time after the flag is set.
 pub(crate) fn work_all<E: End + Send, R: Threads + Wait + Sync>(
     rt: &R,
     alloc: Global,
@@ -26,44 +25,14 @@ pub(crate) fn work_all<E: End + Send, R: Threads + Wait + Sync>(
 ) -> Lines<E>
     ensures { EachRow (AreTurned E.means pair_of) (rows_of lines.items) (rows_of result.items) }
 {
-    if lines.push(Vec::new(alloc)).is_err() {
-        return work_on_rows(rt, alloc, lines, stop);
-    }
-    let mut lines = work_on_rows(rt, alloc, lines, stop);
-    lines.pop();
-    lines
-}
-
-// The workers of all lines of these rows, the last row's on the calling thread.
-fn work_on_rows<E: End + Send, R: Threads + Wait + Sync>(
-    rt: &R,
-    alloc: Global,
-    mut lines: Lines<E>,
-    stop: &Stop,
-) -> Lines<E>
-    ensures { EachRow (AreTurned E.means pair_of) (rows_of lines.items) (rows_of result.items) }
-{
-    work_rows(rt, alloc, &mut lines, stop);
-    lines
-}
-
-// Those of each host, beside those of the others.
-fn work_rows<E: End + Send, R: Threads + Wait + Sync>(
-    rt: &R,
-    alloc: Global,
-    rows: &mut [Vec<Line<E, Writer>>],
-    stop: &Stop,
-)
-    ensures { EachRow (AreTurned E.means pair_of) (rows_of rows.old) (rows_of rows.new) }
-{
-    let threads = rows.len().max(1);
     let turn = |_host: usize, row: &mut Vec<Line<E, Writer>>|
         ensures { AreTurned E.means pair_of row.entry.now.items row.exit.now.items }
     { work_row(rt, alloc, row, stop) };
-    thread::for_each_mut(rt, rows, threads, &turn);
+    for_each_mut(rt, &mut lines, &turn);
+    lines
 }
 
-// The workers of the lines of a host.
+// A worker for each line of a host, beside the others: it turns the line until the flag is set and no worker finds anything to do.
 fn work_row<E: End + Send, R: Threads + Wait + Sync>(
     rt: &R,
     alloc: Global,
@@ -72,30 +41,11 @@ fn work_row<E: End + Send, R: Threads + Wait + Sync>(
 )
     ensures { AreTurned E.means pair_of row.old.items row.new.items }
 {
-    work_lines(rt, alloc, row, stop);
-}
-
-// A worker for each of these lines, beside the others.
-fn work_lines<E: End + Send, R: Threads + Wait + Sync>(
-    rt: &R,
-    alloc: Global,
-    lines: &mut [Line<E, Writer>],
-    stop: &Stop,
-)
-    ensures { AreTurned E.means pair_of lines.old lines.new }
-{
-    let threads = lines.len().max(1);
+    let threads = row.len().max(1);
     let turn = |_place: usize, line: &mut Line<E, Writer>|
         ensures { LineStays E.means pair_of line.entry.now line.exit.now }
-    { work_on(rt, alloc, line, stop) };
-    thread::for_each_mut(rt, lines, threads, &turn);
-}
-
-// The worker of a line: turns it until the flag is set and no worker finds anything to do.
-fn work_on<E: End, R: Wait>(rt: &R, alloc: Global, line: &mut Line<E, Writer>, stop: &Stop)
-    ensures { LineStays E.means pair_of line.old line.new }
-{
-    replace_with(line, (rt, alloc, stop), worked);
+    { replace_with(line, (rt, alloc, stop), worked) };
+    thread::for_each_mut(rt, row, threads, &turn);
 }
 
 // The line once its worker has ended. Where there is no memory for its list it has one turn, and the last rounds do the rest.

@@ -21,6 +21,7 @@ ghost use Rattle.rds_run_threads.specs.Taking.{HaveTied};
 ghost use Rattle.rds_run_threads.specs.Settled.{AreLeftOf, HasEnded, HasHeard, HasSettled, HaveDoneSpared, HaveEnded, HaveHeardBelow, HaveSettled, IsLeftOf};
 
 use crate::giving::{end_lines, end_row};
+use rds_beside::map_vec;
 use rds_fmap::{Reader, Writer};
 use rds_host_end::gather;
 use rds_line::Line;
@@ -35,7 +36,6 @@ use rds_text::{HostEnd, Kept, address};
 use rds_wire::Memory;
 use std::alloc::Global;
 use std::sync::Wait;
-use std::thread;
 use std::thread::Threads;
 
 // What the sockets of a host have, and the ends of its slots.
@@ -120,23 +120,8 @@ fn tell_slots<E: End>(caller: &mut Caller, lines: &mut Vec<Line<E, Writer>>)
     settle_slots(caller, lines);
 }
 
-// What is left of the slots of each host, in order, each by a thread of its own. The calling thread has a caller without slots behind the
-// others: it makes threads and then sleeps. With two hosts each thread has a processor at once, as a rule; with more, some of them make others.
+// What is left of the slots of each host, in order, each by a thread of its own.
 fn end_beside<R: Threads + Wait + Sync>(
-    rt: &R,
-    alloc: Global,
-    mut callers: Vec<Caller>,
-) -> Result<Vec<Result<Left, Memory>>, Memory>
-    ensures { IfOk result (λ left. HaveEnded callers.items left.items) }
-{
-    callers.push(Caller::new(alloc, 0, Vec::new(alloc))?)?;
-    let mut left = end_all(rt, alloc, callers)?;
-    left.pop();
-    Ok(left)
-}
-
-// What is left of the slots of these callers, in order, the last one's by the calling thread.
-fn end_all<R: Threads + Wait + Sync>(
     rt: &R,
     alloc: Global,
     callers: Vec<Caller>,
@@ -146,7 +131,7 @@ fn end_all<R: Threads + Wait + Sync>(
     let end = |caller: Caller| -> Result<Left, Memory>
         ensures { IfOk result (HasEnded caller.places) }
     { caller.end(rt, alloc) };
-    let left = thread::map_vec(rt, callers, &end)?;
+    let left = map_vec(rt, callers, &end)?;
     Ok(left)
 }
 

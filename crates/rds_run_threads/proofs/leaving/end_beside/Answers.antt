@@ -7,7 +7,7 @@ use Rattle.rds_fmap.specs.Readers.{ReaderView}
 use Rattle.rds_socket.specs.Holding.{Holding}
 use Rattle.rds_wire.specs.declared.memory.Memory.{Memory}
 use Rattle.rds_run_threads.specs.Settled.{HasEnded}
-use Rattle.rds_run_threads.proofs.leaving.end_all.Goals as goal
+use Rattle.rds_run_threads.proofs.leaving.end_beside.Goals as goal
 
 -- refused where the ends of two hosts' slots are exchanged
 pub returns : goal.returns
