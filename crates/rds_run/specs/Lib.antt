@@ -7,3 +7,4 @@ pub mod PlayWords
 pub mod RunWords
 pub mod GenWords
 pub mod Works
+pub mod Limits

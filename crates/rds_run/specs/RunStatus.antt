@@ -23,6 +23,7 @@ use Rattle.rds_run.specs.declared.wire.RunWire.TheVariants as wire
 use Rattle.rds_run.specs.declared.status.Status.{Status}
 use Rattle.rds_run.specs.declared.status.Status.TheVariants as status
 use Rattle.rds_run.specs.ExitStatus.{HasFailedIn, HasTaken, HasTakenNothing, IsNoScriptAnswer, IsSpelled}
+use Rattle.rds_run.specs.Limits.{most_quiet, most_streams}
 use Rattle.rds_run.specs.Reading.{IsEndOfReading}
 use Rattle.rds_run.specs.Texts.{too_many_line}
 
@@ -106,7 +107,7 @@ pub record IsRunUnfinished (seen : WireSeen) (s : Meaning) (held_before held_aft
   pub unacknowledged : AreUnacknowledged seen.tells count ends
   pub none_full : NoneFull MAX_ENTRIES ends
   pub full : EndsOweNothing ends ⊎ HasRisen seen.before.fulls seen.after.fulls
-  pub waited : HaveAllUsedUp s.commands ends ⊎ HasRisenBy 20000000 seen.before.nothings seen.after.nothings
+  pub waited : HaveAllUsedUp s.commands ends ⊎ HasRisenBy most_quiet seen.before.nothings seen.after.nothings
   pub cut : AreCutsOfEnds s.commands ends
   pub written : SinkGained held_before held_after (unfinished_line count)
 
@@ -114,12 +115,12 @@ pub record IsRunUnfinished (seen : WireSeen) (s : Meaning) (held_before held_aft
 -- wire, and at which at least as many streams ended as the commands cut.
 abbrev pub IsRunText : WireSeen → Form → Meaning → List ℕ → Type 0
 IsRunText seen form s text =
-    (end : RunEnd) × HasToWrite form seen.tells MAX_ENTRIES s.hosts s.commands end text × IsCountedEnd seen.tells (Unit {0}) 20000000 s.commands seen.before seen.after end
+    (end : RunEnd) × HasToWrite form seen.tells MAX_ENTRIES s.hosts s.commands end text × IsCountedEnd seen.tells (Unit {0}) most_quiet s.commands seen.before seen.after end
     × IsCutEnd s.commands seen.before.faults seen.after.faults end
 
 -- more streams would be prepared for a run of the script over TCP than may be
 abbrev pub IsTooMany : RunWire → Meaning → Type 0
-IsTooMany over s = (over ≡ wire.Tcp) × (96 < prepared_streams s)
+IsTooMany over s = (over ≡ wire.Tcp) × (most_streams < prepared_streams s)
 
 -- what the command `run` has to write: the line that says why no script was read or that its streams are too many, or what a run of it has to
 -- write

@@ -17,6 +17,7 @@ ghost use Rattle.rds_run.specs.Works.{AreNoCommand};
 ghost use Rattle.rds_run.specs.RunStatus.{HasFilled, IsRan, IsRunAnswer, IsRunText, IsRunUnfinished, IsWireFault, memory_seen, seen_over, tells_over, wire_seen};
 ghost use Rattle.rds_run_hosts.specs.Streams.{prepared_streams};
 ghost use Rattle.rds_run.specs.Ending.{IsEndOfProgram, ReadsScript};
+ghost use Rattle.rds_run.specs.Limits.{most_streams};
 ghost use Rattle.rds_run.specs.Texts.{usage_line, read_fault_line, bad_line, too_many_line};
 
 use crate::answer::say;
@@ -37,9 +38,8 @@ const USAGE: &str = "usage: rds play | rds run [--wire memory|tcp] | rds gen N S
 /// Runs the program on the words after its name, and gives its exit status (docs/COMMAND.md has the table). Two of its
 /// commands read a script from the source: `play` writes its transcript and its report to the sink, and `run` runs it with threads and
 /// writes its report. `gen` generates a script, runs it so, and writes a summary. Before each command of a run its caller asks the gate.
-/// A run goes over streams in memory, or over those of `tcp` where the words name that wire. The call is made for the end of a process,
-/// and for one time in it: what the hosts and the script of a run that ended well have in memory is never let go of. A
-/// process that calls it again and again, as tests do, keeps that of each run.
+/// A run goes over streams in memory, or over those of `tcp` where the words name that wire. However the call ends, it gives back all
+/// memory that it took.
 ///
 /// | Status | When |
 /// |---|---|
@@ -107,8 +107,10 @@ where
     // have, and what their sockets handed out of it, whatever the network does. Assumed is, where a clause has the premise `IsHonest`, that
     // each TCP stream gives a beginning of the bytes written to it.
     ensures ran_over_tcp { AreRun words.now wires.Tcp → result ≡ 0 →
-        (s : Meaning) × IsSpelled (S.left source.old) s × (prepared_streams s ≤ 96)
-        × IsRan (wire_seen W.End.means.tells W.counted tcp.old tcp.new) form.Report s (K.held sink.old) (K.held sink.new) }
+        (s : Meaning) × IsSpelled (S.left source.old) s × (prepared_streams s ≤ most_streams)
+        × IsRan
+        (wire_seen W.End.means.tells W.counted tcp.old tcp.new)
+        form.Report s (K.held sink.old) (K.held sink.new) }
     // The script of so many sends and this seed was run to its end, its hosts did its commands, at least as many streams ended as they cut,
     // what the hosts have then is sound, no journal is full, and exactly the summary of it was written.
     ensures summed { (sends seed : ℕ) → AreGen words.now sends seed → result ≡ 0 →
@@ -144,9 +146,9 @@ where
 
     // The source's bytes spell a script, which would need so many streams over TCP, and exactly the line that says so was written.
     ensures too_many { result ≡ 9 → AreRun words.now wires.Tcp × ((s : Meaning) × IsSpelled (S.left source.old) s
-        × (96 < prepared_streams s) × SinkGained (K.held sink.old) (K.held sink.new) (too_many_line (prepared_streams s))) }
+        × (most_streams < prepared_streams s) × SinkGained (K.held sink.old) (K.held sink.new) (too_many_line (prepared_streams s))) }
     // Such a script is answered so, unless the source or the sink fails or memory runs out.
-    ensures refuses_many { AreRun words.now wires.Tcp → (s : Meaning) → IsToldSpelled (S.left source.old) s → 96 < prepared_streams s →
+    ensures refuses_many { AreRun words.now wires.Tcp → (s : Meaning) → IsToldSpelled (S.left source.old) s → most_streams < prepared_streams s →
         (result ≡ 9 × SinkGained (K.held sink.old) (K.held sink.new) (too_many_line (prepared_streams s)))
         ⊎ ((result ≡ 3) ⊎ ((result ≡ 4) ⊎ (result ≡ 6))) }
     // A text that spells a script is run by `run`, unless the source, the sink or the wire over TCP fails or memory runs out. Only over TCP

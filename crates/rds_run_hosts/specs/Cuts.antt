@@ -3,6 +3,7 @@ use Rattle.std.specs.Prelude.{◌≤◌, ℕ, Bool, true, false, List, Option, S
 use Rattle.rds_script.specs.declared.script.Command.{Command}
 use Rattle.rds_script.specs.declared.script.Command.TheVariants.{Cut}
 use Rattle.rds_script.specs.declared.script.Placed.{Placed}
+use Rattle.rds_script.specs.declared.script.TheConstants.{MAX_CUTS}
 use Rattle.rds_run_hosts.specs.Streams.{cuts_between}
 
 -- whether the command is a cut
@@ -21,4 +22,4 @@ cut_of placed = only_cut placed.command placed
 
 -- no two hosts have more cuts between them than a script may have
 abbrev pub AreFewCuts : List Placed → Type 0
-AreFewCuts commands = (low high : ℕ) → cuts_between low high commands ≤ 1024
+AreFewCuts commands = (low high : ℕ) → cuts_between low high commands ≤ MAX_CUTS

@@ -1,5 +1,6 @@
 //! How many streams are prepared for a run.
 ghost use Rattle.std.specs.Prelude.{◌≡◌, ◌≤◌, ℕ, IfOk, filter, filter_map, length};
+ghost use Rattle.rds_script.specs.declared.script.TheConstants.{MAX_CUTS};
 ghost use Rattle.rds_script.specs.Grammar.{meaning};
 ghost use Rattle.rds_script.specs.Script.{IsScript};
 ghost use Rattle.rds_run_hosts.specs.Cuts.{AreFewCuts, cut_of as cut_alone, is_cut as is_any_cut};
@@ -77,7 +78,7 @@ fn cut_of(placed: &Placed) -> Option<Placed>
 pub(crate) fn cuts_between(commands: &[Placed], low: u8, high: u8) -> u32
     requires { AreFewCuts commands.now }
     ensures count { result ≡ cuts_of low high commands.now }
-    ensures most { result ≤ 1024 }
+    ensures most { result ≤ MAX_CUTS }
 {
     cuts_among(commands, low, high) as u32
 }

@@ -1,5 +1,6 @@
 //! How the lines of a run get their streams.
 ghost use Rattle.std.specs.Prelude.{◌≡◌, ◌≤◌, ℕ, All, List, length};
+ghost use Rattle.rds_text.specs.declared.host.TheConstants.{MAX_HOSTS};
 ghost use Rattle.rds_line_channel.specs.Channel.{IsNewChannel};
 ghost use Rattle.rds_line_channel.specs.Streams.{AreNumbered, IsUnused};
 ghost use Rattle.rds_run_callers.specs.Places.{CallerView};
@@ -26,8 +27,10 @@ use rds_run_settling::laws::tied_keeps;
 pub fn give_streams<E: End>(lines: &mut Lines<E>, streams: Vec<Vec<Ends<E>>>)
     requires new { (limit : ℕ) × HaveNewLines limit (length (rows_of lines.old.items)) (rows_of lines.old.items) }
     requires streams { AreAllPrepared E.means (length (rows_of lines.old.items)) (rows_of streams.items) }
-    ensures parties { (hosts : ℕ) (callers : List CallerView) → AreParties hosts callers (rows_of lines.old.items) → AreParties hosts callers (rows_of lines.new.items) }
-    ensures hosts { (limit hosts : ℕ) → hosts ≤ 8 → HaveNewLines limit hosts (rows_of lines.old.items) → AreHosts E.means limit hosts (rows_of lines.new.items) }
+    ensures parties { (hosts : ℕ) (callers : List CallerView) → AreParties hosts callers (rows_of lines.old.items) →
+        AreParties hosts callers (rows_of lines.new.items) }
+    ensures hosts { (limit hosts : ℕ) → hosts ≤ MAX_HOSTS → HaveNewLines limit hosts (rows_of lines.old.items) →
+        AreHosts E.means limit hosts (rows_of lines.new.items) }
     ensures looks { HaveNotLooked (rows_of lines.new.items) }
     ensures counted { (commands : List Placed) (before after : ℕ) → AreAllCounted commands before after (rows_of streams.items) →
         HaveCounted commands before after (rows_of lines.new.items) }

@@ -12,8 +12,10 @@ use rds_link::End;
 
 /// The lines of a run have the streams that were prepared for them while each keeps its connection, and while they go on.
 pub fn counted_keeps<E: End>()
-    ensures same { (commands : List Placed) (before after : ℕ) (old new : List (List (LineView E WriterView))) → HaveCounted commands before after old →
+    ensures same { (commands : List Placed) (before after : ℕ) (old new : List (List (LineView E WriterView))) →
+        HaveCounted commands before after old →
         EachRow AreSameConnections old new → HaveCounted commands before after new }
-    ensures goes { (commands : List Placed) (before after : ℕ) (old new : List (List (LineView E WriterView))) → HaveCounted commands before after old →
+    ensures goes { (commands : List Placed) (before after : ℕ) (old new : List (List (LineView E WriterView))) →
+        HaveCounted commands before after old →
         EachRow LinesGoOn old new → HaveCounted commands before after new }
 {}

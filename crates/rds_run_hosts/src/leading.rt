@@ -31,7 +31,8 @@ pub(crate) fn lead<E: End, R: Wait>(
     ensures count { IfOk result (λ count. count ≤ length commands.now) }
     ensures leading { IfOk result (λ count. AreLeading count commands.now) }
     ensures obeyed { IfOk result (λ count. HaveObeyed (take count commands.now) callers.old.items callers.new.items) }
-    ensures parties { (hosts : ℕ) → AreParties hosts callers.old.items (rows_of lines.old.items) → OnOk result (AreParties hosts callers.new.items (rows_of lines.new.items)) }
+    ensures parties { (hosts : ℕ) → AreParties hosts callers.old.items (rows_of lines.old.items) →
+        OnOk result (AreParties hosts callers.new.items (rows_of lines.new.items)) }
     ensures told { OnOk result (AllPortsTold callers.new.items (rows_of lines.new.items)) }
     ensures lines { OnOk result (EachRow LinesLearnPorts (rows_of lines.old.items) (rows_of lines.new.items)) }
     ensures memory { OnErr result (lines.new ≡ lines.old) }
@@ -48,7 +49,8 @@ fn tell_all<E: End>(callers: &mut Vec<Caller>, lines: &mut Lines<E>)
     ensures places { SamePlaces callers.old.items callers.new.items }
     ensures told { AllPortsTold callers.new.items (rows_of lines.new.items) }
     ensures lines { EachRow LinesLearnPorts (rows_of lines.old.items) (rows_of lines.new.items) }
-    ensures parties { (hosts : ℕ) → AreParties hosts callers.old.items (rows_of lines.old.items) → AreParties hosts callers.new.items (rows_of lines.new.items) }
+    ensures parties { (hosts : ℕ) → AreParties hosts callers.old.items (rows_of lines.old.items) →
+        AreParties hosts callers.new.items (rows_of lines.new.items) }
 {
     for host in 0..callers.len() {
         tell_ports(&mut callers[host], &mut lines[host]);

@@ -90,7 +90,8 @@ pub fn prepare<W: Wire, R: Threads + Wait + Net>(
     ensures prepared { IfOk result (λ p. AreAllPrepared W.End.means script.now.hosts (rows_of p.streams.items)) }
     ensures counted { IfOk result (λ p. AreAllCounted script.now.commands.items (W.counted wire.old).faults (W.counted wire.new).faults (rows_of p.streams.items)) }
     ensures wanted { IfOk result (λ p. AreAllKnown script.now.commands.items (rows_of p.wanted.items) (rows_of p.streams.items)) }
-    ensures missing { IfOk result (λ p. AreMissing (prepared_streams (meaning script.now)) (ends_prepared (rows_of p.streams.items)) (W.counted wire.old).faults (W.counted wire.new).faults) }
+    ensures missing { IfOk result (λ p. AreMissing (prepared_streams (meaning script.now)) (ends_prepared (rows_of p.streams.items))
+        (W.counted wire.old).faults (W.counted wire.new).faults) }
     ensures grows { (W.counted wire.old).faults ≤ (W.counted wire.new).faults }
     ensures out { IfOk result (λ p. W.out wire.new ≤ W.out wire.old + ends_prepared (rows_of p.streams.items)) }
     ensures memory { OnErr result (W.out wire.new ≤ W.out wire.old) }
@@ -128,9 +129,11 @@ fn add_host<W: Wire, R: Threads + Wait + Net>(
     ensures counted { (before : ℕ) → before ≤ (W.counted wire.old).faults → IsCount (W.counted wire.new).faults →
         AreAllCounted all_cuts.now before (W.counted wire.old).faults (rows_of prepared.old.streams.items) →
         OnOk result (AreAllCounted all_cuts.now before (W.counted wire.new).faults (rows_of prepared.new.streams.items)) }
-    ensures missing { IsCount (W.counted wire.new).faults → OnOk result (AreMissingBeside (streams_below host all_cuts.now) (ends_prepared (rows_of prepared.old.streams.items)) (ends_prepared (rows_of prepared.new.streams.items)) (W.counted wire.old).faults (W.counted wire.new).faults) }
+    ensures missing { IsCount (W.counted wire.new).faults → OnOk result (AreMissingBeside (streams_below host all_cuts.now)
+        (ends_prepared (rows_of prepared.old.streams.items)) (ends_prepared (rows_of prepared.new.streams.items)) (W.counted wire.old).faults (W.counted wire.new).faults) }
     ensures grows { (W.counted wire.old).faults ≤ (W.counted wire.new).faults }
-    ensures out { LosesNone (W.out wire.old) (ends_prepared (rows_of prepared.old.streams.items)) (W.out wire.new) (ends_prepared (rows_of prepared.new.streams.items)) }
+    ensures out { LosesNone (W.out wire.old) (ends_prepared (rows_of prepared.old.streams.items)) (W.out wire.new)
+        (ends_prepared (rows_of prepared.new.streams.items)) }
 {
     let mut row = Row {
         streams: Vec::new(alloc),
@@ -185,8 +188,10 @@ fn add_pair<W: Wire, R: Threads + Wait + Net>(
     requires below { HasThoseBelow low high (rows_of prepared.old.streams.items) }
     requires known { AreRowsKnown all_cuts.now (rows_of prepared.old.streams.items) (rows_of prepared.old.wanted.items) }
     requires wanted { low < length prepared.old.wanted.items }
-    ensures grows { OnOk result (GrowsBy W.End.means low (streams_between low high all_cuts.now) (W.counted wire.old).faults (W.counted wire.new).faults (rows_of prepared.old.streams.items) (rows_of prepared.new.streams.items) row.old.streams.items row.new.streams.items) }
-    ensures missing { IsCount (W.counted wire.new).faults → OnOk result (AreMissingBeside (streams_between low high all_cuts.now) (ends_prepared (rows_of prepared.old.streams.items) + ends_of_row row.old.streams.items)
+    ensures grows { OnOk result (GrowsBy W.End.means low (streams_between low high all_cuts.now) (W.counted wire.old).faults (W.counted wire.new).faults
+        (rows_of prepared.old.streams.items) (rows_of prepared.new.streams.items) row.old.streams.items row.new.streams.items) }
+    ensures missing { IsCount (W.counted wire.new).faults → OnOk result (AreMissingBeside (streams_between low high all_cuts.now)
+        (ends_prepared (rows_of prepared.old.streams.items) + ends_of_row row.old.streams.items)
         (ends_prepared (rows_of prepared.new.streams.items) + ends_of_row row.new.streams.items) (W.counted wire.old).faults (W.counted wire.new).faults) }
     ensures known { OnOk result (AreRowsKnown all_cuts.now (rows_of prepared.new.streams.items) (rows_of prepared.new.wanted.items)) }
     ensures row { OnOk result (length row.new.wanted.items ≡ length row.old.wanted.items + 1) }
@@ -219,7 +224,8 @@ fn open_all<W: Wire, R: Threads + Wait + Net>(
 ) -> Result<Opened<W::End>, Memory>
     ensures prepared { IfOk result (λ opened. (newest : ℕ) × ArePrepared W.End.means newest opened.low.items opened.high.items) }
     ensures lacks { IfOk result (λ opened. AreAllUnlessLacking count opened.lacks (numbers opened.low.items)) }
-    ensures counted { IsCount (W.counted wire.new).faults → IfOk result (λ opened. AreNumbersOf count (W.counted wire.old).faults (W.counted wire.new).faults (numbers opened.low.items)) }
+    ensures counted { IsCount (W.counted wire.new).faults → IfOk result
+        (λ opened. AreNumbersOf count (W.counted wire.old).faults (W.counted wire.new).faults (numbers opened.low.items)) }
     ensures grows { (W.counted wire.old).faults ≤ (W.counted wire.new).faults }
     ensures out { IfOk result (λ opened. W.out wire.new ≤ W.out wire.old + (length opened.low.items + length opened.high.items)) }
     ensures memory { OnErr result (W.out wire.new ≤ W.out wire.old) }
@@ -255,7 +261,8 @@ fn open_next<W: Wire, R: Threads + Wait + Net>(
         OnOk result (AreAllUnlessLacking (before + 1) opened.new.lacks (numbers opened.new.low.items)) }
     ensures whole { (first : ℕ) → first ≤ (W.counted wire.old).faults → AreAllUnlessRisen before first (W.counted wire.old).faults (numbers opened.old.low.items) →
         OnOk result (AreAllUnlessRisen (before + 1) first (W.counted wire.new).faults (numbers opened.new.low.items)) }
-    ensures missing { (first : ℕ) → IsCount (W.counted wire.new).faults → HasRisenBy (before - length (numbers opened.old.low.items)) first (W.counted wire.old).faults →
+    ensures missing { (first : ℕ) → IsCount (W.counted wire.new).faults →
+        HasRisenBy (before - length (numbers opened.old.low.items)) first (W.counted wire.old).faults →
         OnOk result (HasRisenBy (before + 1 - length (numbers opened.new.low.items)) first (W.counted wire.new).faults) }
     ensures grows { (W.counted wire.old).faults ≤ (W.counted wire.new).faults }
     ensures out { LosesNone (W.out wire.old) (length opened.old.low.items + length opened.old.high.items)

@@ -1,5 +1,6 @@
 -- The lines of a run: each host has one to each other host. Source: this project's own.
 use Rattle.std.specs.Prelude.{◌≡◌, ◌⊎◌, ◌≤◌, ℕ, List, Some, length, slice_get}
+use Rattle.rds_text.specs.declared.host.TheConstants.{MAX_HOSTS}
 use Rattle.rds_link.specs.Ends.{Means}
 use Rattle.rds_text.specs.Hosts.{address_of}
 use Rattle.rds_line_channel.specs.Meeting.{AtEach}
@@ -53,6 +54,6 @@ module _ {E : Type 0} (m : Means E) where
 
   -- each of so many hosts, which are at most eight, has a line to each other one, and the two lines of each two hosts are connected
   pub record AreHosts {M : Type 0} (limit hosts : ℕ) (rows : List (List (LineView E M))) : Type 0 where
-    pub few : hosts ≤ 8
+    pub few : hosts ≤ MAX_HOSTS
     pub shape : AreRows hosts rows
     pub connected : OfEachPair (AreConnected limit) rows

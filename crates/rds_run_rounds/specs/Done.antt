@@ -1,5 +1,6 @@
 -- The lines of a run once the last rounds are over. Source: this project's own.
 use Rattle.std.specs.Prelude.{ℕ, ◌≤◌, List}
+use Rattle.rds_text.specs.declared.host.TheConstants.{MAX_HOSTS}
 use Rattle.rds_link.specs.Ends.{Means}
 use Rattle.rds_line.specs.Line.{LineView, line_past}
 use Rattle.rds_run_rounds.specs.Connection.{AreOfHosts}
@@ -13,6 +14,6 @@ pub record AreSoundLines {E M : Type 0} (m : Means E) (limit low high : ℕ) (on
 
 -- each of so many hosts has a line to each other one, and those of each two hosts are so
 pub record AreDone {E M : Type 0} (m : Means E) (limit hosts : ℕ) (rows : List (List (LineView E M))) : Type 0 where
-  pub few : hosts ≤ 8
+  pub few : hosts ≤ MAX_HOSTS
   pub shape : AreRows hosts rows
   pub sound : OfEachPair (AreSoundLines m limit) rows

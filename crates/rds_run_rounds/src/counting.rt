@@ -1,5 +1,6 @@
 //! What is left to do of the lines of a run.
 ghost use Rattle.std.specs.Prelude.{◌≡◌, ◌≤◌, ◌<◌, ◌*◌, ◌^◌, ℕ, All, List, ◌∷◌, true, is_some, length};
+ghost use Rattle.rds_text.specs.declared.host.TheConstants.{MAX_HOSTS};
 ghost use Rattle.rds_model.specs.declared.entry.Entry.{Entry as Event};
 ghost use Rattle.rds_model.specs.Past.{open_stream};
 ghost use Rattle.rds_run_rounds.specs.Causes.{AreClosed, alive_in_row, alive_in_rows};
@@ -14,7 +15,7 @@ use rds_model::{Entry, Journal};
 
 /// How many datagrams aren't acknowledged.
 pub(crate) fn unacked<E: End>(lines: &Lines<E>) -> u64
-    requires { (hosts : ℕ) × (hosts ≤ 8) × AreRows hosts (rows_of lines.now.items) }
+    requires { (hosts : ℕ) × (hosts ≤ MAX_HOSTS) × AreRows hosts (rows_of lines.now.items) }
     ensures { result ≡ alive_in_rows (rows_of lines.now.items) }
 {
     let mut count = 0u64;

@@ -1,5 +1,6 @@
 //! The last rounds of a run, on one thread.
 ghost use Rattle.std.specs.Prelude.{◌≡◌, ◌≢◌, ◌≤◌, ◌<◌, ℕ, Bool, All, false, true, Some, length, max, min};
+ghost use Rattle.rds_text.specs.declared.host.TheConstants.{MAX_HOSTS};
 ghost use Rattle.rds_run_rounds.specs.Causes.{AreClosed, AreLeftWell, AreUnacked, HaveRoom, HostsMissStream, NoneEndsBefore, OweNothing, alive_in_rows};
 ghost use Rattle.rds_run_rounds.specs.Connection.{AreHosts, IsFullHost};
 ghost use Rattle.rds_run_rounds.specs.Done.{AreDone};
@@ -69,7 +70,8 @@ pub fn last_rounds<W: Wire, R: Wait>(
     lines: &mut Lines<W::End>,
 ) -> Rounds
     requires { (limit hosts : ℕ) × AreHosts W.End.means limit hosts (rows_of lines.old.items) }
-    ensures done { (limit hosts : ℕ) → AreHosts W.End.means limit hosts (rows_of lines.old.items) → AreDone W.End.means limit hosts (rows_of lines.new.items) }
+    ensures done { (limit hosts : ℕ) → AreHosts W.End.means limit hosts (rows_of lines.old.items) →
+        AreDone W.End.means limit hosts (rows_of lines.new.items) }
     ensures rows { EachRow LinesGoOn (rows_of lines.old.items) (rows_of lines.new.items) }
     ensures quiet { IsQuietEnd result → All AreQuiet (rows_of lines.new.items) }
     ensures room { IsQuietEnd result → All HaveRoom (rows_of lines.new.items) }
@@ -128,13 +130,15 @@ fn end_after<E: End>(
     budget: u64,
     lines: &Lines<E>,
 ) -> Option<Rounds>
-    requires { (hosts : ℕ) × (hosts ≤ 8) × AreRows hosts (rows_of lines.now.items) }
+    requires { (hosts : ℕ) × (hosts ≤ MAX_HOSTS) × AreRows hosts (rows_of lines.now.items) }
     ensures fault { (low high : ℕ) → result ≡ Some (ended.Fault low high) → came ≡ round.Fault low high }
     ensures spent { (host peer entries : ℕ) → result ≡ Some (ended.Spent host peer entries) → came ≡ round.Spent host peer entries }
     ensures unfinished { (count : ℕ) (unwritten connected : Bool) → result ≡ Some (ended.Unfinished count unwritten connected) →
         AreUnacked tells count (rows_of lines.now.items) }
-    ensures left { (count : ℕ) (connected : Bool) → result ≡ Some (ended.Unfinished count false connected) → All AreWritten (rows_of lines.now.items) }
-    ensures closed { (count : ℕ) (unwritten : Bool) → result ≡ Some (ended.Unfinished count unwritten false) → All AreClosed (rows_of lines.now.items) }
+    ensures left { (count : ℕ) (connected : Bool) → result ≡ Some (ended.Unfinished count false connected) →
+        All AreWritten (rows_of lines.now.items) }
+    ensures closed { (count : ℕ) (unwritten : Bool) → result ≡ Some (ended.Unfinished count unwritten false) →
+        All AreClosed (rows_of lines.now.items) }
     ensures quiet { (end : RoundsView) → result ≡ Some end → IsQuietEnd end → came ≡ round.Idle }
     ensures written { tells ≡ true → result ≡ Some ended.Done → All AreWritten (rows_of lines.now.items) }
     ensures acknowledged { tells ≡ false → result ≡ Some ended.Done → alive_in_rows (rows_of lines.now.items) ≡ 0 }
@@ -158,11 +162,13 @@ fn end_after<E: End>(
 
 // Whether the rounds stop after so many quiet ones.
 fn after_idle<E: End>(tells: bool, quiet: u64, budget: u64, lines: &Lines<E>) -> Option<Rounds>
-    requires { (hosts : ℕ) × (hosts ≤ 8) × AreRows hosts (rows_of lines.now.items) }
+    requires { (hosts : ℕ) × (hosts ≤ MAX_HOSTS) × AreRows hosts (rows_of lines.now.items) }
     ensures unfinished { (count : ℕ) (unwritten connected : Bool) → result ≡ Some (ended.Unfinished count unwritten connected) →
         AreUnacked tells count (rows_of lines.now.items) }
-    ensures left { (count : ℕ) (connected : Bool) → result ≡ Some (ended.Unfinished count false connected) → All AreWritten (rows_of lines.now.items) }
-    ensures closed { (count : ℕ) (unwritten : Bool) → result ≡ Some (ended.Unfinished count unwritten false) → All AreClosed (rows_of lines.now.items) }
+    ensures left { (count : ℕ) (connected : Bool) → result ≡ Some (ended.Unfinished count false connected) →
+        All AreWritten (rows_of lines.now.items) }
+    ensures closed { (count : ℕ) (unwritten : Bool) → result ≡ Some (ended.Unfinished count unwritten false) →
+        All AreClosed (rows_of lines.now.items) }
     ensures never_fault { (low high : ℕ) → result ≢ Some (ended.Fault low high) }
     ensures never_spent { (host peer entries : ℕ) → result ≢ Some (ended.Spent host peer entries) }
     ensures written { tells ≡ true → result ≡ Some ended.Done → All AreWritten (rows_of lines.now.items) }

@@ -1,5 +1,6 @@
 //! One round of the lines of each two hosts.
 ghost use Rattle.std.specs.Prelude.{◌≡◌, ◌≤◌, ◌<◌, ◌-◌, ℕ, Some, length, slice_get};
+ghost use Rattle.rds_text.specs.declared.host.TheConstants.{MAX_HOSTS};
 ghost use Rattle.rds_run_rounds.specs.Causes.{known_of};
 ghost use Rattle.rds_run_rounds.specs.Connection.{AreConnected, AreHosts};
 ghost use Rattle.rds_run_rounds.specs.Grid.{rows_of};
@@ -21,7 +22,8 @@ pub(crate) fn round_of_all<W: Wire, R: Wait>(
     lines: &mut Lines<W::End>,
 ) -> Round
     requires { (limit hosts : ℕ) × AreHosts W.End.means limit hosts (rows_of lines.old.items) }
-    ensures { AreSwept W.End.means (rows_of wanted.now) (IsPairBelow (length lines.old.items) (length lines.old.items)) result (rows_of lines.old.items) (rows_of lines.new.items) }
+    ensures { AreSwept W.End.means (rows_of wanted.now) (IsPairBelow (length lines.old.items) (length lines.old.items)) result
+        (rows_of lines.old.items) (rows_of lines.new.items) }
 {
     let hosts = hosts_of(lines);
     let mut came = Round::Idle;
@@ -34,7 +36,7 @@ pub(crate) fn round_of_all<W: Wire, R: Wait>(
 
 // How many hosts there are.
 fn hosts_of<E: End>(lines: &Lines<E>) -> u8
-    requires { length lines.now.items ≤ 8 }
+    requires { length lines.now.items ≤ MAX_HOSTS }
     ensures { result ≡ length lines.now.items }
 {
     lines.len() as u8
@@ -50,7 +52,8 @@ fn round_of_host<W: Wire, R: Wait>(
 ) -> Round
     requires hosts { (limit hosts : ℕ) × AreHosts W.End.means limit hosts (rows_of lines.old.items) }
     requires within { low < length lines.old.items }
-    ensures { AreSwept W.End.means (rows_of wanted.now) (IsPairOf low (length lines.old.items)) result (rows_of lines.old.items) (rows_of lines.new.items) }
+    ensures { AreSwept W.End.means (rows_of wanted.now) (IsPairOf low (length lines.old.items)) result (rows_of lines.old.items)
+        (rows_of lines.new.items) }
 {
     let hosts = hosts_of(lines);
     let mut came = Round::Idle;
