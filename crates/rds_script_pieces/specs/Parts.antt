@@ -3,6 +3,7 @@ use Rattle.std.specs.Prelude.{◌≡◌, ℕ, ◌+◌, ◌≤◌, List, [], ◌�
 use Rattle.std.specs.List.{AllZip, concat}
 use Rattle.std.specs.Str.Lines.{lines as lines_of}
 use Rattle.rds_script.specs.declared.script.Placed.{Placed}
+use Rattle.rds_script.specs.declared.script.TheConstants.{MAX_LINES, MAX_TEXT}
 use Rattle.rds_script.specs.Script.{payload_total, cut_total, IsScript}
 use Rattle.rds_script.specs.Grammar.{Meaning, meaning, command_lines, Spells}
 use Rattle.rds_script_pieces.specs.declared.part.Part.{Part}
@@ -18,7 +19,7 @@ continued s by commands = record s { commands = s.commands ++ map (lowered by) c
 
 -- each command stands in one of the lines that a script may have
 abbrev pub AreInLines : List Placed → Type 0
-AreInLines commands = All (λ p. p.line ≤ 200000) commands
+AreInLines commands = All (λ p. p.line ≤ MAX_LINES) commands
 
 -- what was read of a piece, with the head in front of it: the script that the two spell, how many lines the piece has, and
 -- how many bytes of payloads and cuts there are
@@ -47,6 +48,6 @@ pub record IsHead (head : List ℕ) (count : ℕ) : Type 0 where
 pub record AreRead (head : List ℕ) (count : ℕ) (pieces : List (List ℕ)) (first : Part) (parts : List Part) : Type 0 where
   pub is_head : IsHead head count
   pub cut : AreCut pieces
-  pub small : length (head ++ concat pieces) ≤ 16777216
+  pub small : length (head ++ concat pieces) ≤ MAX_TEXT
   pub alone : IsPart head [] first
   pub each : AllZip (IsPart head) pieces parts

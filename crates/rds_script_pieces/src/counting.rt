@@ -1,8 +1,9 @@
 //! What the limits of a script count.
 
-ghost use Rattle.std.specs.Prelude.{◌≡◌, ◌≤◌, length};
+ghost use Rattle.std.specs.Prelude.{◌≡◌, ◌+◌, ◌≤◌, length};
 ghost use Rattle.std.specs.Str.Lines.{lines};
 ghost use Rattle.std.specs.List.{count_by};
+ghost use Rattle.rds_script.specs.declared.script.TheConstants.{MAX_CUTS, MAX_TEXT, MAX_TOTAL};
 ghost use Rattle.rds_script.specs.Script.{payload_len, payload_total, cut_count, cut_total};
 ghost use Rattle.rds_script.specs.Text.{is_end};
 
@@ -10,9 +11,9 @@ use rds_script::{Command, Placed};
 
 /// How many lines a text has.
 pub(crate) fn line_count(text: &[u8]) -> u32
-    requires { length text.now ≤ 16777216 }
+    requires { length text.now ≤ MAX_TEXT }
     ensures count { result ≡ length (lines text.now) }
-    ensures few { result ≤ 16777217 }
+    ensures few { result ≤ MAX_TEXT + 1 }
 {
     let ends = end_count(text);
     let Some(last) = text.last() else {
@@ -23,9 +24,9 @@ pub(crate) fn line_count(text: &[u8]) -> u32
 
 /// How many bytes of a text are LF.
 fn end_count(text: &[u8]) -> u32
-    requires { length text.now ≤ 16777216 }
+    requires { length text.now ≤ MAX_TEXT }
     ensures count { result ≡ count_by is_end text.now }
-    ensures few { result ≤ 16777216 }
+    ensures few { result ≤ MAX_TEXT }
 {
     let mut count = 0;
     for byte in text {
@@ -38,7 +39,7 @@ fn end_count(text: &[u8]) -> u32
 
 /// How many bytes all payloads together have.
 pub(crate) fn payload_sum(commands: &[Placed]) -> u32
-    requires { payload_total commands.now ≤ 16777216 }
+    requires { payload_total commands.now ≤ MAX_TOTAL }
     ensures { result ≡ payload_total commands.now }
 {
     let mut sum = 0;
@@ -50,7 +51,7 @@ pub(crate) fn payload_sum(commands: &[Placed]) -> u32
 
 /// How many cuts there are.
 pub(crate) fn cut_sum(commands: &[Placed]) -> u32
-    requires { cut_total commands.now ≤ 1024 }
+    requires { cut_total commands.now ≤ MAX_CUTS }
     ensures { result ≡ cut_total commands.now }
 {
     let mut sum = 0;

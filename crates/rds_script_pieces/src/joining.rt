@@ -1,7 +1,8 @@
 //! What was read of pieces is put together.
 
-ghost use Rattle.std.specs.Prelude.{◌≡◌, ◌≤◌, ◌++◌, ℕ, List, All, length, map, IfSome};
+ghost use Rattle.std.specs.Prelude.{◌≡◌, ◌+◌, ◌≤◌, ◌++◌, ℕ, List, All, length, map, IfSome};
 ghost use Rattle.std.specs.List.{AllByRecursion, concat};
+ghost use Rattle.rds_script.specs.declared.script.TheConstants.{MAX_TEXT};
 ghost use Rattle.rds_script.specs.Script.{IsScript};
 ghost use Rattle.rds_script.specs.Grammar.{meaning, Spells};
 ghost use Rattle.rds_script_pieces.specs.Pieces.{EndsLine};
@@ -14,7 +15,7 @@ use rds_script::{MAX_CUTS, MAX_LINES, MAX_TOTAL, Placed, Script};
 /// The script of a whole text, from what was read of its head and of each of its pieces, where the head has so many lines;
 /// or none, where a limit is passed or memory runs out.
 pub(crate) fn joined(first: Part, head_lines: u32, parts: Vec<Part>) -> Option<Script>
-    requires head { head_lines ≤ 16777217 }
+    requires head { head_lines ≤ MAX_TEXT + 1 }
     requires lines { AllByRecursion (λ p. AreInLines p.script.commands.items) parts.items }
     ensures { IfSome result (λ script. (head : List ℕ) (pieces : List (List ℕ)) → AreRead head head_lines pieces first parts.items
         → Spells (head ++ concat pieces) (meaning script) × IsScript script) }
@@ -63,10 +64,10 @@ fn script_with_room(script: Script, count: usize) -> Option<Script>
 /// What was read of two pieces, one behind the other, of a text whose head has so many lines; or none, where a limit is
 /// passed or memory runs out.
 fn followed(whole: Part, head_lines: u32, part: Part) -> Option<Part>
-    requires head { head_lines ≤ 16777217 }
+    requires head { head_lines ≤ MAX_TEXT + 1 }
     requires lines { AreInLines part.script.commands.items }
     ensures { IfSome result (λ both. (head done piece : List ℕ) → IsHead head head_lines → EndsLine (head ++ done)
-        → length (head ++ (done ++ piece)) ≤ 16777216 → IsPart head done whole → IsPart head piece part
+        → length (head ++ (done ++ piece)) ≤ MAX_TEXT → IsPart head done whole → IsPart head piece part
         → IsPart head (done ++ piece) both) }
 {
     one_script();
@@ -87,7 +88,7 @@ fn followed(whole: Part, head_lines: u32, part: Part) -> Option<Part>
 
 /// The first script with the commands of the other one behind its own, so many lines further down.
 fn appended(first: Script, by: u32, other: Script) -> Option<Script>
-    requires by { by ≤ 16777217 }
+    requires by { by ≤ MAX_TEXT + 1 }
     requires lines { AreInLines other.commands.items }
     ensures { IfSome result (λ both. meaning both ≡ continued (meaning first) by other.commands.items) }
 {
@@ -104,7 +105,7 @@ fn appended(first: Script, by: u32, other: Script) -> Option<Script>
 
 /// Moves each command so many lines further down.
 fn lower(commands: &mut [Placed], by: u32)
-    requires by { by ≤ 16777217 }
+    requires by { by ≤ MAX_TEXT + 1 }
     requires lines { AreInLines commands.old }
     ensures { commands.new ≡ map (lowered by) commands.old }
 {

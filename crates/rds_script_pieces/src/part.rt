@@ -1,4 +1,5 @@
-ghost use Rattle.std.specs.Prelude.{◌≤◌};
+ghost use Rattle.std.specs.Prelude.{◌+◌, ◌≤◌};
+ghost use Rattle.rds_script.specs.declared.script.TheConstants.{MAX_CUTS, MAX_TEXT, MAX_TOTAL};
 
 use rds_script::Script;
 
@@ -13,7 +14,7 @@ pub(crate) struct Part {
     pub(crate) bytes: u32,
     /// How many cuts there are.
     pub(crate) cuts: u32,
-    ghost few_lines: { lines ≤ 16777217 },
-    ghost few_bytes: { bytes ≤ 16777216 },
-    ghost few_cuts: { cuts ≤ 1024 },
+    ghost few_lines: { lines ≤ MAX_TEXT + 1 },
+    ghost few_bytes: { bytes ≤ MAX_TOTAL },
+    ghost few_cuts: { cuts ≤ MAX_CUTS },
 }

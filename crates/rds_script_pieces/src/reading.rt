@@ -1,4 +1,4 @@
-ghost use Rattle.std.specs.Prelude.{◌≡◌, ◌<◌, ◌≤◌, ℕ, [], IfOk, IfSome};
+ghost use Rattle.std.specs.Prelude.{◌≡◌, ◌+◌, ◌<◌, ◌≤◌, ℕ, [], IfOk, IfSome};
 ghost use Rattle.std.specs.List.{AllZip};
 ghost use Rattle.rds_script.specs.declared.cause.Cause.{Cause as Why};
 ghost use Rattle.rds_script.specs.Script.{IsScript};
@@ -81,7 +81,7 @@ fn read_head(alloc: Global, head: &[u8]) -> Option<(Part, u32)>
     requires { EndsLine head.now }
     ensures alone { IfSome result (λ r. IsPart head.now [] r.0) }
     ensures head { IfSome result (λ r. IsHead head.now r.1) }
-    ensures few { IfSome result (λ r. r.1 ≤ 16777217) }
+    ensures few { IfSome result (λ r. r.1 ≤ MAX_TEXT + 1) }
 {
     let first = read_piece(alloc, head, &[]).ok()?;
     if !first.script.commands.is_empty() {
