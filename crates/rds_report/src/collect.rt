@@ -75,7 +75,8 @@ fn add_journal(
     journal: &Journal,
     to: u32,
 ) -> Result<(), Memory>
-    ensures { OnOk result (items.new.items ≡ items.old.items ++ filter (is_to to) (side_items (host_views hosts.now) host (record { peer = peer; past = journal.now.past }))) }
+    ensures { OnOk result (items.new.items ≡ items.old.items ++ filter (is_to to)
+        (side_items (host_views hosts.now) host (record { peer = peer; past = journal.now.past }))) }
 {
     if peer == to {
         let back = journal_of(hosts, peer, host);
@@ -170,7 +171,8 @@ fn add_sockets<'a>(items: &mut Vec<Item<'a>>, addr: u32, sockets: &'a [Kept]) ->
 
 // The items of what a socket received.
 fn add_received<'a>(items: &mut Vec<Item<'a>>, addr: u32, got: &'a [Datagram]) -> Result<(), Memory>
-    ensures { OnOk result (items.new.items ≡ items.old.items ++ map (λ (d : Message). item addr d.dport d.from d.sport (what.Received d.payload)) got.now) }
+    ensures { OnOk result (items.new.items ≡ items.old.items ++ map
+        (λ (d : Message). item addr d.dport d.from d.sport (what.Received d.payload)) got.now) }
 {
     for datagram in got {
         let received = Item {

@@ -20,7 +20,8 @@ pub fn add_sent(
     journal: &Journal,
     back: Option<&Journal>,
 ) -> Result<(), Memory>
-    ensures { OnOk result (items.new.items ≡ items.old.items ++ sent_items from to (is_lost journal.now.past (past_in (option_copied back.entry))) journal.now.past) }
+    ensures { OnOk result (items.new.items ≡ items.old.items ++ sent_items from to
+        (is_lost journal.now.past (past_in (option_copied back.entry))) journal.now.past) }
 {
     let before = items.len();
     let is_whole = add_unless_cancelled(items, from, to, journal)?;
@@ -39,8 +40,10 @@ fn add_unless_cancelled(
     to: u32,
     journal: &Journal,
 ) -> Result<bool, Memory>
-    ensures whole { result ≡ Ok true → (has_cancellation journal.now.past ≡ false) × (items.new.items ≡ items.old.items ++ sent_items from to (λ n. false) journal.now.past) }
-    ensures broken { result ≡ Ok false → (has_cancellation journal.now.past ≡ true) × (take (length items.old.items) items.new.items ≡ items.old.items) }
+    ensures whole { result ≡ Ok true → (has_cancellation journal.now.past ≡ false) ×
+        (items.new.items ≡ items.old.items ++ sent_items from to (λ n. false) journal.now.past) }
+    ensures broken { result ≡ Ok false → (has_cancellation journal.now.past ≡ true) ×
+        (take (length items.old.items) items.new.items ≡ items.old.items) }
 {
     for i in 0..journal.len() {
         let Some(entry) = journal.at(i) else {

@@ -54,7 +54,8 @@ pub fn summary<R: Threads + Sync>(
 
 // The totals over all port pairs. Those to each host are added up by a thread of its own.
 fn all_totals<R: Threads + Sync>(rt: &R, alloc: Global, hosts: &[HostEnd]) -> Result<Totals, Memory>
-    ensures { AreFinalHosts (host_views hosts.now) → IfOk result (λ t. AreTotals t (all_counts (host_views hosts.now)) (received_bytes (host_views hosts.now))) }
+    ensures { AreFinalHosts (host_views hosts.now) → IfOk result
+        (λ t. AreTotals t (all_counts (host_views hosts.now)) (received_bytes (host_views hosts.now))) }
 {
     let each: Result<Vec<Totals>, Memory> = (0..MAX_HOSTS)
         .into_par_iter()

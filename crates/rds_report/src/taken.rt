@@ -93,7 +93,8 @@ impl Walk {
     }
 
     fn accept(&mut self, slot: u16, dport: u16)
-        ensures { (all past : List Event) (sport : ℕ) (payload : List ℕ) → IsWalk all self.old (entries.Accept slot sport dport payload ∷ past) → IsWalk all self.new past }
+        ensures { (all past : List Event) (sport : ℕ) (payload : List ℕ) →
+            IsWalk all self.old (entries.Accept slot sport dport payload ∷ past) → IsWalk all self.new past }
     {
         let is_taken = self.cancellations.take(slot, dport, self.accepted);
         set_flag(&mut self.taken, self.accepted, is_taken);

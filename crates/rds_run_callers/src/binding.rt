@@ -178,7 +178,8 @@ fn bind_any_vacant(
     requires sndbuf { (1 ≤ sndbuf) × (sndbuf ≤ 16777216) }
     requires rcvbuf { (2 ≤ rcvbuf) × (rcvbuf ≤ 16777216) }
     requires got { vacant.inbox.get.got ≡ [] }
-    ensures bound { OnOk result.1 ((o : Open ReaderView) × BindAnyFits vacant start sndbuf rcvbuf (Ok o) × (o.port ≡ port) × (shown result.0 ≡ Some (bound_place o []))) }
+    ensures bound { OnOk result.1 ((o : Open ReaderView) × BindAnyFits vacant start sndbuf rcvbuf (Ok o) × (o.port ≡ port) ×
+        (shown result.0 ≡ Some (bound_place o []))) }
     ensures failed { OnErr result.1 ((p : Place) × (shown result.0 ≡ Some p) × IsUnbound p) }
     ensures keeps { (p : Place) → shown result.0 ≡ Some p → PlaceKeeps vacant (holding_of p) × HasKept p }
 {

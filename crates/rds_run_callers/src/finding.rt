@@ -30,7 +30,8 @@ pub(crate) fn lift_bound(slots: &mut Slots, port: u16) -> Option<(usize, Tenant)
 pub(crate) fn lift_vacant(slots: &mut Slots) -> Option<(usize, Vacant<Reader>)>
     ensures none { IfNone result (AreNot is_vacant slots.old.states.items) }
     ensures same { IfNone result (slots.new ≡ slots.old) }
-    ensures first { IfSome result (λ r. (slot : ℕ) (x : StateView) → slice_get slots.old.states.items slot ≡ Some x → slot < r.0 → is_vacant x ≡ false) }
+    ensures first { IfSome result (λ r. (slot : ℕ) (x : StateView) → slice_get slots.old.states.items slot ≡ Some x → slot < r.0 →
+        is_vacant x ≡ false) }
     ensures was { IfSome result (λ r. slice_get slots.old.states.items r.0 ≡ Some (state.Vacant r.1)) }
     ensures lifted { IfSome result (λ r. slots.new.states.items ≡ slice_set slots.old.states.items r.0 state.Away) }
     ensures within { IfSome result (λ r. r.0 < vec_len slots.new.states) }
@@ -70,7 +71,8 @@ fn place_of(ports: &Vec<u16>, port: u16) -> Option<usize>
 // The first vacant slot.
 fn find_vacant(slots: &Slots) -> Option<usize>
     ensures none { IfNone result (AreNot is_vacant slots.now.states.items) }
-    ensures first { IfSome result (λ found. (slot : ℕ) (x : StateView) → slice_get slots.now.states.items slot ≡ Some x → slot < found → is_vacant x ≡ false) }
+    ensures first { IfSome result (λ found. (slot : ℕ) (x : StateView) → slice_get slots.now.states.items slot ≡ Some x → slot < found →
+        is_vacant x ≡ false) }
     ensures found { IfSome result (λ slot. (x : StateView) × (slice_get slots.now.states.items slot ≡ Some x) × (is_vacant x ≡ true)) }
     ensures within { IfSome result (λ slot. slot < vec_len slots.now.states) }
 {

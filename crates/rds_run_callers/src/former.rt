@@ -98,7 +98,8 @@ impl FormerTenant {
         requires { note.mail ≡ self.old.closed.inbox.get.mail }
         ensures port { self.new.port ≡ self.old.port }
         ensures got { self.new.got ≡ self.old.got }
-        ensures told { self.new.closed ≡ with_inbox self.old.closed (record self.old.closed.inbox { get = after_note self.old.closed.inbox.get note }) }
+        ensures told { self.new.closed ≡ with_inbox self.old.closed
+            (record self.old.closed.inbox { get = after_note self.old.closed.inbox.get note }) }
     {
         self.closed.hear(note);
     }

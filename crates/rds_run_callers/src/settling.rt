@@ -26,7 +26,8 @@ impl Caller {
     pub fn order_note(&mut self, slot: u16, place: usize) -> Note<Asked>
         requires used { (p : Place) × (slice_get self.old.places slot ≡ Some p) × IsUsed p × (place < length (holding_of p).routes) }
         ensures same { self.new ≡ self.old }
-        ensures note { (p : Place) → slice_get self.old.places slot ≡ Some p → (lane : Lane ReaderView) × IsLaneAt (holding_of p).routes place lane × (result ≡ lane.pass) }
+        ensures note { (p : Place) → slice_get self.old.places slot ≡ Some p →
+            (lane : Lane ReaderView) × IsLaneAt (holding_of p).routes place lane × (result ≡ lane.pass) }
     {
         let slot = usize::from(slot);
         let mut state = self.slots.replace(slot, State::Away);

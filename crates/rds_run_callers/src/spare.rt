@@ -64,7 +64,8 @@ impl SpareSlot {
     /// The mailbox is told of what one of its putters had put.
     pub(crate) fn hear(&mut self, note: Note<Datagram>)
         requires { note.mail ≡ self.old.closed.inbox.get.mail }
-        ensures told { self.new.closed ≡ with_inbox self.old.closed (record self.old.closed.inbox { get = after_note self.old.closed.inbox.get note }) }
+        ensures told { self.new.closed ≡ with_inbox self.old.closed
+            (record self.old.closed.inbox { get = after_note self.old.closed.inbox.get note }) }
     {
         self.closed.hear(note);
     }

@@ -84,7 +84,8 @@ impl State {
     pub(crate) fn order_note(&mut self, place: usize) -> Note<Asked>
         requires used { (p : Place) × (shown self.old ≡ Some p) × IsUsed p × (place < length (holding_of p).routes) }
         ensures same { self.new ≡ self.old }
-        ensures note { (p : Place) → shown self.old ≡ Some p → (lane : Lane ReaderView) × IsLaneAt (holding_of p).routes place lane × (result ≡ lane.pass) }
+        ensures note { (p : Place) → shown self.old ≡ Some p →
+            (lane : Lane ReaderView) × IsLaneAt (holding_of p).routes place lane × (result ≡ lane.pass) }
     {
         match self {
             State::Bound(tenant) => tenant.order_note(place),

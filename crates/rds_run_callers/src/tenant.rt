@@ -91,7 +91,8 @@ impl Tenant {
 
     /// Receives the next datagram and keeps it, and answers whether there was one.
     pub(crate) fn receive<R: Wait>(&mut self, rt: &R) -> Result<bool, Memory>
-        ensures got { IfOk result (λ any. any ≡ true → (item : Item) × IsReceived item self.old.socket self.new.socket × (self.new.got.items ≡ self.old.got.items ++ item ∷ [])) }
+        ensures got { IfOk result (λ any. any ≡ true → (item : Item) × IsReceived item self.old.socket self.new.socket ×
+            (self.new.got.items ≡ self.old.got.items ++ item ∷ [])) }
         ensures same { IfOk result (λ any. any ≡ false → (self.new.socket ≡ self.old.socket) × (self.new.got.items ≡ self.old.got.items)) }
         ensures empty { IfOk result (λ any. any ≡ false → AllGot self.old.socket.own.inbox.get) }
         ensures err { OnErr result ((self.new.socket ≡ self.old.socket) × (self.new.got.items ≡ self.old.got.items)) }
@@ -154,7 +155,8 @@ impl Tenant {
     pub(crate) fn hear(&mut self, note: Note<Datagram>)
         requires { note.mail ≡ self.old.socket.own.inbox.get.mail }
         ensures got { self.new.got ≡ self.old.got }
-        ensures told { self.new.socket ≡ with_own self.old.socket (with_inbox self.old.socket.own (record self.old.socket.own.inbox { get = after_note self.old.socket.own.inbox.get note })) }
+        ensures told { self.new.socket ≡ with_own self.old.socket
+            (with_inbox self.old.socket.own (record self.old.socket.own.inbox { get = after_note self.old.socket.own.inbox.get note })) }
     {
         self.socket.hear(note);
     }

@@ -17,8 +17,10 @@ use rds_link::End;
 pub fn tied_keeps<E: End>()
     ensures made { (slots : List (Holding ReaderView)) (lines : List (LineView E WriterView)) → AreOfHost slots lines → AreAllPasses slots lines →
         AreTied (vacant_places slots) lines }
-    ensures places { (places new : List Place) (lines : List (LineView E WriterView)) → AreTied places lines → PlacesKeep places new → AreTied new lines }
-    ensures lines { (places : List Place) (lines after : List (LineView E WriterView)) → AreTied places lines → LinesKeep lines after → AreTied places after }
+    ensures places { (places new : List Place) (lines : List (LineView E WriterView)) → AreTied places lines → PlacesKeep places new →
+        AreTied new lines }
+    ensures lines { (places : List Place) (lines after : List (LineView E WriterView)) → AreTied places lines → LinesKeep lines after →
+        AreTied places after }
 {
     host_keeps::<E>();
 }

@@ -37,7 +37,8 @@ fn end_host<W: Wire, R: Wait>(
 ) -> Result<Journal, Memory>
     requires place { place < length lines.items }
     requires tied { AreTied caller.places lines.items }
-    ensures journal { (line : LineView W.End WriterView) → slice_get lines.items place ≡ Some line → IfOk result (λ journal. IsJournalOfLine line journal.past) }
+    ensures journal { (line : LineView W.End WriterView) → slice_get lines.items place ≡ Some line →
+        IfOk result (λ journal. IsJournalOfLine line journal.past) }
     ensures orders { IfOk result (λ journal. HasOrdersAt place caller.places journal.past) }
     ensures grounded { OnOk result (AreMapsGrounded (holdings caller.places) lines.items) }
     ensures risen { StaysRisen (W.counted wire.old).faults (W.counted wire.new).faults }
