@@ -26,7 +26,7 @@ pub fn map_vec<
     run_jobs(rt, f, jobs)
 }
 
-// The same. The first job goes to a new thread, and the calling thread makes the threads of the others.
+// What the calls for these jobs give. The first job goes to a new thread, and the calling thread makes the threads of the others.
 #[cycle(jobs)]
 fn run_jobs<
     R: Threads + Sync,

@@ -40,7 +40,7 @@ impl<'a> Model for Item<'a> {
 }
 
 impl<'a> Item<'a> {
-    /// Its port pair.
+    /// The port pair of the item.
     pub fn group(&self) -> Group
         ensures { result ≡ self.now.group }
     {

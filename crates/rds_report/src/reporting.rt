@@ -39,7 +39,7 @@ pub fn report(alloc: Global, text: &mut String, hosts: &[HostEnd]) -> Result<(),
 /// A report on journals with fewer entries in all is made on the calling thread: other threads would take longer to begin.
 const FEW_ENTRIES: u64 = 8_192;
 
-/// The same report, in texts that are to be written one behind another. Where journals have many entries, what went to each host
+/// The report that `report` writes, in texts that are to be written one behind another. Where journals have many entries, what went to each host
 /// is printed by a thread of its own, and the lines of a port pair with many datagrams by several.
 ///
 /// # Errors

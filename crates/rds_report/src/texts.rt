@@ -15,10 +15,10 @@ use std::alloc::Global;
 use std::thread::Threads;
 use std::{mem, thread};
 
-/// So many items of a group are printed by several threads.
+/// Groups of so many items and more are printed by several threads.
 const MANY: usize = 8192;
 
-/// At most so many threads print them. Acceptances stand together, before the received ones or, where the sender is the later host, behind
+/// At most so many threads print the items of a group. Acceptances stand together, before the received ones or, where the sender is the later host, behind
 /// them, and have no line. So where all was received about half of the threads have most to do.
 const PRINTERS: usize = 4;
 

@@ -70,7 +70,7 @@ impl SpareSlot {
         self.closed.hear(note);
     }
 
-    /// Its slot's end.
+    /// The end of the slot.
     pub(crate) fn end(self) -> Closed<Reader>
         ensures closed { result ≡ self.closed }
         ensures claimed { HasClaimedOnly None result.ports.view }

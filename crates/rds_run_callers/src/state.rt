@@ -25,15 +25,15 @@ use std::sync::Wait;
 /// What became of a slot.
 #[derive(Drop)]
 pub(crate) enum State {
-    /// No socket had it.
+    /// No socket had the slot.
     Vacant(Vacant<Reader>),
-    /// A socket is bound.
+    /// A socket of the slot is bound.
     Bound(Tenant),
-    /// Its socket has ended.
+    /// The slot's socket has ended.
     Ended(FormerTenant),
-    /// It was given up before any socket had it.
+    /// The slot was given up before any socket had it.
     Spare(SpareSlot),
-    /// A call has it in its hands, until it returns.
+    /// A call has the slot in its hands, until it returns.
     Away,
 }
 

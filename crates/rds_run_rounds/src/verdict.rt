@@ -64,7 +64,7 @@ fn shuts_in(journal: &Journal) -> u32
     count
 }
 
-// How many it shut after an entry.
+// How many streams a journal shut with one more entry, where it shut so many before.
 fn shuts_after(count: u32, entry: &Entry) -> u32
     requires { count + 1 < 2 ^ 32 }
     ensures { (past : List Event) → count ≡ shuts past → result ≡ shuts (entry.now ∷ past) }
@@ -89,7 +89,7 @@ fn refusals_in(journal: &Journal) -> u32
     count
 }
 
-// How many it refused after an entry.
+// How many headers a journal refused with one more entry, where it refused so many before.
 fn refusals_after(count: u32, entry: &Entry) -> u32
     requires { count + 1 < 2 ^ 32 }
     ensures { (past : List Event) → count ≡ refusals past → result ≡ refusals (entry.now ∷ past) }

@@ -36,7 +36,7 @@ fn command_count(parts: &[Part]) -> usize {
     count
 }
 
-/// The same part, with room for so many commands more.
+/// The part as it is, with room for so many commands more.
 fn with_room(part: Part, count: usize) -> Option<Part>
     ensures { IfSome result (IsAlike part) }
 {
