@@ -18,8 +18,8 @@ use std::{mem, thread};
 /// Groups of so many items and more are printed by several threads.
 const MANY: usize = 8192;
 
-/// At most so many threads print the items of a group. Acceptances stand together, before the received ones or, where the sender is the later host, behind
-/// them, and have no line. So where all was received about half of the threads have most to do.
+/// At most so many threads print the items of a group. Acceptances stand together, before the received ones or, where the sender is the
+/// later host, behind them, and have no line. So where all was received about half of the threads have most to do.
 const PRINTERS: usize = 4;
 
 /// Texts that are to be written one behind another: those that are done, and the one that grows.
