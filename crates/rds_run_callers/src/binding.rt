@@ -2,7 +2,7 @@
 ghost use Rattle.std.specs.Prelude.{◌≡◌, ◌<◌, ◌≤◌, [], true, false, Ok, Some, IfSome, OnOk, OnErr};
 ghost use Rattle.rds_fmap.specs.Readers.{ReaderView};
 ghost use Rattle.rds_socket_parts.specs.Ports.{first_port, port_after};
-ghost use Rattle.rds_socket.specs.Holding.{Open};
+ghost use Rattle.rds_socket.specs.Holding.{IsReceiveBuffer, IsSendBuffer, Open};
 ghost use Rattle.rds_socket.specs.Binds.{BindFits, BindAnyFits};
 ghost use Rattle.rds_run_callers.specs.Places.{Place, PlaceKeeps, PlacesKeep, HasKept, holding_of, bound_place, ended_place, IsUnbound};
 ghost use Rattle.rds_run_callers.specs.Doing.{Binds, BindsFirstFree, IsFree, IsHeld, IsFirstFree};
@@ -28,8 +28,8 @@ impl Caller {
         sndbuf: u32,
         rcvbuf: u32,
     ) -> Result<(), Memory>
-        requires sndbuf { (1 ≤ sndbuf) × (sndbuf ≤ 16777216) }
-        requires rcvbuf { (2 ≤ rcvbuf) × (rcvbuf ≤ 16777216) }
+        requires sndbuf { IsSendBuffer sndbuf }
+        requires rcvbuf { IsReceiveBuffer rcvbuf }
         ensures host { self.new.host ≡ self.old.host }
         ensures keeps { PlacesKeep self.old.places self.new.places }
         ensures done { OnOk result (Binds port sndbuf rcvbuf self.old.places self.new.places) }
@@ -48,8 +48,8 @@ impl Caller {
         sndbuf: u32,
         rcvbuf: u32,
     ) -> Result<(), Memory>
-        requires sndbuf { (1 ≤ sndbuf) × (sndbuf ≤ 16777216) }
-        requires rcvbuf { (2 ≤ rcvbuf) × (rcvbuf ≤ 16777216) }
+        requires sndbuf { IsSendBuffer sndbuf }
+        requires rcvbuf { IsReceiveBuffer rcvbuf }
         ensures host { self.new.host ≡ self.old.host }
         ensures keeps { PlacesKeep self.old.places self.new.places }
         ensures done { OnOk result (BindsFirstFree start sndbuf rcvbuf self.old.places self.new.places) }
@@ -91,8 +91,8 @@ fn bind_next(
     sndbuf: u32,
     rcvbuf: u32,
 ) -> Result<(), Memory>
-    requires sndbuf { (1 ≤ sndbuf) × (sndbuf ≤ 16777216) }
-    requires rcvbuf { (2 ≤ rcvbuf) × (rcvbuf ≤ 16777216) }
+    requires sndbuf { IsSendBuffer sndbuf }
+    requires rcvbuf { IsReceiveBuffer rcvbuf }
     requires slots { AreSlots slots.old.states.items }
     requires low { 2 ≤ port }
     requires free { IsFree (shown_all slots.old.states.items) port }
@@ -115,8 +115,8 @@ fn bind_any_next(
     sndbuf: u32,
     rcvbuf: u32,
 ) -> Result<(), Memory>
-    requires sndbuf { (1 ≤ sndbuf) × (sndbuf ≤ 16777216) }
-    requires rcvbuf { (2 ≤ rcvbuf) × (rcvbuf ≤ 16777216) }
+    requires sndbuf { IsSendBuffer sndbuf }
+    requires rcvbuf { IsReceiveBuffer rcvbuf }
     requires slots { AreSlots slots.old.states.items }
     requires first { IsFirstFree (shown_all slots.old.states.items) start port }
     ensures { ComesTo (BindsFirstFree start sndbuf rcvbuf) slots.old.states.items slots.new.states.items result }
@@ -152,8 +152,8 @@ fn bind_vacant(
     sndbuf: u32,
     rcvbuf: u32,
 ) -> (State, Result<(), Memory>)
-    requires sndbuf { (1 ≤ sndbuf) × (sndbuf ≤ 16777216) }
-    requires rcvbuf { (2 ≤ rcvbuf) × (rcvbuf ≤ 16777216) }
+    requires sndbuf { IsSendBuffer sndbuf }
+    requires rcvbuf { IsReceiveBuffer rcvbuf }
     requires got { vacant.inbox.get.got ≡ [] }
     ensures bound { OnOk result.1 ((o : Open ReaderView) × BindFits vacant port sndbuf rcvbuf (Ok o) × (shown result.0 ≡ Some (bound_place o []))) }
     ensures failed { OnErr result.1 ((p : Place) × (shown result.0 ≡ Some p) × IsUnbound p) }
@@ -175,8 +175,8 @@ fn bind_any_vacant(
     sndbuf: u32,
     rcvbuf: u32,
 ) -> (State, Result<(), Memory>)
-    requires sndbuf { (1 ≤ sndbuf) × (sndbuf ≤ 16777216) }
-    requires rcvbuf { (2 ≤ rcvbuf) × (rcvbuf ≤ 16777216) }
+    requires sndbuf { IsSendBuffer sndbuf }
+    requires rcvbuf { IsReceiveBuffer rcvbuf }
     requires got { vacant.inbox.get.got ≡ [] }
     ensures bound { OnOk result.1 ((o : Open ReaderView) × BindAnyFits vacant start sndbuf rcvbuf (Ok o) × (o.port ≡ port) ×
         (shown result.0 ≡ Some (bound_place o []))) }
