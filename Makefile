@@ -4,7 +4,7 @@ PREFIX ?= /usr/local
 PROGRAM := crates/rds/out/rds
 MANUAL := $(DESTDIR)$(PREFIX)/share/man
 
-.PHONY: rds hello try test edits install
+.PHONY: rds hello try test edits man install
 
 # Proves and builds the program rds, with the crates that it stands on and no others.
 rds:
@@ -26,10 +26,14 @@ test:
 edits:
 	@tools/edits $(CRATES)
 
+# Makes the manual pages, in man/, from docs/.
+man:
+	@tools/man
+
 # Puts the program that make built, and the manual pages, below PREFIX.
-install:
+install: man
 	@test -x $(PROGRAM) || { echo "there is no $(PROGRAM): make builds it" >&2; exit 1; }
 	@install -v -D -m 755 $(PROGRAM) $(DESTDIR)$(PREFIX)/bin/rds
-	@for page in $(wildcard man/*.1 man/*.7); do \
+	@for page in man/*.1 man/*.7; do \
 		install -v -D -m 644 $$page $(MANUAL)/man$${page##*.}/$${page##*/} || exit 1; \
 	done
