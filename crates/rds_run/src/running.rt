@@ -63,8 +63,8 @@ where
     ensures given_back { W.out wire.new ≤ W.out wire.old }
     ensures begun { result ≡ status.WriteFault → HasBegun form W.End.means.tells MAX_ENTRIES script.hosts script.commands.items
         (IsCountedEnd W.End.means.tells (W.may_fail wire.old) 20000000 script.commands.items
-        W.counted wire.old
-        W.counted wire.new)
+        (W.counted wire.old)
+        (W.counted wire.new))
         (W.counted wire.old).faults (W.counted wire.new).faults (K.held sink.old) (K.held sink.new) }
 {
     match run(

@@ -63,7 +63,7 @@ pub(crate) fn end_run<K: Sink, W: Wire, R: Threads + Wait + Sync>(
         (sink_seen K.held K.faults sink.old sink.new)) }
     ensures counted { (commands : List Placed) → (IsQuietEnd end → AreOpenOrUsed commands (rows_of lines.items)) →
         IfOk result (IsCountedEnd W.End.means.tells (start.can_fail ≡ true) start.budget commands start.counts
-        W.counted wire.new) }
+        (W.counted wire.new)) }
     ensures cut { (limit hosts : ℕ) (commands : List Placed) (before : ℕ) → AreDone W.End.means limit hosts (rows_of lines.items) →
         HaveDoneSpared hosts commands callers.items (rows_of lines.items) → HaveCounted commands before (W.counted wire.old).faults (rows_of lines.items) →
         MissAtFault W.End.means.tells commands end (rows_of lines.items) →
@@ -74,7 +74,7 @@ pub(crate) fn end_run<K: Sink, W: Wire, R: Threads + Wait + Sync>(
         (IsQuietEnd end → AreOpenOrUsed commands (rows_of lines.items)) → before < 2 ^ 64 →
         IfOk result (BeginsAtFault form W.End.means.tells limit hosts commands
         (IsCountedEnd W.End.means.tells (start.can_fail ≡ true) start.budget commands start.counts
-        W.counted wire.new)
+        (W.counted wire.new))
         before (W.counted wire.new).faults (K.held sink.old) (K.held sink.new)) }
     ensures memory { OnErr result (K.held sink.new ≡ K.held sink.old) }
     ensures out { W.out wire.new ≡ W.out wire.old - ends_of_all (rows_of lines.items) }

@@ -61,14 +61,14 @@ where
         (sink_seen K.held K.faults sink.old sink.new)
         result }
     ensures counted { IsCountedEnd W.End.means.tells (W.may_fail wire.old) budget script.now.commands.items
-        W.counted wire.old
-        W.counted wire.new result }
+        (W.counted wire.old)
+        (W.counted wire.new) result }
     ensures cut { IsCutEnd script.now.commands.items (W.counted wire.old).faults (W.counted wire.new).faults result }
     // Where the sink failed, it took a beginning of what the run had to write at an end that the wire's counts tell of, and of cuts as well.
     ensures begun { BeginsAtFault form W.End.means.tells limit script.now.hosts script.now.commands.items
         (IsCountedEnd W.End.means.tells (W.may_fail wire.old) budget script.now.commands.items
-        W.counted wire.old
-        W.counted wire.new)
+        (W.counted wire.old)
+        (W.counted wire.new))
         (W.counted wire.old).faults (W.counted wire.new).faults (K.held sink.old) (K.held sink.new) result }
     ensures given_back { W.out wire.new ≤ W.out wire.old }
 {
@@ -98,13 +98,13 @@ where
     ensures end { IfOk result (IsEndOfRun form W.End.means.tells limit script.now.hosts script.now.commands.items
         (sink_seen K.held K.faults sink.old sink.new)) }
     ensures counted { IfOk result (IsCountedEnd W.End.means.tells (W.may_fail wire.old) budget script.now.commands.items
-        W.counted wire.old
-        W.counted wire.new) }
+        (W.counted wire.old)
+        (W.counted wire.new)) }
     ensures cut { IfOk result (IsCutEnd script.now.commands.items (W.counted wire.old).faults (W.counted wire.new).faults) }
     ensures begun { IfOk result (BeginsAtFault form W.End.means.tells limit script.now.hosts script.now.commands.items
         (IsCountedEnd W.End.means.tells (W.may_fail wire.old) budget script.now.commands.items
-        W.counted wire.old
-        W.counted wire.new)
+        (W.counted wire.old)
+        (W.counted wire.new))
         (W.counted wire.old).faults (W.counted wire.new).faults (K.held sink.old) (K.held sink.new)) }
     ensures memory { OnErr result (K.held sink.new ≡ K.held sink.old) }
     ensures out { W.out wire.new ≤ W.out wire.old }
@@ -142,7 +142,7 @@ fn finish<K: Sink, W: Wire, R: Threads + Wait + Sync>(
         (sink_seen K.held K.faults sink.old sink.new)) }
     ensures counted { (commands : List Placed) → AreKnownOf (rows_of wanted.now) commands (rows_of lines.items) →
         IfOk result (IsCountedEnd W.End.means.tells (start.can_fail ≡ true) start.budget commands start.counts
-        W.counted wire.new) }
+        (W.counted wire.new)) }
     ensures cut { (limit hosts : ℕ) (commands : List Placed) → AreHosts W.End.means limit hosts (rows_of lines.items) →
         HaveDoneLed hosts commands callers.items (rows_of lines.items) → HaveCounted commands start.counts.faults (W.counted wire.old).faults (rows_of lines.items) →
         AreKnownOf (rows_of wanted.now) commands (rows_of lines.items) → IfOk result (IsCutEnd commands start.counts.faults (W.counted wire.new).faults) }
@@ -150,7 +150,7 @@ fn finish<K: Sink, W: Wire, R: Threads + Wait + Sync>(
         HaveDoneLed hosts commands callers.items (rows_of lines.items) → HaveCounted commands start.counts.faults (W.counted wire.old).faults (rows_of lines.items) →
         AreKnownOf (rows_of wanted.now) commands (rows_of lines.items) → IfOk result (BeginsAtFault form W.End.means.tells limit hosts commands
         (IsCountedEnd W.End.means.tells (start.can_fail ≡ true) start.budget commands start.counts
-        W.counted wire.new)
+        (W.counted wire.new))
         start.counts.faults (W.counted wire.new).faults (K.held sink.old) (K.held sink.new)) }
     ensures memory { OnErr result (K.held sink.new ≡ K.held sink.old) }
     ensures out { W.out wire.new ≡ W.out wire.old - ends_of_all (rows_of lines.items) }
