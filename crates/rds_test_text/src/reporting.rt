@@ -3,6 +3,7 @@ use rds_report::*;
 use rds_text::*;
 use rds_wire::{Frame, Header, Payload};
 use std::alloc::Global;
+use std::process::Abort;
 use std::test::Fail;
 use std::thread::Threads;
 
@@ -53,41 +54,75 @@ fn read(
     Ok(())
 }
 
-#[test]
-fn a_report(rt: HostRuntime) -> Result<(), Fail> {
-    let mut text = String::new(rt.alloc());
-    let mut there = Journal::new(rt.alloc(), 100)?;
-    accept(&mut there, rt.alloc(), 4001)?;
-    accept(&mut there, rt.alloc(), 4001)?;
-    accept(&mut there, rt.alloc(), 4002)?;
-    let mut back = Journal::new(rt.alloc(), 100)?;
-    read(&mut back, rt.alloc(), 3, 4002, Outcome::NoSocket)?;
-    let got = vec![in rt.alloc();
-        Datagram {
+fn add_datagrams(to: &mut Vec<Datagram>, alloc: Global, count: u32) -> Result<(), Fail> {
+    for _ in 0..count {
+        to.push(Datagram {
             from: address(0),
             sport: 4000,
             dport: 4001,
-            payload: Payload::copy_of(rt.alloc(), b"hello")?
-        },
-    ]?;
+            payload: Payload::copy_of(alloc, b"hello")?,
+        })?;
+    }
+    Ok(())
+}
+
+// So many datagrams, all alike.
+fn datagrams(alloc: Global, count: u32) -> Result<Vec<Datagram>, Fail> {
+    let mut datagrams = Vec::new(alloc);
+    add_datagrams(&mut datagrams, alloc, count)?;
+    Ok(datagrams)
+}
+
+// One socket, with so many datagrams that were got and that were not read.
+fn socket(alloc: Global, got: u32, unread: u32) -> Result<Vec<Kept>, Fail> {
+    let got = datagrams(alloc, got)?;
     let kept = Kept {
         slot: 0,
         port: 4001,
         got,
-        unread: Vec::new(rt.alloc()),
+        unread: datagrams(alloc, unread)?,
     };
-    let a = HostEnd {
+    Ok(vec![in alloc; kept]?)
+}
+
+// Two datagrams to port 4001, and one to port 4002.
+fn add_three(journal: &mut Journal, alloc: Global) -> Result<(), Fail> {
+    accept(journal, alloc, 4001)?;
+    accept(journal, alloc, 4001)?;
+    accept(journal, alloc, 4002)
+}
+
+fn sender_of_three(alloc: Global) -> Result<HostEnd, Fail> {
+    let mut journal = Journal::new(alloc, 100)?;
+    add_three(&mut journal, alloc)?;
+    Ok(HostEnd {
         addr: address(0),
-        journals: vec![in rt.alloc(); (address(1), there)]?,
-        kept: Vec::new(rt.alloc()),
-    };
-    let b = HostEnd {
+        journals: vec![in alloc; (address(1), journal)]?,
+        kept: Vec::new(alloc),
+    })
+}
+
+// The host that received one of them, waits for one, and found no socket for the third.
+fn receiver_of_one(alloc: Global) -> Result<HostEnd, Fail> {
+    let mut journal = Journal::new(alloc, 100)?;
+    read(&mut journal, alloc, 3, 4002, Outcome::NoSocket)?;
+    Ok(HostEnd {
         addr: address(1),
-        journals: vec![in rt.alloc(); (address(0), back)]?,
-        kept: vec![in rt.alloc(); kept]?,
-    };
-    let hosts = vec![in rt.alloc(); a, b]?;
-    report(rt.alloc(), &mut text, &hosts)?;
+        journals: vec![in alloc; (address(0), journal)]?,
+        kept: socket(alloc, 1, 0)?,
+    })
+}
+
+fn add_report(text: &mut String, alloc: Global) -> Result<(), Fail> {
+    let hosts = vec![in alloc; sender_of_three(alloc)?, receiver_of_one(alloc)?]?;
+    report(alloc, text, &hosts)?;
+    Ok(())
+}
+
+#[test]
+fn a_report(rt: HostRuntime) -> Result<(), Fail> {
+    let mut text = String::new(rt.alloc());
+    add_report(&mut text, rt.alloc())?;
     let lines =
         "A:4000>B:4001 accepted 2 received 1 unread 0 dropped 0 port0 0 cancelled 0 pending 1
  data=68656c6c6f
@@ -128,31 +163,6 @@ fn add_came(journal: &mut Journal, alloc: Global) -> Result<(), Fail> {
     read(journal, alloc, 90, 4009, Outcome::NoSocket)
 }
 
-fn add_datagrams(to: &mut Vec<Datagram>, alloc: Global, count: u32) -> Result<(), Fail> {
-    for _ in 0..count {
-        to.push(Datagram {
-            from: address(0),
-            sport: 4000,
-            dport: 4001,
-            payload: Payload::copy_of(alloc, b"hello")?,
-        })?;
-    }
-    Ok(())
-}
-
-fn socket(alloc: Global) -> Result<Kept, Fail> {
-    let mut got = Vec::new(alloc);
-    add_datagrams(&mut got, alloc, 3)?;
-    let mut unread = Vec::new(alloc);
-    add_datagrams(&mut unread, alloc, 2)?;
-    Ok(Kept {
-        slot: 0,
-        port: 4001,
-        got,
-        unread,
-    })
-}
-
 fn sender(alloc: Global) -> Result<HostEnd, Fail> {
     let mut journal = Journal::new(alloc, 100)?;
     add_sent(&mut journal, alloc)?;
@@ -169,15 +179,24 @@ fn receiver(alloc: Global) -> Result<HostEnd, Fail> {
     Ok(HostEnd {
         addr: address(1),
         journals: vec![in alloc; (address(0), journal)]?,
-        kept: vec![in alloc; socket(alloc)?]?,
+        kept: socket(alloc, 3, 2)?,
     })
+}
+
+fn sender_and_receiver(alloc: Global) -> Result<Vec<HostEnd>, Fail> {
+    Ok(vec![in alloc; sender(alloc)?, receiver(alloc)?]?)
+}
+
+fn add_summary(rt: &(impl Threads + Sync + AllocGlobal), text: &mut String) -> Result<(), Fail> {
+    let hosts = sender_and_receiver(rt.alloc())?;
+    summary(rt, rt.alloc(), text, &hosts, 7, 1500)?;
+    Ok(())
 }
 
 #[test]
 fn a_summary(rt: HostRuntime) -> Result<(), Fail> {
     let mut text = String::new(rt.alloc());
-    let hosts = vec![in rt.alloc(); sender(rt.alloc())?, receiver(rt.alloc())?]?;
-    summary(&rt, rt.alloc(), &mut text, &hosts, 7, 1500)?;
+    add_summary(&rt, &mut text)?;
     let lines =
         "seed 7 sends 1500 hosts 8 sockets 32 cuts 3 accepted 17 received 3 unread 2 dropped 1 port0 5 cancelled 4 bytes 15
 end ok
@@ -201,13 +220,22 @@ fn report_twice(
     Ok(parts.len())
 }
 
-#[test]
-fn a_short_report_is_one_text(rt: HostRuntime) -> Result<(), Fail> {
+// The report in one text says what it says in several. Answers how many those are.
+fn parts_of_report(
+    rt: &(impl Threads + Sync + AllocGlobal + Abort),
+    hosts: &[HostEnd],
+) -> Result<usize, Fail> {
     let mut text = String::new(rt.alloc());
     let mut joined = String::new(rt.alloc());
-    let hosts = vec![in rt.alloc(); sender(rt.alloc())?, receiver(rt.alloc())?]?;
-    let count = report_twice(&rt, &hosts, &mut text, &mut joined)?;
+    let count = report_twice(rt, hosts, &mut text, &mut joined)?;
     assert_eq!(rt; joined.as_str(), text.as_str());
+    Ok(count)
+}
+
+#[test]
+fn a_short_report_is_one_text(rt: HostRuntime) -> Result<(), Fail> {
+    let hosts = sender_and_receiver(rt.alloc())?;
+    let count = parts_of_report(&rt, &hosts)?;
     assert_eq!(rt; count, 1);
     Ok(())
 }
@@ -260,11 +288,8 @@ fn busy_receiver(alloc: Global) -> Result<HostEnd, Fail> {
 
 #[test]
 fn the_parts_of_a_long_report(rt: HostRuntime) -> Result<(), Fail> {
-    let mut text = String::new(rt.alloc());
-    let mut joined = String::new(rt.alloc());
     let hosts = vec![in rt.alloc(); busy_sender(rt.alloc())?, busy_receiver(rt.alloc())?]?;
-    let count = report_twice(&rt, &hosts, &mut text, &mut joined)?;
-    assert_eq!(rt; joined.as_str(), text.as_str());
+    let count = parts_of_report(&rt, &hosts)?;
     assert!(rt; count > 11);
     Ok(())
 }
