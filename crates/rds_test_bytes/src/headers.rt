@@ -210,9 +210,9 @@ fn none_is_empty(alloc: Global) -> Result<bool, Memory> {
 
 #[test]
 fn payloads(rt: HostRuntime) -> Result<(), Fail> {
+    assert!(rt; none_is_empty(rt.alloc())?);
     let shared = shared(rt.alloc())?;
     let own = own(&rt, rt.alloc())?;
     are_hello(&rt, &shared, &own);
-    assert!(rt; none_is_empty(rt.alloc())?);
     Ok(())
 }

@@ -3,6 +3,7 @@ ghost use Rattle.std.specs.Prelude.{◌<◌};
 use rds_frame::*;
 use rds_wire::{ACK_REQUIRED, CONG_BITMAP, Frame, Header, MAP_LENGTH, Malformed, encode, sealed};
 use std::alloc::{AllocError, Global};
+use std::process::Abort;
 use std::test::Fail;
 
 fn header(sequence: u64, ack: u64, len: u32, flags: u8) -> Header {
@@ -44,51 +45,87 @@ fn pieces(alloc: Global, bytes: &[u8], length: usize) -> Result<Vec<Vec<u8>>, Al
     Ok(pieces)
 }
 
-#[test]
-fn pieces_of_every_length(rt: HostRuntime) -> Result<(), Fail> {
-    let bytes = hello(rt.alloc())?;
-    let whole = frames_in(rt.alloc(), &bytes, 0)?;
+fn are_whole(rt: &impl Abort, whole: &[Frame]) {
     assert_eq!(rt; whole.len(), 3);
     assert_eq!(rt; whole[0].payload.as_slice(), b"hello".as_slice());
     assert_eq!(rt; whole[1].payload.len(), MAP_LENGTH);
+}
+
+fn are_alike(rt: &impl Abort, frames: &[Frame], whole: &[Frame]) {
+    for (frame, wanted) in frames.iter().zip(whole.iter()) {
+        assert_eq!(rt; frame.header, wanted.header);
+        assert_eq!(rt; frame.payload.as_slice(), wanted.payload.as_slice());
+    }
+}
+
+// Pieces of this length give the frames that the whole gives.
+fn give(
+    rt: &(impl Abort + AllocGlobal),
+    cut: &[Vec<u8>],
+    whole: &[Frame],
+    length: usize,
+) -> Result<(), Fail> {
+    let frames = frames_of(rt.alloc(), cut, 0)?;
+    assert_eq!(rt; frames.len(), 3, "pieces of {length}");
+    are_alike(rt, &frames, whole);
+    Ok(())
+}
+
+fn each_length_gives(
+    rt: &(impl Abort + AllocGlobal),
+    bytes: &[u8],
+    whole: &[Frame],
+) -> Result<(), Fail> {
     for length in 1..=100 {
-        let cut = pieces(rt.alloc(), &bytes, length)?;
-        let frames = frames_of(rt.alloc(), &cut, 0)?;
-        assert_eq!(rt; frames.len(), 3, "pieces of {length}");
-        for (frame, wanted) in frames.iter().zip(whole.iter()) {
-            assert_eq!(rt; frame.header, wanted.header);
-            assert_eq!(rt; frame.payload.as_slice(), wanted.payload.as_slice());
-        }
+        let cut = pieces(rt.alloc(), bytes, length)?;
+        give(rt, &cut, whole, length)?;
     }
     Ok(())
 }
 
 #[test]
-fn a_refused_header_closes(rt: HostRuntime) -> Result<(), Fail> {
-    let past = 1 << 63;
-    for (refused, fault) in [
-        (
-            header(1, 0, 1_048_577, 0),
-            Malformed::Length { len: 1_048_577 },
-        ),
-        (header(0, 0, 5, 0), Malformed::Sequence { number: 0 }),
-        (header(past, 0, 5, 0), Malformed::Sequence { number: past }),
-    ] {
-        let mut splitter = Splitter::new(rt.alloc())?;
-        let bytes = encode(&refused);
-        assert_eq!(rt; splitter.take(&bytes[..20], 0), took(20, false));
-        assert_eq!(rt; splitter.refused(), None);
-        assert_eq!(rt;
-            splitter.take(&bytes[20..], 0),
-            Err(FrameError::Malformed(fault))
-        );
-        assert_eq!(rt; splitter.take(&bytes, 0), Err(FrameError::Closed));
-        assert_eq!(rt; splitter.refused().copied(), Some(refused));
-        splitter.wipe();
-        assert_eq!(rt; splitter.refused(), None);
-        assert_eq!(rt; splitter.take(b"", 0), took(0, false));
-    }
+fn pieces_of_every_length(rt: HostRuntime) -> Result<(), Fail> {
+    let bytes = hello(rt.alloc())?;
+    let whole = frames_in(rt.alloc(), &bytes, 0)?;
+    are_whole(&rt, &whole);
+    each_length_gives(&rt, &bytes, &whole)
+}
+
+// The header is refused when its last byte comes, and nothing is taken behind it.
+fn is_refused(rt: &impl Abort, splitter: &mut Splitter, header: &Header, fault: Malformed) {
+    let bytes = encode(header);
+    assert_eq!(rt; splitter.take(&bytes[..20], 0), took(20, false));
+    assert_eq!(rt; splitter.refused(), None);
+    assert_eq!(rt;
+        splitter.take(&bytes[20..], 0),
+        Err(FrameError::Malformed(fault))
+    );
+    assert_eq!(rt; splitter.take(&bytes, 0), Err(FrameError::Closed));
+    assert_eq!(rt; splitter.refused(), Some(header));
+}
+
+fn is_open_once_wiped(rt: &impl Abort, splitter: &mut Splitter) {
+    splitter.wipe();
+    assert_eq!(rt; splitter.refused(), None);
+    assert_eq!(rt; splitter.take(b"", 0), took(0, false));
+}
+
+fn closes(rt: &(impl Abort + AllocGlobal), header: &Header, fault: Malformed) -> Result<(), Fail> {
+    let mut splitter = Splitter::new(rt.alloc())?;
+    is_refused(rt, &mut splitter, header, fault);
+    is_open_once_wiped(rt, &mut splitter);
     Ok(())
+}
+
+#[test]
+fn a_refused_header_closes(rt: HostRuntime) -> Result<(), Fail> {
+    let long = Malformed::Length { len: 1_048_577 };
+    closes(&rt, &header(1, 0, 1_048_577, 0), long)?;
+    let none = Malformed::Sequence { number: 0 };
+    closes(&rt, &header(0, 0, 5, 0), none)?;
+    let past = 1 << 63;
+    let high = Malformed::Sequence { number: past };
+    closes(&rt, &header(past, 0, 5, 0), high)
 }
 
 #[test]
