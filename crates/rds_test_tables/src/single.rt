@@ -83,24 +83,33 @@ fn puts_orders<R: Wait>(rt: &R, alloc: Global, mail: &Mail<Asked>, put: &mut Put
     is_put(rt, mail, put, hello) && is_put(rt, mail, put, Asked::new(Order::Cut))
 }
 
+fn is_hello(order: &Order) -> bool {
+    matches!(
+        order,
+        Order::Send {
+            slot: 1023,
+            sport: 4000,
+            dport: 4001,
+            ..
+        }
+    )
+}
+
+// Gets an order, by a counted get.
+fn next_order<R: Abort + Wait>(rt: &R, mail: &Mail<Asked>, get: &mut GetPass<Asked>) -> Order
+    requires { get.old.mail ≡ mail.now.line }
+    ensures { get.new.mail ≡ mail.now.line }
+{
+    mail.get_counted(rt, get).expect(rt, "an order").order()
+}
+
 // Gets the order, then the cut, and then none, each by a counted get.
 fn gets_both<R: Abort + Wait>(rt: &R, mail: &Mail<Asked>, get: &mut GetPass<Asked>)
     requires { get.old.mail ≡ mail.now.line }
 {
-    let first = mail.get_counted(rt, get).expect(rt, "an order").order();
-    assert!(rt;
-        matches!(
-            &first,
-            Order::Send {
-                slot: 1023,
-                sport: 4000,
-                dport: 4001,
-                ..
-            }
-        )
-    );
-    let second = mail.get_counted(rt, get).expect(rt, "a cut").order();
-    assert!(rt; matches!(&second, Order::Cut) && mail.get_counted(rt, get).is_none());
+    assert!(rt; is_hello(&next_order(rt, mail, get)));
+    assert!(rt; matches!(&next_order(rt, mail, get), Order::Cut));
+    assert!(rt; mail.get_counted(rt, get).is_none());
 }
 
 #[test]
