@@ -57,52 +57,55 @@ fn is_same_script(one: &Script, other: &Script) -> bool {
 
 fn is_same_placed(one: &Placed, other: &Placed) -> bool {
     one.line == other.line
-        && numbers(&one.command) == numbers(&other.command)
+        && words(&one.command) == words(&other.command)
         && payload(&one.command) == payload(&other.command)
 }
 
-/// What kind of command it is, and its numbers.
-fn numbers(command: &Command) -> [u32; 4] {
+/// What a command is called, and its numbers with 0 behind them.
+pub fn words(command: &Command) -> (&'static str, [u32; 4]) {
     match command {
         Command::Bind {
             host,
             port,
             sndbuf,
             rcvbuf,
-        } => [1, place(*host, *port), *sndbuf, *rcvbuf],
+        } => ("bind", [*host as u32, *port as u32, *sndbuf, *rcvbuf]),
         Command::BindAny {
             host,
             port,
             sndbuf,
             rcvbuf,
-        } => [2, place(*host, *port), *sndbuf, *rcvbuf],
+        } => ("bindany", [*host as u32, *port as u32, *sndbuf, *rcvbuf]),
         Command::Send {
             host,
             port,
             to,
             dport,
             ..
-        } => [3, place(*host, *port), place(*to, *dport), 0],
-        Command::Recv { host, port } => [4, place(*host, *port), 0, 0],
+        } => (
+            "send",
+            [*host as u32, *port as u32, *to as u32, *dport as u32],
+        ),
+        Command::Recv { host, port } => ("recv", [*host as u32, *port as u32, 0, 0]),
         Command::Cancel {
             host,
             port,
             to,
             dport,
-        } => [5, place(*host, *port), place(*to, *dport), 0],
-        Command::Close { host, port } => [6, place(*host, *port), 0, 0],
-        Command::Open { host, to } => [7, place(*host, 0), place(*to, 0), 0],
-        Command::Move { host, to, bytes } => [8, place(*host, 0), place(*to, 0), *bytes],
-        Command::Cut { host, to } => [9, place(*host, 0), place(*to, 0), 0],
-        Command::Drain => [10, 0, 0, 0],
+        } => (
+            "cancel",
+            [*host as u32, *port as u32, *to as u32, *dport as u32],
+        ),
+        Command::Close { host, port } => ("close", [*host as u32, *port as u32, 0, 0]),
+        Command::Open { host, to } => ("open", [*host as u32, *to as u32, 0, 0]),
+        Command::Move { host, to, bytes } => ("move", [*host as u32, *to as u32, *bytes, 0]),
+        Command::Cut { host, to } => ("cut", [*host as u32, *to as u32, 0, 0]),
+        Command::Drain => ("drain", [0, 0, 0, 0]),
     }
 }
 
-fn place(host: u8, port: u16) -> u32 {
-    host as u32 * 65536 + port as u32
-}
-
-fn payload(command: &Command) -> &[u8] {
+/// The bytes that a command sends.
+pub fn payload(command: &Command) -> &[u8] {
     match command {
         Command::Send { payload, .. } => payload.as_slice(),
         _ => &[],

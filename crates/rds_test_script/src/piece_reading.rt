@@ -99,49 +99,56 @@ fn lines_are_refused(rt: HostRuntime) -> Result<(), Fail> {
     )
 }
 
-#[test]
-fn limits_are_kept_by_all_pieces_together(rt: HostRuntime) -> Result<(), Fail> {
-    let sends = "send A 1 B 2 f:2097152\n";
-    let note = "# one of many lines of notes that stand between the sends of this script\n";
-    let apart = [
+const SENDS: &str = "send A 1 B 2 f:2097152\n";
+
+const NOTE: &str = "# one of many lines of notes that stand between the sends of this script\n";
+
+/// Sends in three pieces, which come to the limit, or pass it where the last ones are three.
+fn expect_sends<R: Threads + Sync + Abort>(
+    rt: &R,
+    alloc: Global,
+    last: u32,
+    expected: &str,
+) -> Result<(), Fail> {
+    let parts = [
         (HEAD, 1),
-        (sends, 3),
-        (note, 2000),
-        (sends, 3),
-        (note, 2000),
-        (sends, 2),
-        (note, 1),
+        (SENDS, 3),
+        (NOTE, 2000),
+        (SENDS, 3),
+        (NOTE, 2000),
+        (SENDS, last),
+        (NOTE, 1),
     ];
-    expect(&rt, rt.alloc(), &apart, "8 commands")?;
-    let past = [
-        (HEAD, 1),
-        (sends, 3),
-        (note, 2000),
-        (sends, 3),
-        (note, 2000),
-        (sends, 3),
-        (note, 1),
-    ];
-    expect(&rt, rt.alloc(), &past, "4014 total")?;
+    expect(rt, alloc, &parts, expected)
+}
+
+fn expect_cuts<R: Threads + Sync + Abort>(rt: &R, alloc: Global) -> Result<(), Fail> {
     let cuts = [
         (HEAD, 1),
         ("cut A B\n", 500),
-        (note, 4000),
+        (NOTE, 4000),
         ("cut B C\n", 525),
     ];
-    expect(&rt, rt.alloc(), &cuts, "5030 cuts")?;
-    expect(
-        &rt,
-        rt.alloc(),
-        &[(HEAD, 1), ("#\n", 199_995)],
-        "0 commands",
-    )?;
-    expect(
-        &rt,
-        rt.alloc(),
-        &[(HEAD, 1), ("#\n", 199_996)],
-        "200001 lines",
-    )
+    expect(rt, alloc, &cuts, "5030 cuts")
+}
+
+/// A head, and so many notes.
+fn expect_notes<R: Threads + Sync + Abort>(
+    rt: &R,
+    alloc: Global,
+    count: u32,
+    expected: &str,
+) -> Result<(), Fail> {
+    expect(rt, alloc, &[(HEAD, 1), ("#\n", count)], expected)
+}
+
+#[test]
+fn limits_are_kept_by_all_pieces_together(rt: HostRuntime) -> Result<(), Fail> {
+    expect_sends(&rt, rt.alloc(), 2, "8 commands")?;
+    expect_sends(&rt, rt.alloc(), 3, "4014 total")?;
+    expect_cuts(&rt, rt.alloc())?;
+    expect_notes(&rt, rt.alloc(), 199_995, "0 commands")?;
+    expect_notes(&rt, rt.alloc(), 199_996, "200001 lines")
 }
 
 #[test]

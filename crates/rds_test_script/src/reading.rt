@@ -1,3 +1,4 @@
+use crate::comparing::{payload, words};
 use rds_script::*;
 use std::alloc::{AllocError, Global};
 use std::process::Abort;
@@ -118,15 +119,25 @@ send A 1 B 2 f:2097152 | ok\n\
 send A 1 B 2 f:2097153 | 2 payload\n\
 send A 1 B 65536 x | 2 number";
 
+/// A part of a row, with LF for each `/`, behind this front.
+fn text_of(alloc: Global, front: &str, part: &str) -> Result<Vec<u8>, AllocError> {
+    let mut text = Vec::from_slice(alloc, front.as_bytes())?;
+    for byte in part.as_bytes() {
+        text.push(if *byte == b'/' { b'\n' } else { *byte })?;
+    }
+    Ok(text)
+}
+
+fn answer_of(alloc: Global, front: &str, part: &str) -> Result<String, AllocError> {
+    let text = text_of(alloc, front, part)?;
+    answer(alloc, text.as_slice())
+}
+
 /// Each row of a table answers what it says, behind this front.
 fn compare(rt: &impl Abort, alloc: Global, front: &str, rows: &str) -> Result<(), Fail> {
     for row in rows.lines() {
         let (part, expected) = row.split_once(" | ").ok_or("two columns")?;
-        let mut text = Vec::from_slice(alloc, front.as_bytes())?;
-        for byte in part.as_bytes() {
-            text.push(if *byte == b'/' { b'\n' } else { *byte })?;
-        }
-        let found = answer(alloc, text.as_slice())?;
+        let found = answer_of(alloc, front, part)?;
         assert_eq!(rt; found.as_str(), expected, "at {part:?}");
     }
     Ok(())
@@ -139,7 +150,7 @@ fn answers(rt: HostRuntime) -> Result<(), Fail> {
 }
 
 /// Texts at the limits: a front, a part so many times, an end, and what they answer.
-const LIMITS: [(&str, &str, usize, &str, &str); 19] = [
+static LIMITS: [(&str, &str, usize, &str, &str); 19] = [
     ("", "", 0, "", "0 empty"),
     ("hosts 2\n", "\n", 199_999, "", "ok"),
     ("hosts 2\n", "\n", 200_000, "", "200001 lines"),
@@ -173,59 +184,29 @@ const LIMITS: [(&str, &str, usize, &str, &str); 19] = [
     ("hosts 2\n", "1 ", 1_000_000, "", "2 command"),
 ];
 
+fn answer_at_limit(
+    alloc: Global,
+    row: &(&str, &str, usize, &str, &str),
+) -> Result<String, AllocError> {
+    let mut text = joined(alloc, row.0.as_bytes(), row.1.as_bytes(), row.2)?;
+    text.extend_from_slice(row.3.as_bytes())?;
+    answer(alloc, text.as_slice())
+}
+
 #[test]
 fn limits(rt: HostRuntime) -> Result<(), Fail> {
-    for (front, part, times, end, expected) in LIMITS {
-        let mut text = joined(rt.alloc(), front.as_bytes(), part.as_bytes(), times)?;
-        text.extend_from_slice(end.as_bytes())?;
-        let found = answer(rt.alloc(), text.as_slice())?;
+    for row in &LIMITS {
+        let found = answer_at_limit(rt.alloc(), row)?;
+        let front = row.0;
+        let part = row.1;
+        let times = row.2;
         assert_eq!(rt;
             found.as_str(),
-            expected,
+            row.4,
             "at {front:?} and {times} of {part:?}"
         );
     }
     Ok(())
-}
-
-/// A command in short.
-fn told(alloc: Global, command: &Command) -> Result<String, AllocError> {
-    match command {
-        Command::Bind {
-            host,
-            port,
-            sndbuf,
-            rcvbuf,
-        } => format!(in alloc; "bind {host} {port} {sndbuf} {rcvbuf}"),
-        Command::BindAny {
-            host,
-            port,
-            sndbuf,
-            rcvbuf,
-        } => format!(in alloc; "bindany {host} {port} {sndbuf} {rcvbuf}"),
-        Command::Send {
-            host,
-            port,
-            to,
-            dport,
-            payload,
-        } => {
-            let bytes = payload.as_slice();
-            format!(in alloc; "send {host} {port} {to} {dport} {bytes:?}")
-        }
-        Command::Recv { host, port } => format!(in alloc; "recv {host} {port}"),
-        Command::Cancel {
-            host,
-            port,
-            to,
-            dport,
-        } => format!(in alloc; "cancel {host} {port} {to} {dport}"),
-        Command::Close { host, port } => format!(in alloc; "close {host} {port}"),
-        Command::Open { host, to } => format!(in alloc; "open {host} {to}"),
-        Command::Move { host, to, bytes } => format!(in alloc; "move {host} {to} {bytes}"),
-        Command::Cut { host, to } => format!(in alloc; "cut {host} {to}"),
-        Command::Drain => String::from_str(alloc, "drain"),
-    }
 }
 
 /// A script with each command.
@@ -234,21 +215,46 @@ const SCRIPT: &str =
 send A 4000 C 65535 t:hi!\nsend A 4000 A 1 x:00fFa0\nsend B 7 C 8 f:4\n#\nrecv C 65535\ncancel A 4000 C 1\n\
 close B 7\nopen A C\nmove C A 4294967295\ncut B C\ndrain";
 
-/// Its commands and their lines.
-const TOLD: [(u32, &str); 12] = [
-    (4, "bind 0 4000 16777216 2"),
-    (5, "bindany 1 0 1 16777216"),
-    (6, "send 0 4000 2 65535 [104, 105, 33]"),
-    (7, "send 0 4000 0 1 [0, 255, 160]"),
-    (8, "send 1 7 2 8 [0, 1, 2, 3]"),
-    (10, "recv 2 65535"),
-    (11, "cancel 0 4000 2 1"),
-    (12, "close 1 7"),
-    (13, "open 0 2"),
-    (14, "move 2 0 4294967295"),
-    (15, "cut 1 2"),
-    (16, "drain"),
+/// The lines of its commands, what they are called, and their numbers with 0 behind them.
+static TOLD: [(u32, &str, [u32; 4]); 12] = [
+    (4, "bind", [0, 4000, 16_777_216, 2]),
+    (5, "bindany", [1, 0, 1, 16_777_216]),
+    (6, "send", [0, 4000, 2, 65535]),
+    (7, "send", [0, 4000, 0, 1]),
+    (8, "send", [1, 7, 2, 8]),
+    (10, "recv", [2, 65535, 0, 0]),
+    (11, "cancel", [0, 4000, 2, 1]),
+    (12, "close", [1, 7, 0, 0]),
+    (13, "open", [0, 2, 0, 0]),
+    (14, "move", [2, 0, 4_294_967_295, 0]),
+    (15, "cut", [1, 2, 0, 0]),
+    (16, "drain", [0, 0, 0, 0]),
 ];
+
+/// What its command at this line sends.
+fn sent_at(line: u32) -> &'static [u8] {
+    match line {
+        6 => b"hi!".as_slice(),
+        7 => b"\x00\xff\xa0".as_slice(),
+        8 => b"\x00\x01\x02\x03".as_slice(),
+        _ => b"".as_slice(),
+    }
+}
+
+fn is_told(rt: &impl Abort, placed: &Placed, row: &(u32, &str, [u32; 4])) {
+    let (name, numbers) = words(&placed.command);
+    assert_eq!(rt; placed.line, row.0);
+    assert_eq!(rt; name, row.1);
+    assert_eq!(rt; numbers, row.2);
+    assert_eq!(rt; payload(&placed.command), sent_at(placed.line));
+}
+
+fn are_told(rt: &impl Abort, commands: &[Placed]) {
+    assert_eq!(rt; commands.len(), TOLD.len());
+    for (placed, row) in commands.iter().zip(TOLD.iter()) {
+        is_told(rt, placed, row);
+    }
+}
 
 #[test]
 fn commands(rt: HostRuntime) -> Result<(), Fail> {
@@ -257,11 +263,6 @@ fn commands(rt: HostRuntime) -> Result<(), Fail> {
         .ok_or("the script is read")?;
     assert_eq!(rt; script.hosts, 3);
     assert_eq!(rt; script.hosts_line, 3);
-    assert_eq!(rt; script.commands.len(), TOLD.len());
-    for (placed, (line, expected)) in script.commands.iter().zip(TOLD) {
-        let found = told(rt.alloc(), &placed.command)?;
-        assert_eq!(rt; placed.line, line);
-        assert_eq!(rt; found.as_str(), expected);
-    }
+    are_told(&rt, &script.commands);
     Ok(())
 }
