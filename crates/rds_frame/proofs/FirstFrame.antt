@@ -19,9 +19,9 @@ front-whole : (bytes head body : List ℕ) (d : Header) → IsFront bytes head b
 front-whole bytes head body d front =
     sym (take-append-drop 48 bytes) ∙ (λ i. sym (front.bytes_are ∙ front.head_is) i ++ sym front.body_is i)
 
-pub BeginsMalformed-front : (highest : ℕ) (bytes head body : List ℕ) (d : Header) (fault : Malformed)
-    → IsFront bytes head body d → cause d highest ≡ Some fault → BeginsMalformed highest bytes fault
-BeginsMalformed-front highest bytes head body d fault front faulty = record {
+pub BeginsMalformed-front : (highest known : ℕ) (bytes head body : List ℕ) (d : Header) (fault : Malformed)
+    → IsFront bytes head body d → cause d highest known ≡ Some fault → BeginsMalformed highest known bytes fault
+BeginsMalformed-front highest known bytes head body d fault front faulty = record {
   header = d;
   more = body;
   whole = front-whole bytes head body d front;
@@ -38,22 +38,22 @@ IsPartial-front bytes head body d front short = inr (record {
   short = short;
 })
 
-pub IsClear-front : (highest : ℕ) (bytes head body : List ℕ) (d : Header)
-    → IsFront bytes head body d → cause d highest ≡ None → IsClear highest bytes
-IsClear-front highest bytes head body d front none h more fits same =
+pub IsClear-front : (highest known : ℕ) (bytes head body : List ℕ) (d : Header)
+    → IsFront bytes head body d → cause d highest known ≡ None → IsClear highest known bytes
+IsClear-front highest known bytes head body d front none h more fits same =
     let one = header_bytes-append h d more body fits front.fits (sym same ∙ front-whole bytes head body d front) in
-    subst (λ (g : Header). cause g highest ≡ None) (sym one.0) none
+    subst (λ (g : Header). cause g highest known ≡ None) (sym one.0) none
 
 -- fewer bytes than a header has begin with none
-pub IsClear-short : (highest : ℕ) (bytes : List ℕ) → length bytes < 48 → IsClear highest bytes
-IsClear-short highest bytes short h more fits same =
+pub IsClear-short : (highest known : ℕ) (bytes : List ℕ) → length bytes < 48 → IsClear highest known bytes
+IsClear-short highest known bytes short h more fits same =
     absurd (omega (arith, short, ap length same ∙ length-append (header_bytes h) more, length-header_bytes h fits))
 
-pub IsSound-front : (highest : ℕ) (bytes head body payload : List ℕ) (d : Header)
-    → IsFront bytes head body d → cause d highest ≡ None → d.len ≤ length body → payload ≡ take d.len body
-    → IsSound highest (record { header = d; payload = payload }) × (48 + length payload ≤ length bytes)
+pub IsSound-front : (highest known : ℕ) (bytes head body payload : List ℕ) (d : Header)
+    → IsFront bytes head body d → cause d highest known ≡ None → d.len ≤ length body → payload ≡ take d.len body
+    → IsSound highest known (record { header = d; payload = payload }) × (48 + length payload ≤ length bytes)
     × (bytes ≡ frame_bytes (record { header = d; payload = payload }) ++ drop (48 + length payload) bytes)
-IsSound-front highest bytes head body payload d front none enough is =
+IsSound-front highest known bytes head body payload d front none enough is =
     let whole = front-whole bytes head body d front in
     let len : length payload ≡ d.len = ap length is ∙ length-take-le d.len body enough in
     let after : drop (length payload) body ≡ drop (48 + length payload) bytes =

@@ -36,10 +36,10 @@ pub record IsOpen (old : SplitterView) (head : List ℕ) (came : ℕ) (body : Li
 
 -- the header isn't whole yet
 pub Takes-early : (old : SplitterView) (head : List ℕ) (came : ℕ) (body : List ℕ) (waiting : Option Frame) (refused : Option Header)
-    → (highest : ℕ) (piece filled : List ℕ) (n : ℕ)
+    → (highest known : ℕ) (piece filled : List ℕ) (n : ℕ)
     → IsOpen old head came body waiting refused → Filled head came piece filled n → came + n < 48
-    → TakesPiece highest old piece (record { used = n; ready = false }) (held_of filled (came + n) body waiting refused)
-Takes-early old head came body waiting refused highest piece filled n is fill early =
+    → TakesPiece highest known old piece (record { used = n; ready = false }) (held_of filled (came + n) body waiting refused)
+Takes-early old head came body waiting refused highest known piece filled n is fill early =
     let empty : body ≡ [] = is.keeps.early (omega arith) in
     let whole : n ≡ length piece = omega (arith, fill.used) in
     let len : length (take (came + n) filled) ≡ came + n = length-take-le (came + n) filled (omega (arith, fill.len)) in
@@ -77,22 +77,22 @@ filled-same head came piece filled n fill len full =
     ∙ take_all 48 head (omega arith)
 
 -- what is known of a whole header before its payload is looked at
-pub record IsPassed (highest came : ℕ) (body : List ℕ) (d : Header) : Type 0 where
+pub record IsPassed (highest known came : ℕ) (body : List ℕ) (d : Header) : Type 0 where
   pub limit : d.len ≤ 1048576
   pub within : length body ≤ d.len
   pub short : came ≡ 48 → length body < d.len
-  pub clear : came < 48 → cause d highest ≡ None
+  pub clear : came < 48 → cause d highest known ≡ None
 
 pub IsPassed-whole : (old : SplitterView) (head : List ℕ) (came : ℕ) (body : List ℕ) (waiting : Option Frame) (refused : Option Header)
-    → (highest : ℕ) (piece filled : List ℕ) (n : ℕ) (d : Header)
+    → (highest known : ℕ) (piece filled : List ℕ) (n : ℕ) (d : Header)
     → IsOpen old head came body waiting refused → Filled head came piece filled n → 48 ≤ came + n
-    → header_bytes d ≡ filled → IsHeader d → (came < 48 → cause d highest ≡ None)
-    → IsPassed highest came body d
-IsPassed-whole old head came body waiting refused highest piece filled n d is fill late bytes fits clear = elim (cases_lt came 48) [
+    → header_bytes d ≡ filled → IsHeader d → (came < 48 → cause d highest known ≡ None)
+    → IsPassed highest known came body d
+IsPassed-whole old head came body waiting refused highest known piece filled n d is fill late bytes fits clear = elim (cases_lt came 48) [
   | inl short ↦
       let empty : body ≡ [] = is.keeps.early short in
       record {
-        limit = len-cause d highest (clear short);
+        limit = len-cause d highest known (clear short);
         within = omega (arith, ap length empty);
         short = λ full. absurd (omega arith);
         clear = clear;
@@ -114,12 +114,12 @@ IsPassed-whole old head came body waiting refused highest piece filled n d is fi
 
 -- the piece ends before the payload does
 pub Keeps-part : (old : SplitterView) (head : List ℕ) (came : ℕ) (body : List ℕ) (waiting : Option Frame) (refused : Option Header)
-    → (highest : ℕ) (piece filled grown : List ℕ) (n : ℕ) (d : Header)
+    → (highest known : ℕ) (piece filled grown : List ℕ) (n : ℕ) (d : Header)
     → IsOpen old head came body waiting refused → Filled head came piece filled n
-    → header_bytes d ≡ filled → IsHeader d → IsPassed highest came body d
+    → header_bytes d ≡ filled → IsHeader d → IsPassed highest known came body d
     → grown ≡ body ++ drop n piece → length body + length (drop n piece) < d.len
     → IsSplitter filled 48 grown waiting refused
-Keeps-part old head came body waiting refused highest piece filled grown n d is fill bytes fits passed grows short = record {
+Keeps-part old head came body waiting refused highest known piece filled grown n d is fill bytes fits passed grows short = record {
   len = fill.len;
   came_fits = omega arith;
   early = λ early. absurd (omega arith);
@@ -208,11 +208,11 @@ early-held old head came body waiting refused is short =
     omega (arith, short, len, ap length (held-open old head came body waiting refused is), length-append (take came head) body)
 
 -- bytes that begin with a header without fault
-clear-of : (highest : ℕ) (bytes : List ℕ) (d : Header) (rest : List ℕ)
-    → IsHeader d → bytes ≡ header_bytes d ++ rest → cause d highest ≡ None → IsClear highest bytes
-clear-of highest bytes d rest fits are none h more fits_h same =
+clear-of : (highest known : ℕ) (bytes : List ℕ) (d : Header) (rest : List ℕ)
+    → IsHeader d → bytes ≡ header_bytes d ++ rest → cause d highest known ≡ None → IsClear highest known bytes
+clear-of highest known bytes d rest fits are none h more fits_h same =
     let one = header_bytes-append h d more rest fits_h fits (sym same ∙ are) in
-    subst (λ (g : Header). cause g highest ≡ None) (sym one.0) none
+    subst (λ (g : Header). cause g highest known ≡ None) (sym one.0) none
 
 -- the front of a piece ends a header, or the header was whole before
 seam : (a body p q : List ℕ) → (body ≡ []) ⊎ (p ≡ []) → (a ++ p) ++ (body ++ q) ≡ (a ++ body) ++ (p ++ q)
@@ -236,12 +236,12 @@ seam-case old head came body waiting refused piece filled n is fill = elim (case
 ]
 
 pub Takes-part : (old : SplitterView) (head : List ℕ) (came : ℕ) (body : List ℕ) (waiting : Option Frame) (refused : Option Header)
-    → (highest : ℕ) (piece filled grown : List ℕ) (n : ℕ) (d : Header)
+    → (highest known : ℕ) (piece filled grown : List ℕ) (n : ℕ) (d : Header)
     → IsOpen old head came body waiting refused → Filled head came piece filled n → 48 ≤ came + n
-    → header_bytes d ≡ filled → IsHeader d → IsPassed highest came body d → grown ≡ body ++ drop n piece
-    → TakesPiece highest old piece (record { used = length piece; ready = false })
+    → header_bytes d ≡ filled → IsHeader d → IsPassed highest known came body d → grown ≡ body ++ drop n piece
+    → TakesPiece highest known old piece (record { used = length piece; ready = false })
     (held_of filled 48 grown waiting refused)
-Takes-part old head came body waiting refused highest piece filled grown n d is fill late bytes fits passed grows =
+Takes-part old head came body waiting refused highest known piece filled grown n d is fill late bytes fits passed grows =
     let old_bytes = held-open old head came body waiting refused is in
     let whole : take 48 filled ≡ filled = take_all 48 filled (omega (arith, fill.len)) in
     let new_bytes : held_bytes (held_of filled 48 grown waiting refused) ≡ filled ++ grown =
@@ -258,19 +258,19 @@ Takes-part old head came body waiting refused highest piece filled grown n d is 
       all = λ _. refl;
       progress = λ none ready. cc;
       clear = λ short.
-          clear-of highest (held_bytes (held_of filled 48 grown waiting refused)) d grown fits (new_bytes ∙ (λ i. sym bytes i ++ grown))
+          clear-of highest known (held_bytes (held_of filled 48 grown waiting refused)) d grown fits (new_bytes ∙ (λ i. sym bytes i ++ grown))
           (passed.clear (early-held old head came body waiting refused is short));
       still_open = is.still_open;
     }
 
 pub Takes-frame : (old : SplitterView) (head : List ℕ) (came : ℕ) (body : List ℕ) (waiting : Option Frame) (refused : Option Header)
-    → (highest : ℕ) (piece filled rest payload : List ℕ) (n had : ℕ) (d : Header)
+    → (highest known : ℕ) (piece filled rest payload : List ℕ) (n had : ℕ) (d : Header)
     → IsOpen old head came body waiting refused → Filled head came piece filled n → 48 ≤ came + n
-    → header_bytes d ≡ filled → IsHeader d → IsPassed highest came body d → had ≡ length body
+    → header_bytes d ≡ filled → IsHeader d → IsPassed highest known came body d → had ≡ length body
     → rest ≡ [] → payload ≡ body ++ take (d.len - length body) (drop n piece) → d.len ≤ length body + length (drop n piece)
-    → TakesPiece highest old piece (record { used = n + (d.len - had); ready = true })
+    → TakesPiece highest known old piece (record { used = n + (d.len - had); ready = true })
     (held_of filled 0 rest (Some (record { header = d; payload = payload })) refused)
-Takes-frame old head came body waiting refused highest piece filled rest payload n had d is fill late bytes fits passed had_is empty whole enough =
+Takes-frame old head came body waiting refused highest known piece filled rest payload n had d is fill late bytes fits passed had_is empty whole enough =
     let missing : ℕ = d.len - length body in
     let used : n + (d.len - had) ≡ n + missing = omega (arith, had_is) in
     let old_bytes = held-open old head came body waiting refused is in
@@ -294,17 +294,17 @@ Takes-frame old head came body waiting refused highest piece filled rest payload
             omega (arith, used, passed.short at)
       ];
       clear = λ short.
-          clear-of highest (held_bytes (held_of filled 0 rest (Some f) refused)) d payload fits new_bytes
+          clear-of highest known (held_bytes (held_of filled 0 rest (Some f) refused)) d payload fits new_bytes
           (passed.clear (early-held old head came body waiting refused is short));
       still_open = is.still_open;
     }
 
 pub Refuses-header : (old : SplitterView) (head : List ℕ) (came : ℕ) (body : List ℕ) (waiting : Option Frame) (refused : Option Header)
-    → (highest : ℕ) (piece filled : List ℕ) (n : ℕ) (d : Header) (fault : Malformed)
+    → (highest known : ℕ) (piece filled : List ℕ) (n : ℕ) (d : Header) (fault : Malformed)
     → IsOpen old head came body waiting refused → Filled head came piece filled n → 48 ≤ came + n → came < 48
-    → header_bytes d ≡ filled → IsHeader d → cause d highest ≡ Some fault
-    → RefusesPiece highest old piece fault (held_of filled 48 body waiting (Some d))
-Refuses-header old head came body waiting refused highest piece filled n d fault is fill late early bytes fits faulty =
+    → header_bytes d ≡ filled → IsHeader d → cause d highest known ≡ Some fault
+    → RefusesPiece highest known old piece fault (held_of filled 48 body waiting (Some d))
+Refuses-header old head came body waiting refused highest known piece filled n d fault is fill late early bytes fits faulty =
     let empty : body ≡ [] = is.keeps.early early in
     let len : length (take came head) ≡ came = length-take-le came head (omega (arith, is.keeps.len)) in
     let old_bytes : held_bytes old ≡ take came head =
@@ -333,12 +333,12 @@ waiting-whole held f is same =
     omega (arith, lens, length-append (header_bytes f.header) f.payload, length-header_bytes f.header is.header)
 
 -- nothing is taken where a frame waits
-pub Takes-nothing : (highest : ℕ) (old : SplitterView) (piece : List ℕ) → HoldsAtMostOneFrame old → is_some old.waiting ≡ true
-    → TakesPiece highest old piece (record { used = 0; ready = true }) old
-Takes-nothing highest old piece held waits = from-waiting old.waiting refl waits held.waiting where
+pub Takes-nothing : (highest known : ℕ) (old : SplitterView) (piece : List ℕ) → HoldsAtMostOneFrame old → is_some old.waiting ≡ true
+    → TakesPiece highest known old piece (record { used = 0; ready = true }) old
+Takes-nothing highest known old piece held waits = from-waiting old.waiting refl waits held.waiting where
   from-waiting : (o : Option Frame) → old.waiting ≡ o → is_some o ≡ true
       → IfSome o (λ f. IsFrame f × (old ≡ record { rest = []; waiting = Some f; refused = None }))
-      → TakesPiece highest old piece (record { used = 0; ready = true }) old
+      → TakesPiece highest known old piece (record { used = 0; ready = true }) old
   from-waiting None is waits_too alone = cc
   from-waiting (Some f) is waits_too alone = record {
     used = omega arith;

@@ -34,9 +34,9 @@ pub record HoldsAtMostOneFrame (held : SplitterView) : Type 0 where
   pub partial : held.waiting ≡ None → held.refused ≡ None → IsPartial held.rest
 
 -- a splitter that isn't closed has taken these bytes, of which these frames were handed out
-pub record IsFed (highest : ℕ) (bytes : List ℕ) (frames : List Frame) (held : SplitterView) : Type 0 where
+pub record IsFed (highest known : ℕ) (bytes : List ℕ) (frames : List Frame) (held : SplitterView) : Type 0 where
   pub bytes_are : bytes ≡ frames_bytes frames ++ held_bytes held
-  pub each : All (IsSound highest) frames
+  pub each : All (IsSound highest known) frames
   pub held_is : HoldsAtMostOneFrame held
-  pub clear : IsClear highest (held_bytes held)
+  pub clear : IsClear highest known (held_bytes held)
   pub «open» : held.refused ≡ None

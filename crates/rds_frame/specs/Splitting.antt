@@ -35,28 +35,29 @@ pub record Splits (bytes : List ℕ) (frames : List Frame) (rest : List ℕ) : T
   pub each : All IsFrame frames
   pub partial : IsPartial rest
 
--- a frame whose header has no fault, where the reader has pulled no number above `highest`
-pub record IsSound (highest : ℕ) (f : Frame) : Type 0 where
+-- a frame whose header has no fault, where the reader has pulled no number above `highest` and read no generation above
+-- `known`
+pub record IsSound (highest known : ℕ) (f : Frame) : Type 0 where
   pub frame : IsFrame f
-  pub cause : cause f.header highest ≡ None
+  pub cause : cause f.header highest known ≡ None
 
 -- if the bytes begin with a header, it has no fault
-abbrev pub IsClear : ℕ → List ℕ → Type 0
-IsClear highest bytes =
-    (h : Header) (more : List ℕ) → IsHeader h → bytes ≡ header_bytes h ++ more → cause h highest ≡ None
+abbrev pub IsClear : ℕ → ℕ → List ℕ → Type 0
+IsClear highest known bytes =
+    (h : Header) (more : List ℕ) → IsHeader h → bytes ≡ header_bytes h ++ more → cause h highest known ≡ None
 
 -- the bytes begin with a header that has this fault
-pub record BeginsMalformed (highest : ℕ) (bytes : List ℕ) (fault : Malformed) : Type 0 where
+pub record BeginsMalformed (highest known : ℕ) (bytes : List ℕ) (fault : Malformed) : Type 0 where
   pub header : Header
   pub more : List ℕ
   pub whole : bytes ≡ header_bytes header ++ more
   pub fits : IsHeader header
-  pub cause : cause header highest ≡ Some fault
+  pub cause : cause header highest known ≡ Some fault
 
 -- sound frames, and then a header with this fault
-pub record IsMalformed (highest : ℕ) (bytes : List ℕ) (fault : Malformed) : Type 0 where
+pub record IsMalformed (highest known : ℕ) (bytes : List ℕ) (fault : Malformed) : Type 0 where
   pub frames : List Frame
   pub after : List ℕ
   pub whole : bytes ≡ frames_bytes frames ++ after
-  pub each : All (IsSound highest) frames
-  pub refuses : BeginsMalformed highest after fault
+  pub each : All (IsSound highest known) frames
+  pub refuses : BeginsMalformed highest known after fault

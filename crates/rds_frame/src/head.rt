@@ -16,12 +16,12 @@ pub(crate) fn fill(head: &mut [u8; 48], came: usize, piece: &[u8]) -> usize
 }
 
 // The fault of a header that became whole with this piece. One that was whole before has passed.
-pub(crate) fn fault_of(header: &Header, came: usize, highest: u64) -> Option<Malformed>
-    ensures new { came < 48 → result ≡ cause header.now highest }
+pub(crate) fn fault_of(header: &Header, came: usize, highest: u64, known: u32) -> Option<Malformed>
+    ensures new { came < 48 → result ≡ cause header.now highest known }
     ensures passed { 48 ≤ came → result ≡ None }
 {
     if came < 48 {
-        check(header, highest).err()
+        check(header, highest, known).err()
     } else {
         None
     }

@@ -69,19 +69,20 @@ impl Splitter {
 
     /// Takes the bytes of a piece until the piece ends or a frame is whole, and says how many it took and whether a frame
     /// waits. While one waits it takes nothing: call `done` first. A header is checked as soon as its 48th byte comes,
-    /// `highest` being the highest number that the reader has ever pulled, or 0.
+    /// `highest` being the highest number that the reader has ever pulled, and `known` the greatest generation that it has
+    /// ever read, or 0.
     ///
     /// # Errors
     ///
     /// `Malformed` where a header became whole and was refused, with the cause: the splitter is closed from then on, until
     /// `wipe`. `Closed` where it was closed before. `Memory` where there is no memory for the payload: no byte was taken,
     /// and the same call may be tried again.
-    pub fn take(&mut self, piece: &[u8], highest: u64) -> Result<Took, FrameError>
-        ensures ok { IfOk result (λ took. TakesPiece highest self.old piece.now took self.new) }
+    pub fn take(&mut self, piece: &[u8], highest: u64, known: u32) -> Result<Took, FrameError>
+        ensures ok { IfOk result (λ took. TakesPiece highest known self.old piece.now took self.new) }
         ensures waiting { IsSome self.old.waiting → OnOk result (self.new ≡ self.old) }
 
         ensures malformed { (fault : Malformed) → result ≡ Err (FrameError.Malformed fault)
-            → RefusesPiece highest self.old piece.now fault self.new }
+            → RefusesPiece highest known self.old piece.now fault self.new }
         ensures closed { IsErrOf result FrameError.Closed ↔ IsSome self.old.refused }
         ensures closed_still { IsSome self.old.refused → self.new ≡ self.old }
         ensures memory { IsErrOf result FrameError.Memory → self.new ≡ self.old }
@@ -97,15 +98,15 @@ impl Splitter {
                 ready: true,
             });
         }
-        self.take_next(piece, highest)
+        self.take_next(piece, highest, known)
     }
 
-    fn take_next(&mut self, piece: &[u8], highest: u64) -> Result<Took, FrameError>
+    fn take_next(&mut self, piece: &[u8], highest: u64, known: u32) -> Result<Took, FrameError>
         requires not_closed { self.old.refused ≡ None }
         requires none_waits { self.old.waiting ≡ None }
-        ensures ok { IfOk result (λ took. TakesPiece highest self.old piece.now took self.new) }
+        ensures ok { IfOk result (λ took. TakesPiece highest known self.old piece.now took self.new) }
         ensures malformed { (fault : Malformed) → result ≡ Err (FrameError.Malformed fault)
-            → RefusesPiece highest self.old piece.now fault self.new }
+            → RefusesPiece highest known self.old piece.now fault self.new }
         ensures not_closed { IsErrOf result FrameError.Closed → ⊥ }
         ensures memory { IsErrOf result FrameError.Memory → self.new ≡ self.old }
         ensures held { HoldsAtMostOneFrame self.new }
@@ -119,7 +120,7 @@ impl Splitter {
             });
         }
         let header = decode(&self.head);
-        if let Some(fault) = fault_of(&header, self.came, highest) {
+        if let Some(fault) = fault_of(&header, self.came, highest, known) {
             self.came = 48;
             self.refused = Some(header);
             return Err(FrameError::Malformed(fault));

@@ -1,3 +1,4 @@
 pub mod FieldSum
+pub mod FirstGeneration
 pub mod Folding
 pub mod OneExt

@@ -2,7 +2,7 @@ ghost use Rattle.std.specs.Prelude.{◌≡◌, IsTrue, ◌↔◌};
 ghost use Rattle.rds_wire.specs.Kinds.{carries as carries_flag, checked, kind_of as kind_of_header};
 
 use crate::sum::computed;
-use crate::{CONG_BITMAP, Header};
+use crate::{CONG_BITMAP, Header, generation};
 
 /// How many bytes a congestion map has: one bit for each port.
 pub const MAP_LENGTH: u32 = 8192;
@@ -34,6 +34,8 @@ pub enum Malformed {
     Sequence { number: u64 },
     /// An acknowledgement above the highest number that the reader has ever pulled.
     Ack { ack: u64, highest: u64 },
+    /// A generation below the greatest one that the reader has read.
+    Generation { found: u32, known: u32 },
 }
 
 /// What a header says that its frame is.
@@ -54,14 +56,14 @@ pub fn kind_of(h: &Header) -> Kind
 }
 
 /// The kind of a header, or the first thing that is wrong with it, where `highest` is the highest number that
-/// the reader has ever pulled, or 0.
+/// the reader has ever pulled, and `known` the greatest generation that it has ever read, or 0.
 ///
 /// # Errors
 ///
 /// The first thing that is wrong with it, in the order of `Malformed`.
 #[tactic(auto, unfolding(crate::specs::Kinds::cause))]
-pub fn check(h: &Header, highest: u64) -> Result<Kind, Malformed>
-    ensures { result ≡ checked h.now highest }
+pub fn check(h: &Header, highest: u64, known: u32) -> Result<Kind, Malformed>
+    ensures { result ≡ checked h.now highest known }
 {
     let kind = kind_of(h);
     if h.csum != 0 && h.csum != computed(*h) {
@@ -81,6 +83,10 @@ pub fn check(h: &Header, highest: u64) -> Result<Kind, Malformed>
             ack: h.ack,
             highest,
         });
+    }
+    let found = generation(h);
+    if found < known {
+        return Err(Malformed::Generation { found, known });
     }
     Ok(kind)
 }

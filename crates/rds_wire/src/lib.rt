@@ -4,6 +4,7 @@
 mod codec;
 mod ext;
 mod frame;
+mod generations;
 mod header;
 mod kind;
 mod laws;
@@ -15,6 +16,7 @@ mod sum;
 pub use codec::{decode, encode};
 pub use ext::{Ext, next_ext, put_ext};
 pub use frame::Frame;
+pub use generations::generation;
 pub use header::{ACK_REQUIRED, CONG_BITMAP, Header, RETRANSMITTED};
 pub use kind::{Kind, MAP_LENGTH, MAX_LENGTH, Malformed, check, kind_of};
 pub use laws::{one_ext, one_header};

@@ -12,7 +12,7 @@ loop-frames-preserved c =
     let first = rw c.in-Some.is at found.found in
     let pushed = c.in_ok-push.ensures {u = tt} in
     let n : 48 + c.len.result ≡ 48 + length f.payload = ap (λ k. 48 + k) c.len.ensures.len in
-    frames_bytes-more c.args.highest c.args.bytes.now rest _ loop.frames.items c.push.new.self.items f (48 + length f.payload)
+    frames_bytes-more c.args.highest c.args.known c.args.bytes.now rest _ loop.frames.items c.push.new.self.items f (48 + length f.payload)
     loop.invariant.0 loop.invariant.1 first.0 first.2 pushed.items
     (take_rest rest (48 + c.len.result) ∙ ap (λ k. drop k rest) n)
 
@@ -21,4 +21,4 @@ returns-clause-only c =
     let loop = c.loop-frames in
     let found = c.in_ok-frame.ensures {u = tt} in
     let partial = rw c.in_default.is at found.found in
-    Splits-sound_only c.args.highest c.args.bytes.now loop.rest.now loop.frames.items loop.invariant.0 loop.invariant.1 partial
+    Splits-sound_only c.args.highest c.args.known c.args.bytes.now loop.rest.now loop.frames.items loop.invariant.0 loop.invariant.1 partial

@@ -12,8 +12,8 @@ pub loop-piece-init : goal.loop-piece-init
 loop-piece-init c =
     let new = c.in_ok-splitter.ensures {u = tt} in (
       ap (λ (h : SplitterView). h.waiting) new.fresh,
-      subst (λ (h : SplitterView). IsFed c.args.highest [] c.new-frames.result.items h) (sym new.fresh)
-          (subst (λ (frames : List Frame). IsFed c.args.highest [] frames nothing_held) (sym c.new-frames.ensures.items) (IsFed-nothing c.args.highest)),
+      subst (λ (h : SplitterView). IsFed c.args.highest c.args.known [] c.new-frames.result.items h) (sym new.fresh)
+          (subst (λ (frames : List Frame). IsFed c.args.highest c.args.known [] frames nothing_held) (sym c.new-frames.ensures.items) (IsFed-nothing c.args.highest c.args.known)),
     )
 
 pub returns-in_err-feed-clause-malformed : goal.returns-in_err-feed-clause-malformed
@@ -21,9 +21,9 @@ returns-in_err-feed-clause-malformed c =
     let loop = c.loop-piece in
     let p = err_from_is_err_and c.from_residual-in_err-feed.result c.from_residual-in_err-feed.ensures.1 in
     let failed = c.in_err-feed.ensures {u = tt} in
-    λ fault same. IsMalformed-pieces (λ piece. piece.items) c.args.highest c.args.pieces.now loop.piece-index c.piece-item.result loop.frames.items loop.splitter fault
+    λ fault same. IsMalformed-pieces (λ piece. piece.items) c.args.highest c.args.known c.args.pieces.now loop.piece-index c.piece-item.result loop.frames.items loop.splitter fault
     (omega arith) c.piece-item.is loop.invariant.1
-    (subst (λ (piece : List ℕ). IsMalformed c.args.highest (frames_bytes loop.frames.items ++ held_bytes loop.splitter ++ piece) fault)
+    (subst (λ (piece : List ℕ). IsMalformed c.args.highest c.args.known (frames_bytes loop.frames.items ++ held_bytes loop.splitter ++ piece) fault)
     c.deref.ensures.value (failed.malformed fault (cc)))
 
 pub returns-clause-only : goal.returns-clause-only
@@ -31,5 +31,5 @@ returns-clause-only c =
     let loop = c.loop-piece in
     let all : take loop.piece-index c.args.pieces.now ≡ c.args.pieces.now = take_all loop.piece-index c.args.pieces.now (omega arith) in
     let bytes = ap (flat_map (λ piece. piece.items)) all in
-    let fed = subst (λ (b : List ℕ). IsFed c.args.highest b loop.frames.items loop.splitter) bytes loop.invariant.1 in
-    Splits-fed-only c.args.highest _ loop.frames.items loop.splitter fed loop.invariant.0
+    let fed = subst (λ (b : List ℕ). IsFed c.args.highest c.args.known b loop.frames.items loop.splitter) bytes loop.invariant.1 in
+    Splits-fed-only c.args.highest c.args.known _ loop.frames.items loop.splitter fed loop.invariant.0

@@ -9,4 +9,4 @@ ghost-feed a = frames_bytes a.frames.now.items ++ held_bytes a.splitter.now
 
 abbrev pub invariant-loop-piece : goal.invariant-loop-piece
 invariant-loop-piece l =
-    (l.splitter.waiting ≡ None) × IsFed l.highest (flat_map (λ piece. piece.items) (take l.piece-index l.pieces)) l.frames.items l.splitter
+    (l.splitter.waiting ≡ None) × IsFed l.highest l.known (flat_map (λ piece. piece.items) (take l.piece-index l.pieces)) l.frames.items l.splitter

@@ -11,4 +11,4 @@ returns-then-is_some-2-clause-ok c =
     let held : HoldsAtMostOneFrame old =
     subst (λ (h : SplitterView). HoldsAtMostOneFrame h) c.self.view_is (IsHeld-fields s.head s.came s.body s.waiting s.refused c.self.invariant) in
     let waits = c.if-is_some-2.ensures {u = tt} in
-    Takes-nothing c.args.highest old c.args.piece.now held (sym (ap (λ (h : SplitterView). is_some h.waiting) c.self.view_is) ∙ sym waits)
+    Takes-nothing c.args.highest c.args.known old c.args.piece.now held (sym (ap (λ (h : SplitterView). is_some h.waiting) c.self.view_is) ∙ sym waits)

@@ -29,7 +29,7 @@ returns-then-self-filled-lt48-clause-ok c =
     } in
     let fill : Filled s.head s.came piece filled n =
     record { used = c.fill-filled.ensures.used; bytes = c.fill-filled.ensures.came; len = c.fill-filled.ensures.len } in
-    Takes-early old s.head s.came s.body s.waiting s.refused c.args.highest piece filled n is fill c.if-self-filled-lt48.true
+    Takes-early old s.head s.came s.body s.waiting s.refused c.args.highest c.args.known piece filled n is fill c.if-self-filled-lt48.true
 
 pub returns-in-Some-clause-malformed : goal.returns-in-Some-clause-malformed
 returns-in-Some-clause-malformed c =
@@ -55,7 +55,7 @@ returns-in-Some-clause-malformed c =
       | inl below ↦ below
       | inr full ↦ let none : Some c.in-Some.fault ≡ None = faults.passed full in cc
     ] in
-    λ fault same. Refuses-header old s.head s.came s.body s.waiting s.refused c.args.highest piece filled n d fault is fill late early bytes fits (sym (faults.new early) ∙ some_fault same)
+    λ fault same. Refuses-header old s.head s.came s.body s.waiting s.refused c.args.highest c.args.known piece filled n d fault is fill late early bytes fits (sym (faults.new early) ∙ some_fault same)
 
 pub returns-in-Some-clause-held : goal.returns-in-Some-clause-held
 returns-in-Some-clause-held c =
@@ -103,8 +103,8 @@ overflow_sub-missing c =
     let fits = c.decode-header.ensures.header in
     let late = c.if-self-filled-lt48.false in
     let no_fault = c.in_default.ensures {u = tt} in
-    let passed : IsPassed c.args.highest s.came s.body d =
-    IsPassed-whole old s.head s.came s.body s.waiting s.refused c.args.highest piece filled n d is fill late bytes fits (λ early. sym (no_fault.new early)) in
+    let passed : IsPassed c.args.highest c.args.known s.came s.body d =
+    IsPassed-whole old s.head s.came s.body s.waiting s.refused c.args.highest c.args.known piece filled n d is fill late bytes fits (λ early. sym (no_fault.new early)) in
     omega (arith, passed.within)
 
 pub advance-requires-clause-came : goal.advance-requires-clause-came
@@ -127,8 +127,8 @@ advance-requires-clause-came c =
     let fits = c.decode-header.ensures.header in
     let late = c.if-self-filled-lt48.false in
     let no_fault = c.in_default.ensures {u = tt} in
-    let passed : IsPassed c.args.highest s.came s.body d =
-    IsPassed-whole old s.head s.came s.body s.waiting s.refused c.args.highest piece filled n d is fill late bytes fits (λ early. sym (no_fault.new early)) in
+    let passed : IsPassed c.args.highest c.args.known s.came s.body d =
+    IsPassed-whole old s.head s.came s.body s.waiting s.refused c.args.highest c.args.known piece filled n d is fill late bytes fits (λ early. sym (no_fault.new early)) in
     passed.within
 
 pub advance-requires-clause-limit : goal.advance-requires-clause-limit
@@ -151,8 +151,8 @@ advance-requires-clause-limit c =
     let fits = c.decode-header.ensures.header in
     let late = c.if-self-filled-lt48.false in
     let no_fault = c.in_default.ensures {u = tt} in
-    let passed : IsPassed c.args.highest s.came s.body d =
-    IsPassed-whole old s.head s.came s.body s.waiting s.refused c.args.highest piece filled n d is fill late bytes fits (λ early. sym (no_fault.new early)) in
+    let passed : IsPassed c.args.highest c.args.known s.came s.body d =
+    IsPassed-whole old s.head s.came s.body s.waiting s.refused c.args.highest c.args.known piece filled n d is fill late bytes fits (λ early. sym (no_fault.new early)) in
     passed.limit
 
 pub returns-in_err-advance-clause-held : goal.returns-in_err-advance-clause-held
@@ -175,8 +175,8 @@ returns-in_err-advance-clause-held c =
     let fits = c.decode-header.ensures.header in
     let late = c.if-self-filled-lt48.false in
     let no_fault = c.in_default.ensures {u = tt} in
-    let passed : IsPassed c.args.highest s.came s.body d =
-    IsPassed-whole old s.head s.came s.body s.waiting s.refused c.args.highest piece filled n d is fill late bytes fits (λ early. sym (no_fault.new early)) in
+    let passed : IsPassed c.args.highest c.args.known s.came s.body d =
+    IsPassed-whole old s.head s.came s.body s.waiting s.refused c.args.highest c.args.known piece filled n d is fill late bytes fits (λ early. sym (no_fault.new early)) in
     let failed = c.in_err-advance.ensures {u = tt} in
     let same = failed.err in
     IsHeld-fields filled s.came c.advance.new.self s.waiting s.refused (Keeps-failed old s.head s.came s.body s.waiting s.refused piece filled c.advance.new.self n is fill same)
@@ -201,12 +201,12 @@ invariant_of-self-in-None c =
     let fits = c.decode-header.ensures.header in
     let late = c.if-self-filled-lt48.false in
     let no_fault = c.in_default.ensures {u = tt} in
-    let passed : IsPassed c.args.highest s.came s.body d =
-    IsPassed-whole old s.head s.came s.body s.waiting s.refused c.args.highest piece filled n d is fill late bytes fits (λ early. sym (no_fault.new early)) in
+    let passed : IsPassed c.args.highest c.args.known s.came s.body d =
+    IsPassed-whole old s.head s.came s.body s.waiting s.refused c.args.highest c.args.known piece filled n d is fill late bytes fits (λ early. sym (no_fault.new early)) in
     let part = c.in_ok-advance.ensures {u = tt} in
     let grown = c.advance.new.self in
     let facts = rw (c.in-None.is, take_rest piece n) at part.part in
-    Keeps-part old s.head s.came s.body s.waiting s.refused c.args.highest piece filled grown n d is fill bytes fits passed facts.0 facts.1
+    Keeps-part old s.head s.came s.body s.waiting s.refused c.args.highest c.args.known piece filled grown n d is fill bytes fits passed facts.0 facts.1
 
 pub returns-in-None-clause-ok : goal.returns-in-None-clause-ok
 returns-in-None-clause-ok c =
@@ -228,12 +228,12 @@ returns-in-None-clause-ok c =
     let fits = c.decode-header.ensures.header in
     let late = c.if-self-filled-lt48.false in
     let no_fault = c.in_default.ensures {u = tt} in
-    let passed : IsPassed c.args.highest s.came s.body d =
-    IsPassed-whole old s.head s.came s.body s.waiting s.refused c.args.highest piece filled n d is fill late bytes fits (λ early. sym (no_fault.new early)) in
+    let passed : IsPassed c.args.highest c.args.known s.came s.body d =
+    IsPassed-whole old s.head s.came s.body s.waiting s.refused c.args.highest c.args.known piece filled n d is fill late bytes fits (λ early. sym (no_fault.new early)) in
     let part = c.in_ok-advance.ensures {u = tt} in
     let grown = c.advance.new.self in
     let facts = rw (c.in-None.is, take_rest piece n) at part.part in
-    Takes-part old s.head s.came s.body s.waiting s.refused c.args.highest piece filled grown n d is fill late bytes fits passed facts.0
+    Takes-part old s.head s.came s.body s.waiting s.refused c.args.highest c.args.known piece filled grown n d is fill late bytes fits passed facts.0
 
 pub returns-in-None-clause-held : goal.returns-in-None-clause-held
 returns-in-None-clause-held c =
@@ -255,13 +255,13 @@ returns-in-None-clause-held c =
     let fits = c.decode-header.ensures.header in
     let late = c.if-self-filled-lt48.false in
     let no_fault = c.in_default.ensures {u = tt} in
-    let passed : IsPassed c.args.highest s.came s.body d =
-    IsPassed-whole old s.head s.came s.body s.waiting s.refused c.args.highest piece filled n d is fill late bytes fits (λ early. sym (no_fault.new early)) in
+    let passed : IsPassed c.args.highest c.args.known s.came s.body d =
+    IsPassed-whole old s.head s.came s.body s.waiting s.refused c.args.highest c.args.known piece filled n d is fill late bytes fits (λ early. sym (no_fault.new early)) in
     let part = c.in_ok-advance.ensures {u = tt} in
     let grown = c.advance.new.self in
     let facts = rw (c.in-None.is, take_rest piece n) at part.part in
     IsHeld-fields filled 48 grown s.waiting s.refused
-    (Keeps-part old s.head s.came s.body s.waiting s.refused c.args.highest piece filled grown n d is fill bytes fits passed facts.0 facts.1)
+    (Keeps-part old s.head s.came s.body s.waiting s.refused c.args.highest c.args.known piece filled grown n d is fill bytes fits passed facts.0 facts.1)
 
 pub invariant_of-self-in-Some-2 : goal.invariant_of-self-in-Some-2
 invariant_of-self-in-Some-2 c =
@@ -283,8 +283,8 @@ invariant_of-self-in-Some-2 c =
     let fits = c.decode-header.ensures.header in
     let late = c.if-self-filled-lt48.false in
     let no_fault = c.in_default.ensures {u = tt} in
-    let passed : IsPassed c.args.highest s.came s.body d =
-    IsPassed-whole old s.head s.came s.body s.waiting s.refused c.args.highest piece filled n d is fill late bytes fits (λ early. sym (no_fault.new early)) in
+    let passed : IsPassed c.args.highest c.args.known s.came s.body d =
+    IsPassed-whole old s.head s.came s.body s.waiting s.refused c.args.highest c.args.known piece filled n d is fill late bytes fits (λ early. sym (no_fault.new early)) in
     let part = c.in_ok-advance.ensures {u = tt} in
     let rest = c.advance.new.self in
     let payload = c.in-Some-2.payload in
@@ -311,13 +311,13 @@ returns-in-Some-2-clause-ok c =
     let fits = c.decode-header.ensures.header in
     let late = c.if-self-filled-lt48.false in
     let no_fault = c.in_default.ensures {u = tt} in
-    let passed : IsPassed c.args.highest s.came s.body d =
-    IsPassed-whole old s.head s.came s.body s.waiting s.refused c.args.highest piece filled n d is fill late bytes fits (λ early. sym (no_fault.new early)) in
+    let passed : IsPassed c.args.highest c.args.known s.came s.body d =
+    IsPassed-whole old s.head s.came s.body s.waiting s.refused c.args.highest c.args.known piece filled n d is fill late bytes fits (λ early. sym (no_fault.new early)) in
     let part = c.in_ok-advance.ensures {u = tt} in
     let rest = c.advance.new.self in
     let payload = c.in-Some-2.payload in
     let facts = rw (c.in-Some-2.is, take_rest piece n) at part.part in
-    Takes-frame old s.head s.came s.body s.waiting s.refused c.args.highest piece filled rest payload n c.len.result d is fill late bytes fits passed (omega arith) facts.0 facts.1 facts.2
+    Takes-frame old s.head s.came s.body s.waiting s.refused c.args.highest c.args.known piece filled rest payload n c.len.result d is fill late bytes fits passed (omega arith) facts.0 facts.1 facts.2
 
 pub returns-in-Some-2-clause-held : goal.returns-in-Some-2-clause-held
 returns-in-Some-2-clause-held c =
@@ -339,8 +339,8 @@ returns-in-Some-2-clause-held c =
     let fits = c.decode-header.ensures.header in
     let late = c.if-self-filled-lt48.false in
     let no_fault = c.in_default.ensures {u = tt} in
-    let passed : IsPassed c.args.highest s.came s.body d =
-    IsPassed-whole old s.head s.came s.body s.waiting s.refused c.args.highest piece filled n d is fill late bytes fits (λ early. sym (no_fault.new early)) in
+    let passed : IsPassed c.args.highest c.args.known s.came s.body d =
+    IsPassed-whole old s.head s.came s.body s.waiting s.refused c.args.highest c.args.known piece filled n d is fill late bytes fits (λ early. sym (no_fault.new early)) in
     let part = c.in_ok-advance.ensures {u = tt} in
     let rest = c.advance.new.self in
     let payload = c.in-Some-2.payload in
