@@ -1,11 +1,7 @@
 -- How the counts of a legal journal bound one another.
-use Rattle.std.proofs.Common.{◌≡◌, inl, inr, ℕ, ◌≤◌, ◌^◌, ◌&&◌, ◌||◌, ◌==◌, not, nat_lt, nat_le, max, Bool, true, false, cond, Some, None, is_some, List, [], ◌∷◌, length, refl, ap, arith}
-use Rattle.std.proofs.lemmas.Bool.{and_parts, and_from, or_right, or_left, or_cases, eq-eqb, cases_lt, eqb-true, cond_both, cases_Bool, cond-true, cond-false, cases_eq, false≢true, ltb-false}
-use Rattle.rds_wire.specs.declared.header.Header.{Header}
-use Rattle.rds_wire.specs.declared.kind.Malformed.TheVariants as malformed
-use Rattle.rds_wire.specs.declared.kind.TheConstants.{MAX_LENGTH}
-use Rattle.rds_wire.specs.Bytes.{computed}
-use Rattle.rds_wire.specs.Kinds.{cause, is_data, kind_of}
+use Rattle.std.proofs.Common.{◌≡◌, inl, inr, ℕ, ◌≤◌, ◌&&◌, ◌||◌, ◌==◌, max, true, false, is_some, List, [], ◌∷◌, length, refl, ap, arith}
+use Rattle.std.proofs.lemmas.Bool.{and_parts, and_from, or_right, or_left, or_cases, eq-eqb, cases_lt, eqb-true, cond_both, cases_Bool, cond-true, cond-false, cases_eq, false≢true}
+use Rattle.rds_wire.specs.CauseLaws.{ack-cause}
 use Rattle.rds_model.specs.declared.entry.Entry.{Entry}
 use Rattle.rds_model.specs.declared.entry.Entry.TheVariants.{Accept, Pull, Read}
 use Rattle.rds_model.specs.Past.{now, before, accepted, highest_ack, highest_pulled, number, is_datagram, carries_number}
@@ -22,35 +18,12 @@ accepted_within [] = omega arith
 accepted_within (Accept slot sport dport payload ∷ past) = omega (arith, accepted_within past)
 accepted_within (_ ∷ past) = omega (arith, accepted_within past)
 
--- a header without a fault acknowledges no more than was pulled
-acknowledges : (wrong_sum long wrong_number : Bool) (h : Header) (highest_pulled : ℕ) →
-    cond wrong_sum (Some (malformed.Sum h.csum (computed h)))
-    (cond long (Some (malformed.Length h.len))
-    (cond wrong_number (Some (malformed.Sequence h.sequence))
-    (cond (nat_lt highest_pulled h.ack) (Some (malformed.Ack h.ack highest_pulled)) None))) ≡ None →
-    nat_lt highest_pulled h.ack ≡ false
-acknowledges true long wrong_number h highest_pulled is = cc
-acknowledges false true wrong_number h highest_pulled is = cc
-acknowledges false false true h highest_pulled is = cc
-acknowledges false false false h highest_pulled is = go (nat_lt highest_pulled h.ack) is
-  where
-    go : (b : Bool) → cond b (Some (malformed.Ack h.ack highest_pulled)) None ≡ None → b ≡ false
-    go true is = cc
-    go false is = refl
-
-pub ack_of_sound : (h : Header) (highest_pulled : ℕ) → cause h highest_pulled ≡ None → h.ack ≤ highest_pulled
-unfolding cause
-ack_of_sound h highest_pulled sound =
-    let within = acknowledges (not (h.csum == 0) && not (h.csum == computed h)) (nat_lt MAX_LENGTH h.len)
-    (is_data (kind_of h) && (h.sequence == 0 || nat_le (2 ^ 63) h.sequence)) h highest_pulled sound in
-    ltb-false highest_pulled h.ack within
-
 -- no frame that was read acknowledges a number that wasn't pulled
 pub acked_within : (past : List Entry) → IsLegal past → highest_ack past ≤ highest_pulled past
 acked_within [] legal = omega arith
 acked_within (Read s f o ∷ past) legal =
     let sound = (lawful_read s f o legal now).sound in
-    omega (arith, ack_of_sound f.header (highest_pulled past) sound, acked_within past legal.1)
+    omega (arith, ack-cause f.header (highest_pulled past) 0 sound, acked_within past legal.1)
 acked_within (e ∷ past) legal = omega (arith, acked_within past legal.1, highest_grows (before {e = e} {j = past} now))
 
 -- a datagram that was pulled was accepted

@@ -39,16 +39,16 @@ use Rattle.rds_conn.proofs.Reading.{waiting_sound}
 pub record Waits (c : Inside) (f : Frame) : Type 0 where
   pub frame : IsFrame f
   pub alone : c.splitter ≡ record { rest = []; waiting = Some f; refused = None }
-  pub sound : cause f.header (highest_pulled c.journal.past) ≡ None
+  pub sound : cause f.header (highest_pulled c.journal.past) 0 ≡ None
 
 pub waits : (c : Inside) (f : Frame) → ConnectionInvariant c → c.splitter.waiting ≡ Some f → Waits c f
 waits c f keeps is =
     let held = subst (λ (o : Option Frame). IfSome o (λ g. IsFrame g × (c.splitter ≡ record { rest = []; waiting = Some g; refused = None }))) is keeps.reading.held.waiting in
-    let clear : IsClear c.highest (frame_bytes f ++ []) = subst (λ (y : Frames). IsClear c.highest (held_bytes y)) held.1 keeps.reading.clear in
+    let clear : IsClear c.highest 0 (frame_bytes f ++ []) = subst (λ (y : Frames). IsClear c.highest 0 (held_bytes y)) held.1 keeps.reading.clear in
     record {
       frame = held.0;
       alone = held.1;
-      sound = sym (ap (cause f.header) keeps.counted.highest_is) ∙ (waiting_sound c.highest f [] held.0 clear).cause;
+      sound = sym (ap (λ n. cause f.header n 0) keeps.counted.highest_is) ∙ (waiting_sound c.highest 0 f [] held.0 clear).cause;
     }
 
 -- what holds of an item that is there

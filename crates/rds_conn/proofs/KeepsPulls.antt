@@ -7,6 +7,7 @@ use Rattle.std.proofs.lemmas.Bool.{cond-true, cond-false, false≢true, eq-eqb, 
 use Rattle.rds_wire.specs.declared.frame.Frame.{Frame}
 use Rattle.rds_wire.specs.declared.header.TheConstants.{ACK_REQUIRED, RETRANSMITTED}
 use Rattle.rds_wire.specs.declared.kind.TheConstants.{MAP_LENGTH}
+use Rattle.rds_wire.specs.Bytes.{IsBytes}
 use Rattle.rds_wire.specs.Kinds.{is_data}
 use Rattle.rds_model.specs.declared.entry.Entry.{Entry}
 use Rattle.rds_model.specs.declared.entry.Entry.TheVariants.{Pull}
@@ -60,7 +61,7 @@ keeps_pulled c s f mark top mapped map asking keeps some on lawful holds marked 
   linked = subst (λ o. IfSome o (λ y. IsLinked y (Pull s f ∷ c.journal.past) mapped map asking)) (sym on) linked;
   reading = record {
     held = keeps.reading.held;
-    clear = clear_higher c.highest top _ (let grows = highest_grows (before {e = Pull s f} {j = c.journal.past} now) in omega (arith, grows, top_is, keeps.counted.highest_is)) keeps.reading.clear;
+    clear = clear_higher c.highest top 0 _ (let grows = highest_grows (before {e = Pull s f} {j = c.journal.past} now) in omega (arith, grows, top_is, keeps.counted.highest_is)) keeps.reading.clear;
     still_open = keeps.reading.still_open;
     idle = keeps.reading.idle;
   };
@@ -83,7 +84,7 @@ highest_other : (s : ℕ) (f : Frame) (past : List Entry) → is_datagram f ≡ 
 highest_other s f past not_data = cond-false (is_datagram f) (max (number f) (highest_pulled past)) (highest_pulled past) not_data
 
 -- a map is pulled
-pub keeps_map : (c : Inside) (s : ℕ) (map : List ℕ) → ConnectionInvariant c → 1 ≤ c.spare → c.stream ≡ Some s → length map ≡ MAP_LENGTH →
+pub keeps_map : (c : Inside) (s : ℕ) (map : List ℕ) → ConnectionInvariant c → 1 ≤ c.spare → c.stream ≡ Some s → length map ≡ MAP_LENGTH → IsBytes map →
     is_last_map (last_map s c.journal.past) map ≡ false →
     ConnectionInvariant (record c {
       journal = record c.journal { past = Pull s (map_frame c.journal.past map) ∷ c.journal.past; spare = c.journal.spare - 1 };
@@ -92,13 +93,13 @@ pub keeps_map : (c : Inside) (s : ℕ) (map : List ℕ) → ConnectionInvariant 
       map = map;
       asking = record c.asking { is_asked = false };
     })
-keeps_map c s map keeps some on long new =
+keeps_map c s map keeps some on long bytes new =
     let past : List Entry = c.journal.past in
     let f : Frame = map_frame past map in
     let no_data : is_datagram f ≡ false = ap is_data (kind_of_map_frame past map) in
     let linked = linked_of c s keeps on in
     keeps_pulled c s f c.store.mark c.highest true map (record c.asking { is_asked = false }) keeps some on
-    (owed_is_lawful s past map f keeps.whole.legal (on_of c s keeps on) long (owed_map s past map new))
+    (owed_is_lawful s past map f keeps.whole.legal (on_of c s keeps on) long bytes (owed_map s past map new))
     (holds_after_other s f past c.store.messages c.store.mark (on_of c s keeps on) no_data keeps.stored.holds) keeps.stored.marked
     (keeps.counted.highest_is ∙ sym (highest_other s f past no_data))
     (record {
@@ -120,14 +121,14 @@ map_stays c s f keeps on no_map =
     map_pull s f c.journal.past ∙ cond-false (is_map f) (Some f.payload) (last_map s c.journal.past) no_map ∙ (linked_of c s keeps on).map_is
 
 -- an acknowledgement is pulled
-pub keeps_ack : (c : Inside) (s : ℕ) → ConnectionInvariant c → 1 ≤ c.spare → c.stream ≡ Some s → length c.map ≡ MAP_LENGTH →
+pub keeps_ack : (c : Inside) (s : ℕ) → ConnectionInvariant c → 1 ≤ c.spare → c.stream ≡ Some s → length c.map ≡ MAP_LENGTH → IsBytes c.map →
     IsSome (last_map s c.journal.past) → due_numbers s c.journal.past ≡ [] → (c.asking.is_asked || c.asking.must_ask) ≡ true →
     ConnectionInvariant (record c {
       journal = record c.journal { past = Pull s (ack_frame c.journal.past c.asking.must_ask) ∷ c.journal.past; spare = c.journal.spare - 1 };
       spare = c.spare - 1;
       asking = cond c.asking.must_ask nothing_asked (record c.asking { is_asked = false });
     })
-keeps_ack c s keeps some on long behind none asked =
+keeps_ack c s keeps some on long bytes behind none asked =
     let past : List Entry = c.journal.past in
     let is = asking_of c s keeps on in
     let f : Frame = ack_frame past c.asking.must_ask in
@@ -140,7 +141,7 @@ keeps_ack c s keeps some on long behind none asked =
     let kind_is = kind_of_ack_frame past c.asking.must_ask in
     let no_data : is_datagram f ≡ false = ap is_data kind_is in
     keeps_pulled c s f c.store.mark c.highest c.mapped c.map (cond c.asking.must_ask nothing_asked (record c.asking { is_asked = false })) keeps some on
-    (owed_is_lawful s past c.map f keeps.whole.legal (on_of c s keeps on) long owed_is)
+    (owed_is_lawful s past c.map f keeps.whole.legal (on_of c s keeps on) long bytes owed_is)
     (holds_after_other s f past c.store.messages c.store.mark (on_of c s keeps on) no_data keeps.stored.holds) keeps.stored.marked
     (keeps.counted.highest_is ∙ sym (highest_other s f past no_data))
     (record {
@@ -182,7 +183,7 @@ mark_before c n rest behind =
     omega (arith, many, is, others)
 
 -- a datagram is pulled
-pub keeps_data : (c : Inside) (s : ℕ) (m : Msg) (d : Accepted) → ConnectionInvariant c → 1 ≤ c.spare → c.stream ≡ Some s → length c.map ≡ MAP_LENGTH →
+pub keeps_data : (c : Inside) (s : ℕ) (m : Msg) (d : Accepted) → ConnectionInvariant c → 1 ≤ c.spare → c.stream ≡ Some s → length c.map ≡ MAP_LENGTH → IsBytes c.map →
     IsSome (last_map s c.journal.past) → (first : IsFirstDue s c.journal.past m) → datagram c.journal.past m.num ≡ Some d →
     ConnectionInvariant (record c {
       journal = record c.journal { past = Pull s (data_frame s c.journal.past m.num d) ∷ c.journal.past; spare = c.journal.spare - 1 };
@@ -192,7 +193,7 @@ pub keeps_data : (c : Inside) (s : ℕ) (m : Msg) (d : Accepted) → ConnectionI
           (record { unasked = c.asking.unasked + 1; bytes = c.asking.bytes + m.len; is_asked = false; must_ask = true });
       highest = max c.highest m.num;
     })
-keeps_data c s m d keeps some on long behind first known =
+keeps_data c s m d keeps some on long bytes behind first known =
     let past : List Entry = c.journal.past in
     let f : Frame = data_frame s past m.num d in
     let above = (number_of_known past m.num (ap is_some known)).0 in
@@ -205,7 +206,7 @@ keeps_data c s m d keeps some on long behind first known =
     keeps_pulled c s f (c.store.mark + 1) (max c.highest m.num) c.mapped c.map
     (cond (asks_with s past m.num d) nothing_asked (record { unasked = c.asking.unasked + 1; bytes = c.asking.bytes + m.len; is_asked = false; must_ask = true }))
     keeps some on
-    (owed_is_lawful s past c.map f keeps.whole.legal (on_of c s keeps on) long
+    (owed_is_lawful s past c.map f keeps.whole.legal (on_of c s keeps on) long bytes
     (owed_data s past c.map m.num first.rest d (last_of_pulled (last_map s past) c.map (map_behind c s keeps on behind)) first.first known))
     (holds_after_data s f past c.store.messages c.store.mark back.m back.others (on_of c s keeps on) data_is (number_is ∙ back.num) back.drop_is keeps.stored.holds)
     (omega (arith, fits))

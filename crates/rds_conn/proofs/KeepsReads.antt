@@ -19,7 +19,7 @@ use Rattle.rds_conn.specs.Invariant.{ConnectionInvariant, connection_view}
 use Rattle.rds_conn.proofs.Reading.{clear_after}
 
 pub keeps_fed : (c : Inside) (s : ℕ) (piece : List ℕ) (took : Took) (splitter : Frames) → ConnectionInvariant c → c.stream ≡ Some s →
-    TakesPiece c.highest c.splitter piece took splitter → HoldsAtMostOneFrame splitter → ConnectionInvariant (record c { splitter = splitter })
+    TakesPiece c.highest 0 c.splitter piece took splitter → HoldsAtMostOneFrame splitter → ConnectionInvariant (record c { splitter = splitter })
 keeps_fed c s piece took splitter keeps on takes held = record {
   whole = keeps.whole;
   room = keeps.room;
@@ -30,7 +30,7 @@ keeps_fed c s piece took splitter keeps on takes held = record {
   linked = keeps.linked;
   reading = record {
     held = held;
-    clear = clear_after c.highest c.splitter splitter (take took.used piece) takes.bytes takes.clear keeps.reading.clear;
+    clear = clear_after c.highest 0 c.splitter splitter (take took.used piece) takes.bytes takes.clear keeps.reading.clear;
     still_open = takes.still_open;
     idle = λ none. let never : Some s ≡ None = sym on ∙ none in cc;
   };
@@ -41,17 +41,17 @@ keeps_fed c s piece took splitter keeps on takes held = record {
 
 -- no header with a fault became whole
 pub clear_fed : (c : Inside) (s : ℕ) (piece : List ℕ) (took : Took) (splitter : Frames) → ConnectionInvariant c → c.stream ≡ Some s →
-    TakesPiece c.highest c.splitter piece took splitter → HoldsAtMostOneFrame splitter → IsClear (highest_pulled c.journal.past) (held_bytes splitter)
+    TakesPiece c.highest 0 c.splitter piece took splitter → HoldsAtMostOneFrame splitter → IsClear (highest_pulled c.journal.past) 0 (held_bytes splitter)
 clear_fed c s piece took splitter keeps on takes held =
-    subst (λ n. IsClear n (held_bytes splitter)) keeps.counted.highest_is (keeps_fed c s piece took splitter keeps on takes held).reading.clear
+    subst (λ n. IsClear n 0 (held_bytes splitter)) keeps.counted.highest_is (keeps_fed c s piece took splitter keeps on takes held).reading.clear
 
 -- a header that the splitter refused is a lawful end of the stream
 pub lawful_refusal : (c : Inside) (s : ℕ) (piece : List ℕ) (fault : Malformed) (splitter : Frames) → ConnectionInvariant c → c.stream ≡ Some s →
-    (refused : FrameRefuses c.highest c.splitter piece fault splitter) → IsLawfulBad s c.journal.past refused.header fault
+    (refused : FrameRefuses c.highest 0 c.splitter piece fault splitter) → IsLawfulBad s c.journal.past refused.header fault
 lawful_refusal c s piece fault splitter keeps on refused = record {
   on = sym keeps.stream ∙ on;
   header = refused.fits;
-  malformed = sym (ap (cause refused.header) keeps.counted.highest_is) ∙ refused.cause;
+  malformed = sym (ap (λ n. cause refused.header n 0) keeps.counted.highest_is) ∙ refused.cause;
 }
 
 -- as much of a list as was taken was there
@@ -59,7 +59,7 @@ taken_within : (n : ℕ) (xs : List ℕ) (have : ℕ) → have + length (take n 
 taken_within n xs have whole rest short = let len = length-take n xs in omega (arith, len, whole, rest, short)
 
 pub refused_bytes : (c : Inside) (s : ℕ) (piece : List ℕ) (fault : Malformed) (splitter : Frames) → ConnectionInvariant c → c.stream ≡ Some s →
-    (refused : FrameRefuses c.highest c.splitter piece fault splitter) →
+    (refused : FrameRefuses c.highest 0 c.splitter piece fault splitter) →
     (new : Connection) → new ≡ record (with_entries (Bad s refused.header fault ∷ []) (connection_view c)) { waiting = None; rest = [] } →
     RefusesHeader piece fault (connection_view c) new
 refused_bytes c s piece fault splitter keeps on refused new is =
@@ -72,7 +72,7 @@ refused_bytes c s piece fault splitter keeps on refused new is =
       used = 48 - have;
       on = sym keeps.stream ∙ on;
       fits = refused.fits;
-      fault_is = sym (ap (cause refused.header) keeps.counted.highest_is) ∙ refused.cause;
+      fault_is = sym (ap (λ n. cause refused.header n 0) keeps.counted.highest_is) ∙ refused.cause;
       within = taken_within (48 - have) piece have whole refl refused.short;
       bytes = refused.bytes;
       entry = is;

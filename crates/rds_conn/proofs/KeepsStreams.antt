@@ -40,7 +40,7 @@ room_once e log spare store store_spare some room = record {
 }
 
 -- where nothing was taken, no header is faulty
-nothing_clear : (top : ℕ) → IsClear top []
+nothing_clear : (top : ℕ) → IsClear top 0 []
 nothing_clear top h more fits is =
     absurd (let len = ap length is in let whole = length-header_bytes h fits in omega (arith, len, whole, length-append (header_bytes h) more))
 

@@ -44,7 +44,7 @@ balanced e s f came old held_later (Some port) legal freed =
     omega (arith, read, more, none)
 
 pub passes_of : (came : Found) (old new : Connection) → IsSome (stream_of old) → IsSome old.waiting →
-    IfSome old.waiting (IsSound (highest_pulled old.log.past)) → IsWhole new.log.past →
+    IfSome old.waiting (IsSound (highest_pulled old.log.past) 0) → IsWhole new.log.past →
     ((s : ℕ) (f : Frame) → stream_of old ≡ Some s → old.waiting ≡ Some f →
     new ≡ record (after_pass s f (outcome_of (verdict_of old.log.past f.header) came) old) { freed = new.freed }) →
     ((slot : ℕ) → slot < old.slots → freed_bytes_of slot new + released_bytes slot old.log.past ≡ freed_bytes_of slot old + released_bytes slot new.log.past) →
@@ -60,7 +60,7 @@ passes_of came old new on waits sound whole entry freed =
       frame = frame.0;
       on = stream.1;
       waits = frame.1;
-      sound = of_some (IsSound (highest_pulled old.log.past)) old.waiting frame.0 frame.1 sound;
+      sound = of_some (IsSound (highest_pulled old.log.past) 0) old.waiting frame.0 frame.1 sound;
       legal = whole;
       entry = is;
       accounts = freed;

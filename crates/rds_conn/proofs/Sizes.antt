@@ -6,34 +6,15 @@ use Rattle.rds_wire.specs.declared.header.Header.{Header}
 use Rattle.rds_wire.specs.declared.header.TheConstants.{CONG_BITMAP}
 use Rattle.rds_wire.specs.declared.kind.Kind.{Kind}
 use Rattle.rds_wire.specs.declared.kind.Kind.TheVariants as kind
-use Rattle.rds_wire.specs.declared.kind.Malformed.TheVariants as malformed
 use Rattle.rds_wire.specs.declared.kind.TheConstants.{MAX_LENGTH, MAP_LENGTH}
-use Rattle.rds_wire.specs.Bytes.{computed}
-use Rattle.rds_wire.specs.Kinds.{carries, cause, is_data, kind_of}
+use Rattle.rds_wire.specs.CauseLaws.{len-cause}
+use Rattle.rds_wire.specs.Kinds.{carries, kind_of}
 use Rattle.rds_model.specs.declared.entry.Entry.{Entry}
 use Rattle.rds_model.specs.declared.entry.Verdict.TheVariants as verdict
 use Rattle.rds_model.specs.Reading.{is_old, verdict_of, verdict_of_kind}
 use Rattle.rds_conn.specs.declared.conn.Conn.TheInside.{Inside}
 use Rattle.rds_conn.specs.Invariant.{ConnectionInvariant}
 use Rattle.rds_conn.proofs.KeepsPassing.{waits}
-
--- a header without a fault announces no more than a frame may have
-short_of : (wrong_sum long wrong_number wrong_ack : Bool) (h : Header) (highest : ℕ) →
-    cond wrong_sum (Some (malformed.Sum h.csum (computed h)))
-    (cond long (Some (malformed.Length h.len))
-    (cond wrong_number (Some (malformed.Sequence h.sequence))
-    (cond wrong_ack (Some (malformed.Ack h.ack highest)) None))) ≡ None →
-    long ≡ false
-short_of true long wrong_number wrong_ack h highest is = cc
-short_of false true wrong_number wrong_ack h highest is = cc
-short_of false false wrong_number wrong_ack h highest is = refl
-
-len_of_sound : (h : Header) (highest : ℕ) → cause h highest ≡ None → h.len ≤ MAX_LENGTH
-unfolding cause
-len_of_sound h highest sound =
-    ltb-false MAX_LENGTH h.len
-    (short_of (not (h.csum == 0) && not (h.csum == computed h)) (nat_lt MAX_LENGTH h.len)
-    (is_data (kind_of h) && (h.sequence == 0 || nat_le (2 ^ 63) h.sequence)) (nat_lt highest h.ack) h highest sound)
 
 -- the verdict is that of a map for the header of one alone
 never_map : (old void ping : Bool) (dport : ℕ) →
@@ -67,7 +48,7 @@ short_waiting c keeps = go c.splitter.waiting refl
     go None is = tt
     go (Some f) is =
         let w = waits c f keeps is in
-        let len = len_of_sound f.header _ w.sound in
+        let len = len-cause f.header _ 0 w.sound in
         let whole = w.frame.payload in
         omega (arith, len, whole)
 

@@ -25,7 +25,7 @@ pub record RefusesHeader (piece : List ℕ) (fault : Malformed) (old new : Conne
   pub used : ℕ
   pub on : stream_of old ≡ Some s
   pub fits : IsHeader header
-  pub fault_is : cause header (highest_pulled old.log.past) ≡ Some fault
+  pub fault_is : cause header (highest_pulled old.log.past) 0 ≡ Some fault
   pub within : used ≤ length piece
   pub bytes : header_bytes header ≡ taken_bytes old ++ take used piece
   pub entry : new ≡ record (with_entries (Bad s header fault ∷ []) old) { waiting = None; rest = [] }

@@ -40,7 +40,7 @@ pub record IsLinked (s : ℕ) (past : List Entry) (mapped : Bool) (map : List �
 -- what was taken of the open stream begins with no faulty header; where none is open nothing is held
 pub record IsReading (stream : Option ℕ) (top : ℕ) (splitter : Frames) : Type 0 where
   pub held : HoldsAtMostOneFrame splitter
-  pub clear : IsClear top (held_bytes splitter)
+  pub clear : IsClear top 0 (held_bytes splitter)
   pub still_open : splitter.refused ≡ None
   pub idle : stream ≡ None → splitter ≡ nothing_held
 

@@ -66,7 +66,7 @@ pub record Passes (came : Found) (old new : Connection) : Type 0 where
   pub frame : Frame
   pub on : stream_of old ≡ Some stream
   pub waits : old.waiting ≡ Some frame
-  pub sound : IsSound (highest_pulled old.log.past) frame
+  pub sound : IsSound (highest_pulled old.log.past) 0 frame
   pub legal : IsWhole new.log.past
   pub entry : new ≡ record (after_pass stream frame (outcome_of (verdict_of old.log.past frame.header) came) old) { freed = new.freed }
   pub accounts : (slot : ℕ) → slot < old.slots → freed_bytes_of slot new + released_bytes slot old.log.past ≡ freed_bytes_of slot old + released_bytes slot new.log.past

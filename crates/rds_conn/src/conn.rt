@@ -239,13 +239,13 @@ impl Conn {
         ensures slots { self.now.slots ≤ MAX_SLOTS }
         ensures freed { length self.now.freed ≡ self.now.slots }
         ensures idle { stream_of self.now ≡ None → (self.now.waiting ≡ None) × (self.now.rest ≡ []) }
-        ensures sound { IfSome self.now.waiting (IsSound (highest_pulled self.now.log.past)) }
+        ensures sound { IfSome self.now.waiting (IsSound (highest_pulled self.now.log.past) 0) }
         ensures size { IfSome self.now.waiting (λ f. length f.payload ≤ MAX_LENGTH) }
         ensures map { IfSome self.now.waiting (λ f. verdict_of self.now.log.past f.header ≡ verdict.Map →
             length f.payload ≡ MAP_LENGTH) }
         ensures alone { IfSome self.now.waiting (λ f. self.now.rest ≡ []) }
         ensures partial { self.now.waiting ≡ None → IsPartial self.now.rest }
-        ensures clear { IsClear (highest_pulled self.now.log.past) (taken_bytes self.now) }
+        ensures clear { IsClear (highest_pulled self.now.log.past) 0 (taken_bytes self.now) }
         // A number that is alive was pulled exactly where it is at most the highest one that was pulled.
         ensures pulled { (n : ℕ) → is_alive self.now.log.past n ≡ true →
             was_pulled self.now.log.past n ≡ nat_le n (highest_pulled self.now.log.past) }

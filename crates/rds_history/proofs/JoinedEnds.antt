@@ -3,7 +3,7 @@ use Rattle.std.proofs.Common.{◌≡◌, ◌≢◌, ◌⊎◌, inl, inr, ℕ, su
 use Rattle.std.proofs.lemmas.Bool.{cases_eq}
 use Rattle.rds_wire.specs.declared.frame.Frame.{Frame}
 use Rattle.rds_wire.specs.declared.kind.TheConstants.{MAP_LENGTH}
-use Rattle.rds_wire.specs.Bytes.{header_bytes, frame_bytes}
+use Rattle.rds_wire.specs.Bytes.{IsBytes, header_bytes, frame_bytes}
 use Rattle.rds_model.specs.declared.entry.Entry.{Entry}
 use Rattle.rds_model.specs.declared.entry.Entry.TheVariants.{Accept, Cancel, Open, Pull, Shut}
 use Rattle.rds_model.specs.declared.entry.Target.{Target}
@@ -121,9 +121,9 @@ going_of s w r moved some (inr going) = going
 
 -- what is owed is pulled, where all went before
 pub joined_pulled : (e : Ends) (s : ℕ) (map : List ℕ) (f : Frame) → AreJoined e → open_stream e.here ≡ Some s →
-    e.forth ≡ length (written_bytes s e.here) → length map ≡ MAP_LENGTH → owed_frame s e.here map ≡ Some f →
+    e.forth ≡ length (written_bytes s e.here) → length map ≡ MAP_LENGTH → IsBytes map → owed_frame s e.here map ≡ Some f →
     AreJoined (record e { here = Pull s f ∷ e.here })
-joined_pulled e s map f j on all long owed = record {
+joined_pulled e s map f j on all long bytes owed = record {
   whole_here = next_whole e.here (Pull s f) j.whole_here lawful refl;
   whole_there = j.whole_there;
   streams = j.streams;
@@ -148,7 +148,7 @@ joined_pulled e s map f j on all long owed = record {
         ]
 
     lawful : IsLawfulPull s e.here f
-    lawful = owed_is_lawful s e.here map f j.whole_here.legal on long owed
+    lawful = owed_is_lawful s e.here map f j.whole_here.legal on long bytes owed
 
     way : (t : ℕ) → open_stream e.here ≡ Some t → IsOnItsWay t (Pull s f ∷ e.here) e.there e.forth
     way t there =

@@ -1,9 +1,12 @@
 -- The congestion map of a host has the ports that its marks say.
 use Rattle.std.proofs.Common.{◌≡◌, ◌≢◌, ◌==◌, ◌&&◌, ℕ, ◌/◌, ◌%◌, ◌<◌, ◌≤◌, ◌^◌, ◌-◌, Bool, true, false, cond, List, [], ◌∷◌, length, slice_index, slice_set, bit_or, bit_and, refl, sym, ap, ◌∙◌, subst, arith, ⊎_elim}
 use Rattle.std.proofs.lemmas.Bool.{cases_eq, cases_lt, eq-eqb, ne_eqb}
-use Rattle.std.proofs.lemmas.List.{get_or-set_other, length-set, length-replicate, get_or-replicate}
+use Rattle.std.proofs.lemmas.List.{get_or-set_other, get_or_past, length-set, length-replicate, get_or-replicate}
+use Rattle.std.proofs.lemmas.List.Elements.{All-set, All-replicate}
+use Rattle.std.proofs.lemmas.Nat.{or_lt, and_le_l, pow_below}
 use Rattle.std.proofs.lemmas.Nat.Bits.{bit_at-zero}
 use Rattle.std.specs.Int.{bit_at}
+use Rattle.rds_wire.specs.Bytes.{IsBytes}
 use Rattle.rds_cong.specs.Map.{has_port, no_ports, with_port, without_port}
 use Rattle.rds_cong.specs.ChangeLaws.{has_port-with, has_port-without}
 use Rattle.rds_history.specs.Events.{Event, Appended, Bound, Closed, Received, Marked, Moved, Printed}
@@ -68,6 +71,40 @@ length-own_map h (Closed a port slot unread ∷ past) = length-own_map h past
 length-own_map h (Received a port slot item ∷ past) = length-own_map h past
 length-own_map h (Moved a b count ∷ past) = length-own_map h past
 length-own_map h (Printed line ∷ past) = length-own_map h past
+
+-- the map is bytes
+byte_at : (map : List ℕ) (i : ℕ) → IsBytes map → slice_index map i < 256
+byte_at map i bytes = ⊎_elim
+    (λ (within : i < length map). bytes i 0 within)
+    (λ (beyond : length map ≤ i). let none : slice_index map i ≡ 0 = get_or_past map i 0 beyond in omega arith)
+    (cases_lt i (length map))
+
+IsBytes-put : (map : List ℕ) (port : ℕ) → IsBytes map → IsBytes (with_port map port)
+IsBytes-put map port bytes =
+    let bit : 2 ^ (port % 8) < 2 ^ 8 = pow_below (port % 8) 8 (omega arith) in
+    All-set (λ b. b < 256) map (port / 8) _ (or_lt 8 (slice_index map (port / 8)) (2 ^ (port % 8)) (byte_at map (port / 8) bytes) bit) bytes
+
+IsBytes-taken : (map : List ℕ) (port : ℕ) → IsBytes map → IsBytes (without_port map port)
+IsBytes-taken map port bytes =
+    let byte = byte_at map (port / 8) bytes in
+    let less : bit_and (slice_index map (port / 8)) (255 - 2 ^ (port % 8)) ≤ slice_index map (port / 8) =
+    and_le_l (slice_index map (port / 8)) (255 - 2 ^ (port % 8)) in
+    All-set (λ b. b < 256) map (port / 8) _ (omega arith) bytes
+
+bytes_if : (own : Bool) (changed map : List ℕ) → IsBytes changed → IsBytes map → IsBytes (cond own changed map)
+bytes_if true changed map a b = a
+bytes_if false changed map a b = b
+
+pub IsBytes-own_map : (h : ℕ) (past : List Event) → IsBytes (own_map h past)
+unfolding no_ports
+IsBytes-own_map h [] = All-replicate (λ b. b < 256) 8192 0 (omega arith)
+IsBytes-own_map h (Marked host port true queued limit ∷ past) =
+    let older = IsBytes-own_map h past in
+    bytes_if (host == h) (with_port (own_map h past) port) (own_map h past) (IsBytes-put (own_map h past) port older) older
+IsBytes-own_map h (Marked host port false queued limit ∷ past) =
+    let older = IsBytes-own_map h past in
+    bytes_if (host == h) (without_port (own_map h past) port) (own_map h past) (IsBytes-taken (own_map h past) port older) older
+IsBytes-own_map h (_ ∷ past) = IsBytes-own_map h past
 
 -- each port of the map is one whose last mark set it
 pub one_map : (h : ℕ) (past : List Event) (q : ℕ) → q < 65536 → has_port (own_map h past) q ≡ is_marked h q past

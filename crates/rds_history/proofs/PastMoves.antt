@@ -27,7 +27,7 @@ use Rattle.rds_history.specs.Mark.{update_mark, if_changed}
 use Rattle.rds_history.specs.PullAndRead.{pull, pull_on, read, read_on, answer, outcome_at}
 use Rattle.rds_history.specs.Move.{move_piece, pull_if_idle, arrive, turn, move_up_to, portion}
 use Rattle.rds_history.proofs.EventInvariants.{Holds, holds_then, holds_again}
-use Rattle.rds_history.proofs.OneMap.{length-own_map}
+use Rattle.rds_history.proofs.OneMap.{length-own_map, IsBytes-own_map}
 use Rattle.rds_history.proofs.JoinedEnds.{Ends, AreJoined, IsOnItsWay, IsGoing, going_of, joined_pulled, joined_moved}
 use Rattle.rds_history.proofs.JoinedReads.{HonestLaws, joined_read, joined_pinged}
 use Rattle.rds_history.proofs.PastEnds.{ends, AreTwo, Keeps, IsStill, still_then, still_turned, keeps_later, still_appended, appended_here, appended_there, still_moved, moved_here, keeps_marked}
@@ -109,7 +109,7 @@ keeps_pull hosts h k past two keeps none = go (open_stream (journal h k past)) r
         let within = went_within s (journal h k past) (journal k h past) (moved_count h k past) (joined.forth.way s on) in
         keeps_later hosts h k past (Appended h k (Pull s f) ∷ past) two keeps (still_appended h k (Pull s f) past apart)
         (subst AreJoined (sym (appended_here h k (Pull s f) past apart))
-        (joined_pulled (ends h k past) s (own_map h past) f joined on (omega (arith, within, none, flying h k s past on)) (length-own_map h past) is))
+        (joined_pulled (ends h k past) s (own_map h past) f joined on (omega (arith, within, none, flying h k s past on)) (length-own_map h past) (IsBytes-own_map h past) is))
 
     go : (o : Option ℕ) → open_stream (journal h k past) ≡ o → Keeps hosts (option_map_or (λ stream. pull_on h k stream past) o past)
     go None closed = keeps

@@ -4,6 +4,7 @@ use Rattle.std.specs.Prelude.{codes}
 use Rattle.std.proofs.lemmas.Bool.{cases_eq, ne_eqb}
 use Rattle.rds_wire.specs.declared.frame.Frame.{Frame}
 use Rattle.rds_wire.specs.declared.kind.TheConstants.{MAP_LENGTH}
+use Rattle.rds_wire.specs.Bytes.{IsBytes}
 use Rattle.rds_model.specs.Past.{now}
 use Rattle.rds_model.specs.Streams.{pulled_frames, read_frames}
 use Rattle.rds_model.specs.Owed.{header_of}
@@ -12,7 +13,7 @@ use Rattle.rds_model.specs.Drained.{IsQuiet}
 use Rattle.rds_model.specs.Examples.{frame, map_with, cut_sender, cut_receiver, AreSound}
 use Rattle.rds_model.proofs.ExampleSteps.{more, pulling, reading, nothing_yet, pulling_behind, accepting, begins, owing_nothing, all_got}
 
-module _ (map : List ℕ) (long : length map ≡ MAP_LENGTH) where
+module _ (map : List ℕ) (long : length map ≡ MAP_LENGTH) (bytes : IsBytes map) where
   -- step by step: a n and b n are the journals without their newest n entries
   a13 : IsWhole (drop 13 (cut_sender map))
   a13 =
@@ -26,15 +27,15 @@ module _ (map : List ℕ) (long : length map ≡ MAP_LENGTH) where
 
   a11 : IsWhole (drop 11 (cut_sender map))
   unfolding header_of
-  a11 = pulling _ _ _ map a12 refl long refl
+  a11 = pulling _ _ _ map a12 refl long bytes refl
 
   a10 : IsWhole (drop 10 (cut_sender map))
   unfolding header_of
-  a10 = pulling_behind _ _ _ map a11 refl long refl refl
+  a10 = pulling_behind _ _ _ map a11 refl long bytes refl refl
 
   a9 : IsWhole (drop 9 (cut_sender map))
   unfolding header_of
-  a9 = pulling_behind _ _ _ map a10 refl long refl refl
+  a9 = pulling_behind _ _ _ map a10 refl long bytes refl refl
 
   a7 : IsWhole (drop 7 (cut_sender map))
   a7 = more _ _ (more _ _ a9 refl refl) (λ e. cc) refl
@@ -44,26 +45,26 @@ module _ (map : List ℕ) (long : length map ≡ MAP_LENGTH) where
 
   a5 : IsWhole (drop 5 (cut_sender map))
   unfolding header_of
-  a5 = pulling _ _ _ map a6 refl long refl
+  a5 = pulling _ _ _ map a6 refl long bytes refl
 
   a4 : IsWhole (drop 4 (cut_sender map))
   unfolding header_of
-  a4 = pulling_behind _ _ _ map a5 refl long refl refl
+  a4 = pulling_behind _ _ _ map a5 refl long bytes refl refl
 
   a3 : IsWhole (drop 3 (cut_sender map))
   unfolding header_of
-  a3 = pulling_behind _ _ _ map a4 refl long refl refl
+  a3 = pulling_behind _ _ _ map a4 refl long bytes refl refl
 
   a2 : IsWhole (drop 2 (cut_sender map))
   unfolding header_of
-  a2 = pulling_behind _ _ _ map a3 refl long refl refl
+  a2 = pulling_behind _ _ _ map a3 refl long bytes refl refl
 
   b11 : IsWhole (drop 11 (cut_receiver map))
   b11 = more _ _ nothing_yet (refl, omega arith) refl
 
   b10 : IsWhole (drop 10 (cut_receiver map))
   unfolding header_of
-  b10 = pulling _ _ _ map b11 refl long refl
+  b10 = pulling _ _ _ map b11 refl long bytes refl
 
   b9 : IsWhole (drop 9 (cut_receiver map))
   b9 = reading _ _ _ _ b10 refl a11 now (omega arith) refl refl
@@ -76,7 +77,7 @@ module _ (map : List ℕ) (long : length map ≡ MAP_LENGTH) where
 
   b5 : IsWhole (drop 5 (cut_receiver map))
   unfolding header_of
-  b5 = pulling _ _ _ map b6 refl long refl
+  b5 = pulling _ _ _ map b6 refl long bytes refl
 
   b4 : IsWhole (drop 4 (cut_receiver map))
   b4 = reading _ _ _ _ b5 refl a5 now (omega arith) refl refl
@@ -92,7 +93,7 @@ module _ (map : List ℕ) (long : length map ≡ MAP_LENGTH) where
 
   b0 : IsWhole (cut_receiver map)
   unfolding header_of
-  b0 = pulling_behind _ _ _ map b1 refl long refl refl
+  b0 = pulling_behind _ _ _ map b1 refl long bytes refl refl
 
   a1 : IsWhole (drop 1 (cut_sender map))
   a1 = reading _ _ _ _ a2 refl b5 now (omega arith) refl refl

@@ -3,7 +3,7 @@ use Rattle.std.proofs.Common.{◌≡◌, ℕ, suc, ◌<◌, ◌≤◌, ◌^◌, 
 use Rattle.std.specs.List.{flat_map}
 use Rattle.std.proofs.lemmas.List.{append-nil}
 use Rattle.std.proofs.lemmas.List.Concat.{flat_map-append}
-use Rattle.rds_wire.specs.Bytes.{frame_bytes}
+use Rattle.rds_wire.specs.Bytes.{IsBytes, frame_bytes}
 use Rattle.rds_wire.specs.declared.frame.Frame.{Frame}
 use Rattle.rds_wire.specs.declared.kind.TheConstants.{MAP_LENGTH, MAX_LENGTH}
 use Rattle.rds_model.specs.declared.entry.Entry.{Entry}
@@ -31,8 +31,8 @@ more e past whole lawful settled =
 
 -- the pull of what is owed
 pub pulling : (s : ℕ) (f : Frame) (past : List Entry) (map : List ℕ) → IsWhole past → open_stream past ≡ Some s → length map ≡ MAP_LENGTH →
-    owed_frame s past map ≡ Some f → IsWhole (Pull s f ∷ past)
-pulling s f past map whole on long is = more (Pull s f) past whole (owed_is_lawful s past map f whole.legal on long is) refl
+    IsBytes map → owed_frame s past map ≡ Some f → IsWhole (Pull s f ∷ past)
+pulling s f past map whole on long bytes is = more (Pull s f) past whole (owed_is_lawful s past map f whole.legal on long bytes is) refl
 
 -- the reading of a frame that the peer pulled is lawful
 read_lawfully : (s : ℕ) (f : Frame) (o : Outcome) (past : List Entry) {sender peer : List Entry} → open_stream past ≡ Some s →
@@ -72,8 +72,8 @@ nothing_yet = record { legal = tt; settled = refl }
 
 -- the pull of what is owed behind the last map
 pub pulling_behind : (s : ℕ) (f : Frame) (past : List Entry) (map : List ℕ) → IsWhole past → open_stream past ≡ Some s → length map ≡ MAP_LENGTH →
-    last_map s past ≡ Some map → owed_after_map s past (due_numbers s past) ≡ Some f → IsWhole (Pull s f ∷ past)
-pulling_behind s f past map whole on long last is = pulling s f past map whole on long (owed_behind_last s past map last ∙ is)
+    IsBytes map → last_map s past ≡ Some map → owed_after_map s past (due_numbers s past) ≡ Some f → IsWhole (Pull s f ∷ past)
+pulling_behind s f past map whole on long bytes last is = pulling s f past map whole on long bytes (owed_behind_last s past map last ∙ is)
 
 -- the acceptance of a datagram from slot 0
 pub accepting : (sport dport : ℕ) (payload : List ℕ) (past : List Entry) → IsWhole past → sport < 2 ^ 16 → dport < 2 ^ 16 →

@@ -4,6 +4,7 @@ use Rattle.std.specs.Prelude.{codes}
 use Rattle.std.proofs.lemmas.List.{append-nil}
 use Rattle.std.proofs.lemmas.Bool.{cases_eq, ne_eqb}
 use Rattle.rds_wire.specs.declared.kind.TheConstants.{MAP_LENGTH}
+use Rattle.rds_wire.specs.Bytes.{IsBytes}
 use Rattle.rds_model.specs.Past.{now, before}
 use Rattle.rds_model.specs.Streams.{pulled_frames, read_frames}
 use Rattle.rds_model.specs.Owed.{header_of}
@@ -12,7 +13,7 @@ use Rattle.rds_model.specs.Drained.{IsQuiet}
 use Rattle.rds_model.specs.Examples.{hello_sender, hello_receiver, AreSound}
 use Rattle.rds_model.proofs.ExampleSteps.{more, pulling, reading, nothing_yet, pulling_behind, accepting, begins, owing_nothing, all_got}
 
-module _ (map : List ℕ) (long : length map ≡ MAP_LENGTH) where
+module _ (map : List ℕ) (long : length map ≡ MAP_LENGTH) (bytes : IsBytes map) where
   -- the hello run, step by step: a n and b n are the journals without their newest n entries
   a5 : IsWhole (drop 5 (hello_sender map))
   a5 = accepting 4000 4001 (codes "hello") [] nothing_yet (omega arith) (omega arith) (omega arith) (omega arith)
@@ -22,18 +23,18 @@ module _ (map : List ℕ) (long : length map ≡ MAP_LENGTH) where
 
   a3 : IsWhole (drop 3 (hello_sender map))
   unfolding header_of
-  a3 = pulling _ _ _ map a4 refl long refl
+  a3 = pulling _ _ _ map a4 refl long bytes refl
 
   a2 : IsWhole (drop 2 (hello_sender map))
   unfolding header_of
-  a2 = pulling_behind _ _ _ map a3 refl long refl refl
+  a2 = pulling_behind _ _ _ map a3 refl long bytes refl refl
 
   b4 : IsWhole (drop 4 (hello_receiver map))
   b4 = more _ _ nothing_yet (refl, omega arith) refl
 
   b3 : IsWhole (drop 3 (hello_receiver map))
   unfolding header_of
-  b3 = pulling _ _ _ map b4 refl long refl
+  b3 = pulling _ _ _ map b4 refl long bytes refl
 
   b2 : IsWhole (drop 2 (hello_receiver map))
   b2 = reading _ _ _ _ b3 refl a2 (before now) (omega arith) refl refl
@@ -43,7 +44,7 @@ module _ (map : List ℕ) (long : length map ≡ MAP_LENGTH) where
 
   b0 : IsWhole (hello_receiver map)
   unfolding header_of
-  b0 = pulling_behind _ _ _ map b1 refl long refl refl
+  b0 = pulling_behind _ _ _ map b1 refl long bytes refl refl
 
   a1 : IsWhole (drop 1 (hello_sender map))
   a1 = reading _ _ _ _ a2 refl b0 (before (before (before now))) (omega arith) refl refl

@@ -24,3 +24,11 @@ pub mod HelloRun
 pub mod CutRun
 pub mod TalkRun
 pub mod WrongedEnd
+pub mod Counts
+pub mod FewReads
+pub mod FewPulls
+pub mod FewDatagrams
+pub mod FewPongs
+pub mod FewMaps
+pub mod FewStreams
+pub mod Bounded

@@ -86,7 +86,7 @@ refused_is_lawful s h found {p} {a} {b} peers bad (f ∷ more) rest frames bytes
     let regrouped = sym (append_assoc (header_bytes f.header) f.payload (flat_map frame_bytes more)) ∙ bytes in
     let is_h = (header_bytes-append f.header h (f.payload ++ flat_map frame_bytes more) rest lawful.header refusal.header regrouped).0 in
     let sound = lawful_frame_is_sound s pull.past f (highest_pulled p) (legal_at at peers.legal_a) lawful (acknowledged_is_known s h found peers bad at lawful.on) in
-    let clash : None ≡ Some found = sym sound ∙ ap (λ (g : Header). cause g (highest_pulled p)) is_h ∙ refusal.malformed in
+    let clash : None ≡ Some found = sym sound ∙ ap (λ (g : Header). cause g (highest_pulled p) 0) is_h ∙ refusal.malformed in
     cc
 
 pub no_bad : (a b : List Entry) → ArePeers a b → HasNoBad b

@@ -7,6 +7,7 @@ use Rattle.rds_wire.specs.declared.header.TheConstants.{CONG_BITMAP, ACK_REQUIRE
 use Rattle.rds_wire.specs.declared.kind.Malformed.{Malformed}
 use Rattle.rds_wire.specs.declared.kind.TheConstants.{MAP_LENGTH, MAX_LENGTH}
 use Rattle.rds_wire.specs.Bytes.{computed}
+use Rattle.rds_wire.specs.Generations.{generation}
 use Rattle.rds_wire.specs.Kinds.{cause, kind_of, is_data}
 use Rattle.rds_model.specs.declared.entry.Entry.{Entry}
 use Rattle.rds_model.specs.Past.{number, last_passed}
@@ -16,21 +17,23 @@ use Rattle.rds_model.specs.NumberLaws.{number_of_known}
 use Rattle.rds_model.specs.FrameLaws.{len_of_header, pull_acknowledges, data_pull_of, number_of_pull}
 use Rattle.rds_model.specs.BoundLaws.{few_accepted, datagram_fits}
 
-none_of_four : (a b c d : Bool) (w x y z : Option Malformed) → a ≡ false → b ≡ false → c ≡ false → d ≡ false →
-    cond a w (cond b x (cond c y (cond d z None))) ≡ None
-none_of_four a b c d w x y z no_a no_b no_c no_d =
-    cond-false a w (cond b x (cond c y (cond d z None))) no_a ∙ cond-false b x (cond c y (cond d z None)) no_b
-    ∙ cond-false c y (cond d z None) no_c ∙ cond-false d z None no_d
+none_of_five : (a b c d e : Bool) (v w x y z : Option Malformed) → a ≡ false → b ≡ false → c ≡ false → d ≡ false → e ≡ false →
+    cond a v (cond b w (cond c x (cond d y (cond e z None)))) ≡ None
+none_of_five a b c d e v w x y z no_a no_b no_c no_d no_e =
+    cond-false a v (cond b w (cond c x (cond d y (cond e z None)))) no_a ∙ cond-false b w (cond c x (cond d y (cond e z None))) no_b
+    ∙ cond-false c x (cond d y (cond e z None)) no_c ∙ cond-false d y (cond e z None) no_d ∙ cond-false e z None no_e
 
--- a header that is sealed, short, and with a number and an acknowledgement in their ranges has no fault
-pub no_fault : (h : Header) (m : ℕ) → h.csum ≡ computed h → h.len ≤ MAX_LENGTH →
-    (is_data (kind_of h) ≡ true → (0 < h.sequence) × (h.sequence < 2 ^ 63)) → h.ack ≤ m → cause h m ≡ None
+-- a header that is sealed, short, of no earlier generation, and with a number and an acknowledgement in their ranges has
+-- no fault
+pub no_fault : (h : Header) (m g : ℕ) → h.csum ≡ computed h → h.len ≤ MAX_LENGTH →
+    (is_data (kind_of h) ≡ true → (0 < h.sequence) × (h.sequence < 2 ^ 63)) → h.ack ≤ m → g ≤ generation h → cause h m g ≡ None
 unfolding cause
-no_fault h m summed short ranged known =
+no_fault h m g summed short ranged known late =
     let sum = and_right (not (h.csum == 0)) (not (h.csum == computed h)) (not_from_true (h.csum == computed h) (eq-eqb h.csum (computed h) summed)) in
     let length = le-ltb MAX_LENGTH h.len short in
     let ack = le-ltb m h.ack known in
-    none_of_four _ _ _ _ _ _ _ _ sum length (sequence (is_data (kind_of h)) refl) ack
+    let earlier = le-ltb (generation h) g late in
+    none_of_five _ _ _ _ _ _ _ _ _ _ sum length (sequence (is_data (kind_of h)) refl) ack earlier
   where
     sequence : (b : Bool) → is_data (kind_of h) ≡ b → (b && (h.sequence == 0 || nat_le (2 ^ 63) h.sequence)) ≡ false
     sequence false not_data = refl
@@ -77,13 +80,13 @@ short_pull s past f legal lawful =
 
 -- a lawful frame has no fault for a reader that has pulled what it acknowledges
 pub lawful_frame_is_sound : (s : ℕ) (past : List Entry) (f : Frame) (m : ℕ) → IsLegal past → IsLawfulPull s past f → last_passed past ≤ m →
-    cause f.header m ≡ None
+    cause f.header m 0 ≡ None
 lawful_frame_is_sound s past f m legal lawful known =
     let acknowledges = pull_acknowledges s past f lawful in
-    no_fault f.header m (sealed_pull s past f lawful) (short_pull s past f legal lawful)
+    no_fault f.header m 0 (sealed_pull s past f lawful) (short_pull s past f legal lawful)
     (λ is.
     let pull = data_pull_of s past f lawful is in
     let number_is = number_of_pull s past f pull in
     let range = number_of_known past pull.n (ap is_some pull.known) in
     (omega (arith, number_is, range), omega (arith, number_is, range, few_accepted past legal)))
-    (omega (arith, acknowledges, known))
+    (omega (arith, acknowledges, known)) (omega arith)

@@ -4,6 +4,7 @@ use Rattle.std.specs.Prelude.{codes}
 use Rattle.std.proofs.lemmas.List.{append-nil}
 use Rattle.std.proofs.lemmas.Bool.{cases_eq, ne_eqb}
 use Rattle.rds_wire.specs.declared.kind.TheConstants.{MAP_LENGTH}
+use Rattle.rds_wire.specs.Bytes.{IsBytes}
 use Rattle.rds_model.specs.Past.{now}
 use Rattle.rds_model.specs.Streams.{pulled_frames, read_frames}
 use Rattle.rds_model.specs.Owed.{header_of}
@@ -12,7 +13,7 @@ use Rattle.rds_model.specs.Drained.{IsQuiet}
 use Rattle.rds_model.specs.Examples.{talk_first, talk_second, AreSound}
 use Rattle.rds_model.proofs.ExampleSteps.{more, pulling, reading, answering, nothing_yet, pulling_behind, accepting, begins, owing_nothing, all_got}
 
-module _ (map : List ℕ) (long : length map ≡ MAP_LENGTH) where
+module _ (map : List ℕ) (long : length map ≡ MAP_LENGTH) (bytes : IsBytes map) where
   -- step by step: a n and b n are the journals without their newest n entries
   a13 : IsWhole (drop 13 (talk_first map))
   a13 =
@@ -27,30 +28,30 @@ module _ (map : List ℕ) (long : length map ≡ MAP_LENGTH) where
 
   a11 : IsWhole (drop 11 (talk_first map))
   unfolding header_of
-  a11 = pulling _ _ _ map a12 refl long refl
+  a11 = pulling _ _ _ map a12 refl long bytes refl
 
   a10 : IsWhole (drop 10 (talk_first map))
   unfolding header_of
-  a10 = pulling_behind _ _ _ map a11 refl long refl refl
+  a10 = pulling_behind _ _ _ map a11 refl long bytes refl refl
 
   a9 : IsWhole (drop 9 (talk_first map))
   unfolding header_of
-  a9 = pulling_behind _ _ _ map a10 refl long refl refl
+  a9 = pulling_behind _ _ _ map a10 refl long bytes refl refl
 
   a8 : IsWhole (drop 8 (talk_first map))
   unfolding header_of
-  a8 = pulling_behind _ _ _ map a9 refl long refl refl
+  a8 = pulling_behind _ _ _ map a9 refl long bytes refl refl
 
   a7 : IsWhole (drop 7 (talk_first map))
   unfolding header_of
-  a7 = pulling_behind _ _ _ map a8 refl long refl refl
+  a7 = pulling_behind _ _ _ map a8 refl long bytes refl refl
 
   a6 : IsWhole (drop 6 (talk_first map))
   a6 = more _ _ a7 (λ e. cc) refl
 
   a5 : IsWhole (drop 5 (talk_first map))
   unfolding header_of
-  a5 = pulling_behind _ _ _ map a6 refl long refl refl
+  a5 = pulling_behind _ _ _ map a6 refl long bytes refl refl
 
   b13 : IsWhole (drop 13 (talk_second map))
   b13 = accepting 4001 4000 (codes "back") [] nothing_yet (omega arith) (omega arith) (omega arith) (omega arith)
@@ -60,7 +61,7 @@ module _ (map : List ℕ) (long : length map ≡ MAP_LENGTH) where
 
   b11 : IsWhole (drop 11 (talk_second map))
   unfolding header_of
-  b11 = pulling _ _ _ map b12 refl long refl
+  b11 = pulling _ _ _ map b12 refl long bytes refl
 
   b10 : IsWhole (drop 10 (talk_second map))
   b10 = reading _ _ _ _ b11 refl a11 now (omega arith) refl refl
@@ -70,7 +71,7 @@ module _ (map : List ℕ) (long : length map ≡ MAP_LENGTH) where
 
   b8 : IsWhole (drop 8 (talk_second map))
   unfolding header_of
-  b8 = pulling_behind _ _ _ map b9 refl long refl refl
+  b8 = pulling_behind _ _ _ map b9 refl long bytes refl refl
 
   b6 : IsWhole (drop 6 (talk_second map))
   b6 = answering _ _ _ b8 refl a9 now (omega arith) refl (omega arith)
@@ -83,14 +84,14 @@ module _ (map : List ℕ) (long : length map ≡ MAP_LENGTH) where
 
   b3 : IsWhole (drop 3 (talk_second map))
   unfolding header_of
-  b3 = pulling_behind _ _ _ map b4 refl long refl refl
+  b3 = pulling_behind _ _ _ map b4 refl long bytes refl refl
 
   b2 : IsWhole (drop 2 (talk_second map))
   b2 = reading _ _ _ _ b3 refl a5 now (omega arith) refl refl
 
   b1 : IsWhole (drop 1 (talk_second map))
   unfolding header_of
-  b1 = pulling_behind _ _ _ map b2 refl long refl refl
+  b1 = pulling_behind _ _ _ map b2 refl long bytes refl refl
 
   a4 : IsWhole (drop 4 (talk_first map))
   a4 = reading _ _ _ _ a5 refl b11 now (omega arith) refl refl
@@ -106,7 +107,7 @@ module _ (map : List ℕ) (long : length map ≡ MAP_LENGTH) where
 
   a0 : IsWhole (talk_first map)
   unfolding header_of
-  a0 = pulling_behind _ _ _ map a1 refl long refl refl
+  a0 = pulling_behind _ _ _ map a1 refl long bytes refl refl
 
   b0 : IsWhole (talk_second map)
   b0 = reading _ _ _ _ b1 refl a0 now (omega arith) refl refl

@@ -3,6 +3,7 @@ use Rattle.std.proofs.Common.{◌≡◌, ◌<◌, ◌^◌, ℕ, None, drop, refl
 use Rattle.std.proofs.lemmas.List.{length-replicate}
 use Rattle.std.proofs.lemmas.List.Elements.{All-replicate}
 use Rattle.rds_wire.specs.Bytes.{IsHeader}
+use Rattle.rds_wire.specs.Generations.{generation}
 use Rattle.rds_wire.specs.Kinds.{cause}
 use Rattle.rds_model.specs.Legal.{IsWhole}
 use Rattle.rds_model.specs.Examples.{unsummed, wronged}
@@ -22,8 +23,8 @@ fits len flags fits_len fits_flags = record {
   ext = (length-replicate {A = ℕ} 16 0, All-replicate (λ b. b < 256) 16 0 (omega arith));
 }
 
-sound_map : cause (unsummed 1 1) 0 ≡ None
-unfolding cause
+sound_map : cause (unsummed 1 1) 0 0 ≡ None
+unfolding cause generation
 sound_map = refl
 
 opened : IsWhole (drop 3 wronged)

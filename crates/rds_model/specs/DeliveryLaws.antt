@@ -61,7 +61,7 @@ few_deliveries slot (_ ∷ past) = omega (arith, few_deliveries slot past)
 pub short_read : (s : ℕ) (f : Frame) (o : Outcome) {p j : List Entry} → IsLegal j → Moment (Read s f o ∷ p) j → length f.payload ≤ MAX_LENGTH
 short_read s f o legal m =
     let lawful = lawful_read s f o legal m in
-    omega (arith, lawful.whole, len-cause f.header _ lawful.sound)
+    omega (arith, lawful.whole, len-cause f.header _ 0 lawful.sound)
 
 pub put_bound : (slot : ℕ) (past : List Entry) → IsLegal past → put_bytes slot past ≤ MAX_LENGTH * length past
 put_bound slot [] legal = omega arith

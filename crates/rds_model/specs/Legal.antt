@@ -4,7 +4,7 @@ use Rattle.rds_wire.specs.declared.frame.Frame.{Frame}
 use Rattle.rds_wire.specs.declared.header.Header.{Header}
 use Rattle.rds_wire.specs.declared.kind.Malformed.{Malformed}
 use Rattle.rds_wire.specs.declared.kind.TheConstants.{MAX_LENGTH}
-use Rattle.rds_wire.specs.Bytes.{IsHeader}
+use Rattle.rds_wire.specs.Bytes.{IsBytes, IsHeader}
 use Rattle.rds_wire.specs.Kinds.{cause}
 use Rattle.rds_model.specs.declared.entry.Entry.{Entry}
 use Rattle.rds_model.specs.declared.entry.Entry.TheVariants.{Accept, Cancel, Open, Pull, Read, Shut, Bad}
@@ -28,6 +28,7 @@ pub record IsLawfulAccept (past : List Entry) (slot sport dport : ℕ) (payload 
 -- A map may be pulled where none was pulled on the stream, or the last one has other bytes.
 pub record IsMapPull (s : ℕ) (past : List Entry) (f : Frame) : Type 0 where
   pub new : last_map s past ≢ Some f.payload
+  pub bytes : IsBytes f.payload
   pub is : f ≡ map_frame past f.payload
 
 -- A datagram may be pulled behind a map, where it is alive, wasn't pulled on the stream, and each smaller number that is
@@ -62,14 +63,14 @@ pub record IsLawfulRead (s : ℕ) (past : List Entry) (f : Frame) (outcome : Out
   pub on : open_stream past ≡ Some s
   pub header : IsHeader f.header
   pub whole : length f.payload ≡ f.header.len
-  pub sound : cause f.header (highest_pulled past) ≡ None
+  pub sound : cause f.header (highest_pulled past) 0 ≡ None
   pub obeys : Obeys (verdict_of past f.header) outcome
 
 -- a malformed header ends stream s
 pub record IsLawfulBad (s : ℕ) (past : List Entry) (h : Header) (found : Malformed) : Type 0 where
   pub on : open_stream past ≡ Some s
   pub header : IsHeader h
-  pub malformed : cause h (highest_pulled past) ≡ Some found
+  pub malformed : cause h (highest_pulled past) 0 ≡ Some found
 
 -- the entry may stand behind this past, where no pong is owed
 abbrev pub IsLawful : List Entry → Entry → Type 0

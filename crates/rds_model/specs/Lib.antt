@@ -1,7 +1,7 @@
 -- Whoever doubts the laws reads these first, in this order: Past, Streams, Alive, Owed, Reading, Legal, Honest, Fifo, Pairs
--- and Drained; then Examples, on which they are tried. Deliveries and Sums are what hosts tie their tables to, Log and Store
--- what the contracts of a journal and of a store of messages say. The files whose names end in Laws are proved: nothing in
--- them has to be believed.
+-- and Drained; then Examples, on which they are tried. Deliveries and Sums are what hosts tie their tables to, Bounded says how
+-- many entries a journal may have, Log and Store what the contracts of a journal and of a store of messages say. The files
+-- whose names end in Laws are proved: nothing in them has to be believed.
 pub mod Log
 pub mod Past
 pub mod Streams
@@ -14,6 +14,7 @@ pub mod Fifo
 pub mod Pairs
 pub mod Deliveries
 pub mod Sums
+pub mod Bounded
 pub mod Drained
 pub mod Store
 pub mod Examples

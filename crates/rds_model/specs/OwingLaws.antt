@@ -5,6 +5,7 @@ use Rattle.std.specs.Cmp.Lexicographic.{same_text, other_text}
 use Rattle.std.proofs.lemmas.Bool.{cases_Bool, both_ways, cond-true, cond-false, false_from_ne_true, true_from_ne_false, false≢true}
 use Rattle.rds_wire.specs.declared.frame.Frame.{Frame}
 use Rattle.rds_wire.specs.declared.kind.TheConstants.{MAP_LENGTH}
+use Rattle.rds_wire.specs.Bytes.{IsBytes}
 use Rattle.rds_model.specs.declared.entry.Entry.{Entry}
 use Rattle.rds_model.specs.Past.{Accepted, datagram, open_stream}
 use Rattle.rds_model.specs.Alive.{due_numbers}
@@ -56,8 +57,8 @@ behind_map s past f legal on behind (n ∷ rest) some is = the_data (datagram pa
 
 -- the frame that is owed for a map may be pulled
 pub owed_is_lawful : (s : ℕ) (past : List Entry) (map : List ℕ) (f : Frame) → IsLegal past → open_stream past ≡ Some s → length map ≡ MAP_LENGTH →
-    owed_frame s past map ≡ Some f → IsLawfulPull s past f
-owed_is_lawful s past map f legal on long is =
+    IsBytes map → owed_frame s past map ≡ Some f → IsLawfulPull s past f
+owed_is_lawful s past map f legal on long bytes is =
     elim (cases_Bool (is_last_map (last_map s past) map)) [
       | inl last ↦
           let same = last_is (last_map s past) map last in
@@ -66,7 +67,7 @@ owed_is_lawful s past map f legal on long is =
       | inr new ↦
           let given : Some (map_frame past map) ≡ Some f = sym (cond-false _ (owed_after_map s past (due_numbers s past)) (Some (map_frame past map)) new) ∙ is in
           let same : map_frame past map ≡ f = cc in
-          subst (IsLawfulPull s past) same (map_is_lawful s past map legal on long (last_is_not (last_map s past) map new))
+          subst (IsLawfulPull s past) same (map_is_lawful s past map legal on long bytes (last_is_not (last_map s past) map new))
     ]
 
 -- where no pong is owed, a lawful entry may stand

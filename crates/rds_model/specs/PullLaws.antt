@@ -5,7 +5,7 @@ use Rattle.std.proofs.lemmas.List.{length-replicate}
 use Rattle.std.proofs.lemmas.List.Elements.{All-replicate}
 use Rattle.rds_wire.specs.declared.header.TheConstants.{CONG_BITMAP, ACK_REQUIRED, RETRANSMITTED}
 use Rattle.rds_wire.specs.declared.kind.TheConstants.{MAP_LENGTH}
-use Rattle.rds_wire.specs.Bytes.{IsHeader, computed}
+use Rattle.rds_wire.specs.Bytes.{IsBytes, IsHeader, computed}
 use Rattle.rds_model.specs.declared.entry.Entry.{Entry}
 use Rattle.rds_model.specs.Past.{Accepted, datagram, open_stream}
 use Rattle.rds_model.specs.Streams.{was_pulled}
@@ -39,13 +39,13 @@ flags_fit = elim [ true ↦ elim [ true ↦ omega arith | false ↦ omega arith 
 
 -- the three frames, each with a header that fits and the length that it says
 pub map_is_lawful : (s : ℕ) (past : List Entry) (map : List ℕ) → IsLegal past → open_stream past ≡ Some s → length map ≡ MAP_LENGTH →
-    last_map s past ≢ Some map → IsLawfulPull s past (map_frame past map)
-map_is_lawful s past map legal on long new = record {
+    IsBytes map → last_map s past ≢ Some map → IsLawfulPull s past (map_frame past map)
+map_is_lawful s past map legal on long bytes new = record {
   on = on;
   header =
       header_fits past 0 MAP_LENGTH 0 0 CONG_BITMAP legal (omega arith) (omega arith) (omega arith) (omega arith) (omega arith);
   whole = long ∙ sym (len_of_header past 0 MAP_LENGTH 0 0 CONG_BITMAP);
-  owed = inl (record { new = new; is = refl });
+  owed = inl (record { new = new; bytes = bytes; is = refl });
 }
 
 pub data_is_lawful : (s : ℕ) (past : List Entry) (n : ℕ) (d : Accepted) → IsLegal past → open_stream past ≡ Some s → IsSome (last_map s past) →

@@ -114,6 +114,14 @@ impl Journal {
         self.entries.is_empty()
     }
 
+    /// The entries, the oldest first.
+    pub fn entries(&self) -> &[Entry]
+        ensures list { result.now ≡ reverse self.now.past }
+        ensures most { length self.now.past ≤ MAX_ENTRIES }
+    {
+        &self.entries
+    }
+
     /// The entry at a place, counted from 0, the oldest first.
     pub fn at(&self, i: u32) -> Option<&Entry>
         ensures { option_copied result ≡ slice_get (reverse self.now.past) i }

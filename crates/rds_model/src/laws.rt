@@ -1,9 +1,9 @@
-ghost use Rattle.std.specs.Prelude.{◌≡◌, ◌≢◌, ◌<◌, ◌≤◌, ◌+◌, ◌*◌, ℕ, List, [], ◌∷◌, ◌++◌, Some, None, true, length, sum_by, codes, Contains};
+ghost use Rattle.std.specs.Prelude.{◌≡◌, ◌≢◌, ◌<◌, ◌≤◌, ◌+◌, ◌*◌, ℕ, List, [], ◌∷◌, ◌++◌, Some, None, true, length, sum_by, codes, Contains, All};
 ghost use Rattle.rds_wire.specs.declared.frame.Frame.{Frame};
 ghost use Rattle.rds_wire.specs.declared.header.Header.{Header};
 ghost use Rattle.rds_wire.specs.declared.kind.Malformed.{Malformed};
 ghost use Rattle.rds_wire.specs.declared.kind.TheConstants.{MAP_LENGTH, MAX_LENGTH};
-ghost use Rattle.rds_wire.specs.Bytes.{header_bytes, frame_bytes};
+ghost use Rattle.rds_wire.specs.Bytes.{IsBytes, header_bytes, frame_bytes};
 ghost use Rattle.rds_model.specs.declared.entry.Entry.{Entry};
 ghost use Rattle.rds_model.specs.declared.entry.Entry.TheVariants.{Pull, Read, Bad};
 ghost use Rattle.rds_model.specs.declared.entry.Outcome.{Outcome};
@@ -11,7 +11,8 @@ ghost use Rattle.rds_model.specs.Past.{Moment, open_stream, newest_stream};
 ghost use Rattle.rds_model.specs.Streams.{written_bytes, read_bytes};
 ghost use Rattle.rds_model.specs.Deliveries.{delivered_datagrams, deliveries, put_bytes, port_bytes};
 ghost use Rattle.rds_model.specs.Sums.{orders, maps, opens, endings, newest_pull};
-ghost use Rattle.rds_model.specs.Owed.{owed_frame};
+ghost use Rattle.rds_model.specs.Bounded.{map_pulls, most_entries, IsBounded, TakesMaps};
+ghost use Rattle.rds_model.specs.Owed.{is_map, owed_frame};
 ghost use Rattle.rds_model.specs.Legal.{IsLegal, IsWhole, IsMapPull};
 ghost use Rattle.rds_model.specs.Honest.{Begins, IsHonest};
 ghost use Rattle.rds_model.specs.Fifo.{IsFifo, HasNoBad};
@@ -100,7 +101,7 @@ pub fn accounted_of_all()
 /// only another map may be; and each frame that may be pulled is owed for some map.
 pub fn owed_is_lawful()
     ensures lawful { (s : ℕ) (past : List Entry) (map : List ℕ) (f : Frame) → IsWhole past → open_stream past ≡ Some s →
-        length map ≡ MAP_LENGTH → owed_frame s past map ≡ Some f → IsWhole (Pull s f ∷ past) }
+        length map ≡ MAP_LENGTH → IsBytes map → owed_frame s past map ≡ Some f → IsWhole (Pull s f ∷ past) }
     ensures nothing { (s : ℕ) (past : List Entry) (map : List ℕ) (f : Frame) → owed_frame s past map ≡ None →
         IsWhole (Pull s f ∷ past) → IsMapPull s past f × (f.payload ≢ map) }
     ensures only { (s : ℕ) (past : List Entry) (f : Frame) → IsWhole (Pull s f ∷ past) →
@@ -112,11 +113,11 @@ pub fn owed_is_lawful()
 /// no socket, and acknowledgements that ask and answer. All three end quiet. A journal by itself shows what a peer without
 /// rules may send.
 pub fn examples()
-    ensures hello { (map : List ℕ) → length map ≡ MAP_LENGTH → AreSound (hello_sender map) (hello_receiver map) }
+    ensures hello { (map : List ℕ) → length map ≡ MAP_LENGTH → IsBytes map → AreSound (hello_sender map) (hello_receiver map) }
     ensures hello_quiet { (map : List ℕ) → IsQuiet 1 (hello_sender map) (hello_receiver map) }
-    ensures cut { (map : List ℕ) → length map ≡ MAP_LENGTH → AreSound (cut_sender map) (cut_receiver map) }
+    ensures cut { (map : List ℕ) → length map ≡ MAP_LENGTH → IsBytes map → AreSound (cut_sender map) (cut_receiver map) }
     ensures cut_quiet { (map : List ℕ) → IsQuiet 2 (cut_sender map) (cut_receiver map) }
-    ensures talk { (map : List ℕ) → length map ≡ MAP_LENGTH → AreSound (talk_first map) (talk_second map) }
+    ensures talk { (map : List ℕ) → length map ≡ MAP_LENGTH → IsBytes map → AreSound (talk_first map) (talk_second map) }
     ensures talk_quiet { (map : List ℕ) → IsQuiet 1 (talk_first map) (talk_second map) }
     ensures wronged { IsWhole wronged }
 {}
@@ -133,7 +134,9 @@ pub fn example_fates()
     ensures dropped { (map : List ℕ) → dropped 4000 4009 (talk_second map) ≡ 3 ∷ [] }
 {}
 
-/// What the journals of the example runs add up to. A pong is no order.
+/// What the journals of the example runs add up to. A pong is no order. The two with a cut took 5 orders, opened 4 streams
+/// and pulled 4 maps, which allow 77 entries; 200,000 orders and 2,054 streams allow fewer than a third of `MAX_ENTRIES`
+/// beside the maps.
 pub fn example_sums()
     ensures orders { (map : List ℕ) → orders (talk_second map) ≡ order.Send 0 4001 4000 (codes "back") ∷ [] }
     ensures close { orders wronged ≡ order.CloseSocket 0 ∷ [] }
@@ -147,6 +150,11 @@ pub fn example_sums()
     ensures opens { (map : List ℕ) → opens (cut_sender map) ≡ 1 ∷ 2 ∷ [] }
     ensures endings { (map : List ℕ) → endings (cut_sender map) ≡ 1 }
     ensures refused { endings wronged ≡ 1 }
+    ensures pulled { (map : List ℕ) → map_pulls (cut_sender map) ≡ 2 }
+    ensures takes { (map : List ℕ) → TakesMaps (λ version. map) (cut_sender map) 0 }
+    ensures entries { (map : List ℕ) → length (cut_sender map) ≡ 17 }
+    ensures most { most_entries 5 4 4 ≡ 77 }
+    ensures large { (maps : ℕ) → most_entries 200000 2054 maps ≡ 1232604108 + maps }
     ensures newest { (map : List ℕ) → newest_pull 1 (cut_sender map) ≡ Some (frame 2 0 4000 4001 0 (codes "second")) }
 {}
 
@@ -170,6 +178,43 @@ pub fn sums_are_bounded()
     ensures deliveries { (slot : ℕ) (past : List Entry) → deliveries slot past ≤ length past }
     ensures put { (slot : ℕ) (past : List Entry) → IsLegal past → put_bytes slot past ≤ MAX_LENGTH * length past }
     ensures port { (port slot : ℕ) (past : List Entry) → port_bytes port slot past ≤ put_bytes slot past }
+{}
+
+/// How many entries a journal has at most, by the orders that the two journals took, the streams that they opened and the
+/// maps that they pulled: with o orders, w openings and m maps together, `o * (1 + 3 * w) + 2 * w + m`. Two ends can't
+/// exchange acknowledgements without end, since a plain one asks for nothing. How many maps there are says `few_map_pulls`.
+pub fn bounded(a: &Journal, b: &Journal)
+    requires legal_a { IsLegal a.now.past }
+    requires legal_b { IsLegal b.now.past }
+    requires honest { IsHonest a.now.past b.now.past }
+    ensures forth { IsBounded a.now.past b.now.past }
+    ensures back { IsBounded b.now.past a.now.past }
+{}
+
+/// The same of all lists of entries.
+pub fn bounded_of_all()
+    ensures { (a b : List Entry) → IsLegal a → IsLegal b → IsHonest a b → (IsBounded a b × IsBounded b a) }
+{}
+
+/// How many maps a journal pulled at most. Where all are one map: as many as it opened streams. Where they are versions 0
+/// to v of one that changes, and no pull went back to an earlier version: v more.
+pub fn few_map_pulls()
+    ensures one { (map : List ℕ) (past : List Entry) → IsLegal past →
+        ((s : ℕ) (f : Frame) (p : List Entry) → Moment (Pull s f ∷ p) past → is_map f ≡ true → f.payload ≡ map) →
+        map_pulls past ≤ length (opens past) }
+    ensures versions { (versions : ℕ → List ℕ) (v : ℕ) (past : List Entry) → IsLegal past → TakesMaps versions past v →
+        map_pulls past ≤ length (opens past) + v }
+{}
+
+/// A map that was pulled is 8,192 bytes.
+pub fn pulled_maps()
+    ensures { (s : ℕ) (f : Frame) (p past : List Entry) → IsLegal past → Moment (Pull s f ∷ p) past → is_map f ≡ true →
+        (length f.payload ≡ MAP_LENGTH) × IsBytes f.payload }
+{}
+
+/// Streams have rising numbers from 1 on: where each number is at most `highest`, no more streams were opened.
+pub fn few_streams()
+    ensures { (highest : ℕ) (past : List Entry) → IsLegal past → All (λ s. s ≤ highest) (opens past) → length (opens past) ≤ highest }
 {}
 
 /// How the sums hang together: what was delivered to a slot is so many datagrams with so many bytes, and each stream that

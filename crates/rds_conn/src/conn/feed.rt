@@ -24,7 +24,7 @@ impl Conn {
     pub fn feed(&mut self, piece: &[u8]) -> Result<Fed, ConnError>
         requires { IsReady self.old }
         ensures ok { IfOk result (Feeds piece.now self.old self.new) }
-        ensures clear { OnOk result (IsClear (highest_pulled self.old.log.past) (taken_bytes self.new)) }
+        ensures clear { OnOk result (IsClear (highest_pulled self.old.log.past) 0 (taken_bytes self.new)) }
         ensures waited { IsSome self.old.waiting → OnOk result (self.new ≡ self.old) }
 
         ensures closed { (result ≡ Err errors.Closed) ↔ (stream_of self.old ≡ None) }
@@ -36,7 +36,7 @@ impl Conn {
         let Some(stream) = self.stream else {
             return Err(ConnError::Closed);
         };
-        match self.splitter.take(piece, self.highest) {
+        match self.splitter.take(piece, self.highest, 0) {
             Ok(took) => Ok(Fed {
                 used: took.used,
                 waiting: took.ready,

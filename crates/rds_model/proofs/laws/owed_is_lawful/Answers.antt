@@ -6,9 +6,9 @@ use Rattle.rds_model.specs.OwingLaws.{owed_is_lawful, settled_continues, only_an
 use Rattle.rds_model.proofs.laws.owed_is_lawful.Goals as goal
 
 pub returns-clause-lawful : goal.returns-clause-lawful
-returns-clause-lawful c s past map f whole on long is =
+returns-clause-lawful c s past map f whole on long bytes is =
     record {
-      legal = (settled_continues past (Pull s f) whole.settled (owed_is_lawful s past map f whole.legal on long is), whole.legal);
+      legal = (settled_continues past (Pull s f) whole.settled (owed_is_lawful s past map f whole.legal on long bytes is), whole.legal);
       settled = refl;
     }
 

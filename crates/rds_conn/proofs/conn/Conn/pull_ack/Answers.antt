@@ -18,7 +18,7 @@ invariant_of-self c =
     let none = ap (λ (v : Connection). due_numbers c.args.stream v.log.past) c.self.view_is ∙ c.requires.none in
     let frame_is = c.in_ok-frame.ensures c.self.inside.journal.past c.self.invariant.counted.last_is in
     rw (c.push.ensures, frame_is, c.after_acknowledgement-self-inside.ensures)
-    (keeps_ack c.self.inside c.args.stream c.self.invariant (omega (arith, spare, c.requires.ready.entries)) on c.known.ensures.map.size behind none
+    (keeps_ack c.self.inside c.args.stream c.self.invariant (omega (arith, spare, c.requires.ready.entries)) on c.known.ensures.map.size c.known.ensures.map.bytes behind none
     (sym c.owes.ensures ∙ c.if-not-owes.false))
 
 pub returns-clause-owed : goal.returns-clause-owed

@@ -40,7 +40,7 @@ invariant_of-self c =
     let asks_here = subst (λ (p : List Entry). c.has_to_ask-asks.result ≡ asks_with c.args.stream p c.args.msg.num d) (sym past) asks in
     let known = subst (λ (p : List Entry). datagram p c.args.msg.num ≡ Some d) (sym past) c.requires.due.tells.known in
     rw (c.push.ensures, frame_is, c.mark_pulled.ensures, c.max-self-inside.ensures, c.after_datagram-self-inside.ensures, asks_here)
-    (keeps_data c.self.inside c.args.stream c.args.msg d c.self.invariant (omega (arith, spare, c.requires.ready.entries)) on c.known.ensures.map.size behind due known)
+    (keeps_data c.self.inside c.args.stream c.args.msg d c.self.invariant (omega (arith, spare, c.requires.ready.entries)) on c.known.ensures.map.size c.known.ensures.map.bytes behind due known)
 
 pub returns-clause-owed : goal.returns-clause-owed
 returns-clause-owed c = λ d known.

@@ -14,7 +14,7 @@ invariant_of-self c =
     let frame_is = c.in_ok-frame.ensures c.self.inside.journal.past c.self.invariant.counted.last_is in
     rw (c.push.ensures, frame_is, c.copy_from.ensures, c.after_map-self-inside.ensures)
     (keeps_map c.self.inside c.args.stream c.args.map.now c.self.invariant (omega (arith, spare, c.requires.ready.entries))
-    (c.self.invariant.stream ∙ ap stream_of c.self.view_is ∙ c.requires.on) c.known.ensures.map.size
+    (c.self.invariant.stream ∙ ap stream_of c.self.view_is ∙ c.requires.on) c.known.ensures.map.size c.known.ensures.map.bytes
     (ap (λ (v : Connection). is_last_map (last_map c.args.stream v.log.past) c.args.map.now) c.self.view_is ∙ c.requires.new))
 
 pub returns-clause-owed : goal.returns-clause-owed
