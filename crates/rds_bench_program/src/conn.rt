@@ -2,18 +2,13 @@
 mod end;
 mod pair;
 
-ghost use Rattle.std.specs.Prelude.{◌≡◌, ◌<◌};
-
 use crate::memory;
 use anyhow::anyhow;
 use pair::BenchPair;
 use rds_conn::ConnError;
-use rds_msgs::Steps;
 use std::alloc::Global;
 use std::io::Print;
-use std::marker::Brand;
 use std::rt::Files;
-use std::sync::ledger::{Blank, Ledger};
 use std::time::{CpuClock, Duration};
 
 /// How many datagrams are sent where no word says it.
@@ -72,23 +67,8 @@ fn failed(error: ConnError) -> anyhow::Error {
 
 // Two connections that so many datagrams went through.
 fn sent(alloc: Global, count: u64, batch: u64, length: usize) -> Result<BenchPair, ConnError> {
-    sent_by::<Brand>(alloc, count, batch, length, Blank::new(1))
-}
-
-fn sent_by<L: Ledger>(
-    alloc: Global,
-    count: u64,
-    batch: u64,
-    length: usize,
-    blank: Blank,
-) -> Result<BenchPair, ConnError>
-    requires name { blank.name ≡ L.name }
-    requires parts { blank.parts ≡ L.parts }
-    requires whole { 0 < L.parts }
-{
-    let mut steps: Steps<L> = Steps::new(blank);
     let mut pair = BenchPair::new(alloc, length)?;
     pair.open()?;
-    pair.send(count, batch, &mut steps)?;
+    pair.send(count, batch)?;
     Ok(pair)
 }

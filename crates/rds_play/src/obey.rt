@@ -5,21 +5,15 @@ ghost use Rattle.rds_history.specs.History.{after};
 ghost use Rattle.rds_play_world.specs.Coming.{Comes};
 ghost use Rattle.rds_play_world.specs.Telling.{IsTelling, Tells, state};
 
-use rds_msgs::Steps;
 use rds_play_world::{Stop, World};
 use rds_script::Command;
-use std::sync::ledger::Ledger;
 
 /// Does one command.
 ///
 /// # Errors
 ///
 /// As the world's own call for the command: what stops the run.
-pub fn obey<L: Ledger>(
-    world: &mut World,
-    command: &Command,
-    steps: &mut Steps<L>,
-) -> Result<(), Stop>
+pub fn obey(world: &mut World, command: &Command) -> Result<(), Stop>
     requires command { IsCommand world.old.count command.now }
     requires telling { IsTelling (state world.old) }
     ensures count { world.new.count ≡ world.old.count }
@@ -45,18 +39,18 @@ pub fn obey<L: Ledger>(
             to,
             dport,
             payload,
-        } => world.send(*host, *port, *to, *dport, payload, steps),
+        } => world.send(*host, *port, *to, *dport, payload),
         Command::Recv { host, port } => world.recv(*host, *port),
         Command::Cancel {
             host,
             port,
             to,
             dport,
-        } => world.cancel(*host, *port, *to, *dport, steps),
-        Command::Close { host, port } => world.close(*host, *port, steps),
+        } => world.cancel(*host, *port, *to, *dport),
+        Command::Close { host, port } => world.close(*host, *port),
         Command::Open { host, to } => world.open(*host, *to),
-        Command::Move { host, to, bytes } => world.move_bytes(*host, *to, *bytes, steps),
+        Command::Move { host, to, bytes } => world.move_bytes(*host, *to, *bytes),
         Command::Cut { host, to } => world.cut(*host, *to),
-        Command::Drain => world.drain(steps),
+        Command::Drain => world.drain(),
     }
 }

@@ -1,4 +1,4 @@
-ghost use Rattle.std.specs.Prelude.{◌≡◌, ◌≤◌, ◌<◌, ◌++◌, ℕ, List, IfOk, string_bytes};
+ghost use Rattle.std.specs.Prelude.{◌≡◌, ◌≤◌, ◌++◌, ℕ, List, IfOk, string_bytes};
 ghost use Rattle.rds_script.specs.Script.{IsScript};
 ghost use Rattle.rds_script.specs.Grammar.{meaning};
 ghost use Rattle.rds_model.specs.declared.journal.TheConstants.{MIN_ENTRIES, MAX_ENTRIES};
@@ -11,13 +11,10 @@ ghost use Rattle.rds_play.specs.Following.{FollowsCourse};
 ghost use Rattle.rds_play_world.specs.Telling.{Tells, state};
 
 use crate::obey::obey;
-use rds_msgs::Steps;
 use rds_play_world::{Stop, World};
 use rds_report::report;
 use rds_script::Script;
 use std::alloc::Global;
-use std::marker::Brand;
-use std::sync::ledger::{Blank, Ledger};
 
 /// The transcript and the report of a script.
 ///
@@ -32,31 +29,22 @@ pub fn text_of(alloc: Global, script: &Script, limit: u32) -> Result<String, Sto
     ensures exact { FollowsCourse (λ past made. string_bytes made ≡ lines past ++ text_of_report (final_hosts script.now.hosts past))
         (course (meaning script.now) limit) result }
 {
-    let world = played::<Brand>(alloc, script, limit, Blank::new(1))?;
+    let world = played(alloc, script, limit)?;
     let (ends, mut text) = world.end()?;
     report(alloc, &mut text, &ends)?;
     Ok(text)
 }
 
 // What the commands of a script make.
-fn played<L: Ledger>(
-    alloc: Global,
-    script: &Script,
-    limit: u32,
-    blank: Blank,
-) -> Result<World, Stop>
+fn played(alloc: Global, script: &Script, limit: u32) -> Result<World, Stop>
     requires script { IsScript script.now }
     requires least { MIN_ENTRIES ≤ limit }
     requires most { limit ≤ MAX_ENTRIES }
-    requires name { blank.name ≡ L.name }
-    requires parts { blank.parts ≡ L.parts }
-    requires whole { 0 < L.parts }
     ensures { FollowsCourse (λ past world. Tells limit script.now.hosts past (state world)) (course (meaning script.now) limit) result }
 {
-    let mut steps: Steps<L> = Steps::new(blank);
     let mut world = World::new(alloc, script.hosts, limit)?;
     for placed in &script.commands {
-        obey(&mut world, &placed.command, &mut steps)?;
+        obey(&mut world, &placed.command)?;
     }
     Ok(world)
 }

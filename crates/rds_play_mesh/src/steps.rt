@@ -7,9 +7,7 @@ use crate::mesh::Mesh;
 use crate::place::{end_of, place};
 use rds_cong::PortMap;
 use rds_model::Order;
-use rds_msgs::Steps;
 use rds_play_pair::PairError;
-use std::sync::ledger::Ledger;
 
 impl Mesh {
     ghost use Rattle.rds_play_mesh.specs.Ends.{ChangesPair, end_at};
@@ -38,13 +36,7 @@ impl Mesh {
     /// # Errors
     ///
     /// `Memory`, and `Spent` where the journal is full. The mesh is as before.
-    pub fn order<L: Ledger>(
-        &mut self,
-        host: u8,
-        peer: u8,
-        order: &Order,
-        visited: &mut Steps<L>,
-    ) -> Result<(), PairError>
+    pub fn order(&mut self, host: u8, peer: u8, order: &Order) -> Result<(), PairError>
         requires host { host < self.old.count }
         requires peer { peer < self.old.count }
         requires apart { peer ≢ host }
@@ -53,7 +45,7 @@ impl Mesh {
         ensures err { OnErr result (self.new ≡ self.old) }
         ensures spent { (entries : ℕ) → result ≡ Err (errors.Spent entries) → IsFull entries (end_at host peer self.old) }
     {
-        self.joints[place(host, peer)].order(end_of(host, peer), order, visited)
+        self.joints[place(host, peer)].order(end_of(host, peer), order)
     }
 
     /// Opens the next stream between two hosts at both ends, if none is open.
@@ -135,13 +127,7 @@ impl Mesh {
     /// # Errors
     ///
     /// `Memory`, and `Spent` where the journal is full. The mesh is as before.
-    pub fn pass<L: Ledger>(
-        &mut self,
-        host: u8,
-        peer: u8,
-        slot: Option<u16>,
-        visited: &mut Steps<L>,
-    ) -> Result<(), PairError>
+    pub fn pass(&mut self, host: u8, peer: u8, slot: Option<u16>) -> Result<(), PairError>
         requires host { host < self.old.count }
         requires peer { peer < self.old.count }
         requires apart { peer ≢ host }
@@ -150,6 +136,6 @@ impl Mesh {
         ensures err { OnErr result (self.new ≡ self.old) }
         ensures spent { (entries : ℕ) → result ≡ Err (errors.Spent entries) → IsFull entries (end_at host peer self.old) }
     {
-        self.joints[place(host, peer)].pass(end_of(host, peer), slot, visited)
+        self.joints[place(host, peer)].pass(end_of(host, peer), slot)
     }
 }

@@ -18,10 +18,8 @@ use crate::order::{copied, is_allowed};
 use rds_cong::PortMap;
 use rds_conn::{Conn, ConnError, Out};
 use rds_model::{Journal, Order};
-use rds_msgs::Steps;
 use rds_wire::Memory;
 use std::alloc::Global;
-use std::sync::ledger::Ledger;
 
 /// One end of a pair: its connection, and the bytes that it wrote and that are in flight to the other end.
 #[derive(Drop)]
@@ -94,11 +92,7 @@ impl Half {
     ///
     /// `Spent` only where the journal has no room for two more entries, and `Memory` where there is none. The end is as
     /// before.
-    pub fn order<L: Ledger>(
-        &mut self,
-        order: &Order,
-        visited: &mut Steps<L>,
-    ) -> Result<(), PairError>
+    pub fn order(&mut self, order: &Order) -> Result<(), PairError>
         ensures ok { OnOk result (side_of self.new ≡ ordered order.now (side_of self.old)) }
         ensures err { OnErr result (side_of self.new ≡ side_of self.old) }
         ensures spent { (entries : ℕ) → result ≡ Err (errors.Spent entries) → IsFull entries (side_of self.old) }
@@ -110,7 +104,7 @@ impl Half {
         }
         self.ready()?;
         let order = copied(order)?;
-        self.conn.order(order, visited);
+        self.conn.order_uncounted(order);
         self.conn.known();
         Ok(())
     }
@@ -142,11 +136,7 @@ impl Half {
     ///
     /// `Spent` only where the journal has no room for two more entries, and `Memory` where there is none. The end is as
     /// before.
-    pub fn pass<L: Ledger>(
-        &mut self,
-        slot: Option<u16>,
-        visited: &mut Steps<L>,
-    ) -> Result<(), PairError>
+    pub fn pass(&mut self, slot: Option<u16>) -> Result<(), PairError>
         ensures ok { OnOk result (side_of self.new ≡ passed slot (side_of self.old)) }
         ensures err { OnErr result (side_of self.new ≡ side_of self.old) }
         ensures spent { (entries : ℕ) → result ≡ Err (errors.Spent entries) → IsFull entries (side_of self.old) }
@@ -158,7 +148,7 @@ impl Half {
             return Ok(());
         };
         self.conn
-            .pass(found_for(self.conn.slots(), verdict, slot), visited);
+            .pass_uncounted(found_for(self.conn.slots(), verdict, slot));
         self.conn.known();
         Ok(())
     }

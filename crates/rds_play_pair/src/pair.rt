@@ -13,11 +13,9 @@ use crate::moving::move_bytes;
 use crate::step::PairEnd;
 use rds_cong::PortMap;
 use rds_model::{Journal, Order, laws};
-use rds_msgs::Steps;
 use rds_wire::Memory;
 use std::alloc::Global;
 use std::marker::Model;
-use std::sync::ledger::Ledger;
 
 /// Two connections, and what is in flight between them. Contracts see both ends.
 #[derive(Drop)]
@@ -83,19 +81,14 @@ impl ConnPair {
     ///
     /// `Spent` only where the journal of the end has no room for two more entries, and `Memory` where there is none.
     /// The pair is as before.
-    pub fn order<L: Ledger>(
-        &mut self,
-        end: PairEnd,
-        order: &Order,
-        visited: &mut Steps<L>,
-    ) -> Result<(), PairError>
+    pub fn order(&mut self, end: PairEnd, order: &Order) -> Result<(), PairError>
         ensures ok { OnOk result (self.new ≡ with_end end (ordered order.now) self.old) }
         ensures err { OnErr result (self.new ≡ self.old) }
         ensures spent { (entries : ℕ) → result ≡ Err (errors.Spent entries) → IsFull entries (of_end end self.old) }
     {
         match end {
-            PairEnd::First => self.first.order(order, visited),
-            PairEnd::Second => self.second.order(order, visited),
+            PairEnd::First => self.first.order(order),
+            PairEnd::Second => self.second.order(order),
         }
     }
 
@@ -201,19 +194,14 @@ impl ConnPair {
     ///
     /// `Spent` only where the journal of the end has no room for two more entries, and `Memory` where there is none.
     /// The pair is as before.
-    pub fn pass<L: Ledger>(
-        &mut self,
-        end: PairEnd,
-        slot: Option<u16>,
-        visited: &mut Steps<L>,
-    ) -> Result<(), PairError>
+    pub fn pass(&mut self, end: PairEnd, slot: Option<u16>) -> Result<(), PairError>
         ensures ok { OnOk result (self.new ≡ with_end end (passed slot) self.old) }
         ensures err { OnErr result (self.new ≡ self.old) }
         ensures spent { (entries : ℕ) → result ≡ Err (errors.Spent entries) → IsFull entries (of_end end self.old) }
     {
         match end {
-            PairEnd::First => self.first.pass(slot, visited),
-            PairEnd::Second => self.second.pass(slot, visited),
+            PairEnd::First => self.first.pass(slot),
+            PairEnd::Second => self.second.pass(slot),
         }
     }
 

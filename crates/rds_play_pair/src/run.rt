@@ -1,6 +1,4 @@
 use crate::{ConnPair, PairError, PairStep};
-use rds_msgs::Steps;
-use std::sync::ledger::Ledger;
 
 impl ConnPair {
     ghost use Rattle.std.specs.Prelude.{◌≡◌, ℕ, Err, OnOk, OnErr};
@@ -16,11 +14,7 @@ impl ConnPair {
     /// # Errors
     ///
     /// What the first step that couldn't be done answers. The steps before it were done, and no other.
-    pub fn run<L: Ledger>(
-        &mut self,
-        steps: &[PairStep],
-        visited: &mut Steps<L>,
-    ) -> Result<(), PairError>
+    pub fn run(&mut self, steps: &[PairStep]) -> Result<(), PairError>
         ensures ok { OnOk result (DoesAll steps.now self.old self.new) }
         ensures err { OnErr result (Stops steps.now self.old self.new) }
         ensures spent { (entries : ℕ) → result ≡ Err (errors.Spent entries) → HasFull entries self.new }
@@ -31,23 +25,19 @@ impl ConnPair {
         ensures forth { (sport dport : ℕ) → IsDeliveredOnce sport dport self.new.first.past self.new.second.past }
         ensures back { (sport dport : ℕ) → IsDeliveredOnce sport dport self.new.second.past self.new.first.past }
     {
-        let done = self.do_all(steps, visited);
+        let done = self.do_all(steps);
         self.known();
         done
     }
 
     // Does the steps, one after another.
-    fn do_all<L: Ledger>(
-        &mut self,
-        steps: &[PairStep],
-        visited: &mut Steps<L>,
-    ) -> Result<(), PairError>
+    fn do_all(&mut self, steps: &[PairStep]) -> Result<(), PairError>
         ensures ok { OnOk result (DoesAll steps.now self.old self.new) }
         ensures err { OnErr result (Stops steps.now self.old self.new) }
         ensures spent { (entries : ℕ) → result ≡ Err (errors.Spent entries) → HasFull entries self.new }
     {
         for step in steps {
-            self.step(step, visited)?;
+            self.step(step)?;
         }
         Ok(())
     }
@@ -58,23 +48,19 @@ impl ConnPair {
     ///
     /// `Spent` only where a journal has no room for two more entries, and `Memory` where there is none. The pair is as
     /// before.
-    pub fn step<L: Ledger>(
-        &mut self,
-        step: &PairStep,
-        visited: &mut Steps<L>,
-    ) -> Result<(), PairError>
+    pub fn step(&mut self, step: &PairStep) -> Result<(), PairError>
         ensures ok { OnOk result (Does step.now self.old self.new) }
         ensures err { OnErr result (self.new ≡ self.old) }
         ensures spent { (entries : ℕ) → result ≡ Err (errors.Spent entries) → HasFull entries self.old }
     {
         match step {
-            PairStep::Order { end, order } => self.order(*end, order, visited),
+            PairStep::Order { end, order } => self.order(*end, order),
             PairStep::Open => self.open(),
             PairStep::Shut { end } => self.shut(*end),
             PairStep::Cut => self.cut(),
             PairStep::Pull { end, map } => self.pull(*end, map),
             PairStep::Move { to, bytes } => self.move_bytes(*to, *bytes).map(|_| ()),
-            PairStep::Pass { end, slot } => self.pass(*end, *slot, visited),
+            PairStep::Pass { end, slot } => self.pass(*end, *slot),
         }
     }
 }

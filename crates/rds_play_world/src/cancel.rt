@@ -18,11 +18,9 @@ use crate::opening::or_memory;
 use crate::stop::Stop;
 use crate::world::World;
 use rds_model::{Order, Target};
-use rds_msgs::Steps;
 use rds_text::{Refusal, cancel_line};
 use rds_wire::Memory;
 use std::alloc::Global;
-use std::sync::ledger::Ledger;
 
 // The numbers that a cancellation covers, by whether their transmission has begun.
 #[derive(Drop)]
@@ -82,14 +80,7 @@ impl World {
     /// # Errors
     ///
     /// What stops the run: `Memory` where there is none, and `Spent` where a journal that it adds to is full.
-    pub fn cancel<L: Ledger>(
-        &mut self,
-        host: u8,
-        port: u16,
-        to: u8,
-        dport: u16,
-        steps: &mut Steps<L>,
-    ) -> Result<(), Stop>
+    pub fn cancel(&mut self, host: u8, port: u16, to: u8, dport: u16) -> Result<(), Stop>
         requires host { host < self.old.count }
         requires peer { to < self.old.count }
         ensures count { self.new.count ≡ self.old.count }
@@ -97,20 +88,19 @@ impl World {
             Comes limit hosts (cancel limit host port to dport past) result (state self.new) }
     {
         match self.hosts[usize::from(host)].holder(port) {
-            Some(slot) => self.cancel_from(host, port, slot, to, dport, steps),
+            Some(slot) => self.cancel_from(host, port, slot, to, dport),
             None => self.refuse_socket("cancel", host, port, Refusal::NoSocket),
         }
     }
 
     // Takes back what the socket of a slot, which has this port, has sent to a port of a peer.
-    fn cancel_from<L: Ledger>(
+    fn cancel_from(
         &mut self,
         host: u8,
         port: u16,
         slot: u16,
         to: u8,
         dport: u16,
-        steps: &mut Steps<L>,
     ) -> Result<(), Stop>
         requires host { host < self.old.count }
         requires peer { to < self.old.count }
@@ -123,17 +113,16 @@ impl World {
         if host == to {
             return self.refuse_socket("cancel", host, port, Refusal::NoRoute);
         }
-        self.take_back(host, to, slot, Target::Port(dport), steps)
+        self.take_back(host, to, slot, Target::Port(dport))
     }
 
     /// Takes back datagrams of a slot to a peer, where the journal has room, and prints which.
-    pub(crate) fn take_back<L: Ledger>(
+    pub(crate) fn take_back(
         &mut self,
         host: u8,
         peer: u8,
         slot: u16,
         target: Target,
-        steps: &mut Steps<L>,
     ) -> Result<(), Stop>
         requires host { host < self.old.count }
         requires peer { peer < self.old.count }
@@ -144,18 +133,11 @@ impl World {
             Comes limit hosts (appends limit host peer (Cancel slot target) past) result (state self.new) }
     {
         self.ready(host, peer)?;
-        self.take_out(host, peer, slot, target, steps)
+        self.take_out(host, peer, slot, target)
     }
 
     // Takes back datagrams of a slot to a peer, and prints which.
-    fn take_out<L: Ledger>(
-        &mut self,
-        host: u8,
-        peer: u8,
-        slot: u16,
-        target: Target,
-        steps: &mut Steps<L>,
-    ) -> Result<(), Stop>
+    fn take_out(&mut self, host: u8, peer: u8, slot: u16, target: Target) -> Result<(), Stop>
         requires host { host < self.old.count }
         requires peer { peer < self.old.count }
         requires apart { peer ≢ host }
@@ -166,10 +148,7 @@ impl World {
         ensures stop { LacksMemory result }
     {
         let covered = self.covered(host, peer, slot, target)?;
-        or_memory(
-            self.mesh
-                .order(host, peer, &cancellation(slot, target), steps),
-        )?;
+        or_memory(self.mesh.order(host, peer, &cancellation(slot, target)))?;
         cancel_line(
             &mut self.text,
             host,

@@ -14,9 +14,7 @@ ghost use Rattle.rds_play_world.specs.Telling.{Tells, state};
 use crate::stop::Stop;
 use crate::world::World;
 use rds_model::Target;
-use rds_msgs::Steps;
 use rds_text::Refusal;
-use std::sync::ledger::Ledger;
 
 impl World {
     /// Closes the socket at a port of a host: what it sent is taken back, and the port is free again.
@@ -24,31 +22,20 @@ impl World {
     /// # Errors
     ///
     /// What stops the run: `Memory` where there is none, and `Spent` where a journal that it adds to is full.
-    pub fn close<L: Ledger>(
-        &mut self,
-        host: u8,
-        port: u16,
-        steps: &mut Steps<L>,
-    ) -> Result<(), Stop>
+    pub fn close(&mut self, host: u8, port: u16) -> Result<(), Stop>
         requires host { host < self.old.count }
         ensures count { self.new.count ≡ self.old.count }
         ensures course { (limit hosts : ℕ) (past : List Event) → Tells limit hosts past (state self.old) →
             Comes limit hosts (close limit hosts host port past) result (state self.new) }
     {
         match self.hosts[usize::from(host)].holder(port) {
-            Some(slot) => self.close_slot(host, port, slot, steps),
+            Some(slot) => self.close_slot(host, port, slot),
             None => self.refuse_socket("close", host, port, Refusal::NoSocket),
         }
     }
 
     // Closes the socket of a slot, which has this port.
-    fn close_slot<L: Ledger>(
-        &mut self,
-        host: u8,
-        port: u16,
-        slot: u16,
-        steps: &mut Steps<L>,
-    ) -> Result<(), Stop>
+    fn close_slot(&mut self, host: u8, port: u16, slot: u16) -> Result<(), Stop>
         requires host { host < self.old.count }
         requires slot { slot < MAX_SLOTS }
         ensures count { self.new.count ≡ self.old.count }
@@ -56,7 +43,7 @@ impl World {
             Comes limit hosts (and_then (each (peers hosts host) (λ k. appends limit host k (Cancel slot All)) past)
             (λ later. Ok (unbind host port slot later))) result (state self.new) }
     {
-        self.take_all_back(host, slot, steps)?;
+        self.take_all_back(host, slot)?;
         self.free(host, port, slot)
     }
 
@@ -73,12 +60,7 @@ impl World {
     }
 
     // Takes back all datagrams of a slot, at each peer.
-    fn take_all_back<L: Ledger>(
-        &mut self,
-        host: u8,
-        slot: u16,
-        steps: &mut Steps<L>,
-    ) -> Result<(), Stop>
+    fn take_all_back(&mut self, host: u8, slot: u16) -> Result<(), Stop>
         requires host { host < self.old.count }
         requires slot { slot < MAX_SLOTS }
         ensures count { self.new.count ≡ self.old.count }
@@ -86,19 +68,13 @@ impl World {
             Comes limit hosts (each (peers hosts host) (λ k. appends limit host k (Cancel slot All)) past) result (state self.new) }
     {
         for peer in 0..self.count {
-            self.take_back_at(host, peer, slot, steps)?;
+            self.take_back_at(host, peer, slot)?;
         }
         Ok(())
     }
 
     // Takes back all datagrams of a slot to a peer. There are none to the host itself.
-    fn take_back_at<L: Ledger>(
-        &mut self,
-        host: u8,
-        peer: u8,
-        slot: u16,
-        steps: &mut Steps<L>,
-    ) -> Result<(), Stop>
+    fn take_back_at(&mut self, host: u8, peer: u8, slot: u16) -> Result<(), Stop>
         requires host { host < self.old.count }
         requires peer { peer < self.old.count }
         requires slot { slot < MAX_SLOTS }
@@ -109,6 +85,6 @@ impl World {
         if peer == host {
             return Ok(());
         }
-        self.take_back(host, peer, slot, Target::All, steps)
+        self.take_back(host, peer, slot, Target::All)
     }
 }

@@ -9,9 +9,7 @@ ghost use Rattle.rds_play_world.specs.Telling.{Tells, none_waits, state};
 use crate::stop::Stop;
 use crate::world::World;
 use rds_history::laws::moves_go_forward;
-use rds_msgs::Steps;
 use rds_text::{MAX_HOSTS, drained_line};
-use std::sync::ledger::Ledger;
 
 impl World {
     /// Opens all pairs, and moves bytes both ways between all until none is left to move.
@@ -19,13 +17,13 @@ impl World {
     /// # Errors
     ///
     /// What stops the run: `Memory` where there is none, and `Spent` where a journal that it adds to is full.
-    pub fn drain<L: Ledger>(&mut self, steps: &mut Steps<L>) -> Result<(), Stop>
+    pub fn drain(&mut self) -> Result<(), Stop>
         ensures count { self.new.count ≡ self.old.count }
         ensures course { (limit hosts : ℕ) (past : List Event) → Tells limit hosts past (state self.old) →
             Comes limit hosts (drain limit hosts past) result (state self.new) }
     {
         self.open_all()?;
-        self.all_rounds(steps)?;
+        self.all_rounds()?;
         drained_line(&mut self.text)?;
         Ok(())
     }
@@ -70,13 +68,13 @@ impl World {
     }
 
     // Rounds over all pairs, until one moves no byte.
-    fn all_rounds<L: Ledger>(&mut self, steps: &mut Steps<L>) -> Result<(), Stop>
+    fn all_rounds(&mut self) -> Result<(), Stop>
         ensures count { self.new.count ≡ self.old.count }
         ensures course { (limit hosts : ℕ) (past : List Event) → Tells limit hosts past (state self.old) →
             Comes limit hosts (again (rounds limit) (round limit hosts) past) result (state self.new) }
     {
         for _ in 0..rounds(self.limit) {
-            let moved = self.round(steps)?;
+            let moved = self.round()?;
             if !moved {
                 return Ok(());
             }
@@ -85,21 +83,21 @@ impl World {
     }
 
     // One round over all pairs. Answers whether a byte moved.
-    fn round<L: Ledger>(&mut self, steps: &mut Steps<L>) -> Result<bool, Stop>
+    fn round(&mut self) -> Result<bool, Stop>
         ensures count { self.new.count ≡ self.old.count }
         ensures course { (limit hosts : ℕ) (past : List Event) → Tells limit hosts past (state self.old) →
             ComesRight (SaysMoved past) none_waits limit hosts (round limit hosts past) result (state self.new) }
     {
         let mut moved = false;
         for low in 0..self.count {
-            let more = self.round_above(low, steps)?;
+            let more = self.round_above(low)?;
             moved = either(moved, more);
         }
         Ok(moved)
     }
 
     // The part of a round between a host and those above it.
-    fn round_above<L: Ledger>(&mut self, low: u8, steps: &mut Steps<L>) -> Result<bool, Stop>
+    fn round_above(&mut self, low: u8) -> Result<bool, Stop>
         requires { low < self.old.count }
         ensures count { self.new.count ≡ self.old.count }
         ensures course { (limit hosts : ℕ) (past : List Event) → Tells limit hosts past (state self.old) →
@@ -107,19 +105,14 @@ impl World {
     {
         let mut moved = false;
         for high in low + 1..self.count {
-            let more = self.both_ways(low, high, steps)?;
+            let more = self.both_ways(low, high)?;
             moved = either(moved, more);
         }
         Ok(moved)
     }
 
     // Bytes go without limit between two hosts, and back. Answers whether a byte moved.
-    fn both_ways<L: Ledger>(
-        &mut self,
-        low: u8,
-        high: u8,
-        steps: &mut Steps<L>,
-    ) -> Result<bool, Stop>
+    fn both_ways(&mut self, low: u8, high: u8) -> Result<bool, Stop>
         requires low { low < high }
         requires high { high < self.old.count }
         ensures count { self.new.count ≡ self.old.count }
@@ -127,8 +120,8 @@ impl World {
             ComesRight (SaysMoved past) none_waits limit hosts (both_ways limit (record { low = low; high = high }) past) result (state self.new) }
     {
         moves_go_forward();
-        let forth = self.move_up_to(low, high, None, steps)?;
-        let back = self.move_up_to(high, low, None, steps)?;
+        let forth = self.move_up_to(low, high, None)?;
+        let back = self.move_up_to(high, low, None)?;
         Ok(either(forth > 0, back > 0))
     }
 }

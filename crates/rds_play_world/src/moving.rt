@@ -13,9 +13,7 @@ use crate::opening::or_memory;
 use crate::printing::print;
 use crate::stop::Stop;
 use crate::world::World;
-use rds_msgs::Steps;
 use rds_text::{Refusal, move_line};
-use std::sync::ledger::Ledger;
 
 // How many of `count` bytes may go where `left` are left; `None` is no limit.
 fn portion(left: Option<u64>, count: usize) -> usize
@@ -44,13 +42,7 @@ impl World {
     /// # Errors
     ///
     /// What stops the run: `Memory` where there is none, and `Spent` where a journal that it adds to is full.
-    pub fn move_bytes<L: Ledger>(
-        &mut self,
-        host: u8,
-        peer: u8,
-        bytes: u32,
-        steps: &mut Steps<L>,
-    ) -> Result<(), Stop>
+    pub fn move_bytes(&mut self, host: u8, peer: u8, bytes: u32) -> Result<(), Stop>
         requires host { host < self.old.count }
         requires peer { peer < self.old.count }
         requires apart { peer ≢ host }
@@ -61,20 +53,14 @@ impl World {
         if self.mesh.stream(host, peer).is_none() {
             return self.refuse_pair("move", host, peer, Refusal::Down);
         }
-        let moved = self.move_up_to(host, peer, Some(u64::from(bytes)), steps)?;
+        let moved = self.move_up_to(host, peer, Some(u64::from(bytes)))?;
         move_line(&mut self.text, host, peer, moved)?;
         Ok(())
     }
 
     /// Moves bytes from a host to a peer until `most` were moved, or nothing is owed; `None` is no limit. Answers how many,
     /// as far as 64 bits count them.
-    pub(crate) fn move_up_to<L: Ledger>(
-        &mut self,
-        from: u8,
-        to: u8,
-        most: Option<u64>,
-        steps: &mut Steps<L>,
-    ) -> Result<u64, Stop>
+    pub(crate) fn move_up_to(&mut self, from: u8, to: u8, most: Option<u64>) -> Result<u64, Stop>
         requires from { from < self.old.count }
         requires to { to < self.old.count }
         requires apart { to ≢ from }
@@ -85,19 +71,12 @@ impl World {
         ensures within { (n : ℕ) → most ≡ Some n → IfOk result (λ moved. moved ≤ n) }
     {
         let turns = u64::from(self.limit) + 1;
-        self.take_turns(from, to, most, turns, steps)
+        self.take_turns(from, to, most, turns)
     }
 
     // Takes so many turns of a move at most, until `most` bytes were moved, or one moves none. Answers how many bytes went, as
     // far as 64 bits count them.
-    fn take_turns<L: Ledger>(
-        &mut self,
-        from: u8,
-        to: u8,
-        most: Option<u64>,
-        turns: u64,
-        steps: &mut Steps<L>,
-    ) -> Result<u64, Stop>
+    fn take_turns(&mut self, from: u8, to: u8, most: Option<u64>, turns: u64) -> Result<u64, Stop>
         requires from { from < self.old.count }
         requires to { to < self.old.count }
         requires apart { to ≢ from }
@@ -109,7 +88,7 @@ impl World {
     {
         let mut moved: u64 = 0;
         for _turn in 0..turns {
-            let more = self.turn(from, to, left_of(most, moved), steps)?;
+            let more = self.turn(from, to, left_of(most, moved))?;
             if more == 0 {
                 return Ok(moved);
             }
@@ -120,13 +99,7 @@ impl World {
 
     // One turn: pulls a frame where nothing is in flight, and moves what is in flight, as far as `left` allows. Answers how
     // many bytes that were.
-    fn turn<L: Ledger>(
-        &mut self,
-        from: u8,
-        to: u8,
-        left: Option<u64>,
-        steps: &mut Steps<L>,
-    ) -> Result<u64, Stop>
+    fn turn(&mut self, from: u8, to: u8, left: Option<u64>) -> Result<u64, Stop>
         requires from { from < self.old.count }
         requires to { to < self.old.count }
         requires apart { to ≢ from }
@@ -140,7 +113,7 @@ impl World {
             return Ok(0);
         }
         self.pull_if_idle(from, to)?;
-        self.arrive(from, to, left, steps)
+        self.arrive(from, to, left)
     }
 
     // Pulls the frame that a host owes to a peer, where nothing is in flight.
@@ -177,13 +150,7 @@ impl World {
     }
 
     // What is in flight comes to the peer, as far as `left` allows; with the last of it the peer reads the frame.
-    fn arrive<L: Ledger>(
-        &mut self,
-        from: u8,
-        to: u8,
-        left: Option<u64>,
-        steps: &mut Steps<L>,
-    ) -> Result<u64, Stop>
+    fn arrive(&mut self, from: u8, to: u8, left: Option<u64>) -> Result<u64, Stop>
         requires from { from < self.old.count }
         requires to { to < self.old.count }
         requires apart { to ≢ from }
@@ -199,18 +166,12 @@ impl World {
         }
         self.ready(to, from)?;
         let count = portion(left, flight);
-        self.move_piece(from, to, count, steps)?;
+        self.move_piece(from, to, count)?;
         Ok(count as u64)
     }
 
     // So many of the bytes in flight come to the peer; with the last of them it reads the frame.
-    fn move_piece<L: Ledger>(
-        &mut self,
-        from: u8,
-        to: u8,
-        count: usize,
-        steps: &mut Steps<L>,
-    ) -> Result<(), Stop>
+    fn move_piece(&mut self, from: u8, to: u8, count: usize) -> Result<(), Stop>
         requires from { from < self.old.count }
         requires to { to < self.old.count }
         requires apart { to ≢ from }
@@ -224,7 +185,7 @@ impl World {
         if !self.mesh.in_flight(from, to).is_empty() {
             return Ok(());
         }
-        self.read(to, from, steps)
+        self.read(to, from)
     }
 
     // So many of the bytes in flight come to the peer.

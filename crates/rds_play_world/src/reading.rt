@@ -20,18 +20,11 @@ use crate::printing::print;
 use crate::stop::Stop;
 use crate::world::{World, place};
 use rds_model::Verdict;
-use rds_msgs::Steps;
 use rds_wire::Memory;
-use std::sync::ledger::Ledger;
 
 impl World {
     /// A host reads the frame from a peer that has come whole, if one has: a datagram goes to the socket that holds its port.
-    pub(crate) fn read<L: Ledger>(
-        &mut self,
-        host: u8,
-        peer: u8,
-        steps: &mut Steps<L>,
-    ) -> Result<(), Stop>
+    pub(crate) fn read(&mut self, host: u8, peer: u8) -> Result<(), Stop>
         requires host { host < self.old.count }
         requires peer { peer < self.old.count }
         requires apart { peer ≢ host }
@@ -44,23 +37,17 @@ impl World {
             return Ok(());
         };
         match verdict {
-            Verdict::Deliver { dport } => self.read_datagram(host, peer, dport, steps),
-            Verdict::Ping => self.read_ping(host, peer, steps),
-            Verdict::Map => self.read_map(host, peer, steps),
+            Verdict::Deliver { dport } => self.read_datagram(host, peer, dport),
+            Verdict::Ping => self.read_ping(host, peer),
+            Verdict::Map => self.read_map(host, peer),
             Verdict::Old | Verdict::Void | Verdict::AckOnly | Verdict::OddMap => {
-                self.read_quietly(host, peer, steps)
+                self.read_quietly(host, peer)
             }
         }
     }
 
     // Reads a datagram to a port.
-    fn read_datagram<L: Ledger>(
-        &mut self,
-        host: u8,
-        peer: u8,
-        port: u16,
-        steps: &mut Steps<L>,
-    ) -> Result<(), Stop>
+    fn read_datagram(&mut self, host: u8, peer: u8, port: u16) -> Result<(), Stop>
         requires host { host < self.old.count }
         requires peer { peer < self.old.count }
         requires apart { peer ≢ host }
@@ -71,20 +58,14 @@ impl World {
         ensures stop { LacksMemory result }
     {
         let Some(slot) = self.hosts[usize::from(host)].holder(port) else {
-            return self.read_quietly(host, peer, steps);
+            return self.read_quietly(host, peer);
         };
-        self.deliver(host, peer, slot, steps)?;
+        self.deliver(host, peer, slot)?;
         self.mark_port(host, port, slot)
     }
 
     // Reads a datagram to the socket of a slot.
-    fn deliver<L: Ledger>(
-        &mut self,
-        host: u8,
-        peer: u8,
-        slot: u16,
-        steps: &mut Steps<L>,
-    ) -> Result<(), Stop>
+    fn deliver(&mut self, host: u8, peer: u8, slot: u16) -> Result<(), Stop>
         requires host { host < self.old.count }
         requires peer { peer < self.old.count }
         requires apart { peer ≢ host }
@@ -95,7 +76,7 @@ impl World {
         ensures stop { LacksMemory result }
     {
         self.take_in(host, peer, slot)?;
-        self.pass(host, peer, Some(slot), steps)
+        self.pass(host, peer, Some(slot))
     }
 
     // Queues the datagram that waits at the socket of a slot.
@@ -128,12 +109,7 @@ impl World {
     }
 
     // Reads a frame that goes to no socket, and that nothing answers.
-    fn read_quietly<L: Ledger>(
-        &mut self,
-        host: u8,
-        peer: u8,
-        steps: &mut Steps<L>,
-    ) -> Result<(), Stop>
+    fn read_quietly(&mut self, host: u8, peer: u8) -> Result<(), Stop>
         requires host { host < self.old.count }
         requires peer { peer < self.old.count }
         requires apart { peer ≢ host }
@@ -143,11 +119,11 @@ impl World {
             OnOk result (Tells limit hosts (Appended host peer (Read stream f (outcome_here None (end_at host peer self.old.mesh) f)) ∷ past) (state self.new)) }
         ensures stop { LacksMemory result }
     {
-        self.pass(host, peer, None, steps)
+        self.pass(host, peer, None)
     }
 
     // Reads a ping, and answers it at once.
-    fn read_ping<L: Ledger>(&mut self, host: u8, peer: u8, steps: &mut Steps<L>) -> Result<(), Stop>
+    fn read_ping(&mut self, host: u8, peer: u8) -> Result<(), Stop>
         requires host { host < self.old.count }
         requires peer { peer < self.old.count }
         requires apart { peer ≢ host }
@@ -157,12 +133,12 @@ impl World {
             OnOk result (Tells limit hosts (read_on host peer stream f past) (state self.new)) }
         ensures stop { LacksMemory result }
     {
-        self.pass(host, peer, None, steps)?;
+        self.pass(host, peer, None)?;
         self.print_newest(host, peer)
     }
 
     // Reads the congestion map of a peer, and keeps it.
-    fn read_map<L: Ledger>(&mut self, host: u8, peer: u8, steps: &mut Steps<L>) -> Result<(), Stop>
+    fn read_map(&mut self, host: u8, peer: u8) -> Result<(), Stop>
         requires host { host < self.old.count }
         requires peer { peer < self.old.count }
         requires apart { peer ≢ host }
@@ -173,7 +149,7 @@ impl World {
         ensures stop { LacksMemory result }
     {
         self.keep_map(host, peer)?;
-        self.pass(host, peer, None, steps)
+        self.pass(host, peer, None)
     }
 
     // Keeps the congestion map that waits.
@@ -199,13 +175,7 @@ impl World {
     }
 
     // Passes the frame that waits, and prints its line.
-    fn pass<L: Ledger>(
-        &mut self,
-        host: u8,
-        peer: u8,
-        slot: Option<u16>,
-        steps: &mut Steps<L>,
-    ) -> Result<(), Stop>
+    fn pass(&mut self, host: u8, peer: u8, slot: Option<u16>) -> Result<(), Stop>
         requires host { host < self.old.count }
         requires peer { peer < self.old.count }
         requires apart { peer ≢ host }
@@ -216,7 +186,7 @@ impl World {
         ensures stop { LacksMemory result }
     {
         let first = self.mesh.journal(host, peer).len();
-        or_memory(self.mesh.pass(host, peer, slot, steps))?;
+        or_memory(self.mesh.pass(host, peer, slot))?;
         print(&mut self.text, &self.mesh, host, peer, first)?;
         Ok(())
     }

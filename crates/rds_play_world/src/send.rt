@@ -22,10 +22,8 @@ use crate::opening::or_memory;
 use crate::stop::Stop;
 use crate::world::{World, place};
 use rds_model::Order;
-use rds_msgs::Steps;
 use rds_text::{Refusal, send_refused_line};
 use rds_wire::{MAX_LENGTH, Memory, Payload};
-use std::sync::ledger::Ledger;
 
 // Why a datagram of so many bytes is too long for a send buffer, if it is.
 fn too_long(len: u32, buffer: u32) -> Option<Refusal>
@@ -73,14 +71,13 @@ impl World {
     /// # Errors
     ///
     /// What stops the run: `Memory` where there is none, and `Spent` where a journal that it adds to is full.
-    pub fn send<L: Ledger>(
+    pub fn send(
         &mut self,
         host: u8,
         port: u16,
         to: u8,
         dport: u16,
         payload: &Payload,
-        steps: &mut Steps<L>,
     ) -> Result<(), Stop>
         requires host { host < self.old.count }
         requires peer { to < self.old.count }
@@ -90,13 +87,13 @@ impl World {
             Comes limit hosts (send limit hosts host port to dport payload.now past) result (state self.new) }
     {
         match self.hosts[usize::from(host)].holder(port) {
-            Some(slot) => self.send_from(host, port, slot, to, dport, payload, steps),
+            Some(slot) => self.send_from(host, port, slot, to, dport, payload),
             None => self.refuse_send(host, port, to, dport, Refusal::NoSocket),
         }
     }
 
     // Sends a datagram from the socket of a slot, which has this port.
-    fn send_from<L: Ledger>(
+    fn send_from(
         &mut self,
         host: u8,
         port: u16,
@@ -104,7 +101,6 @@ impl World {
         to: u8,
         dport: u16,
         payload: &Payload,
-        steps: &mut Steps<L>,
     ) -> Result<(), Stop>
         requires host { host < self.old.count }
         requires peer { to < self.old.count }
@@ -118,12 +114,12 @@ impl World {
     {
         match self.send_refusal(host, slot, to, dport, payload.len()) {
             Some(why) => self.refuse_send(host, port, to, dport, why),
-            None => self.accept_from(host, port, slot, to, dport, payload, steps),
+            None => self.accept_from(host, port, slot, to, dport, payload),
         }
     }
 
     // Sends a datagram that isn't refused.
-    fn accept_from<L: Ledger>(
+    fn accept_from(
         &mut self,
         host: u8,
         port: u16,
@@ -131,7 +127,6 @@ impl World {
         to: u8,
         dport: u16,
         payload: &Payload,
-        steps: &mut Steps<L>,
     ) -> Result<(), Stop>
         requires host { host < self.old.count }
         requires peer { to < self.old.count }
@@ -143,17 +138,11 @@ impl World {
             Comes limit hosts (appends limit host to (Accept slot port dport payload.now) past) result (state self.new) }
     {
         let order = send_order(slot, port, dport, payload)?;
-        self.accept(host, to, &order, steps)
+        self.accept(host, to, &order)
     }
 
     // Gives an order to a connection that sends a datagram, where its journal has room, and prints its line.
-    fn accept<L: Ledger>(
-        &mut self,
-        host: u8,
-        to: u8,
-        order: &Order,
-        steps: &mut Steps<L>,
-    ) -> Result<(), Stop>
+    fn accept(&mut self, host: u8, to: u8, order: &Order) -> Result<(), Stop>
         requires host { host < self.old.count }
         requires peer { to < self.old.count }
         requires apart { to ≢ host }
@@ -163,17 +152,11 @@ impl World {
             Comes limit hosts (appends limit host to (Accept slot sport dport payload) past) result (state self.new) }
     {
         self.ready(host, to)?;
-        self.take_on(host, to, order, steps)
+        self.take_on(host, to, order)
     }
 
     // Gives an order to a connection that sends a datagram, and prints its line.
-    fn take_on<L: Ledger>(
-        &mut self,
-        host: u8,
-        to: u8,
-        order: &Order,
-        steps: &mut Steps<L>,
-    ) -> Result<(), Stop>
+    fn take_on(&mut self, host: u8, to: u8, order: &Order) -> Result<(), Stop>
         requires host { host < self.old.count }
         requires peer { to < self.old.count }
         requires apart { to ≢ host }
@@ -183,7 +166,7 @@ impl World {
             OnOk result (Tells limit hosts (Appended host to (Accept slot sport dport payload) ∷ past) (state self.new)) }
         ensures stop { LacksMemory result }
     {
-        or_memory(self.mesh.order(host, to, order, steps))?;
+        or_memory(self.mesh.order(host, to, order))?;
         self.print_newest(host, to)
     }
 

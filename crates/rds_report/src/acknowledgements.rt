@@ -13,10 +13,7 @@ pub fn acknowledgements(alloc: Global, journal: &Journal) -> Result<Vec<u64>, Me
 {
     let mut acks = Vec::new(alloc);
     let mut acked = 0u64;
-    for i in 0..journal.len() {
-        let Some(entry) = journal.at(i) else {
-            unreachable!()
-        };
+    for entry in journal.entries() {
         acks.push(acked)?;
         acked = acknowledged(acked, entry);
     }

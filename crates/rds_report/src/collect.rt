@@ -115,10 +115,7 @@ fn journal_with(journals: &[(u32, Journal)], peer: u32) -> Option<&Journal>
 fn add_came(items: &mut Vec<Item<'_>>, from: u32, to: u32, journal: &Journal) -> Result<(), Memory>
     ensures { OnOk result (items.new.items ≡ items.old.items ++ came_items from to journal.now.past) }
 {
-    for i in 0..journal.len() {
-        let Some(entry) = journal.at(i) else {
-            unreachable!()
-        };
+    for entry in journal.entries() {
         add_read(items, from, to, entry)?;
     }
     Ok(())

@@ -25,10 +25,7 @@ fn clear_arrived(lost: &mut [bool], journal: &Journal)
     ensures { (test : ℕ → Bool) (m : ℕ) → lost.old ≡ flags test m →
         lost.new ≡ flags (λ n. test n && not (was_passed journal.now.past n)) m }
 {
-    for i in 0..journal.len() {
-        let Some(entry) = journal.at(i) else {
-            unreachable!()
-        };
+    for entry in journal.entries() {
         clear(lost, entry);
     }
 }

@@ -45,10 +45,7 @@ fn add_unless_cancelled(
     ensures broken { result ≡ Ok false → (has_cancellation journal.now.past ≡ true) ×
         (take (length items.old.items) items.new.items ≡ items.old.items) }
 {
-    for i in 0..journal.len() {
-        let Some(entry) = journal.at(i) else {
-            unreachable!()
-        };
+    for entry in journal.entries() {
         if is_cancellation(entry) {
             return Ok(false);
         }
@@ -91,10 +88,7 @@ fn add_acceptances(
         OnOk result (items.new.items ≡ items.old.items ++ sent_items from to test journal.now.past) }
 {
     let mut n = 0u32;
-    for i in 0..journal.len() {
-        let Some(entry) = journal.at(i) else {
-            unreachable!()
-        };
+    for entry in journal.entries() {
         if let Some(group) = accepted_group(entry, from, to) {
             add_accepted(items, group, flag(lost, n))?;
             n += 1;

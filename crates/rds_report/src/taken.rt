@@ -57,10 +57,7 @@ fn none(alloc: Global, journal: &Journal) -> Result<Vec<bool>, Memory>
     ensures { IfOk result (λ none. none.items ≡ flags (λ n. false) (accepted journal.now.past)) }
 {
     let mut none = Vec::new(alloc);
-    for i in 0..journal.len() {
-        let Some(entry) = journal.at(i) else {
-            unreachable!()
-        };
+    for entry in journal.entries() {
         count(&mut none, entry)?;
     }
     Ok(none)

@@ -91,10 +91,7 @@ fn has_stream(journal: &Journal) -> bool
     ensures { result ≡ is_some (open_stream journal.now.past) }
 {
     let mut has = false;
-    for i in 0..journal.len() {
-        let Some(entry) = journal.at(i) else {
-            unreachable!()
-        };
+    for entry in journal.entries() {
         has = has_after(has, entry);
     }
     has

@@ -55,10 +55,7 @@ fn shuts_in(journal: &Journal) -> u32
     ensures { result ≡ shuts journal.now.past }
 {
     let mut count = 0u32;
-    for i in 0..journal.len() {
-        let Some(entry) = journal.at(i) else {
-            unreachable!()
-        };
+    for entry in journal.entries() {
         count = shuts_after(count, entry);
     }
     count
@@ -80,10 +77,7 @@ fn refusals_in(journal: &Journal) -> u32
     ensures { result ≡ refusals journal.now.past }
 {
     let mut count = 0u32;
-    for i in 0..journal.len() {
-        let Some(entry) = journal.at(i) else {
-            unreachable!()
-        };
+    for entry in journal.entries() {
         count = refusals_after(count, entry);
     }
     count
@@ -169,10 +163,7 @@ pub fn last_stream(journal: &Journal) -> u32
     ensures { result ≡ newest_stream journal.now.past }
 {
     let mut last = 0;
-    for i in 0..journal.len() {
-        let Some(entry) = journal.at(i) else {
-            unreachable!()
-        };
+    for entry in journal.entries() {
         last = opened_last(last, entry);
     }
     last

@@ -1,3 +1,5 @@
+ghost use Rattle.std.specs.Prelude.{◌≤◌, length};
+
 use captured::CAPTURED;
 use rds_wire::*;
 use sealed_elsewhere::SEALED;
@@ -81,7 +83,8 @@ fn is_of_a_kernel(rt: &impl Abort, row: &[u64; 13]) -> Result<(), Fail> {
     stands_for(rt, &header, &bytes_of(row));
     assert_eq!(rt; next_ext(&header.ext, 0), ext);
     let kind = if row[5] == 1 { Kind::Map } else { Kind::Data };
-    assert_eq!(rt; check(&header, 0), Ok(kind));
+    assert_eq!(rt; check(&header, 0, 0), Ok(kind));
+    assert_eq!(rt; generation(&header), 0);
     Ok(())
 }
 
@@ -127,7 +130,7 @@ fn checksums_worked_by_hand(rt: HostRuntime) {
         found: 0xdeb9,
         computed: 0xdeb8,
     };
-    assert_eq!(rt; check(&wrong, 0), Err(sum));
+    assert_eq!(rt; check(&wrong, 0, 0), Err(sum));
 }
 
 #[test]
@@ -154,8 +157,63 @@ fn faults_in_their_order(rt: HostRuntime) {
         (numbered(past, 0, 5, 4001, odd), Ok(Kind::OddMap)),
         (numbered(0, 0, 0, 0, ACK_REQUIRED), Ok(Kind::Ack)),
     ] {
-        assert_eq!(rt; check(&header, 8), wanted);
+        assert_eq!(rt; check(&header, 8, 0), wanted);
     }
+}
+
+// A datagram with these extension bytes at the front of its area, which acknowledges this number.
+fn extended(ack: u64, bytes: &[u8]) -> Header
+    requires { length bytes.now ≤ 16 }
+{
+    let mut header = numbered(1, ack, 5, 4001, 0);
+    header.ext[..bytes.len()].copy_from_slice(bytes);
+    header
+}
+
+// The extension bytes have this generation number.
+fn gives(rt: &impl Abort, bytes: &[u8], wanted: u32)
+    requires { length bytes.now ≤ 16 }
+{
+    assert_eq!(rt; generation(&extended(0, bytes)), wanted);
+}
+
+#[test]
+fn generations(rt: HostRuntime) {
+    gives(&rt, &[], 0);
+    gives(&rt, &[6, 0, 0, 0, 9], 9);
+    gives(&rt, &[6, 255, 255, 255, 255], u32::MAX);
+    gives(&rt, &[6, 0, 0, 1, 2, 6, 0, 0, 0, 9], 258);
+    gives(&rt, &[1, 0, 3, 0, 1, 6, 0, 0, 0, 9], 9);
+    gives(&rt, &[5, 0, 8, 6, 0, 0, 0, 9], 9);
+    gives(&rt, &[3, 6, 0, 0, 0, 7, 6, 0, 0, 6, 0, 0, 0, 9], 9);
+    gives(&rt, &[2, 6, 6, 6, 6, 5, 6, 6, 6, 0, 0, 0, 9], 9);
+}
+
+#[test]
+fn no_generation(rt: HostRuntime) {
+    gives(&rt, &[0, 6, 0, 0, 0, 9], 0);
+    gives(&rt, &[4, 6, 0, 0, 0, 9], 0);
+    gives(&rt, &[7, 6, 0, 0, 0, 9], 0);
+    gives(&rt, &[3, 0, 0, 0, 7, 0, 0, 1, 0, 5, 0, 1, 6, 0, 0, 9], 0);
+    gives(&rt, &[5, 0, 8, 3, 0, 0, 0, 7, 0, 0, 1, 0, 6, 0, 0, 9], 0);
+}
+
+// The cause that is found where generation 3 was read before.
+fn refuses(rt: &impl Abort, header: &Header, fault: Malformed) {
+    assert_eq!(rt; check(header, 8, 3), Err(fault));
+}
+
+#[test]
+fn earlier_generations(rt: HostRuntime) {
+    let second = extended(8, &[6, 0, 0, 0, 2]);
+    refuses(&rt, &second, Malformed::Generation { found: 2, known: 3 });
+    let none = extended(8, &[]);
+    refuses(&rt, &none, Malformed::Generation { found: 0, known: 3 });
+    let early = extended(9, &[6, 0, 0, 0, 2]);
+    refuses(&rt, &early, Malformed::Ack { ack: 9, highest: 8 });
+    let third = extended(8, &[6, 0, 0, 0, 3]);
+    assert_eq!(rt; check(&third, 8, 3), Ok(Kind::Data));
+    assert_eq!(rt; check(&none, 8, 0), Ok(Kind::Data));
 }
 
 // Two extensions one after the other, the second at byte 5, and behind them one whose data would pass the area.

@@ -1,7 +1,9 @@
 ghost use Rattle.std.specs.Prelude.{◌<◌};
 
 use rds_frame::*;
-use rds_wire::{ACK_REQUIRED, CONG_BITMAP, Frame, Header, MAP_LENGTH, Malformed, encode, sealed};
+use rds_wire::{
+    ACK_REQUIRED, CONG_BITMAP, Ext, Frame, Header, MAP_LENGTH, Malformed, encode, put_ext, sealed,
+};
 use std::alloc::{AllocError, Global};
 use std::process::Abort;
 use std::test::Fail;
@@ -65,7 +67,7 @@ fn give(
     whole: &[Frame],
     length: usize,
 ) -> Result<(), Fail> {
-    let frames = frames_of(rt.alloc(), cut, 0)?;
+    let frames = frames_of(rt.alloc(), cut, 0, 0)?;
     assert_eq!(rt; frames.len(), 3, "pieces of {length}");
     are_alike(rt, &frames, whole);
     Ok(())
@@ -86,7 +88,7 @@ fn each_length_gives(
 #[test]
 fn pieces_of_every_length(rt: HostRuntime) -> Result<(), Fail> {
     let bytes = hello(rt.alloc())?;
-    let whole = frames_in(rt.alloc(), &bytes, 0)?;
+    let whole = frames_in(rt.alloc(), &bytes, 0, 0)?;
     are_whole(&rt, &whole);
     each_length_gives(&rt, &bytes, &whole)
 }
@@ -94,20 +96,20 @@ fn pieces_of_every_length(rt: HostRuntime) -> Result<(), Fail> {
 // The header is refused when its last byte comes, and nothing is taken behind it.
 fn is_refused(rt: &impl Abort, splitter: &mut Splitter, header: &Header, fault: Malformed) {
     let bytes = encode(header);
-    assert_eq!(rt; splitter.take(&bytes[..20], 0), took(20, false));
+    assert_eq!(rt; splitter.take(&bytes[..20], 0, 0), took(20, false));
     assert_eq!(rt; splitter.refused(), None);
     assert_eq!(rt;
-        splitter.take(&bytes[20..], 0),
+        splitter.take(&bytes[20..], 0, 0),
         Err(FrameError::Malformed(fault))
     );
-    assert_eq!(rt; splitter.take(&bytes, 0), Err(FrameError::Closed));
+    assert_eq!(rt; splitter.take(&bytes, 0, 0), Err(FrameError::Closed));
     assert_eq!(rt; splitter.refused(), Some(header));
 }
 
 fn is_open_once_wiped(rt: &impl Abort, splitter: &mut Splitter) {
     splitter.wipe();
     assert_eq!(rt; splitter.refused(), None);
-    assert_eq!(rt; splitter.take(b"", 0), took(0, false));
+    assert_eq!(rt; splitter.take(b"", 0, 0), took(0, false));
 }
 
 fn closes(rt: &(impl Abort + AllocGlobal), header: &Header, fault: Malformed) -> Result<(), Fail> {
@@ -133,14 +135,39 @@ fn the_highest_number_is_that_of_the_last_byte(rt: HostRuntime) -> Result<(), Fa
     let bytes = encode(&header(1, 5, 0, 0));
     let (front, last) = bytes.split_at(47);
     let mut splitter = Splitter::new(rt.alloc())?;
-    assert_eq!(rt; splitter.take(front, 0), took(47, false));
-    assert_eq!(rt; splitter.take(last, 5), took(1, true));
-    assert_eq!(rt; splitter.take(last, 0), took(0, true));
+    assert_eq!(rt; splitter.take(front, 0, 0), took(47, false));
+    assert_eq!(rt; splitter.take(last, 5, 0), took(1, true));
+    assert_eq!(rt; splitter.take(last, 0, 0), took(0, true));
     assert!(rt; splitter.ready().is_some());
     assert!(rt; splitter.done().is_some());
     assert!(rt; splitter.done().is_none());
-    splitter.take(front, 5)?;
+    splitter.take(front, 5, 0)?;
     let early = Malformed::Ack { ack: 5, highest: 4 };
-    assert_eq!(rt; splitter.take(last, 4), Err(FrameError::Malformed(early)));
+    assert_eq!(rt;
+        splitter.take(last, 4, 0),
+        Err(FrameError::Malformed(early))
+    );
+    Ok(())
+}
+
+// A datagram of this generation.
+fn of_generation(generation: u32) -> Header {
+    Header {
+        ext: put_ext(&Ext::Generation(generation)),
+        ..header(1, 0, 0, 0)
+    }
+}
+
+#[test]
+fn the_known_generation_is_that_of_the_last_byte(rt: HostRuntime) -> Result<(), Fail> {
+    let bytes = encode(&of_generation(2));
+    let (front, last) = bytes.split_at(47);
+    let mut splitter = Splitter::new(rt.alloc())?;
+    assert_eq!(rt; splitter.take(front, 0, 3), took(47, false));
+    assert_eq!(rt; splitter.take(last, 0, 2), took(1, true));
+    assert!(rt; splitter.done().is_some());
+    splitter.take(front, 0, 2)?;
+    let old = Malformed::Generation { found: 2, known: 3 };
+    assert_eq!(rt; splitter.take(last, 0, 3), Err(FrameError::Malformed(old)));
     Ok(())
 }

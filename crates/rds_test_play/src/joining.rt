@@ -1,14 +1,9 @@
-ghost use Rattle.std.specs.Prelude.{◌≡◌, ◌<◌};
-
 use rds_cong::PortMap;
 use rds_model::{Entry, Order, Outcome};
-use rds_msgs::Steps;
 use rds_play_pair::{Joint, PairEnd, PairError};
 use rds_wire::{Memory, Payload};
 use std::alloc::Global;
-use std::marker::Brand;
 use std::process::Abort;
-use std::sync::ledger::{Blank, Ledger};
 use std::test::Fail;
 
 // Two ends, the map of both hosts, and a datagram that the first one sends.
@@ -54,55 +49,41 @@ enum Game {
 
 // Plays a game.
 fn play(table: &mut Table, game: &Game) -> Result<(), PairError> {
-    play_by::<Brand>(table, game, Blank::new(1))
-}
-
-fn play_by<L: Ledger>(table: &mut Table, game: &Game, blank: Blank) -> Result<(), PairError>
-    requires name { blank.name ≡ L.name }
-    requires parts { blank.parts ≡ L.parts }
-    requires whole { 0 < L.parts }
-{
-    let mut steps: Steps<L> = Steps::new(blank);
-    begin(table, &mut steps)?;
+    begin(table)?;
     match game {
-        Game::Delivery => deliver(table, &mut steps),
-        Game::Cut => deliver_over_a_cut(table, &mut steps),
+        Game::Delivery => deliver(table),
+        Game::Cut => deliver_over_a_cut(table),
     }
 }
 
 // A frame goes from one end to the other, which passes it.
-fn carry<L: Ledger>(
-    table: &mut Table,
-    from: PairEnd,
-    to: PairEnd,
-    steps: &mut Steps<L>,
-) -> Result<(), PairError> {
+fn carry(table: &mut Table, from: PairEnd, to: PairEnd) -> Result<(), PairError> {
     table.joint.pull(from, &table.map)?;
     table.joint.feed(to, 10_000)?;
-    table.joint.pass(to, Some(3), steps)
+    table.joint.pass(to, Some(3))
 }
 
 // The datagram is sent, a stream is opened, and the congestion map goes ahead.
-fn begin<L: Ledger>(table: &mut Table, steps: &mut Steps<L>) -> Result<(), PairError> {
-    table.joint.order(PairEnd::First, &table.order, steps)?;
+fn begin(table: &mut Table) -> Result<(), PairError> {
+    table.joint.order(PairEnd::First, &table.order)?;
     table.joint.open()?;
-    carry(table, PairEnd::First, PairEnd::Second, steps)
+    carry(table, PairEnd::First, PairEnd::Second)
 }
 
 // The datagram goes over, and a map comes back.
-fn deliver<L: Ledger>(table: &mut Table, steps: &mut Steps<L>) -> Result<(), PairError> {
-    carry(table, PairEnd::First, PairEnd::Second, steps)?;
-    carry(table, PairEnd::Second, PairEnd::First, steps)
+fn deliver(table: &mut Table) -> Result<(), PairError> {
+    carry(table, PairEnd::First, PairEnd::Second)?;
+    carry(table, PairEnd::Second, PairEnd::First)
 }
 
 // The stream is cut in the middle of the payload, and the next one carries the datagram again.
-fn deliver_over_a_cut<L: Ledger>(table: &mut Table, steps: &mut Steps<L>) -> Result<(), PairError> {
+fn deliver_over_a_cut(table: &mut Table) -> Result<(), PairError> {
     table.joint.pull(PairEnd::First, &table.map)?;
     table.joint.feed(PairEnd::Second, 50)?;
     table.joint.cut()?;
     table.joint.open()?;
-    carry(table, PairEnd::First, PairEnd::Second, steps)?;
-    carry(table, PairEnd::First, PairEnd::Second, steps)
+    carry(table, PairEnd::First, PairEnd::Second)?;
+    carry(table, PairEnd::First, PairEnd::Second)
 }
 
 // The entry at this place of the second end's journal is the delivery to slot 3.

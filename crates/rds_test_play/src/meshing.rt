@@ -2,14 +2,11 @@ ghost use Rattle.std.specs.Prelude.{◌≡◌, ◌≢◌, ◌<◌, OnOk};
 
 use rds_cong::PortMap;
 use rds_model::{Entry, Journal, Order, Outcome};
-use rds_msgs::Steps;
 use rds_play_mesh::{Mesh, PairError};
 use rds_text::address;
 use rds_wire::{Memory, Payload};
 use std::alloc::Global;
-use std::marker::Brand;
 use std::process::Abort;
-use std::sync::ledger::{Blank, Ledger};
 use std::test::Fail;
 
 // A datagram that hosts send, and the congestion map of each.
@@ -45,49 +42,26 @@ fn play(mesh: &mut Mesh, sent: &Sent) -> Result<(), PairError>
     requires { mesh.old.count ≡ 3 }
     ensures { OnOk result (mesh.new.count ≡ 3) }
 {
-    play_by::<Brand>(mesh, sent, Blank::new(1))
-}
-
-fn play_by<L: Ledger>(mesh: &mut Mesh, sent: &Sent, blank: Blank) -> Result<(), PairError>
-    requires three { mesh.old.count ≡ 3 }
-    requires name { blank.name ≡ L.name }
-    requires parts { blank.parts ≡ L.parts }
-    requires whole { 0 < L.parts }
-    ensures { OnOk result (mesh.new.count ≡ 3) }
-{
-    let mut steps: Steps<L> = Steps::new(blank);
-    deliver(mesh, sent, 0, 2, &mut steps)?;
-    deliver(mesh, sent, 1, 2, &mut steps)
+    deliver(mesh, sent, 0, 2)?;
+    deliver(mesh, sent, 1, 2)
 }
 
 // The datagram goes from one host to another over the first stream, behind the congestion map.
-fn deliver<L: Ledger>(
-    mesh: &mut Mesh,
-    sent: &Sent,
-    from: u8,
-    to: u8,
-    steps: &mut Steps<L>,
-) -> Result<(), PairError>
+fn deliver(mesh: &mut Mesh, sent: &Sent, from: u8, to: u8) -> Result<(), PairError>
     requires three { mesh.old.count ≡ 3 }
     requires from { from < 3 }
     requires to { to < 3 }
     requires apart { to ≢ from }
     ensures { OnOk result (mesh.new.count ≡ 3) }
 {
-    mesh.order(from, to, &sent.order, steps)?;
+    mesh.order(from, to, &sent.order)?;
     mesh.open(from, to)?;
-    carry(mesh, sent, from, to, steps)?;
-    carry(mesh, sent, from, to, steps)
+    carry(mesh, sent, from, to)?;
+    carry(mesh, sent, from, to)
 }
 
 // A frame goes from one host to another, which passes it.
-fn carry<L: Ledger>(
-    mesh: &mut Mesh,
-    sent: &Sent,
-    from: u8,
-    to: u8,
-    steps: &mut Steps<L>,
-) -> Result<(), PairError>
+fn carry(mesh: &mut Mesh, sent: &Sent, from: u8, to: u8) -> Result<(), PairError>
     requires three { mesh.old.count ≡ 3 }
     requires from { from < 3 }
     requires to { to < 3 }
@@ -96,7 +70,7 @@ fn carry<L: Ledger>(
 {
     mesh.pull(from, to, &sent.map)?;
     mesh.feed(from, to, 10_000)?;
-    mesh.pass(to, from, Some(3), steps)
+    mesh.pass(to, from, Some(3))
 }
 
 // The last entry of a journal of three is the delivery to slot 3.

@@ -1,15 +1,12 @@
-ghost use Rattle.std.specs.Prelude.{◌≡◌, ◌<◌, ◌≤◌};
+ghost use Rattle.std.specs.Prelude.{◌≤◌};
 ghost use Rattle.rds_model.specs.declared.journal.TheConstants.{MIN_ENTRIES, MAX_ENTRIES};
 
 use rds_cong::PortMap;
 use rds_model::{Entry, Journal, Order, Outcome};
-use rds_msgs::Steps;
 use rds_play_pair::{ConnPair, PairEnd, PairError, PairStep};
 use rds_wire::{Memory, Payload};
 use std::alloc::Global;
-use std::marker::Brand;
 use std::process::Abort;
-use std::sync::ledger::{Blank, Ledger};
 use std::test::Fail;
 
 // A pair whose slots of sockets are below 4. Each test that owns one is proved the faster where one call drops it.
@@ -40,16 +37,7 @@ fn unplayed(alloc: Global, limit: u32) -> Result<Played, Memory>
 
 // Runs these steps.
 fn run(played: &mut Played, steps: &[PairStep]) -> Result<(), PairError> {
-    run_by::<Brand>(&mut played.pair, steps, Blank::new(1))
-}
-
-fn run_by<L: Ledger>(pair: &mut ConnPair, steps: &[PairStep], blank: Blank) -> Result<(), PairError>
-    requires name { blank.name ≡ L.name }
-    requires parts { blank.parts ≡ L.parts }
-    requires whole { 0 < L.parts }
-{
-    let mut visited: Steps<L> = Steps::new(blank);
-    pair.run(steps, &mut visited)
+    played.pair.run(steps)
 }
 
 // A socket of the first end sends a datagram.

@@ -106,7 +106,7 @@ fn hand_out(splitter: &mut Splitter, piece: &[u8]) -> Result<u64, FrameError> {
     let mut left = piece;
     let mut frames = 0u64;
     for _ in 0..=piece.len() {
-        let took = splitter.take(left, 0)?;
+        let took = splitter.take(left, 0, 0)?;
         if splitter.done().is_none() {
             break;
         }

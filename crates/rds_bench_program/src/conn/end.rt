@@ -8,10 +8,8 @@ ghost use Rattle.rds_bench_program.specs.Behind.{IsBehind};
 use rds_cong::PortMap;
 use rds_conn::{Conn, ConnError, Found, Out, Pulled, Verdict};
 use rds_model::{MAX_ENTRIES, Order};
-use rds_msgs::Steps;
 use rds_wire::Payload;
 use std::alloc::Global;
-use std::sync::ledger::Ledger;
 
 /// How many sockets a host has.
 const SLOTS: u16 = 1;
@@ -72,11 +70,7 @@ impl BenchEnd {
     }
 
     /// Accepts a datagram of its socket.
-    pub fn send<L: Ledger>(
-        &mut self,
-        payload: Payload,
-        steps: &mut Steps<L>,
-    ) -> Result<(), ConnError>
+    pub fn send(&mut self, payload: Payload) -> Result<(), ConnError>
         requires { length payload ≤ MAX_LENGTH }
     {
         self.conn.reserve()?;
@@ -86,7 +80,7 @@ impl BenchEnd {
             dport: 4001,
             payload,
         };
-        self.conn.order(order, steps);
+        self.conn.order_uncounted(order);
         Ok(())
     }
 
@@ -102,11 +96,7 @@ impl BenchEnd {
     }
 
     /// Takes the bytes that the peer has in flight, and passes their frames.
-    pub fn take_from<L: Ledger>(
-        &mut self,
-        peer: &mut BenchEnd,
-        steps: &mut Steps<L>,
-    ) -> Result<(), ConnError> {
+    pub fn take_from(&mut self, peer: &mut BenchEnd) -> Result<(), ConnError> {
         for _ in 0..=peer.out.rest().len() {
             self.conn.reserve()?;
             let fed = feed(&mut self.conn, &mut peer.out);
@@ -114,13 +104,13 @@ impl BenchEnd {
             if !fed? {
                 break;
             }
-            self.pass(steps)?;
+            self.pass()?;
         }
         Ok(())
     }
 
     // Passes the frame that waits: its socket holds every port.
-    fn pass<L: Ledger>(&mut self, steps: &mut Steps<L>) -> Result<(), ConnError> {
+    fn pass(&mut self) -> Result<(), ConnError> {
         self.conn.reserve()?;
         let Some(verdict) = self.conn.verdict() else {
             return Ok(());
@@ -129,7 +119,7 @@ impl BenchEnd {
             Verdict::Deliver { .. } => Found::Slot(0),
             _ => Found::Unasked,
         };
-        pass(&mut self.conn, found, steps);
+        pass(&mut self.conn, found);
         self.delivered = self
             .delivered
             .wrapping_add(u64::from(found != Found::Unasked));
@@ -184,12 +174,12 @@ fn feed(conn: &mut Conn, flying: &mut Out) -> Result<bool, ConnError>
 }
 
 // Passes the frame that waits at a connection.
-fn pass<L: Ledger>(conn: &mut Conn, found: Found, steps: &mut Steps<L>)
+fn pass(conn: &mut Conn, found: Found)
     requires ready { IsReady conn.old }
     requires waiting { IsSome conn.old.waiting }
     requires found { IfSome conn.old.waiting (λ f. Matches conn.old.slots (verdict_of conn.old.log.past f.header) found) }
     ensures slots { conn.new.slots ≡ conn.old.slots }
     ensures behind { IsBehind conn.old → IsBehind conn.new }
 {
-    conn.pass(found, steps);
+    conn.pass_uncounted(found);
 }

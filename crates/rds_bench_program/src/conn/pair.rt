@@ -3,10 +3,8 @@ ghost use Rattle.rds_wire.specs.declared.kind.TheConstants.{MAX_LENGTH};
 
 use crate::conn::end::BenchEnd;
 use rds_conn::ConnError;
-use rds_msgs::Steps;
 use rds_wire::Payloads;
 use std::alloc::Global;
-use std::sync::ledger::Ledger;
 
 /// The two ends of a connection, and the bytes of each datagram.
 pub struct BenchPair {
@@ -63,32 +61,27 @@ impl BenchPair {
     }
 
     /// Sends so many datagrams from the near end to the far one, in batches.
-    pub fn send<L: Ledger>(
-        &mut self,
-        count: u64,
-        batch: u64,
-        steps: &mut Steps<L>,
-    ) -> Result<(), ConnError> {
+    pub fn send(&mut self, count: u64, batch: u64) -> Result<(), ConnError> {
         let batch = batch.max(1);
         for _ in 0..count / batch {
-            self.send_batch(batch, steps)?;
+            self.send_batch(batch)?;
         }
-        self.send_batch(count % batch, steps)
+        self.send_batch(count % batch)
     }
 
-    fn send_batch<L: Ledger>(&mut self, count: u64, steps: &mut Steps<L>) -> Result<(), ConnError> {
+    fn send_batch(&mut self, count: u64) -> Result<(), ConnError> {
         for _ in 0..count {
             let payload = self.payloads.copy_of(&self.bytes)?;
-            self.near.send(payload, steps)?;
+            self.near.send(payload)?;
         }
-        self.settle(steps)
+        self.settle()
     }
 
     // Carries both ways until nothing moves.
-    fn settle<L: Ledger>(&mut self, steps: &mut Steps<L>) -> Result<(), ConnError> {
+    fn settle(&mut self) -> Result<(), ConnError> {
         for _ in 0..u64::MAX {
-            let going = carry(&mut self.near, &mut self.far, steps)?;
-            let coming = carry(&mut self.far, &mut self.near, steps)?;
+            let going = carry(&mut self.near, &mut self.far)?;
+            let coming = carry(&mut self.far, &mut self.near)?;
             self.near.take_freed();
             if !going && !coming {
                 break;
@@ -99,12 +92,8 @@ impl BenchPair {
 }
 
 // Carries what one end owes to the other. Answers whether there was any.
-fn carry<L: Ledger>(
-    from: &mut BenchEnd,
-    to: &mut BenchEnd,
-    steps: &mut Steps<L>,
-) -> Result<bool, ConnError> {
+fn carry(from: &mut BenchEnd, to: &mut BenchEnd) -> Result<bool, ConnError> {
     let moving = from.pull_all()?;
-    to.take_from(from, steps)?;
+    to.take_from(from)?;
     Ok(moving)
 }

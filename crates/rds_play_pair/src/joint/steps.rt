@@ -5,8 +5,6 @@ use super::Joint;
 use crate::{PairEnd, PairError};
 use rds_cong::PortMap;
 use rds_model::Order;
-use rds_msgs::Steps;
-use std::sync::ledger::Ledger;
 
 impl Joint {
     ghost use Rattle.std.specs.Prelude.{◌≡◌, ℕ, Err, OnOk, OnErr, IfOk, min, length};
@@ -20,17 +18,12 @@ impl Joint {
     /// # Errors
     ///
     /// `Memory`, and `Spent` where the journal is full. The joint is as before.
-    pub fn order<L: Ledger>(
-        &mut self,
-        end: PairEnd,
-        order: &Order,
-        visited: &mut Steps<L>,
-    ) -> Result<(), PairError>
+    pub fn order(&mut self, end: PairEnd, order: &Order) -> Result<(), PairError>
         ensures ok { OnOk result (self.new ≡ with_end end (ordered order.now) self.old) }
         ensures err { OnErr result (self.new ≡ self.old) }
         ensures spent { (entries : ℕ) → result ≡ Err (errors.Spent entries) → IsFull entries (of_end end self.old) }
     {
-        self.pair.order(end, order, visited)
+        self.pair.order(end, order)
     }
 
     /// Opens the next stream at both ends, if none is open.
@@ -108,17 +101,12 @@ impl Joint {
     /// # Errors
     ///
     /// `Memory`, and `Spent` where the journal is full. The joint is as before.
-    pub fn pass<L: Ledger>(
-        &mut self,
-        end: PairEnd,
-        slot: Option<u16>,
-        visited: &mut Steps<L>,
-    ) -> Result<(), PairError>
+    pub fn pass(&mut self, end: PairEnd, slot: Option<u16>) -> Result<(), PairError>
         ensures ok { OnOk result (self.new ≡ with_end end (passed slot) self.old) }
         ensures err { OnErr result (self.new ≡ self.old) }
         ensures spent { (entries : ℕ) → result ≡ Err (errors.Spent entries) → IsFull entries (of_end end self.old) }
     {
-        self.pair.pass(end, slot, visited)
+        self.pair.pass(end, slot)
     }
 }
 

@@ -23,7 +23,7 @@ command_at : (hosts : ℕ) (xs : List Placed) (i : ℕ) (x : Placed) → i < len
 command_at hosts xs i x below is all = subst (λ (p : Placed). IsCommand hosts p.command) (sym is) (All-get_or (λ p. IsCommand hosts p.command) xs i x below all)
 
 pub obey-requires-clause-command : goal.obey-requires-clause-command
-obey-requires-clause-command g c =
+obey-requires-clause-command c =
     let s = c.args.script.now in
     let xs = s.commands.items in
     let items : c.deref-placed-items.result.now ≡ xs = c.deref-placed-items.ensures.value in
@@ -33,15 +33,15 @@ obey-requires-clause-command g c =
     (command_at s.hosts xs c.loop-placed.placed-index c.placed-item.result below at c.requires.script.each)
 
 pub obey-requires-clause-telling : goal.obey-requires-clause-telling
-obey-requires-clause-telling g c =
+obey-requires-clause-telling c =
     let p = c.loop-placed.invariant.1 in
     (c.args.limit, c.args.script.now.hosts, p.past, p.tells)
 
 pub loop-placed-init : goal.loop-placed-init
-loop-placed-init g c = (c.in_ok-world.ensures.count, record { past = []; same = refl; tells = c.in_ok-world.ensures.told })
+loop-placed-init c = (c.in_ok-world.ensures.count, record { past = []; same = refl; tells = c.in_ok-world.ensures.told })
 
 pub loop-placed-preserved : goal.loop-placed-preserved
-loop-placed-preserved g c =
+loop-placed-preserved c =
     let s = c.args.script.now in
     let xs = s.commands.items in
     let i = c.loop-placed.placed-index in
@@ -56,7 +56,7 @@ loop-placed-preserved g c =
     )
 
 pub returns-in_err-obey : goal.returns-in_err-obey
-returns-in_err-obey g c =
+returns-in_err-obey c =
     let s = c.args.script.now in
     let xs = s.commands.items in
     let i = c.loop-placed.placed-index in
@@ -71,7 +71,7 @@ returns-in_err-obey g c =
     c.in_err-obey.field-0.0 p (c.in_err-obey.ensures.course c.args.limit s.hosts p.past p.tells))
 
 pub returns : goal.returns
-returns g c =
+returns c =
     let s = c.args.script.now in
     let xs = s.commands.items in
     let i = c.loop-placed.placed-index in

@@ -3,5 +3,5 @@ use Rattle.rds_report.specs.Items.{came_items}
 use Rattle.rds_report.specs.TakenBackWalk.{before}
 use Rattle.rds_report.proofs.collect.add_came.Given as goal
 
-abbrev pub invariant-loop-i : goal.invariant-loop-i
-invariant-loop-i l = l.items.items ≡ l.fn.items.items ++ came_items l.from l.to (before l.i l.journal.past)
+abbrev pub invariant-loop-entry : goal.invariant-loop-entry
+invariant-loop-entry l = l.items.items ≡ l.fn.items.items ++ came_items l.from l.to (before l.entry-index l.journal.past)

@@ -3,5 +3,5 @@ use Rattle.rds_run_rounds.specs.Causes.{refusals}
 use Rattle.rds_run_rounds.proofs.Counted.{oldest}
 use Rattle.rds_run_rounds.proofs.verdict.refusals_in.Given as goal
 
-abbrev pub invariant-loop-i : goal.invariant-loop-i
-invariant-loop-i l = l.count ≡ refusals (oldest l.i l.journal.past)
+abbrev pub invariant-loop-entry : goal.invariant-loop-entry
+invariant-loop-entry l = l.count ≡ refusals (oldest l.entry-index l.journal.past)

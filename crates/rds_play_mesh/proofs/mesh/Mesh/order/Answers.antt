@@ -7,7 +7,7 @@ use Rattle.rds_play_mesh.proofs.Stepping.{Found, inside, one_ok, here_is}
 use Rattle.rds_play_mesh.proofs.mesh.Mesh.order.Goals as goal
 
 pub index_mut-requires : goal.index_mut-requires
-index_mut-requires g c =
+index_mut-requires c =
     let m = mesh_view c.self.inside in
     let host = subst (λ (v : MeshView). c.args.host < v.count) (sym c.self.view_is) c.requires.host in
     let peer = subst (λ (v : MeshView). c.args.peer < v.count) (sym c.self.view_is) c.requires.peer in
@@ -15,7 +15,7 @@ index_mut-requires g c =
     omega (arith, within, c.self.inside.joints.ok.0)
 
 pub returns-clause-ok : goal.returns-clause-ok
-returns-clause-ok g c =
+returns-clause-ok c =
     let m = mesh_view c.self.inside in
     let host = subst (λ (v : MeshView). c.args.host < v.count) (sym c.self.view_is) c.requires.host in
     let peer = subst (λ (v : MeshView). c.args.peer < v.count) (sym c.self.view_is) c.requires.peer in
@@ -25,7 +25,7 @@ returns-clause-ok g c =
     (one_ok c.order.result c.args.host c.args.peer c.place.result c.end_of.result c.index_mut.result.now c.order.new.self m (ordered c.args.order.now) (ordered c.args.order.now) found refl c.order.ensures.ok)
 
 pub returns-clause-spent : goal.returns-clause-spent
-returns-clause-spent g c = λ entries is.
+returns-clause-spent c = λ entries is.
     let m = mesh_view c.self.inside in
     let host = subst (λ (v : MeshView). c.args.host < v.count) (sym c.self.view_is) c.requires.host in
     let peer = subst (λ (v : MeshView). c.args.peer < v.count) (sym c.self.view_is) c.requires.peer in

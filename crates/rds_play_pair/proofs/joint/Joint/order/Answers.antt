@@ -9,7 +9,7 @@ use Rattle.rds_play_pair.proofs.JointTrying.{kept_tried, seen_ok}
 use Rattle.rds_play_pair.proofs.joint.Joint.order.Goals as goal
 
 pub invariant_of-self : goal.invariant_of-self
-invariant_of-self g c =
+invariant_of-self c =
     let p = c.self.inside.pair in
     let made = ordered c.args.order.now in
     kept_tried c.order.result p c.order.new.self (with_end c.args.end made p) c.order.ensures.ok c.order.ensures.err
@@ -17,7 +17,7 @@ invariant_of-self g c =
     c.self.invariant
 
 pub returns-clause-ok : goal.returns-clause-ok
-returns-clause-ok g c =
+returns-clause-ok c =
     let p = c.self.inside.pair in
     let made = ordered c.args.order.now in
     let seen = ordered_seen c.args.order.now in

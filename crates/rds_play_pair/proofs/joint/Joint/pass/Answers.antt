@@ -9,7 +9,7 @@ use Rattle.rds_play_pair.proofs.JointTrying.{kept_tried, seen_ok}
 use Rattle.rds_play_pair.proofs.joint.Joint.pass.Goals as goal
 
 pub invariant_of-self : goal.invariant_of-self
-invariant_of-self g c =
+invariant_of-self c =
     let p = c.self.inside.pair in
     let made = passed c.args.slot in
     kept_tried c.pass.result p c.pass.new.self (with_end c.args.end made p) c.pass.ensures.ok c.pass.ensures.err
@@ -17,7 +17,7 @@ invariant_of-self g c =
     c.self.invariant
 
 pub returns-clause-ok : goal.returns-clause-ok
-returns-clause-ok g c =
+returns-clause-ok c =
     let p = c.self.inside.pair in
     let made = passed c.args.slot in
     let seen = passed_seen c.args.slot in

@@ -4,4 +4,4 @@ use Rattle.rds_play_pair.proofs.pair.ConnPair.do_all.Given as goal
 
 -- the steps so far were done
 abbrev pub invariant-loop-step : goal.invariant-loop-step
-invariant-loop-step g l = DoesAll (take l.step-index l.steps) l.fn.self l.self
+invariant-loop-step l = DoesAll (take l.step-index l.steps) l.fn.self l.self

@@ -11,7 +11,7 @@ use Rattle.rds_play_world.proofs.Eaching.{RunsOn, runs_more, runs_out, runs_stop
 use Rattle.rds_play_world.proofs.world.World.all_rounds.Goals as goal
 
 pub returns-in_err-moved-clause-course : goal.returns-in_err-moved-clause-course
-returns-in_err-moved-clause-course g c = λ limit hosts past told.
+returns-in_err-moved-clause-course c = λ limit hosts past told.
     let whole = again (rounds limit) (round limit hosts) past in
     let left = c.rounds-end.result - (c.loop.counter + 1) in
     let more : c.rounds-end.result - c.loop.counter ≡ suc left = omega (arith, c.loop-test.true) in
@@ -22,7 +22,7 @@ returns-in_err-moved-clause-course g c = λ limit hosts past told.
     (c.in_err-moved.ensures.course limit hosts p.mid p.told))
 
 pub returns-then-not-moved-clause-course : goal.returns-then-not-moved-clause-course
-returns-then-not-moved-clause-course g c = λ limit hosts past told.
+returns-then-not-moved-clause-course c = λ limit hosts past told.
     let whole = again (rounds limit) (round limit hosts) past in
     let left = c.rounds-end.result - (c.loop.counter + 1) in
     let more : c.rounds-end.result - c.loop.counter ≡ suc left = omega (arith, c.loop-test.true) in
@@ -32,7 +32,7 @@ returns-then-not-moved-clause-course g c = λ limit hosts past told.
     (c.in_ok-moved.ensures.course limit hosts p.mid p.told))
 
 pub loop-preserved : goal.loop-preserved
-loop-preserved g c = (
+loop-preserved c = (
   c.in_ok-moved.ensures.count ∙ c.loop.invariant.0,
   c.loop.invariant.1,
   λ limit hosts past told.

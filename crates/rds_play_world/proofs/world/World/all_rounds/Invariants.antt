@@ -7,7 +7,7 @@ use Rattle.rds_play_world.proofs.Eaching.{RunsOn}
 use Rattle.rds_play_world.proofs.world.World.all_rounds.Given as goal
 
 abbrev pub invariant-loop : goal.invariant-loop
-invariant-loop g l =
+invariant-loop l =
     (l.self.count ≡ l.fn.self.count) × (l.end ≡ rounds l.fn.self.limit)
     × ((limit hosts : ℕ) (past : List Event) → Tells limit hosts past (state l.fn.self) →
     RunsOn limit hosts (again (rounds limit) (round limit hosts) past) (l.end - l.counter) (round limit hosts) (state l.self))

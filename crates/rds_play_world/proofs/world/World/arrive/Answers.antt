@@ -11,7 +11,7 @@ use Rattle.rds_play_world.proofs.Right.{IsMore, right_lacking, right_stopped, ri
 use Rattle.rds_play_world.proofs.world.World.arrive.Goals as goal
 
 pub returns-then-flight-eq0-clause-course : goal.returns-then-flight-eq0-clause-course
-returns-then-flight-eq0-clause-course g c = λ limit hosts past told.
+returns-then-flight-eq0-clause-course c = λ limit hosts past told.
     let h = c.args.from in
     let k = c.args.to in
     let s = state c.args.self.now in
@@ -23,7 +23,7 @@ returns-then-flight-eq0-clause-course g c = λ limit hosts past told.
     subst (λ (course : Course). ComesRight (IsMore past) none_waits limit hosts course (Ok 0) s) (none_arrives limit h k c.args.left past none) (told, omega arith)
 
 pub returns-in_err-ready-clause-course : goal.returns-in_err-ready-clause-course
-returns-in_err-ready-clause-course g c = λ limit hosts past told.
+returns-in_err-ready-clause-course c = λ limit hosts past told.
     let h = c.args.from in
     let k = c.args.to in
     let s = state c.args.self.now in
@@ -41,7 +41,7 @@ returns-in_err-ready-clause-course g c = λ limit hosts past told.
     (λ before. Ok (move_piece h k (portion c.args.left (length (in_flight h k past))) before)) why t t (c.in_err-ready.ensures.course none_waits limit hosts past told)))
 
 pub returns-in_err-move_piece-clause-course : goal.returns-in_err-move_piece-clause-course
-returns-in_err-move_piece-clause-course g c = λ limit hosts past told.
+returns-in_err-move_piece-clause-course c = λ limit hosts past told.
     let same : c.from_residual-in_err-move_piece.result ≡ Err c.in_err-move_piece.field-0.0 = grind (arith, common_steps) in
     let why = c.in_err-move_piece.field-0.0 in
     let t = state c.move_piece.new.self in
@@ -49,7 +49,7 @@ returns-in_err-move_piece-clause-course g c = λ limit hosts past told.
     (right_lacking (IsMore past) none_waits limit hosts (arrive limit c.args.from c.args.to c.args.left past) why t c.in_err-move_piece.ensures.stop)
 
 pub returns-clause-course : goal.returns-clause-course
-returns-clause-course g c = λ limit hosts past told.
+returns-clause-course c = λ limit hosts past told.
     let h = c.args.from in
     let k = c.args.to in
     let s = state c.args.self.now in
@@ -68,4 +68,4 @@ returns-clause-course g c = λ limit hosts past told.
     (λ later is told_later. arrived limit hosts h k count c.args.left past later t is count_is some (c.in_ok-move_piece.ensures.told limit hosts later told_later)))
 
 pub returns-clause-within : goal.returns-clause-within
-returns-clause-within g c = λ n is. let w = portion_within c.args.left (length c.in_flight-flight.result.now) n is in omega (arith, w, c.portion-count.ensures)
+returns-clause-within c = λ n is. let w = portion_within c.args.left (length c.in_flight-flight.result.now) n is in omega (arith, w, c.portion-count.ensures)

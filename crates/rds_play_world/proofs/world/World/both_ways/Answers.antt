@@ -17,7 +17,7 @@ abbrev Says : (past later : List Event) → ℕ → Type 0
 Says past later n = n ≡ min 18446744073709551615 (moved_in_all later - moved_in_all past)
 
 pub returns-in_err-forth-clause-course : goal.returns-in_err-forth-clause-course
-returns-in_err-forth-clause-course g c = λ limit hosts past told.
+returns-in_err-forth-clause-course c = λ limit hosts past told.
     let low = c.args.low in
     let high = c.args.high in
     let course = both_ways limit (record { low = low; high = high }) past in
@@ -27,7 +27,7 @@ returns-in_err-forth-clause-course g c = λ limit hosts past told.
     c.in_err-forth.field-0.0 (state c.move_up_to.new.self) (state c.move_up_to.new.self) (c.in_err-forth.ensures.course limit hosts past told))
 
 pub returns-in_err-back-clause-course : goal.returns-in_err-back-clause-course
-returns-in_err-back-clause-course g c = λ limit hosts past told.
+returns-in_err-back-clause-course c = λ limit hosts past told.
     let low = c.args.low in
     let high = c.args.high in
     let course = both_ways limit (record { low = low; high = high }) past in
@@ -39,7 +39,7 @@ returns-in_err-back-clause-course g c = λ limit hosts past told.
     (state c.move_up_to-2.new.self) (state c.move_up_to-2.new.self) (c.in_err-back.ensures.course limit hosts mid told_mid)))
 
 pub returns-clause-course : goal.returns-clause-course
-returns-clause-course g c = λ limit hosts past told.
+returns-clause-course c = λ limit hosts past told.
     let low = c.args.low in
     let high = c.args.high in
     right_then (Says past) (SaysMoved past) limit hosts (move_up_to limit low high None past) (move_up_to limit high low None)

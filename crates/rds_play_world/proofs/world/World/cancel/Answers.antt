@@ -12,7 +12,7 @@ use Rattle.rds_play_world.specs.Telling.{state}
 use Rattle.rds_play_world.proofs.world.World.cancel.Goals as goal
 
 pub returns-in-Some-clause-course : goal.returns-in-Some-clause-course
-returns-in-Some-clause-course g c = λ limit hosts past told.
+returns-in-Some-clause-course c = λ limit hosts past told.
     let h = c.args.host in
     let port = c.args.port in
     let k = c.args.to in
@@ -25,7 +25,7 @@ returns-in-Some-clause-course g c = λ limit hosts past told.
     (c.cancel_from.ensures.course limit hosts past told)
 
 pub returns-in-None-clause-course : goal.returns-in-None-clause-course
-returns-in-None-clause-course g c = λ limit hosts past told.
+returns-in-None-clause-course c = λ limit hosts past told.
     let h = c.args.host in
     let port = c.args.port in
     let k = c.args.to in

@@ -13,7 +13,7 @@ use Rattle.rds_play_world.specs.Telling.{state}
 use Rattle.rds_play_world.proofs.world.World.close.Goals as goal
 
 pub returns-in-Some-clause-course : goal.returns-in-Some-clause-course
-returns-in-Some-clause-course g c = λ limit hosts past told.
+returns-in-Some-clause-course c = λ limit hosts past told.
     let h = c.args.host in
     let port = c.args.port in
     let x = c.index.result.now in
@@ -25,7 +25,7 @@ returns-in-Some-clause-course g c = λ limit hosts past told.
     (c.close_slot.ensures.course limit hosts past told (c.in-Some.ensures.bound h past host))
 
 pub returns-in-None-clause-course : goal.returns-in-None-clause-course
-returns-in-None-clause-course g c = λ limit hosts past told.
+returns-in-None-clause-course c = λ limit hosts past told.
     let h = c.args.host in
     let port = c.args.port in
     let x = c.index.result.now in

@@ -15,7 +15,7 @@ use Rattle.rds_play_world.proofs.Comings.{comes_made, comes_stopped, comes_then}
 use Rattle.rds_play_world.proofs.world.World.close_slot.Goals as goal
 
 pub returns-in_err-take_all_back-clause-course : goal.returns-in_err-take_all_back-clause-course
-returns-in_err-take_all_back-clause-course g c = λ limit hosts past told bound.
+returns-in_err-take_all_back-clause-course c = λ limit hosts past told bound.
     let h = c.args.host in
     let slot = c.args.slot in
     let same : c.from_residual.result ≡ Err c.in_err-take_all_back.field-0.0 = grind (arith, common_steps) in
@@ -24,7 +24,7 @@ returns-in_err-take_all_back-clause-course g c = λ limit hosts past told bound.
     c.in_err-take_all_back.field-0.0 (state c.take_all_back.new.self) (state c.take_all_back.new.self) (c.in_err-take_all_back.ensures.course limit hosts past told))
 
 pub returns-clause-course : goal.returns-clause-course
-returns-clause-course g c = λ limit hosts past told bound.
+returns-clause-course c = λ limit hosts past told bound.
     let h = c.args.host in
     let slot = c.args.slot in
     comes_then none_waits none_waits limit hosts (each (peers hosts h) (λ k. appends limit h k (Cancel slot All)) past) (λ (later : List Event). Ok (unbind h c.args.port slot later))

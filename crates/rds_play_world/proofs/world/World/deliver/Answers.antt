@@ -11,7 +11,7 @@ use Rattle.rds_play_world.proofs.Readings.{here_on, read_after}
 use Rattle.rds_play_world.proofs.world.World.deliver.Goals as goal
 
 pub returns-clause-told : goal.returns-clause-told
-returns-clause-told g c = λ limit hosts stream f past waits is in_range.
+returns-clause-told c = λ limit hosts stream f past waits is in_range.
     let k = c.args.host in
     let h = c.args.peer in
     let s = state c.args.self.now in

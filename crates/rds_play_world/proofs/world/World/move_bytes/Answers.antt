@@ -15,7 +15,7 @@ use Rattle.rds_play_world.proofs.Right.{IsCount}
 use Rattle.rds_play_world.proofs.world.World.move_bytes.Goals as goal
 
 pub returns-in_err-moved-clause-course : goal.returns-in_err-moved-clause-course
-returns-in_err-moved-clause-course g c = λ limit hosts past told.
+returns-in_err-moved-clause-course c = λ limit hosts past told.
     let h = c.args.host in
     let k = c.args.peer in
     let bytes = c.from.result in
@@ -36,7 +36,7 @@ returns-in_err-moved-clause-course g c = λ limit hosts past told.
     (λ later. prints (move_line h k (moved_in_all later - moved_in_all past)) later) why t t (c.in_err-moved.ensures.course limit hosts past told))))
 
 pub returns-clause-course : goal.returns-clause-course
-returns-clause-course g c = λ limit hosts past told.
+returns-clause-course c = λ limit hosts past told.
     let h = c.args.host in
     let k = c.args.peer in
     let bytes = c.from.result in

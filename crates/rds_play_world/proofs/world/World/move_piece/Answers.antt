@@ -8,7 +8,7 @@ use Rattle.rds_play_world.proofs.Right.{no_bytes, none_bytes, some_bytes}
 use Rattle.rds_play_world.proofs.world.World.move_piece.Goals as goal
 
 pub returns-then-not-is_empty-clause-told : goal.returns-then-not-is_empty-clause-told
-returns-then-not-is_empty-clause-told g c = λ limit hosts past told some most.
+returns-then-not-is_empty-clause-told c = λ limit hosts past told some most.
     let h = c.args.from in
     let k = c.args.to in
     let later : List Event = Moved h k c.args.count ∷ past in
@@ -19,7 +19,7 @@ returns-then-not-is_empty-clause-told g c = λ limit hosts past told some most.
     subst (λ (p : List Event). Tells limit hosts p (state c.feed.new.self)) (moved_part h k c.args.count past left) (fed.part left)
 
 pub returns-clause-told : goal.returns-clause-told
-returns-clause-told g c = λ limit hosts past told some most.
+returns-clause-told c = λ limit hosts past told some most.
     let h = c.args.from in
     let k = c.args.to in
     let later : List Event = Moved h k c.args.count ∷ past in

@@ -8,7 +8,7 @@ use Rattle.rds_play_world.proofs.Passing.{passed_read}
 use Rattle.rds_play_world.proofs.world.World.pass.Goals as goal
 
 pub returns-clause-read : goal.returns-clause-read
-returns-clause-read g c = λ stream f waits on.
+returns-clause-read c = λ stream f waits on.
     let h = c.args.host in
     let k = c.args.peer in
     let s = state c.args.self.now in

@@ -7,7 +7,7 @@ use Rattle.rds_play_world.proofs.Readings.{read_unanswered, verdict_waits}
 use Rattle.rds_play_world.proofs.world.World.read.Goals as goal
 
 pub returns-in-Old : goal.returns-in-Old
-returns-in-Old g c = record {
+returns-in-Old c = record {
   count = c.read_quietly.ensures.count;
   told = λ limit hosts stream f past waits.
       let k = c.args.host in

@@ -14,7 +14,7 @@ use Rattle.rds_play_world.proofs.Readings.{read_plainly}
 use Rattle.rds_play_world.proofs.world.World.read_datagram.Goals as goal
 
 pub returns-in_default-clause-told : goal.returns-in_default-clause-told
-returns-in_default-clause-told g c = λ limit hosts stream f past waits verdict_is.
+returns-in_default-clause-told c = λ limit hosts stream f past waits verdict_is.
     let k = c.args.host in
     let h = c.args.peer in
     let s = state c.args.self.now in
@@ -28,7 +28,7 @@ returns-in_default-clause-told g c = λ limit hosts stream f past waits verdict_
     (c.read_quietly.ensures.told limit hosts stream f past waits)
 
 pub returns-clause-told : goal.returns-clause-told
-returns-clause-told g c = λ limit hosts stream f past waits verdict_is.
+returns-clause-told c = λ limit hosts stream f past waits verdict_is.
     let k = c.args.host in
     let h = c.args.peer in
     let port = c.args.port in

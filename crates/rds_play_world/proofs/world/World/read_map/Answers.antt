@@ -14,7 +14,7 @@ use Rattle.rds_play_world.proofs.Readings.{here_on, read_after}
 use Rattle.rds_play_world.proofs.world.World.read_map.Goals as goal
 
 pub returns-clause-told : goal.returns-clause-told
-returns-clause-told g c = λ limit hosts stream f past waits verdict_is.
+returns-clause-told c = λ limit hosts stream f past waits verdict_is.
     let k = c.args.host in
     let h = c.args.peer in
     let s = state c.args.self.now in

@@ -9,7 +9,7 @@ use Rattle.rds_play_world.proofs.Readings.{here_on, tells_plain}
 use Rattle.rds_play_world.proofs.world.World.read_quietly.Goals as goal
 
 pub returns-clause-told : goal.returns-clause-told
-returns-clause-told g c = λ limit hosts stream f past waits plain.
+returns-clause-told c = λ limit hosts stream f past waits plain.
     let k = c.args.host in
     let h = c.args.peer in
     let s = state c.args.self.now in

@@ -15,7 +15,7 @@ use Rattle.rds_play_world.proofs.Eaching.{Reaches, each_pair, moved_then, range_
 use Rattle.rds_play_world.proofs.world.World.round.Goals as goal
 
 pub loop-low-init : goal.loop-low-init
-loop-low-init g c = (
+loop-low-init c = (
   refl,
   λ limit hosts past told. let zero : hosts ≡ hosts - 0 = omega arith in record {
     mid = past;
@@ -26,10 +26,10 @@ loop-low-init g c = (
 )
 
 pub returns-in_err-more-clause-count : goal.returns-in_err-more-clause-count
-returns-in_err-more-clause-count g c = c.in_err-more.ensures.count ∙ c.loop-low.invariant.0
+returns-in_err-more-clause-count c = c.in_err-more.ensures.count ∙ c.loop-low.invariant.0
 
 pub returns-in_err-more-clause-course : goal.returns-in_err-more-clause-course
-returns-in_err-more-clause-course g c = λ limit hosts past told.
+returns-in_err-more-clause-course c = λ limit hosts past told.
     let act : ℕ → List Event → Course = λ low. each (pairs_above low hosts) (both_ways limit) in
     let whole = round limit hosts past in
     let below : c.loop-low.low < hosts = subst (λ n. c.loop-low.low < n) told.count_is c.loop-low-test.true in
@@ -42,7 +42,7 @@ returns-in_err-more-clause-course g c = λ limit hosts past told.
     (c.in_err-more.ensures.course limit hosts p.mid p.told))
 
 pub loop-low-preserved : goal.loop-low-preserved
-loop-low-preserved g c = (
+loop-low-preserved c = (
   c.in_ok-more.ensures.count ∙ c.loop-low.invariant.0,
   λ limit hosts past told.
       let act : ℕ → List Event → Course = λ low. each (pairs_above low hosts) (both_ways limit) in
@@ -60,7 +60,7 @@ loop-low-preserved g c = (
 )
 
 pub returns-clause-course : goal.returns-clause-course
-returns-clause-course g c = λ limit hosts past told.
+returns-clause-course c = λ limit hosts past told.
     let act : ℕ → List Event → Course = λ low. each (pairs_above low hosts) (both_ways limit) in
     let whole = round limit hosts past in
     let done : hosts ≤ c.loop-low.low = (let more = c.loop-low-test.false in omega (arith, more, told.count_is)) in

@@ -9,7 +9,7 @@ use Rattle.rds_play_world.proofs.Eaching.{Reaches}
 use Rattle.rds_play_world.proofs.world.World.round.Given as goal
 
 abbrev pub invariant-loop-low : goal.invariant-loop-low
-invariant-loop-low g l =
+invariant-loop-low l =
     (l.self.count ≡ l.fn.self.count)
     × ((limit hosts : ℕ) (past : List Event) → Tells limit hosts past (state l.fn.self) →
     Reaches (λ mid. SaysMoved past mid l.moved) limit hosts (round limit hosts past)

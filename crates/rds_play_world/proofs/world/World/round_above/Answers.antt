@@ -15,7 +15,7 @@ use Rattle.rds_play_world.proofs.Eaching.{Reaches, each_above, moved_then, range
 use Rattle.rds_play_world.proofs.world.World.round_above.Goals as goal
 
 pub loop-high-init : goal.loop-high-init
-loop-high-init g c = (
+loop-high-init c = (
   refl,
   λ limit hosts past told. record {
     mid = past;
@@ -26,10 +26,10 @@ loop-high-init g c = (
 )
 
 pub returns-in_err-more-clause-count : goal.returns-in_err-more-clause-count
-returns-in_err-more-clause-count g c = c.in_err-more.ensures.count ∙ c.loop-high.invariant.0
+returns-in_err-more-clause-count c = c.in_err-more.ensures.count ∙ c.loop-high.invariant.0
 
 pub returns-in_err-more-clause-course : goal.returns-in_err-more-clause-course
-returns-in_err-more-clause-course g c = λ limit hosts past told.
+returns-in_err-more-clause-course c = λ limit hosts past told.
     let act : ℕ → List Event → Course = λ high. both_ways limit (record { low = c.args.low; high = high }) in
     let whole = each (pairs_above c.args.low hosts) (both_ways limit) past in
     let below : c.loop-high.high < hosts = subst (λ n. c.loop-high.high < n) told.count_is c.loop-high-test.true in
@@ -42,7 +42,7 @@ returns-in_err-more-clause-course g c = λ limit hosts past told.
     (c.in_err-more.ensures.course limit hosts p.mid p.told))
 
 pub loop-high-preserved : goal.loop-high-preserved
-loop-high-preserved g c = (
+loop-high-preserved c = (
   c.in_ok-more.ensures.count ∙ c.loop-high.invariant.0,
   λ limit hosts past told.
       let act : ℕ → List Event → Course = λ high. both_ways limit (record { low = c.args.low; high = high }) in
@@ -60,7 +60,7 @@ loop-high-preserved g c = (
 )
 
 pub returns-clause-course : goal.returns-clause-course
-returns-clause-course g c = λ limit hosts past told.
+returns-clause-course c = λ limit hosts past told.
     let act : ℕ → List Event → Course = λ high. both_ways limit (record { low = c.args.low; high = high }) in
     let whole = each (pairs_above c.args.low hosts) (both_ways limit) past in
     let done : hosts ≤ c.loop-high.high = (let more = c.loop-high-test.false in omega (arith, more, told.count_is)) in

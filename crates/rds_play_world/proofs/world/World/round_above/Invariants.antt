@@ -9,7 +9,7 @@ use Rattle.rds_play_world.proofs.Eaching.{Reaches}
 use Rattle.rds_play_world.proofs.world.World.round_above.Given as goal
 
 abbrev pub invariant-loop-high : goal.invariant-loop-high
-invariant-loop-high g l =
+invariant-loop-high l =
     (l.self.count ≡ l.fn.self.count)
     × ((limit hosts : ℕ) (past : List Event) → Tells limit hosts past (state l.fn.self) →
     Reaches (λ mid. SaysMoved past mid l.moved) limit hosts (each (pairs_above l.fn.low hosts) (both_ways limit) past)

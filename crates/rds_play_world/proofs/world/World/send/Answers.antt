@@ -11,12 +11,12 @@ use Rattle.rds_play_world.proofs.Sending.{has_slots}
 use Rattle.rds_play_world.proofs.world.World.send.Goals as goal
 
 pub send_from-requires-clause-slots : goal.send_from-requires-clause-slots
-send_from-requires-clause-slots g c =
+send_from-requires-clause-slots c =
     let t = c.requires.telling in
     has_slots t.0 t.1 t.2 (state c.args.self.now) (c.args.self.now.meshed ∙ t.3.count_is) t.3
 
 pub returns-in-Some-clause-course : goal.returns-in-Some-clause-course
-returns-in-Some-clause-course g c = λ limit hosts past told.
+returns-in-Some-clause-course c = λ limit hosts past told.
     let h = c.args.host in
     let port = c.args.port in
     let k = c.args.to in
@@ -29,7 +29,7 @@ returns-in-Some-clause-course g c = λ limit hosts past told.
     (c.send_from.ensures.course limit hosts past told (c.in-Some.ensures.bound h past host))
 
 pub returns-in-None-clause-course : goal.returns-in-None-clause-course
-returns-in-None-clause-course g c = λ limit hosts past told.
+returns-in-None-clause-course c = λ limit hosts past told.
     let h = c.args.host in
     let port = c.args.port in
     let k = c.args.to in

@@ -8,7 +8,7 @@ use Rattle.rds_play_world.specs.Telling.{state}
 use Rattle.rds_play_world.proofs.world.World.send_from.Goals as goal
 
 pub returns-in-Some-clause-course : goal.returns-in-Some-clause-course
-returns-in-Some-clause-course g c = λ limit hosts past told bound.
+returns-in-Some-clause-course c = λ limit hosts past told bound.
     let h = c.args.host in
     let port = c.args.port in
     let slot = c.args.slot in
@@ -21,7 +21,7 @@ returns-in-Some-clause-course g c = λ limit hosts past told bound.
     (c.refuse_send.ensures.course limit hosts past told)
 
 pub returns-in-None-clause-course : goal.returns-in-None-clause-course
-returns-in-None-clause-course g c = λ limit hosts past told bound.
+returns-in-None-clause-course c = λ limit hosts past told bound.
     let h = c.args.host in
     let port = c.args.port in
     let slot = c.args.slot in

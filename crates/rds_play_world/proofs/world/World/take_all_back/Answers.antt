@@ -13,10 +13,10 @@ use Rattle.rds_play_world.proofs.Closing.{at_each, comes_early, comes_more, each
 use Rattle.rds_play_world.proofs.world.World.take_all_back.Goals as goal
 
 pub loop-peer-init : goal.loop-peer-init
-loop-peer-init g c = record { count = refl; course = λ limit hosts past told. told }
+loop-peer-init c = record { count = refl; course = λ limit hosts past told. told }
 
 pub loop-peer-preserved : goal.loop-peer-preserved
-loop-peer-preserved g c = record {
+loop-peer-preserved c = record {
   count = c.in_ok-take_back_at.ensures.count ∙ c.loop-peer.invariant.count;
   course = λ limit hosts past told.
       subst (λ n. Comes {A = Unit {0}} limit hosts (each (below n) (at_each limit c.args.host c.args.slot) past) (Ok tt) (state c.take_back_at.new.self)) (sym (add-one c.loop-peer.peer))
@@ -26,7 +26,7 @@ loop-peer-preserved g c = record {
 }
 
 pub returns-in_err-take_back_at-clause-course : goal.returns-in_err-take_back_at-clause-course
-returns-in_err-take_back_at-clause-course g c = λ limit hosts past told.
+returns-in_err-take_back_at-clause-course c = λ limit hosts past told.
     let h = c.args.host in
     let slot = c.args.slot in
     let why = c.in_err-take_back_at.field-0.0 in
@@ -40,7 +40,7 @@ returns-in_err-take_back_at-clause-course g c = λ limit hosts past told.
     (λ later told_later. c.in_err-take_back_at.ensures.course limit hosts later told_later))))
 
 pub returns-clause-course : goal.returns-clause-course
-returns-clause-course g c = λ limit hosts past told.
+returns-clause-course c = λ limit hosts past told.
     let h = c.args.host in
     let slot = c.args.slot in
     let all : c.loop-peer.peer ≡ hosts = omega (arith, told.count_is, c.loop-peer-test.false, c.loop-peer.auto.peer-end) in

@@ -12,7 +12,7 @@ use Rattle.rds_play_world.proofs.Sending.{comes_appended}
 use Rattle.rds_play_world.proofs.world.World.take_back.Goals as goal
 
 pub returns-in_err-ready-clause-course : goal.returns-in_err-ready-clause-course
-returns-in_err-ready-clause-course g c = λ limit hosts past told.
+returns-in_err-ready-clause-course c = λ limit hosts past told.
     let h = c.args.host in
     let k = c.args.peer in
     let same : c.from_residual.result ≡ Err c.in_err-ready.field-0.0 = grind (arith, common_steps) in
@@ -21,7 +21,7 @@ returns-in_err-ready-clause-course g c = λ limit hosts past told.
     c.in_err-ready.field-0.0 (state c.ready.new.self) (state c.ready.new.self) (c.in_err-ready.ensures.course none_waits limit hosts past told))
 
 pub returns-clause-course : goal.returns-clause-course
-returns-clause-course g c = λ limit hosts past told.
+returns-clause-course c = λ limit hosts past told.
     let h = c.args.host in
     let k = c.args.peer in
     comes_appended limit hosts h k (Cancel c.args.slot c.args.target) past c.in_ok-ready.field-0 c.take_out.result (state c.ready.new.self) (state c.take_out.new.self)

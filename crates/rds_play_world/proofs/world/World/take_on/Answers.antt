@@ -6,7 +6,7 @@ use Rattle.rds_play_world.proofs.Sending.{order_went, tells_accepted}
 use Rattle.rds_play_world.proofs.world.World.take_on.Goals as goal
 
 pub returns-clause-told : goal.returns-clause-told
-returns-clause-told g c = λ limit hosts past slot sport dport payload told is allowed.
+returns-clause-told c = λ limit hosts past slot sport dport payload told is allowed.
     let h = c.args.host in
     let k = c.args.to in
     let s = state c.args.self.now in

@@ -10,7 +10,7 @@ use Rattle.rds_play_world.proofs.TakingBack.{tells_cancelled}
 use Rattle.rds_play_world.proofs.world.World.take_out.Goals as goal
 
 pub returns-clause-told : goal.returns-clause-told
-returns-clause-told g c = λ limit hosts past told.
+returns-clause-told c = λ limit hosts past told.
     let h = c.args.host in
     let k = c.args.peer in
     let s = state c.args.self.now in

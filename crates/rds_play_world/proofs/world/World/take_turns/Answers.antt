@@ -11,7 +11,7 @@ use Rattle.rds_play_world.proofs.Right.{IsCount, IsMore, some_flies}
 use Rattle.rds_play_world.proofs.world.World.take_turns.Goals as goal
 
 pub loop-turn-init : goal.loop-turn-init
-loop-turn-init g c = (
+loop-turn-init c = (
   refl,
   λ n is. omega arith,
   λ limit hosts past told turns.
@@ -21,16 +21,16 @@ loop-turn-init g c = (
 )
 
 pub turn-requires-clause-from : goal.turn-requires-clause-from
-turn-requires-clause-from g c = omega (arith, c.requires.from, c.loop-turn.invariant.0)
+turn-requires-clause-from c = omega (arith, c.requires.from, c.loop-turn.invariant.0)
 
 pub turn-requires-clause-to : goal.turn-requires-clause-to
-turn-requires-clause-to g c = omega (arith, c.requires.to, c.loop-turn.invariant.0)
+turn-requires-clause-to c = omega (arith, c.requires.to, c.loop-turn.invariant.0)
 
 pub returns-in_err-more-clause-count : goal.returns-in_err-more-clause-count
-returns-in_err-more-clause-count g c = c.turn.ensures.count ∙ c.loop-turn.invariant.0
+returns-in_err-more-clause-count c = c.turn.ensures.count ∙ c.loop-turn.invariant.0
 
 pub returns-in_err-more-clause-course : goal.returns-in_err-more-clause-course
-returns-in_err-more-clause-course g c = λ limit hosts past told turns.
+returns-in_err-more-clause-course c = λ limit hosts past told turns.
     let h = c.args.from in
     let k = c.args.to in
     let most = c.args.most in
@@ -47,10 +47,10 @@ returns-in_err-more-clause-course g c = λ limit hosts past told turns.
     (c.in_err-more.ensures.course limit hosts m.mid m.tells))
 
 pub returns-then-more-eq0-clause-count : goal.returns-then-more-eq0-clause-count
-returns-then-more-eq0-clause-count g c = c.turn.ensures.count ∙ c.loop-turn.invariant.0
+returns-then-more-eq0-clause-count c = c.turn.ensures.count ∙ c.loop-turn.invariant.0
 
 pub returns-then-more-eq0-clause-course : goal.returns-then-more-eq0-clause-course
-returns-then-more-eq0-clause-course g c = λ limit hosts past told turns.
+returns-then-more-eq0-clause-course c = λ limit hosts past told turns.
     let h = c.args.from in
     let k = c.args.to in
     let most = c.args.most in
@@ -65,10 +65,10 @@ returns-then-more-eq0-clause-course g c = λ limit hosts past told turns.
     (c.in_ok-more.ensures.course limit hosts m.mid m.tells))
 
 pub returns-then-more-eq0-clause-within : goal.returns-then-more-eq0-clause-within
-returns-then-more-eq0-clause-within g c = c.loop-turn.invariant.1
+returns-then-more-eq0-clause-within c = c.loop-turn.invariant.1
 
 pub loop-turn-preserved : goal.loop-turn-preserved
-loop-turn-preserved g c =
+loop-turn-preserved c =
     let h = c.args.from in
     let k = c.args.to in
     let most = c.args.most in
@@ -92,10 +92,10 @@ loop-turn-preserved g c =
     )
 
 pub returns-clause-count : goal.returns-clause-count
-returns-clause-count g c = c.loop-turn.invariant.0
+returns-clause-count c = c.loop-turn.invariant.0
 
 pub returns-clause-course : goal.returns-clause-course
-returns-clause-course g c = λ limit hosts past told turns.
+returns-clause-course c = λ limit hosts past told turns.
     let h = c.args.from in
     let k = c.args.to in
     let most = c.args.most in
@@ -106,4 +106,4 @@ returns-clause-course g c = λ limit hosts past told turns.
     (subst (λ (n : ℕ). IsMoving limit hosts h k most past n moved s) none (c.loop-turn.invariant.2 limit hosts past told turns))
 
 pub returns-clause-within : goal.returns-clause-within
-returns-clause-within g c = c.loop-turn.invariant.1
+returns-clause-within c = c.loop-turn.invariant.1

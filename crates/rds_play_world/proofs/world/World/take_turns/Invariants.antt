@@ -5,7 +5,7 @@ use Rattle.rds_play_world.proofs.Turns.{IsMoving}
 use Rattle.rds_play_world.proofs.world.World.take_turns.Given as goal
 
 abbrev pub invariant-loop-turn : goal.invariant-loop-turn
-invariant-loop-turn g l =
+invariant-loop-turn l =
     (l.self.count ≡ l.fn.self.count)
     × ((n : ℕ) → l.fn.most ≡ Some n → l.moved ≤ n)
     × ((limit hosts : ℕ) (past : List Event) → Tells limit hosts past (state l.fn.self) → l.fn.turns ≡ limit + 1 →

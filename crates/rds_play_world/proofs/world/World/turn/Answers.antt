@@ -10,12 +10,12 @@ use Rattle.rds_play_world.proofs.Right.{IsMore, right_stopped, right_then, right
 use Rattle.rds_play_world.proofs.world.World.turn.Goals as goal
 
 pub returns-then-eq-clause-course : goal.returns-then-eq-clause-course
-returns-then-eq-clause-course g c = λ limit hosts past told.
+returns-then-eq-clause-course c = λ limit hosts past told.
     let s = state c.args.self.now in
     subst (λ (course : Course). ComesRight (IsMore past) none_waits limit hosts course (Ok 0) s) (turn_stays limit c.args.from c.args.to c.args.left past (left_none c.args.left c.eq.result c.eq.ensures c.if-eq.true)) (told, omega arith)
 
 pub returns-in_err-pull_if_idle-clause-course : goal.returns-in_err-pull_if_idle-clause-course
-returns-in_err-pull_if_idle-clause-course g c = λ limit hosts past told.
+returns-in_err-pull_if_idle-clause-course c = λ limit hosts past told.
     let h = c.args.from in
     let k = c.args.to in
     let same : c.from_residual.result ≡ Err c.in_err-pull_if_idle.field-0.0 = grind (arith, common_steps) in
@@ -27,7 +27,7 @@ returns-in_err-pull_if_idle-clause-course g c = λ limit hosts past told.
     (c.in_err-pull_if_idle.ensures.course limit hosts past told)))
 
 pub returns-clause-course : goal.returns-clause-course
-returns-clause-course g c = λ limit hosts past told.
+returns-clause-course c = λ limit hosts past told.
     let h = c.args.from in
     let k = c.args.to in
     let t = state c.arrive.new.self in
