@@ -82,17 +82,17 @@ module _ (laws : HonestLaws) (e : Ends) (s : ℕ) (f : Frame) (j : AreJoined e) 
             )
       ]
 
-  refused_never : (found : Malformed) → cause f.header (highest_pulled e.there) ≡ Some found → ⊥
+  refused_never : (found : Malformed) → cause f.header (highest_pulled e.there) 0 ≡ Some found → ⊥
   refused_never found is =
       let legal : IsLegal (Bad s f.header found ∷ e.there) =
       (settled_continues e.there (Bad s f.header found) j.whole_there.settled (record { on = on_there; header = whole.header; malformed = is }), j.whole_there.legal) in
       (laws e.here (Bad s f.header found ∷ e.there) j.whole_here.legal legal (record { forth = begins_refused found; back = j.back.begins })).0.1
       s f.header found e.there now
 
-  sound : cause f.header (highest_pulled e.there) ≡ None
-  sound = go (cause f.header (highest_pulled e.there)) refl
+  sound : cause f.header (highest_pulled e.there) 0 ≡ None
+  sound = go (cause f.header (highest_pulled e.there) 0) refl
     where
-      go : (o : Option Malformed) → cause f.header (highest_pulled e.there) ≡ o → cause f.header (highest_pulled e.there) ≡ None
+      go : (o : Option Malformed) → cause f.header (highest_pulled e.there) 0 ≡ o → cause f.header (highest_pulled e.there) 0 ≡ None
       go None is = is
       go (Some found) is = absurd (refused_never found is)
 

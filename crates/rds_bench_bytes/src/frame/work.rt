@@ -59,7 +59,7 @@ impl<'a> HeaderChecks<'a> {
 impl Work for HeaderChecks<'_> {
     fn run(&mut self) -> Result<(), FrameError> {
         for header in self.headers {
-            if check(header, 0).is_ok() {
+            if check(header, 0, 0).is_ok() {
                 self.passed = self.passed.wrapping_add(1);
             }
         }
