@@ -10,6 +10,10 @@ use Rattle.rds_run.specs.declared.status.Status.TheVariants as status
 use Rattle.rds_run.specs.ExitStatus.{HasFailedIn, HasTaken, HasTakenNothing, IsEndOfRefusal, IsRefusal, IsNoScriptAnswer}
 use Rattle.rds_run.specs.Texts.{read_fault_line}
 
+-- no read of the source failed in the call, or the status says that one did, unless the sink failed when that was to be said
+abbrev pub TellsReadFaults : SourceSeen → Status → Type 0
+TellsReadFaults source s = (source.faults_after ≡ source.faults_before) ⊎ ((s ≡ status.ReadFault) ⊎ (s ≡ status.WriteFault))
+
 -- The status where no script was read. A status for which `⊥` stands can't come.
 abbrev pub IsEndOfReading : SourceSeen → SinkSeen → Status → Type 0
 IsEndOfReading source sink status.Refused = IsRefusal source.left sink.held_before sink.held_after

@@ -18,6 +18,7 @@ ghost use Rattle.rds_run.specs.RunStatus.{HasFilled, IsRan, IsRunAnswer, IsRunTe
 ghost use Rattle.rds_run_hosts.specs.Streams.{prepared_streams};
 ghost use Rattle.rds_run.specs.Ending.{IsEndOfProgram, ReadsScript};
 ghost use Rattle.rds_run.specs.Limits.{most_streams};
+ghost use Rattle.rds_run.specs.Reading.{TellsReadFaults};
 ghost use Rattle.rds_run.specs.Texts.{usage_line, read_fault_line, bad_line, too_many_line};
 
 use crate::answer::say;
@@ -70,6 +71,8 @@ where
 
     ensures read_fault { result ≡ 3 → HasRisen (S.faults source.old) (S.faults source.new) }
     ensures read_fault_text { result ≡ 3 → SinkGained (K.held sink.old) (K.held sink.new) read_fault_line }
+    // A source that failed is answered so, whatever it gave before, unless the sink failed too.
+    ensures read_fault_told { (S.faults source.new ≡ S.faults source.old) ⊎ ((result ≡ 3) ⊎ (result ≡ 4)) }
 
     // The sink failed, after it took a beginning of the usage line, or of what `play` has to write.
     ensures write_fault { result ≡ 4 → HasRisen (K.faults sink.old) (K.faults sink.new) }
@@ -187,6 +190,7 @@ where
         (source_seen S.left S.faults source.old source.new)
         (sink_seen K.held K.faults sink.old sink.new)
         result }
+    ensures tells { TellsReadFaults (source_seen S.left S.faults source.old source.new) result }
     ensures unread { (sends seed : ℕ) → AreGen words.now sends seed → source.new ≡ source.old }
     ensures usage_unread { AreNoCommand words.now → source.new ≡ source.old }
     ensures tcp_unused { (AreRun words.now wires.Tcp → ⊥) → tcp.new ≡ tcp.old }

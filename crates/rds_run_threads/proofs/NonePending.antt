@@ -1,4 +1,4 @@
--- Where no number is alive in the journals of any two hosts, no datagram of any port pair is pending.
+-- Where no number is alive in the journals of any two hosts, each datagram of any port pair is accounted for, and none is pending.
 use Rattle.std.proofs.Common.{◌≡◌, ◌≢◌, inl, inr, ℕ, zero, suc, ◌+◌, ◌-◌, ◌<◌, ◌≤◌, ◌==◌, Bool, true, false, cond, Some, List, [], ◌∷◌, All, length, map, option_map, slice_get, refl, sym, ap, subst, ◌∙◌, arith}
 use Rattle.std.specs.List.{flat_map, range_with_len}
 use Rattle.std.proofs.lemmas.Bool.{cases_lt, cond-false, cond-true, eq-eqb, ne_eqb}
@@ -16,7 +16,7 @@ use Rattle.rds_text.specs.Hosts.{address_of}
 use Rattle.rds_text.specs.Report.{Group, accepted_groups, ascending, counts, is_before, pending, with_group}
 use Rattle.rds_run_rounds.specs.Grid.{IsAt, others, peer_at}
 use Rattle.rds_script.specs.declared.script.Placed.{Placed}
-use Rattle.rds_run_threads.specs.Ends.{AreEnds, NonePending, NonePendingWhereHonest}
+use Rattle.rds_run_threads.specs.Ends.{AllAccountedWhereHonest, AreEnds, NonePending, NonePendingWhereHonest}
 use Rattle.rds_run_threads.specs.Reliable.{AllWentToSockets, IsReliableTo}
 use Rattle.rds_run_threads.proofs.Alive.{AreSilent}
 use Rattle.rds_run_threads.proofs.At.{all_at, at_map, some_at}
@@ -191,6 +191,14 @@ module _ (tells : Bool) (hosts : ℕ) (commands : List Placed) (ends : List Fina
             none_alive = none.1;
             reliable = reliable.1;
           },
+        )
+
+    pub all_where_honest : AllAccountedWhereHonest ends
+    all_where_honest low place one other a b least at at_other at_a at_b honest =
+        let ways = both_ways low place one other a b least at at_other at_a at_b honest in
+        λ sport dport. (
+          accounted a.past b.past ways.0.legal_a ways.0.legal_b ways.0.honest ways.0.none_alive sport dport,
+          accounted b.past a.past ways.1.legal_a ways.1.legal_b ways.1.honest ways.1.none_alive sport dport,
         )
 
     -- the peer of a journal is the host that has the other one

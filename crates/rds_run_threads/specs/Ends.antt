@@ -4,6 +4,7 @@ use Rattle.rds_link.specs.Seen.{SinkSeen}
 use Rattle.rds_link.specs.Streaming.{HasRisen, SinkGained, SinkGainedFront}
 use Rattle.rds_model.specs.declared.entry.Entry.{Entry}
 use Rattle.rds_model.specs.Honest.{IsHonest}
+use Rattle.rds_model.specs.Pairs.{IsAllAccounted}
 use Rattle.rds_text.specs.FinalState.{FinalHost, FinalJournal}
 use Rattle.rds_text.specs.Hosts.{address_of}
 use Rattle.rds_text.specs.Report.{Group, counts, groups, pending}
@@ -79,10 +80,17 @@ abbrev pub NonePendingWhereHonest : List FinalHost → Type 0
 NonePendingWhereHonest ends = OfEachHonestPair (λ low high one other own back.
     NonePendingFrom one.addr other.addr ends × NonePendingFrom other.addr one.addr ends) ends
 
--- No datagram is left unacknowledged: no number is alive in any journal, and where streams gave beginnings of what was written to them, none is
--- pending.
+-- between any two hosts, where each stream between them gave a beginning of what was written to it, each accepted datagram of each port pair was
+-- delivered, found no socket, was taken by port 0, or was taken back and never arrived, either way
+abbrev pub AllAccountedWhereHonest : List FinalHost → Type 0
+AllAccountedWhereHonest ends = OfEachHonestPair (λ low high one other own back. (sport dport : ℕ) →
+    IsAllAccounted sport dport own back × IsAllAccounted sport dport back own) ends
+
+-- No datagram is left unacknowledged: no number is alive in any journal, and where streams gave beginnings of what was written to them, each is
+-- accounted for and none is pending.
 pub record AreAcknowledged (ends : List FinalHost) : Type 0 where
   pub none_alive : alive_in_ends ends ≡ 0
+  pub accounted : AllAccountedWhereHonest ends
   pub none_pending : NonePendingWhereHonest ends
 
 -- between any two hosts nothing is left to do, and no datagram is pending

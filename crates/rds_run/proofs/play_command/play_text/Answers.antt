@@ -1,3 +1,4 @@
+use Rattle.std.proofs.Common.{inl}
 use Rattle.rds_link.specs.Seen.{SinkSeen, SourceSeen}
 use Rattle.rds_script.specs.Grammar.{meaning}
 use Rattle.rds_run.proofs.Whole.{ends_of_played, ends_unread}
@@ -33,3 +34,9 @@ returns-in-Err-clause-ends g c =
       faults_after = g.K.Sink.faults c.read_script.new.sink;
     } in
     ends_unread source sink c.in-Err.status c.in-Err.ensures.ends
+
+pub returns-in-Ok-clause-tells : goal.returns-in-Ok-clause-tells
+returns-in-Ok-clause-tells g c = inl c.in-Ok.ensures.quiet
+
+pub returns-in-Err-clause-tells : goal.returns-in-Err-clause-tells
+returns-in-Err-clause-tells g c = c.in-Err.ensures.tells

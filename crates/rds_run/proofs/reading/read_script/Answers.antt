@@ -1,5 +1,7 @@
-use Rattle.std.proofs.Common.{inl, rules}
+use Rattle.std.proofs.Common.{inl, inr, rules}
 use Rattle.rds_link.specs.Seen.{SinkSeen, SourceSeen}
+use Rattle.rds_run.specs.declared.status.Status.TheVariants as ended
+use Rattle.rds_run.proofs.Ended.{said_or_failed}
 use Rattle.rds_run.proofs.Whole.{spelled, ends_of_refused, refused_told, refuses_same, spelled_told, ends_of_fault}
 use Rattle.rds_run.proofs.reading.read_script.Goals as goal
 
@@ -68,3 +70,9 @@ returns-in-Err-Failed-clause-ends g c =
       faults_after = g.K.Sink.faults c.say.new.sink;
     } in
     ends_of_fault source sink c.say.result (search rules) c.say.ensures.said c.say.ensures.front
+
+pub returns-in-Err-Failed-clause-tells : goal.returns-in-Err-Failed-clause-tells
+returns-in-Err-Failed-clause-tells g c = inr (said_or_failed ended.ReadFault c.say.result c.say.ensures.said)
+
+pub returns-in-Err-BadLine-clause-tells : goal.returns-in-Err-BadLine-clause-tells
+returns-in-Err-BadLine-clause-tells g c = inl c.in-Ok.ensures.quiet

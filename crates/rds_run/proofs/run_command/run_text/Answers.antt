@@ -57,3 +57,9 @@ returns-in-Err-clause-runs g c s told read =
       faults_after = g.S.Source.faults c.read_script.new.source;
     } in
     inr (run_unread s source c.in-Err.status (c.in-Err.ensures.reads s told) read)
+
+pub returns-in-Ok-clause-tells : goal.returns-in-Ok-clause-tells
+returns-in-Ok-clause-tells g c = inl c.in-Ok.ensures.quiet
+
+pub returns-in-Err-clause-tells : goal.returns-in-Err-clause-tells
+returns-in-Err-clause-tells g c = c.in-Err.ensures.tells

@@ -1,4 +1,4 @@
-use Rattle.std.proofs.Common.{◌≤◌, Some, ap, codes, map, refl, rules, string_bytes, subst, ◌∙◌}
+use Rattle.std.proofs.Common.{◌≤◌, Some, ap, codes, inl, map, refl, rules, string_bytes, subst, ◌∙◌}
 use Rattle.rds_run.specs.Ending.{OfGen, OfMemory, OfNone}
 use Rattle.rds_run.specs.GenWords.{AreGen, gen_word}
 use Rattle.rds_run.specs.PlayWords.{ArePlay}
@@ -73,3 +73,18 @@ returns-in-Ok-Some-Run-clause-tcp_unused g c = λ untold.
     let run : AreRun c.args.words.now c.in-Ok-Some-Run.wire =
     subst (IsWorkOf c.args.words.now) (c.in-Ok-Some-Run.field-0-is ∙ ap Some c.in-Ok-Some-Run.field-0-0-is) (c.in-Ok-Some-Run.ensures {u = tt}) in
     c.run_text.ensures.tcp_unused (in_memory c.args.words.now c.in-Ok-Some-Run.wire run untold)
+
+pub returns-in-Ok-Some-Play-clause-tells : goal.returns-in-Ok-Some-Play-clause-tells
+returns-in-Ok-Some-Play-clause-tells g c = c.play_text.ensures.tells
+
+pub returns-in-Ok-Some-Run-clause-tells : goal.returns-in-Ok-Some-Run-clause-tells
+returns-in-Ok-Some-Run-clause-tells g c = c.run_text.ensures.tells
+
+pub returns-in-Ok-Some-Gen-clause-tells : goal.returns-in-Ok-Some-Gen-clause-tells
+returns-in-Ok-Some-Gen-clause-tells g c = inl refl
+
+pub returns-in-Ok-None-clause-tells : goal.returns-in-Ok-None-clause-tells
+returns-in-Ok-None-clause-tells g c = inl refl
+
+pub returns-in-Err-clause-tells : goal.returns-in-Err-clause-tells
+returns-in-Err-clause-tells g c = inl refl

@@ -93,3 +93,6 @@ returns-clause-runs g c = complete.runs _ _ _ _ c.do_work.result c.code.result c
 
 pub returns-clause-generates : goal.returns-clause-generates
 returns-clause-generates g c = complete.generates _ _ _ _ c.do_work.result c.code.result c.code.ensures c.do_work.ensures.ends
+
+pub returns-clause-read_fault_told : goal.returns-clause-read_fault_told
+returns-clause-read_fault_told g c = ended.read_fault_told _ c.do_work.result c.code.result c.code.ensures c.do_work.ensures.tells

@@ -10,7 +10,7 @@ use Rattle.rds_run_threads.specs.Counted.{EndsOweNothing, HaveAllUsedUp, HaveUse
 use Rattle.rds_run_threads.specs.Cuts.{AreCutsOfEnds}
 use Rattle.rds_run_threads.specs.Ends.{AreAcknowledged, AreEnds, AreSettledHosts, NoneFull}
 use Rattle.rds_run_threads.specs.Settled.{AreLeftOf}
-use Rattle.rds_run_threads.proofs.NonePending.{none_pending, none_where_honest}
+use Rattle.rds_run_threads.proofs.NonePending.{all_where_honest, none_pending, none_where_honest}
 use Rattle.rds_run_threads.proofs.Alive.{alive_left, silent_counted, silent_drained}
 use Rattle.rds_run_threads.proofs.Counted.{of_each_left}
 use Rattle.rds_run_threads.proofs.CutsOfRun.{cuts_of_ends}
@@ -63,6 +63,8 @@ returns-clause-acknowledged g c = λ limit hosts commands done did acknowledged.
     let are = ends_of m limit hosts c.args.callers.items (rows_of c.args.lines.items) ends.items done c.requires.settled.count left commands did in
     let none = alive_left c.args.callers.items (rows_of c.args.lines.items) ends.items c.requires.settled.count left ∙ acknowledged in record {
       none_alive = none;
+      accounted =
+          all_where_honest m.tells hosts commands (host_views ends.items) are c.accounted_of_all.ensures (silent_counted (host_views ends.items) none);
       none_pending =
           none_where_honest m.tells hosts commands (host_views ends.items) are c.accounted_of_all.ensures (silent_counted (host_views ends.items) none);
     }) c.all_ends.ensures.left
