@@ -10,7 +10,7 @@ use Rattle.rds_history.specs.History.{text_of as played_text}
 use Rattle.rds_run.specs.declared.status.Status.{Status}
 use Rattle.rds_run.specs.declared.status.Status.TheVariants as ended
 use Rattle.rds_run.specs.ExitStatus.{HasTaken, IsAnswer, code, IsEndOfCall, IsEndOfRefusal, IsPlayed, IsRefusal, IsSpelled, IsSpent, IsToldRefused, IsToldSpelled}
-use Rattle.rds_run.specs.Reading.{IsEndOfReading, TellsReadFaults}
+use Rattle.rds_run.specs.Reading.{IsEndOfReading}
 use Rattle.rds_run.specs.RunStatus.{HasFilled, IsEndOfGenCall, IsEndOfRunCall, IsEndOfRunOver, IsEndOfScript, IsEndOfTooMany, IsRan, IsRunUnfinished, IsTooMany, IsWireFault, Ran, TooMany, WireSeen, memory_seen, seen_over, tells_over}
 use Rattle.rds_run_hosts.specs.Streams.{prepared_streams}
 use Rattle.rds_run.specs.Texts.{read_fault_line, too_many_line, usage_line}
@@ -32,18 +32,6 @@ pub usage_of : (sink : SinkSeen) (s : Status) → ((s ≡ ended.Usage) × HasTak
     → SinkGainedFront sink.held_before sink.held_after usage_line → IsEndOfUsage sink s
 usage_of sink s (inl t) begun = subst (IsEndOfUsage sink) (sym t.0) t.1
 usage_of sink s (inr t) begun = subst (IsEndOfUsage sink) (sym t.0) (t.1, begun)
-
--- a line that was to be written is, or the sink failed
-pub said_or_failed : {P Q : Type 0} (said s : Status) → ((s ≡ said) × P) ⊎ ((s ≡ ended.WriteFault) × Q) → (s ≡ said) ⊎ (s ≡ ended.WriteFault)
-said_or_failed said s (inl t) = inl t.0
-said_or_failed said s (inr t) = inr t.0
-
--- the number of a status says so too
-pub read_fault_told : (source : SourceSeen) (s : Status) (n : ℕ) → n ≡ code s → TellsReadFaults source s →
-    (source.faults_after ≡ source.faults_before) ⊎ ((n ≡ 3) ⊎ (n ≡ 4))
-read_fault_told source s n is (inl quiet) = inl quiet
-read_fault_told source s n is (inr (inl read)) = inr (inl (is ∙ ap code read))
-read_fault_told source s n is (inr (inr write)) = inr (inr (is ∙ ap code write))
 
 -- the words are those of one command, which ended so
 pub of_play : (tcp : WireSeen) (words : List (String Global)) (source : SourceSeen) (sink : SinkSeen) (s : Status) → ArePlay words → IsEndOfCall source sink s

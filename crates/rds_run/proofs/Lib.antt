@@ -3,6 +3,7 @@ pub mod Codes
 pub mod Commands
 pub mod Calling
 pub mod Ended
+pub mod Sources
 pub mod Begun
 pub mod Ran
 pub mod Complete

@@ -1,8 +1,8 @@
 -- What is read of a source is the whole of its text, unless that is too large; and what follows for the answers of a call.
-use Rattle.std.proofs.Common.{◌≡◌, ◌⊎◌, inl, inr, ℕ, ◌+◌, ◌≤◌, List, ◌++◌, append_assoc, length, take, Option, Some, None, refl, sym, ap, subst, ◌∙◌, arith}
+use Rattle.std.proofs.Common.{◌≡◌, ◌⊎◌, inl, inr, ℕ, ◌+◌, ◌<◌, ◌≤◌, List, ◌++◌, append_assoc, length, take, Option, Some, None, refl, sym, ap, subst, ◌∙◌, arith}
 use Rattle.rds_link.specs.Seen.{SinkSeen, SourceSeen}
 use Rattle.std.proofs.lemmas.List.{length-take, take_all}
-use Rattle.rds_link.specs.Streaming.{SourceGaveFront, HasRisen, SinkGained, SinkGainedFront}
+use Rattle.rds_link.specs.Streaming.{SourceGaveAll, SourceGaveFront, HasRisen, SinkGained, SinkGainedFront}
 use Rattle.rds_model.specs.declared.journal.TheConstants.{MAX_ENTRIES}
 use Rattle.rds_history.specs.History.{text, text_of}
 use Rattle.rds_history.specs.Transcript.{lines}
@@ -16,7 +16,7 @@ use Rattle.rds_script.specs.Refusal.{Refused}
 use Rattle.rds_run.specs.declared.status.Status.{Status}
 use Rattle.rds_run.specs.declared.status.Status.TheVariants as ended
 use Rattle.rds_run.specs.ExitStatus.{IsSpelled, IsRefusedAt, IsToldSpelled, IsToldRefused, IsPlayed, HasTaken, OfReadFault, OfRefusal, OfScript, OfUnread, IsEndOfRefusal, IsEndOfPlay, IsEndOfCall}
-use Rattle.rds_run.specs.Reading.{IsEndOfReading}
+use Rattle.rds_run.specs.Reading.{IsEndOfReading, IsReadToEnd}
 use Rattle.rds_run.specs.Texts.{bad_line, read_fault_line}
 
 -- what is no longer than a script may be was read to its end
@@ -24,6 +24,12 @@ whole : (all text : List ℕ) → text ≡ take (MAX_TEXT + 1) all → length te
 whole all text handed within =
     let count = ap length handed ∙ length-take (MAX_TEXT + 1) all in
     handed ∙ take_all (MAX_TEXT + 1) all (omega (arith, count, within))
+
+-- and nothing is left behind it
+pub emptied : (old new : Option (List ℕ)) (text : List ℕ) (m : Meaning) → (length text < MAX_TEXT + 1 → SourceGaveAll old new text) → Spells text m →
+    IsReadToEnd old new
+emptied None new text m gave spells = tt
+emptied (Some all) new text m gave spells = let within = spells.small in (gave (omega (arith, within))).1
 
 -- a text is too large, or it is not
 small : (text : List ℕ) (line : ℕ) (why : Cause) → Refused text line why → (why ≡ cause.TooLarge) ⊎ (length text ≤ MAX_TEXT)

@@ -1,5 +1,5 @@
 -- What comes of reading a script. Source: this project's own.
-use Rattle.std.specs.Prelude.{◌≡◌, ◌⊎◌, ℕ, List, Result, Ok, Err}
+use Rattle.std.specs.Prelude.{◌≡◌, ◌⊎◌, ℕ, List, [], Option, Some, MatchOption, Result, Ok, Err}
 use Rattle.rds_link.specs.Seen.{SinkSeen, SourceSeen}
 use Rattle.rds_link.specs.Streaming.{HasRisen}
 use Rattle.rds_script.specs.declared.cause.Cause.{Cause}
@@ -13,6 +13,20 @@ use Rattle.rds_run.specs.Texts.{read_fault_line}
 -- no read of the source failed in the call, or the status says that one did, unless the sink failed when that was to be said
 abbrev pub TellsReadFaults : SourceSeen → Status → Type 0
 TellsReadFaults source s = (source.faults_after ≡ source.faults_before) ⊎ ((s ≡ status.ReadFault) ⊎ (s ≡ status.WriteFault))
+
+-- where a source tells what it has left, nothing is left
+abbrev pub IsReadToEnd : (old new : Option (List ℕ)) → Type 0
+IsReadToEnd old new = MatchOption old (Unit {0}) (λ all. new ≡ Some [])
+
+-- Such a status says what came of a script: it was played or run, its hosts lack a stream, it filled a journal, it was left unfinished, or it needs
+-- too many streams.
+abbrev pub IsOfScript : Status → Type 0
+IsOfScript status.Written = Unit {0}
+IsOfScript status.WireFault = Unit {0}
+IsOfScript status.Spent = Unit {0}
+IsOfScript status.Unfinished = Unit {0}
+IsOfScript status.TooManyStreams = Unit {0}
+IsOfScript _ = ⊥
 
 -- The status where no script was read. A status for which `⊥` stands can't come.
 abbrev pub IsEndOfReading : SourceSeen → SinkSeen → Status → Type 0

@@ -5,7 +5,7 @@ ghost use Rattle.rds_script.specs.declared.cause.Cause.{Cause as Why};
 ghost use Rattle.rds_script.specs.Grammar.{Meaning, meaning};
 ghost use Rattle.rds_link.specs.Streaming.{HasRisen};
 ghost use Rattle.rds_run.specs.ExitStatus.{IsEndOfCall, IsEndOfPlay, IsEndOfRefusal, IsToldRefused, IsToldSpelled};
-ghost use Rattle.rds_run.specs.Reading.{TellsReadFaults};
+ghost use Rattle.rds_run.specs.Reading.{IsOfScript, IsReadToEnd, TellsReadFaults};
 ghost use Rattle.rds_run.specs.declared.status.Status.TheVariants as ended;
 
 use crate::reading::read_script;
@@ -39,6 +39,7 @@ pub fn play_text<S: Source, K: Sink, R: Threads + Sync>(
         (HasRisen (S.faults source.old) (S.faults source.new) → ⊥) → (HasRisen (K.faults sink.old) (K.faults sink.new) → ⊥) →
         (result ≡ ended.Written) ⊎ ((result ≡ ended.Memory) ⊎ (result ≡ ended.Spent)) }
     ensures play { result ≢ ended.Usage }
+    ensures emptied { IsOfScript result → IsReadToEnd (S.left source.old) (S.left source.new) }
     ensures tells { TellsReadFaults (source_seen S.left S.faults source.old source.new) result }
 {
     match read_script(rt, alloc, source, sink) {

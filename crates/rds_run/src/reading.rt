@@ -3,7 +3,7 @@ ghost use Rattle.rds_link.specs.Seen.{sink_seen, source_seen};
 ghost use Rattle.rds_script.specs.Script.{IsScript};
 ghost use Rattle.rds_script.specs.declared.cause.Cause.{Cause as Why};
 ghost use Rattle.rds_script.specs.Grammar.{Meaning, meaning};
-ghost use Rattle.rds_run.specs.Reading.{IsEndOfReading, IsReadAs, IsRefusedBy, TellsReadFaults};
+ghost use Rattle.rds_run.specs.Reading.{IsEndOfReading, IsReadAs, IsReadToEnd, IsRefusedBy, TellsReadFaults};
 ghost use Rattle.rds_run.specs.ExitStatus.{IsEndOfRefusal, IsSpelled, IsToldRefused, IsToldSpelled};
 
 use crate::answer::say;
@@ -34,6 +34,7 @@ pub fn read_script<S: Source, K: Sink, R: Threads + Sync>(
         (source_seen S.left S.faults source.old source.new)
         (sink_seen K.held K.faults sink.old sink.new)) }
     ensures quiet { OnOk result (S.faults source.new ≡ S.faults source.old) }
+    ensures emptied { OnOk result (IsReadToEnd (S.left source.old) (S.left source.new)) }
     ensures tells { IfErr result (TellsReadFaults (source_seen S.left S.faults source.old source.new)) }
     // A text that is refused gives no script, and is answered by its line unless the source or the sink fails or memory runs out.
     ensures refuses { (line : ℕ) → (cause : Why) → IsToldRefused (S.left source.old) line cause →

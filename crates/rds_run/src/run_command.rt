@@ -6,7 +6,7 @@ ghost use Rattle.rds_script.specs.declared.cause.Cause.{Cause as Why};
 ghost use Rattle.rds_script.specs.Grammar.{Meaning, meaning};
 ghost use Rattle.rds_run.specs.declared.wire.RunWire.TheVariants as wires;
 ghost use Rattle.rds_run.specs.ExitStatus.{IsEndOfRefusal, IsToldRefused, IsToldSpelled};
-ghost use Rattle.rds_run.specs.Reading.{TellsReadFaults};
+ghost use Rattle.rds_run.specs.Reading.{IsOfScript, IsReadToEnd, TellsReadFaults};
 ghost use Rattle.rds_run.specs.RunStatus.{IsEndOfRunCall, IsEndOfRunOver, IsEndOfTooMany, IsTooMany, seen_over, wire_seen};
 ghost use Rattle.rds_run_hosts.specs.Streams.{prepared_streams as streams_of};
 ghost use Rattle.rds_run.specs.declared.status.Status.TheVariants as ended;
@@ -63,6 +63,7 @@ where
         (sink_seen K.held K.faults sink.old sink.new)
         result
         ⊎ (result ≡ ended.Memory) }
+    ensures emptied { IsOfScript result → IsReadToEnd (S.left source.old) (S.left source.new) }
     ensures tells { TellsReadFaults (source_seen S.left S.faults source.old source.new) result }
     ensures tcp_unused { wire ≡ wires.Memory → tcp.new ≡ tcp.old }
     ensures given_back { W.out tcp.new ≤ W.out tcp.old }

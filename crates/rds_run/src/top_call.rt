@@ -18,7 +18,7 @@ ghost use Rattle.rds_run.specs.RunStatus.{HasFilled, IsRan, IsRunAnswer, IsRunTe
 ghost use Rattle.rds_run_hosts.specs.Streams.{prepared_streams};
 ghost use Rattle.rds_run.specs.Ending.{IsEndOfProgram, ReadsScript};
 ghost use Rattle.rds_run.specs.Limits.{most_streams};
-ghost use Rattle.rds_run.specs.Reading.{TellsReadFaults};
+ghost use Rattle.rds_run.specs.Reading.{IsOfScript, IsReadToEnd, TellsReadFaults};
 ghost use Rattle.rds_run.specs.Texts.{usage_line, read_fault_line, bad_line, too_many_line};
 
 use crate::answer::say;
@@ -93,6 +93,9 @@ where
 
     // The words are those of `play` or of `run`. The text of the source is refused, and the line that was written says where and why.
     ensures refused { result ≡ 1 → ReadsScript words.now × IsRefusal (S.left source.old) (K.held sink.old) (K.held sink.new) }
+    // What came of a script is told only where the source was read to its end.
+    ensures read_to_end { ReadsScript words.now → (result ≡ 0) ⊎ ((result ≡ 5) ⊎ ((result ≡ 7) ⊎ ((result ≡ 8) ⊎ (result ≡ 9)))) →
+        IsReadToEnd (S.left source.old) (S.left source.new) }
     // A text that is refused is answered so, unless the source or the sink fails or memory runs out.
     ensures refuses { ReadsScript words.now →
         (line : ℕ) → (cause : Why) → IsToldRefused (S.left source.old) line cause →
@@ -190,6 +193,7 @@ where
         (source_seen S.left S.faults source.old source.new)
         (sink_seen K.held K.faults sink.old sink.new)
         result }
+    ensures emptied { ReadsScript words.now → IsOfScript result → IsReadToEnd (S.left source.old) (S.left source.new) }
     ensures tells { TellsReadFaults (source_seen S.left S.faults source.old source.new) result }
     ensures unread { (sends seed : ℕ) → AreGen words.now sends seed → source.new ≡ source.old }
     ensures usage_unread { AreNoCommand words.now → source.new ≡ source.old }

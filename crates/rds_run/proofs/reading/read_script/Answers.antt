@@ -1,8 +1,8 @@
 use Rattle.std.proofs.Common.{inl, inr, rules}
 use Rattle.rds_link.specs.Seen.{SinkSeen, SourceSeen}
 use Rattle.rds_run.specs.declared.status.Status.TheVariants as ended
-use Rattle.rds_run.proofs.Ended.{said_or_failed}
-use Rattle.rds_run.proofs.Whole.{spelled, ends_of_refused, refused_told, refuses_same, spelled_told, ends_of_fault}
+use Rattle.rds_run.proofs.Sources.{said_or_failed}
+use Rattle.rds_run.proofs.Whole.{emptied, spelled, ends_of_refused, refused_told, refuses_same, spelled_told, ends_of_fault}
 use Rattle.rds_run.proofs.reading.read_script.Goals as goal
 
 pub returns-in-Ok-read_by_threads-clause-spelled : goal.returns-in-Ok-read_by_threads-clause-spelled
@@ -76,3 +76,8 @@ returns-in-Err-Failed-clause-tells g c = inr (said_or_failed ended.ReadFault c.s
 
 pub returns-in-Err-BadLine-clause-tells : goal.returns-in-Err-BadLine-clause-tells
 returns-in-Err-BadLine-clause-tells g c = inl c.in-Ok.ensures.quiet
+
+pub returns-in-Ok-read_by_threads-clause-emptied : goal.returns-in-Ok-read_by_threads-clause-emptied
+returns-in-Ok-read_by_threads-clause-emptied g c =
+    let spells = rw c.deref.ensures.value at c.in-Ok-read_by_threads.ensures.found in
+    emptied _ _ _ _ c.in-Ok.ensures.end spells

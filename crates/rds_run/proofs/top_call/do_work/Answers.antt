@@ -6,6 +6,7 @@ use Rattle.rds_run.specs.RunWords.{AreRun}
 use Rattle.rds_run.specs.Works.{IsWorkOf}
 use Rattle.rds_run.proofs.Commands.{in_memory, play_or_gen, run_or_gen, sends_in}
 use Rattle.rds_run.proofs.Ended.{of_play, of_run, usage_of}
+use Rattle.rds_run.proofs.Sources.{reads_or_gen, reads_or_none}
 use Rattle.rds_run.proofs.top_call.do_work.Goals as goal
 
 pub returns-in-Ok-Some-Play-clause-ends : goal.returns-in-Ok-Some-Play-clause-ends
@@ -88,3 +89,23 @@ returns-in-Ok-None-clause-tells g c = inl refl
 
 pub returns-in-Err-clause-tells : goal.returns-in-Err-clause-tells
 returns-in-Err-clause-tells g c = inl refl
+
+pub returns-in-Ok-Some-Play-clause-emptied : goal.returns-in-Ok-Some-Play-clause-emptied
+returns-in-Ok-Some-Play-clause-emptied g c = λ reads of. c.play_text.ensures.emptied of
+
+pub returns-in-Ok-Some-Run-clause-emptied : goal.returns-in-Ok-Some-Run-clause-emptied
+returns-in-Ok-Some-Run-clause-emptied g c = λ reads of. c.run_text.ensures.emptied of
+
+pub returns-in-Ok-Some-Gen-clause-emptied : goal.returns-in-Ok-Some-Gen-clause-emptied
+returns-in-Ok-Some-Gen-clause-emptied g c = λ reads of.
+    let gen : AreGen c.args.words.now c.in-Ok-Some-Gen.sends c.in-Ok-Some-Gen.seed =
+    subst (IsWorkOf c.args.words.now) (c.in-Ok-Some-Gen.field-0-is ∙ ap Some c.in-Ok-Some-Gen.field-0-0-is) (c.in-Ok-Some-Gen.ensures {u = tt}) in
+    absurd (reads_or_gen c.args.words.now c.in-Ok-Some-Gen.sends c.in-Ok-Some-Gen.seed reads gen)
+
+pub returns-in-Ok-None-clause-emptied : goal.returns-in-Ok-None-clause-emptied
+returns-in-Ok-None-clause-emptied g c = λ reads of.
+    let none = subst (IsWorkOf c.args.words.now) c.in-Ok-None.field-0-is (c.in-Ok-None.ensures {u = tt}) in
+    absurd (reads_or_none c.args.words.now reads none)
+
+pub returns-in-Err-clause-emptied : goal.returns-in-Err-clause-emptied
+returns-in-Err-clause-emptied g c = λ reads of. absurd of

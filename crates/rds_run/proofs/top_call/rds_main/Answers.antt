@@ -2,6 +2,7 @@ use Rattle.rds_run.proofs.Begun as begun
 use Rattle.rds_run.proofs.Codes as codes
 use Rattle.rds_run.proofs.Complete as complete
 use Rattle.rds_run.proofs.Ended as ended
+use Rattle.rds_run.proofs.Sources as sources
 use Rattle.rds_run.proofs.top_call.rds_main.Goals as goal
 
 pub returns-clause-usage : goal.returns-clause-usage
@@ -95,4 +96,8 @@ pub returns-clause-generates : goal.returns-clause-generates
 returns-clause-generates g c = complete.generates _ _ _ _ c.do_work.result c.code.result c.code.ensures c.do_work.ensures.ends
 
 pub returns-clause-read_fault_told : goal.returns-clause-read_fault_told
-returns-clause-read_fault_told g c = ended.read_fault_told _ c.do_work.result c.code.result c.code.ensures c.do_work.ensures.tells
+returns-clause-read_fault_told g c = sources.read_fault_told _ c.do_work.result c.code.result c.code.ensures c.do_work.ensures.tells
+
+pub returns-clause-read_to_end : goal.returns-clause-read_to_end
+returns-clause-read_to_end g c = λ reads of.
+    c.do_work.ensures.emptied reads (sources.of_script c.do_work.result c.code.result c.code.ensures of)
