@@ -1,3 +1,4 @@
+use Rattle.rds_link.specs.Seen.{SourceSeen}
 use Rattle.rds_run.proofs.Begun as begun
 use Rattle.rds_run.proofs.Codes as codes
 use Rattle.rds_run.proofs.Complete as complete
@@ -96,7 +97,13 @@ pub returns-clause-generates : goal.returns-clause-generates
 returns-clause-generates g c = complete.generates _ _ _ _ c.do_work.result c.code.result c.code.ensures c.do_work.ensures.ends
 
 pub returns-clause-read_fault_told : goal.returns-clause-read_fault_told
-returns-clause-read_fault_told g c = sources.read_fault_told _ c.do_work.result c.code.result c.code.ensures c.do_work.ensures.tells
+returns-clause-read_fault_told g c =
+    let source : SourceSeen = record {
+      left = g.S.Source.left c.args.source.now;
+      faults_before = g.S.Source.faults c.args.source.now;
+      faults_after = g.S.Source.faults c.do_work.new.source;
+    } in
+    sources.read_fault_told source c.do_work.result c.code.result c.code.ensures c.do_work.ensures.tells
 
 pub returns-clause-read_to_end : goal.returns-clause-read_to_end
 returns-clause-read_to_end g c = λ reads of.
