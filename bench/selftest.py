@@ -3,7 +3,7 @@ python3 bench/selftest.py RDS [N [SEED ..]]
 
 A chain of SHA-256 is folded over the payloads of each port pair, in their order. What the report says was taken back or found no socket is
 left out of the chain of what was sent: payloads are numbered, so the report shows which ones those were, and their count has to agree.
-In a network of its own (INSIDE is set) all connections are closed from outside once or twice in each run."""
+In a network of its own (INSIDE is set) a few connections are closed from outside in each run."""
 
 import collections
 import hashlib
@@ -92,11 +92,14 @@ def wrongs(text, sent):
 
 
 def closing(chance, ended):
-    """Closes all connections of this network once or twice while a run goes on."""
-    for _ in range(chance.randint(1, 2)):
-        if ended.wait(chance.uniform(0.05, 0.5)):
+    """Closes connections of this network, one at a time and at random moments, while a run goes on."""
+    for _ in range(chance.randint(2, 6)):
+        if ended.wait(chance.uniform(0.02, 0.15)):
             return
-        subprocess.run(["ss", "-K", "-tn", "dst", "127.0.0.1"], capture_output=True)
+        listed = subprocess.run(["ss", "-Htn", "state", "established"], capture_output=True, text=True).stdout.split("\n")
+        if lines := [line.split() for line in listed if line]:
+            port = chance.choice(lines)[2].rpartition(":")[2]
+            subprocess.run(["ss", "-K", "-tn", f"sport = :{port}"], capture_output=True)
 
 
 def tried(program, seed, count):
