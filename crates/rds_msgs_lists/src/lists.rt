@@ -1,5 +1,5 @@
-ghost use Rattle.std.specs.Prelude.{◌≡◌, ℕ, ◌≤◌, ◌<◌, ◌+◌, ◌-◌, max, List, [], ◌∷◌, ◌++◌, length, filter, IfOk, OnOk, OnErr, ⊥};
-ghost use Rattle.rds_msgs_lists.specs.Lists.{Place, IsOn, AtEach, IsDistinct, first_index, of_socket, times_on, indexes};
+ghost use Rattle.std.specs.Prelude.{◌≡◌, ℕ, ◌≤◌, ◌<◌, ◌+◌, ◌-◌, max, List, [], ◌∷◌, ◌++◌, length, filter, IfOk, OnOk, OnErr};
+ghost use Rattle.rds_msgs_lists.specs.Lists.{Place, IsOn, AtEach, IsDistinct, first_index, of_socket, indexes};
 
 use crate::index::Index;
 use crate::link::Link;
@@ -134,57 +134,3 @@ fn free_node(nodes: &mut [Node], free: &mut Link, at: u32) {
     *free = Link::to(at);
 }
 
-#[cfg(test)]
-mod tests {
-    use super::*;
-    use std::test::Fail;
-
-    /// The indexes of the list of all, with 99 at its end.
-    fn all(lists: &Lists) -> u32 {
-        let mut sum = 0;
-        let mut at = lists.first();
-        for _ in 0..8 {
-            let Some(i) = at else { return sum };
-            sum = (sum % 100_000_000) * 10 + i.get() % 8 + 1;
-            at = lists.after(i);
-        }
-        sum
-    }
-
-    fn of(lists: &Lists, socket: u32) -> u32 {
-        let mut sum = 0;
-        let mut at = lists.first_of(socket);
-        for _ in 0..8 {
-            let Some(i) = at else { return sum };
-            sum = (sum % 100_000_000) * 10 + i.get() % 8 + 1;
-            at = lists.after_of(i);
-        }
-        sum
-    }
-
-    #[test]
-    fn indexes_leave_both_lists_and_are_used_again(rt: HostRuntime) -> Result<(), Fail> {
-        let mut lists = Lists::new(rt.alloc(), 2)?;
-        lists.reserve(5)?;
-        let a = lists.push(0);
-        let b = lists.push(1);
-        let c = lists.push(0);
-        let d = lists.push(0);
-        assert_eq!(rt; (all(&lists), of(&lists, 0), of(&lists, 1)), (1234, 134, 2));
-        lists.remove(c);
-        assert_eq!(rt; (all(&lists), of(&lists, 0), of(&lists, 1)), (124, 14, 2));
-        lists.remove(a);
-        assert_eq!(rt; (all(&lists), of(&lists, 0), of(&lists, 1)), (24, 4, 2));
-        lists.remove(d);
-        assert_eq!(rt; (all(&lists), of(&lists, 0), of(&lists, 1)), (2, 0, 2));
-        lists.reserve(3)?;
-        let e = lists.push(1);
-        let f = lists.push(0);
-        assert_eq!(rt; (e.get(), f.get()), (3, 0));
-        assert_eq!(rt; (all(&lists), of(&lists, 0), of(&lists, 1)), (241, 1, 24));
-        lists.remove(b);
-        assert_eq!(rt; (all(&lists), of(&lists, 0), of(&lists, 1)), (41, 1, 4));
-        assert_eq!(rt; lists.len(), 2);
-        Ok(())
-    }
-}

@@ -1,4 +1,4 @@
-ghost use Rattle.std.specs.Prelude.{◌≡◌, ◌<◌, length, None, replicate};
+ghost use Rattle.std.specs.Prelude.{◌≡◌, ◌<◌, length, None};
 ghost use Rattle.rds_msgs_lists.specs.Nodes.{Ring, IsWithin, neighbours, with_neighbours, node_at, ring_next, ring_previous, unlinked, linked};
 
 use crate::link::{Link, NO_INDEX};
@@ -50,8 +50,8 @@ impl Node {
         }
     }
 
-    fn at(self, side: Side) -> Neighbours
-        ensures { result ≡ neighbours side self }
+    fn at(&self, side: Side) -> Neighbours
+        ensures { result ≡ neighbours side self.now }
     {
         match side {
             Side::Connection => self.connection,
@@ -59,17 +59,17 @@ impl Node {
         }
     }
 
-    fn with(self, side: Side, by: Neighbours) -> Node
-        ensures { result ≡ with_neighbours side by self }
+    fn with(&self, side: Side, by: Neighbours) -> Node
+        ensures { result ≡ with_neighbours side by self.now }
     {
         match side {
             Side::Connection => Node {
                 connection: by,
-                ..self
+                ..*self
             },
             Side::Socket => Node {
                 socket: by,
-                ..self
+                ..*self
             },
         }
     }
@@ -83,10 +83,8 @@ fn set_next(side: Side, nodes: &mut [Node], ends: &mut Neighbours, at: Link, nex
         None => ends.next = next,
         Some(k) => {
             let node = nodes[k as usize];
-            let by = Neighbours {
-                next,
-                ..node.at(side)
-            };
+            let mut by = node.at(side);
+            by.next = next;
             nodes[k as usize] = node.with(side, by);
         }
     }
@@ -100,15 +98,14 @@ fn set_previous(side: Side, nodes: &mut [Node], ends: &mut Neighbours, at: Link,
         None => ends.previous = previous,
         Some(k) => {
             let node = nodes[k as usize];
-            let by = Neighbours {
-                previous,
-                ..node.at(side)
-            };
+            let mut by = node.at(side);
+            by.previous = previous;
             nodes[k as usize] = node.with(side, by);
         }
     }
 }
 
+#[tactic(auto, unfolding(crate::specs::Nodes::unlinked))]
 /// Takes a node off its list: its neighbours become one another's.
 pub(crate) fn unlink(side: Side, nodes: &mut [Node], ends: &mut Neighbours, at: u32)
     requires within { at < length nodes.old }
@@ -121,6 +118,7 @@ pub(crate) fn unlink(side: Side, nodes: &mut [Node], ends: &mut Neighbours, at: 
     set_previous(side, nodes, ends, by.next, by.previous);
 }
 
+#[tactic(auto, unfolding(crate::specs::Nodes::linked))]
 /// Puts a node at the end of a list.
 pub(crate) fn link(side: Side, nodes: &mut [Node], ends: &mut Neighbours, at: u32)
     requires within { at < length nodes.old }
