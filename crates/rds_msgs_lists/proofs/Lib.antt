@@ -1,3 +1,5 @@
 pub mod Counts
 pub mod Paths
 pub mod Rings
+pub mod All
+pub mod Sockets

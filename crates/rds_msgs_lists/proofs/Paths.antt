@@ -109,6 +109,17 @@ pub path_end : (n p : Option ℕ → Option ℕ) (a : Option ℕ) (xs : List ℕ
 path_end n p a [] b h = ap n h.1 ∙ h.0
 path_end n p a (x ∷ xs) b h = path_end n p (Some x) xs b h.2
 
+-- what stands behind the start has the start before it
+pub path_start : (n p : Option ℕ → Option ℕ) (a : Option ℕ) (xs : List ℕ) (b : Option ℕ) → Path n p a xs b → p (n a) ≡ a
+path_start n p a [] b h = ap p h.0 ∙ h.1
+path_start n p a (x ∷ xs) b h = ap p h.0 ∙ h.1
+
+-- what stands behind the start is on the path, or its end
+pub path_first : (n p : Option ℕ → Option ℕ) (a : Option ℕ) (xs : List ℕ) (b : Option ℕ) → Path n p a xs b
+    → (n a ≡ b) ⊎ ((k : ℕ) × (n a ≡ Some k) × (1 ≤ times k xs))
+path_first n p a [] b h = inl h.0
+path_first n p a (x ∷ xs) b h = inr (x, h.0, omega (arith, times_first x xs))
+
 -- what stands before the end is on the path, or its start
 pub path_last : (n p : Option ℕ → Option ℕ) (a : Option ℕ) (xs : List ℕ) (b : Option ℕ) → Path n p a xs b
     → (p b ≡ a) ⊎ ((k : ℕ) × (p b ≡ Some k) × (1 ≤ times k xs))

@@ -4,7 +4,7 @@ use Rattle.rds_msgs_lists.specs.declared.node.Node.{Node}
 use Rattle.rds_msgs_lists.specs.declared.node.Neighbours.{Neighbours}
 use Rattle.rds_msgs_lists.specs.declared.node.Side.{Side}
 use Rattle.rds_msgs_lists.specs.declared.node.Side.TheVariants.{Connection, Socket}
-use Rattle.rds_msgs_lists.specs.Nodes.{Ring, node_at, next_in, previous_in}
+use Rattle.rds_msgs_lists.specs.Nodes.{Ring, Links, ring_of, socket_ring, node_at, next_in, previous_in}
 
 -- an index on the lists, and the socket on whose list it is
 pub record Place : Type 0 where
@@ -73,52 +73,53 @@ abbrev pub Chain : (Option ℕ → Option ℕ) → Option ℕ → List ℕ → T
 Chain next o [] = o ≡ None
 Chain next o (x ∷ xs) = (o ≡ Some x) × Chain next (next (Some x)) xs
 
--- the ends of a list that none made
-abbrev pub no_ends : Neighbours
-no_ends = record { next = None; previous = None }
-
 -- a whole list: from none to none
 abbrev pub IsRing : Side → Ring → List ℕ → Type 0
 IsRing side r xs = Path (next_in side r) (previous_in side r) None xs None
-
--- the list of all, as a ring
-abbrev pub ring_of : List Node → Neighbours → Ring
-ring_of nodes ends = record { nodes = nodes; ends = ends }
-
--- the list of a socket, as a ring
-abbrev pub socket_ring : List Node → List Neighbours → ℕ → Ring
-socket_ring nodes sockets s = record { nodes = nodes; ends = get_or sockets s no_ends }
 
 -- an index is on the list of a socket
 abbrev pub is_in : List Node → ℕ → ℕ → Bool
 is_in nodes s k = (node_at nodes k).list == s
 
+-- the list of each socket is a ring, of those of an order that are its own
+abbrev pub AreRings : List Node → List Neighbours → List ℕ → Type 0
+AreRings nodes sockets order = (s : ℕ) → s < length sockets → IsRing Socket (socket_ring nodes sockets s) (filter (is_in nodes s) order)
+
 -- the indexes on the list of all, in order
-unfoldable pub order_of : List Node → Neighbours → ℕ → List ℕ
-order_of nodes ends used = walk (next_in Connection (ring_of nodes ends)) used ends.next
+unfoldable pub order_of : Links → ℕ → List ℕ
+order_of l used = walk (next_in Connection (ring_of l.nodes l.ends)) used l.ends.next
 
 -- the free indexes
-unfoldable pub frees_of : List Node → Neighbours → Option ℕ → ℕ → List ℕ
-frees_of nodes ends free used = walk (next_in Connection (ring_of nodes ends)) (length nodes - used) free
+unfoldable pub frees_of : Links → ℕ → List ℕ
+frees_of l used = walk (next_in Connection (ring_of l.nodes l.ends)) (length l.nodes - used) l.free
 
 -- the places of indexes
 abbrev pub places_of : List Node → List ℕ → List Place
 places_of nodes order = map (λ (k : ℕ). record { index = k; socket = (node_at nodes k).list }) order
 
--- What nodes keep, of which `order` are on the lists, and `frees` aren't: each is on one of the two once, the list of
+-- Of the nodes `order` are on the lists, and `frees` are free: none is on one of the two twice, or on both. The list of
 -- all is a ring, and that of each socket too, of those that are its own.
-pub record Keeps (nodes : List Node) (sockets : List Neighbours) (ends : Neighbours) (free : Option ℕ) (order frees : List ℕ) : Type 0 where
-  pub all : IsRing Connection (ring_of nodes ends) order
-  pub socket : (s : ℕ) → s < length sockets → IsRing Socket (socket_ring nodes sockets s) (filter (is_in nodes s) order)
-  pub free_ones : Chain (next_in Connection (ring_of nodes ends)) free frees
+pub record Keeps (l : Links) (order frees : List ℕ) : Type 0 where
+  pub all : IsRing Connection (ring_of l.nodes l.ends) order
+  pub sockets : AreRings l.nodes l.sockets order
+  pub free_ones : Chain (next_in Connection (ring_of l.nodes l.ends)) l.free frees
   pub once : (k : ℕ) → times k order + times k frees ≤ 1
-  pub within : (k : ℕ) → 1 ≤ times k order + times k frees → k < length nodes
-  pub owned : (k : ℕ) → 1 ≤ times k order → (node_at nodes k).list < length sockets
-  pub total : length order + length frees ≡ length nodes
-  pub few : length nodes ≤ 4294967294
+  pub within : (k : ℕ) → 1 ≤ times k order + times k frees → k < length l.nodes
+  pub owned : (k : ℕ) → 1 ≤ times k order → (node_at l.nodes k).list < length l.sockets
 
--- What every `Lists` keeps, with room for `capacity` nodes in all.
-pub record IsLists (nodes : List Node) (sockets : List Neighbours) (ends : Neighbours) (free : Option ℕ) (used spare capacity : ℕ) : Type 0 where
-  pub keeps : Keeps nodes sockets ends free (order_of nodes ends used) (frees_of nodes ends free used)
-  pub count : length (order_of nodes ends used) ≡ used
+-- What every `Lists` keeps, with room for `capacity` nodes in all: so of the indexes that walks give, which are all.
+pub record IsLists (l : Links) (used spare capacity : ℕ) : Type 0 where
+  pub keeps : Keeps l (order_of l used) (frees_of l used)
+  pub count : length (order_of l used) ≡ used
+  pub total : used + length (frees_of l used) ≡ length l.nodes
+  pub few : length l.nodes ≤ 4294967294
   pub room : used + spare ≤ capacity
+
+-- what contracts see
+abbrev pub view_of : Links → ℕ → ℕ → ListsView
+view_of l used spare = record {
+  places = places_of l.nodes (order_of l used);
+  sockets = length l.sockets;
+  spare = spare;
+  made = length l.nodes;
+}

@@ -1,5 +1,5 @@
 -- Nodes that stand on lists by index, and what linking and unlinking make of them. Source: this project's own.
-use Rattle.std.specs.Prelude.{◌≡◌, ℕ, ◌+◌, ◌<◌, ◌≤◌, ⊤, Option, Some, None, List, length, get_or, set}
+use Rattle.std.specs.Prelude.{◌≡◌, ℕ, ◌+◌, ◌<◌, ◌≤◌, ◌==◌, ⊤, Bool, Option, Some, None, List, [], ◌∷◌, ◌++◌, length, get_or, set, filter}
 use Rattle.rds_msgs_lists.specs.declared.node.Node.{Node}
 use Rattle.rds_msgs_lists.specs.declared.node.Neighbours.{Neighbours}
 use Rattle.rds_msgs_lists.specs.declared.node.Side.{Side}
@@ -68,3 +68,109 @@ unfoldable pub linked : Side → ℕ → Ring → Ring
 linked side k r =
     let last = r.ends.previous in
     ring_node side k (record { next = None; previous = last }) (ring_previous side None (Some k) (ring_next side last (Some k) r))
+
+-- all nodes, the ends of each socket's list, those of the list of all, and the first free index
+pub record Links : Type 0 where
+  pub nodes : List Node
+  pub sockets : List Neighbours
+  pub ends : Neighbours
+  pub free : Option ℕ
+
+-- the ends of a list that none made
+abbrev pub no_ends : Neighbours
+no_ends = record { next = None; previous = None }
+
+-- the list of all, as a ring
+abbrev pub ring_of : List Node → Neighbours → Ring
+ring_of nodes ends = record { nodes = nodes; ends = ends }
+
+-- the list of a socket, as a ring
+abbrev pub socket_ring : List Node → List Neighbours → ℕ → Ring
+socket_ring nodes sockets s = record { nodes = nodes; ends = get_or sockets s no_ends }
+
+-- a node on no list yet, for the list of a socket
+abbrev pub fresh : ℕ → Node
+fresh s = record { connection = record { next = None; previous = None }; socket = record { next = None; previous = None }; list = s }
+
+-- without an index on the list of all
+unfoldable pub off_all : ℕ → Links → Links
+off_all x l =
+    let r = unlinked Connection x (ring_of l.nodes l.ends) in
+    record l { nodes = r.nodes; ends = r.ends }
+
+-- the ring of a socket without an index of its own
+abbrev pub off_ring : ℕ → List Node → List Neighbours → Ring
+off_ring x nodes sockets = unlinked Socket x (socket_ring nodes sockets (node_at nodes x).list)
+
+-- without an index on the list of its socket
+unfoldable pub off_socket : ℕ → Links → Links
+off_socket x l =
+    let r = off_ring x l.nodes l.sockets in
+    record l { nodes = r.nodes; sockets = set l.sockets (node_at l.nodes x).list r.ends }
+
+-- a node as a free one
+abbrev pub free_node : Option ℕ → Node → Node
+free_node free n = record n { connection = record { next = free; previous = None } }
+
+-- with an index among the free ones
+unfoldable pub freed : ℕ → Links → Links
+freed x l = record l { nodes = set l.nodes x (free_node l.free (node_at l.nodes x)); free = Some x }
+
+-- without an index on both lists, which is a free one then
+abbrev pub taken_off : ℕ → Links → Links
+taken_off x l = freed x (off_socket x (off_all x l))
+
+-- the index that a push takes: the first free one, or one that none had
+abbrev pub index_from : Option ℕ → List Node → ℕ
+index_from None nodes = length nodes
+index_from (Some k) nodes = k
+
+-- the nodes with a fresh one there
+abbrev pub placed_nodes : Option ℕ → ℕ → List Node → List Node
+placed_nodes None s nodes = nodes ++ fresh s ∷ []
+placed_nodes (Some k) s nodes = set nodes k (fresh s)
+
+-- and the first free index then
+abbrev pub free_from : Option ℕ → List Node → Option ℕ
+free_from None nodes = None
+free_from (Some k) nodes = (node_at nodes k).connection.next
+
+-- with a fresh node
+abbrev pub placed : ℕ → Links → Links
+placed s l = record l { nodes = placed_nodes l.free s l.nodes; free = free_from l.free l.nodes }
+
+-- with an index at the end of the list of all
+unfoldable pub on_all : ℕ → Links → Links
+on_all x l =
+    let r = linked Connection x (ring_of l.nodes l.ends) in
+    record l { nodes = r.nodes; ends = r.ends }
+
+-- the ring of a socket with an index at its end
+abbrev pub on_ring : ℕ → ℕ → List Node → List Neighbours → Ring
+on_ring s x nodes sockets = linked Socket x (socket_ring nodes sockets s)
+
+-- with an index at the end of the list of a socket
+unfoldable pub on_socket : ℕ → ℕ → Links → Links
+on_socket s x l =
+    let r = on_ring s x l.nodes l.sockets in
+    record l { nodes = r.nodes; sockets = set l.sockets s r.ends }
+
+-- with an index at the end of both
+abbrev pub put_on : ℕ → ℕ → Links → Links
+put_on s x l = on_socket s x (on_all x l)
+
+-- What an index that leaves its lists needs: that what stands beside it are indexes of nodes.
+pub record CanLeave (x : ℕ) (l : Links) : Type 0 where
+  pub within : x < length l.nodes
+  pub owned : (node_at l.nodes x).list < length l.sockets
+  pub next : IsWithin (node_at l.nodes x).connection.next l.nodes
+  pub previous : IsWithin (node_at l.nodes x).connection.previous l.nodes
+  pub next_of : IsWithin (node_at l.nodes x).socket.next l.nodes
+  pub previous_of : IsWithin (node_at l.nodes x).socket.previous l.nodes
+
+-- What an index that comes to its lists needs: that the last ones are indexes of nodes.
+pub record CanCome (s x : ℕ) (l : Links) : Type 0 where
+  pub within : x < length l.nodes
+  pub owned : s < length l.sockets
+  pub last : IsWithin l.ends.previous l.nodes
+  pub last_of : IsWithin (get_or l.sockets s no_ends).previous l.nodes
