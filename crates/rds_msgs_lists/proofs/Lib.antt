@@ -3,3 +3,4 @@ pub mod Paths
 pub mod Rings
 pub mod All
 pub mod Sockets
+pub mod Keeping

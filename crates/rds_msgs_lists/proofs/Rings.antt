@@ -166,3 +166,25 @@ linked_with side x r wx wl ne =
       previous_new = ap (λ (b : Neighbours). b.previous) (node_same side x by t wt);
       previous_end = refl;
     }
+
+-- what is left of a ring, where it is known by an equation
+pub unlinked_is : (side : Side) (x : ℕ) (r r' : Ring) → r' ≡ unlinked side x r → Kept side r r'
+unlinked_is side x r r' e = rw e (unlinked_kept side x r)
+
+pub linked_is : (side : Side) (x : ℕ) (r r' : Ring) → r' ≡ linked side x r → Kept side r r'
+linked_is side x r r' e = rw e (linked_kept side x r)
+
+pub owned_then : (side : Side) (r r' : Ring) → Kept side r r' → (k n : ℕ) → (node_at r.nodes k).list < n → (node_at r'.nodes k).list < n
+owned_then side r r' h k n i = rw (h.list k) i
+
+pub within_then : (side : Side) (r r' : Ring) → Kept side r r' → (k : ℕ) → k < length r.nodes → k < length r'.nodes
+within_then side r r' h k i = let e = h.len in omega arith
+
+pub link_then : (side : Side) (r r' : Ring) → Kept side r r' → (o : Option ℕ) → IsWithin o r.nodes → IsWithin o r'.nodes
+link_then side r r' h o i = within_by o r r' h.len i
+
+pub next_then : (r r' : Ring) → Kept Connection r r' → (k : ℕ) → IsWithin (node_at r.nodes k).socket.next r.nodes → IsWithin (node_at r'.nodes k).socket.next r'.nodes
+next_then r r' h k i = rw (h.others k) (within_by (node_at r.nodes k).socket.next r r' h.len i)
+
+pub previous_then : (r r' : Ring) → Kept Connection r r' → (k : ℕ) → IsWithin (node_at r.nodes k).socket.previous r.nodes → IsWithin (node_at r'.nodes k).socket.previous r'.nodes
+previous_then r r' h k i = rw (h.others k) (within_by (node_at r.nodes k).socket.previous r r' h.len i)

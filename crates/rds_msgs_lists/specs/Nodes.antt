@@ -92,33 +92,24 @@ socket_ring nodes sockets s = record { nodes = nodes; ends = get_or sockets s no
 abbrev pub fresh : ℕ → Node
 fresh s = record { connection = record { next = None; previous = None }; socket = record { next = None; previous = None }; list = s }
 
--- without an index on the list of all
-unfoldable pub off_all : ℕ → Links → Links
-off_all x l =
-    let r = unlinked Connection x (ring_of l.nodes l.ends) in
-    record l { nodes = r.nodes; ends = r.ends }
+-- the ring of all without an index
+abbrev pub short_ring : ℕ → List Node → Neighbours → Ring
+short_ring x nodes ends = unlinked Connection x (ring_of nodes ends)
 
 -- the ring of a socket without an index of its own
 abbrev pub off_ring : ℕ → List Node → List Neighbours → Ring
 off_ring x nodes sockets = unlinked Socket x (socket_ring nodes sockets (node_at nodes x).list)
 
--- without an index on the list of its socket
-unfoldable pub off_socket : ℕ → Links → Links
-off_socket x l =
-    let r = off_ring x l.nodes l.sockets in
-    record l { nodes = r.nodes; sockets = set l.sockets (node_at l.nodes x).list r.ends }
-
--- a node as a free one
-abbrev pub free_node : Option ℕ → Node → Node
-free_node free n = record n { connection = record { next = free; previous = None } }
-
--- with an index among the free ones
-unfoldable pub freed : ℕ → Links → Links
-freed x l = record l { nodes = set l.nodes x (free_node l.free (node_at l.nodes x)); free = Some x }
+-- the nodes with a free one
+abbrev pub freed : ℕ → Option ℕ → List Node → List Node
+freed x free nodes = set nodes x (record (node_at nodes x) { connection = record { next = free; previous = None } })
 
 -- without an index on both lists, which is a free one then
-abbrev pub taken_off : ℕ → Links → Links
-taken_off x l = freed x (off_socket x (off_all x l))
+unfoldable pub taken_off : ℕ → Links → Links
+taken_off x l =
+    let r = short_ring x l.nodes l.ends in
+    let q = off_ring x r.nodes l.sockets in
+    record l { nodes = freed x l.free q.nodes; sockets = set l.sockets (node_at r.nodes x).list q.ends; ends = r.ends; free = Some x }
 
 -- the index that a push takes: the first free one, or one that none had
 abbrev pub index_from : Option ℕ → List Node → ℕ
@@ -139,38 +130,33 @@ free_from (Some k) nodes = (node_at nodes k).connection.next
 abbrev pub placed : ℕ → Links → Links
 placed s l = record l { nodes = placed_nodes l.free s l.nodes; free = free_from l.free l.nodes }
 
--- with an index at the end of the list of all
-unfoldable pub on_all : ℕ → Links → Links
-on_all x l =
-    let r = linked Connection x (ring_of l.nodes l.ends) in
-    record l { nodes = r.nodes; ends = r.ends }
+-- the ring of all with an index at its end
+abbrev pub end_ring : ℕ → List Node → Neighbours → Ring
+end_ring x nodes ends = linked Connection x (ring_of nodes ends)
 
 -- the ring of a socket with an index at its end
 abbrev pub on_ring : ℕ → ℕ → List Node → List Neighbours → Ring
 on_ring s x nodes sockets = linked Socket x (socket_ring nodes sockets s)
 
--- with an index at the end of the list of a socket
-unfoldable pub on_socket : ℕ → ℕ → Links → Links
-on_socket s x l =
-    let r = on_ring s x l.nodes l.sockets in
-    record l { nodes = r.nodes; sockets = set l.sockets s r.ends }
-
 -- with an index at the end of both
-abbrev pub put_on : ℕ → ℕ → Links → Links
-put_on s x l = on_socket s x (on_all x l)
+unfoldable pub put_on : ℕ → ℕ → Links → Links
+put_on s x l =
+    let r = end_ring x l.nodes l.ends in
+    let q = on_ring s x r.nodes l.sockets in
+    record l { nodes = q.nodes; sockets = set l.sockets s q.ends; ends = r.ends }
 
 -- What an index that leaves its lists needs: that what stands beside it are indexes of nodes.
-pub record CanLeave (x : ℕ) (l : Links) : Type 0 where
-  pub within : x < length l.nodes
-  pub owned : (node_at l.nodes x).list < length l.sockets
-  pub next : IsWithin (node_at l.nodes x).connection.next l.nodes
-  pub previous : IsWithin (node_at l.nodes x).connection.previous l.nodes
-  pub next_of : IsWithin (node_at l.nodes x).socket.next l.nodes
-  pub previous_of : IsWithin (node_at l.nodes x).socket.previous l.nodes
+pub record CanLeave (x : ℕ) (nodes : List Node) (sockets : List Neighbours) : Type 0 where
+  pub within : x < length nodes
+  pub owned : (node_at nodes x).list < length sockets
+  pub next : IsWithin (node_at nodes x).connection.next nodes
+  pub previous : IsWithin (node_at nodes x).connection.previous nodes
+  pub next_of : IsWithin (node_at nodes x).socket.next nodes
+  pub previous_of : IsWithin (node_at nodes x).socket.previous nodes
 
 -- What an index that comes to its lists needs: that the last ones are indexes of nodes.
-pub record CanCome (s x : ℕ) (l : Links) : Type 0 where
-  pub within : x < length l.nodes
-  pub owned : s < length l.sockets
-  pub last : IsWithin l.ends.previous l.nodes
-  pub last_of : IsWithin (get_or l.sockets s no_ends).previous l.nodes
+pub record CanCome (s x : ℕ) (nodes : List Node) (sockets : List Neighbours) (ends : Neighbours) : Type 0 where
+  pub within : x < length nodes
+  pub owned : s < length sockets
+  pub last : IsWithin ends.previous nodes
+  pub last_of : IsWithin (get_or sockets s no_ends).previous nodes

@@ -1,6 +1,6 @@
 ghost use Rattle.std.specs.Prelude.{◌≡◌, ℕ, ◌≤◌, ◌<◌, ◌+◌, ◌-◌, max, Some, None, set, get_or, List, [], ◌∷◌, ◌++◌, length, filter, IfOk, OnOk, OnErr};
 ghost use Rattle.std.specs.Vec.{vec_capacity};
-ghost use Rattle.rds_msgs_lists.specs.Nodes.{Links, CanLeave, CanCome, IsWithin, node_at, no_ends, off_ring, on_ring, free_node as the_free_node, index_from, placed_nodes, free_from, taken_off, put_on};
+ghost use Rattle.rds_msgs_lists.specs.Nodes.{Links, CanLeave, CanCome, IsWithin, node_at, no_ends, off_ring, on_ring, index_from, placed_nodes, free_from, freed, short_ring, end_ring};
 ghost use Rattle.rds_msgs_lists.specs.Lists.{Place, IsOn, AtEach, IsDistinct, first_index, of_socket, indexes};
 
 use crate::index::Index;
@@ -108,8 +108,11 @@ fn index(at: Link) -> Option<Index>
 /// Takes an index off both lists, and puts it among the free ones.
 fn take_off(nodes: &mut [Node], sockets: &mut [Neighbours], ends: &mut Neighbours, free: &mut Link, at: u32)
     requires few { at < NO_INDEX }
-    requires can { CanLeave at (record { nodes = nodes.old; sockets = sockets.old; ends = ends.old; free = free.old }) }
-    ensures { record { nodes = nodes.new; sockets = sockets.new; ends = ends.new; free = free.new } ≡ taken_off at (record { nodes = nodes.old; sockets = sockets.old; ends = ends.old; free = free.old }) }
+    requires can { CanLeave at nodes.old sockets.old }
+    ensures ends { ends.new ≡ (short_ring at nodes.old ends.old).ends }
+    ensures nodes { nodes.new ≡ freed at free.old (off_ring at (short_ring at nodes.old ends.old).nodes sockets.old).nodes }
+    ensures sockets { sockets.new ≡ set sockets.old (node_at (short_ring at nodes.old ends.old).nodes at).list (off_ring at (short_ring at nodes.old ends.old).nodes sockets.old).ends }
+    ensures free { free.new ≡ Some at }
 {
     unlink(Side::Connection, nodes, ends, at);
     take_off_socket(nodes, sockets, at);
@@ -135,7 +138,7 @@ fn take_off_socket(nodes: &mut [Node], sockets: &mut [Neighbours], at: u32)
 fn free_node(nodes: &mut [Node], free: &mut Link, at: u32)
     requires within { at < length nodes.old }
     requires few { at < NO_INDEX }
-    ensures nodes { nodes.new ≡ set nodes.old at (the_free_node free.old (node_at nodes.old at)) }
+    ensures nodes { nodes.new ≡ freed at free.old nodes.old }
     ensures free { free.new ≡ Some at }
 {
     let mut node = nodes[at as usize];
@@ -170,8 +173,10 @@ fn take_node(nodes: &mut Vec<Node>, free: &mut Link, socket: u32) -> u32
 /// Puts a node at the end of the list of all and of a socket's.
 fn put(nodes: &mut [Node], sockets: &mut [Neighbours], ends: &mut Neighbours, socket: u32, at: u32)
     requires few { at < NO_INDEX }
-    requires can { (free : _) → CanCome socket at (record { nodes = nodes.old; sockets = sockets.old; ends = ends.old; free = free }) }
-    ensures { (free : _) → record { nodes = nodes.new; sockets = sockets.new; ends = ends.new; free = free } ≡ put_on socket at (record { nodes = nodes.old; sockets = sockets.old; ends = ends.old; free = free }) }
+    requires can { CanCome socket at nodes.old sockets.old ends.old }
+    ensures ends { ends.new ≡ (end_ring at nodes.old ends.old).ends }
+    ensures nodes { nodes.new ≡ (on_ring socket at (end_ring at nodes.old ends.old).nodes sockets.old).nodes }
+    ensures sockets { sockets.new ≡ set sockets.old socket (on_ring socket at (end_ring at nodes.old ends.old).nodes sockets.old).ends }
 {
     link(Side::Connection, nodes, ends, at);
     put_on_socket(nodes, sockets, socket, at);
