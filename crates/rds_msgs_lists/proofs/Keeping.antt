@@ -59,7 +59,7 @@ keeps_freed l x order frees h t tf wx =
       once = λ k.
         let a = h.once k in
         elim (cases_eq x k) [
-          inl e ↦ let b : times k order ≡ 0 = rw (← e) t in let d : times k frees ≡ 0 = rw (← e) tf in let f : times k (x ∷ frees) ≡ 1 + times k frees = rw (← e) (times_first x frees) in omega arith
+          inl e ↦ let b : times k order ≡ 0 = rw (← e) t in let d : times k frees ≡ 0 = rw (← e) tf in let f : times k (x ∷ frees) ≡ 1 + times k frees = subst (λ (y : ℕ). times y (x ∷ frees) ≡ 1 + times y frees) e (times_first x frees) in omega arith
         | inr ne ↦ omega (arith, times_other k x frees ne)
         ];
       within = λ k i. elim (cases_eq x k) [ inl e ↦ omega arith | inr ne ↦ let a = h.within k (omega (arith, times_other k x frees ne)) in omega arith ];

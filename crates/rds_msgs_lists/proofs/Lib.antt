@@ -4,3 +4,4 @@ pub mod Rings
 pub mod All
 pub mod Sockets
 pub mod Keeping
+pub mod Views
