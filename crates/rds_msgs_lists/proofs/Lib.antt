@@ -5,3 +5,4 @@ pub mod All
 pub mod Sockets
 pub mod Keeping
 pub mod Views
+pub mod Calls

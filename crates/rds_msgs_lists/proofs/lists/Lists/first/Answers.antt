@@ -1,0 +1,7 @@
+use Rattle.std.proofs.Common.{◌≡◌, ◌∙◌, subst}
+use Rattle.rds_msgs_lists.specs.Lists.{ListsView, first_index}
+use Rattle.rds_msgs_lists.proofs.Views.{first_is}
+use Rattle.rds_msgs_lists.proofs.lists.Lists.first.Goals as goal
+
+pub returns : goal.returns
+returns c = c.index.ensures ∙ subst (λ (v : ListsView). c.self.inside.ends.next ≡ first_index v.places) c.self.view_is (first_is _ _ _ c.self.invariant.keeps)
