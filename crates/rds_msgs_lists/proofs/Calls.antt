@@ -1,18 +1,18 @@
 -- What each call makes of lists and of what contracts see of them.
-use Rattle.std.proofs.Common.{◌≡◌, ◌≤◌, ◌<◌, ◌+◌, ◌-◌, ◌⊎◌, max, inl, inr, ℕ, zero, suc, Option, Some, None, List, [], ◌∷◌, ◌++◌, length, arith, refl, sym, ap, ◌∙◌, get_or, set, map, subst, length-set, length-append, replicate}
+use Rattle.std.proofs.Common.{◌≡◌, ◌≤◌, ◌<◌, ◌+◌, ◌-◌, ◌⊎◌, max, inl, inr, ℕ, zero, suc, Option, Some, None, List, [], ◌∷◌, ◌++◌, length, arith, refl, sym, ap, ◌∙◌, get_or, set, map, subst, length-set, length-append, replicate, take, drop}
 use Rattle.std.proofs.lemmas.Option.{same_Some, none-some}
 use Rattle.std.proofs.lemmas.Bool.{cases_eq}
-use Rattle.std.proofs.lemmas.List.{map-append, length_push, length-map, get_or-replicate, get_or_past}
+use Rattle.std.proofs.lemmas.List.{map-append, length_push, length-map, take_all, take_at}
 use Rattle.std.specs.List.{All}
 use Rattle.rds_msgs_lists.specs.declared.node.Node.{Node}
 use Rattle.rds_msgs_lists.specs.declared.node.Neighbours.{Neighbours}
 use Rattle.rds_msgs_lists.specs.declared.node.Side.TheVariants.{Connection, Socket}
-use Rattle.rds_msgs_lists.specs.Nodes.{Ring, Links, IsWithin, node_at, neighbours, ring_of, socket_ring, no_ends, short_ring, off_ring, freed, taken_off, end_ring, on_ring, put_on, fresh, placed, index_from, placed_nodes, free_from, unlinked, linked}
+use Rattle.rds_msgs_lists.specs.Nodes.{Ring, Links, IsWithin, node_at, neighbours, ring_of, socket_ring, no_ends, short_ring, off_ring, freed, taken_off, end_ring, on_ring, put_on, fresh, placed, index_from, placed_nodes, free_from, unlinked, linked, CanCome}
 use Rattle.rds_msgs_lists.specs.Lists.{Place, ListsView, times, indexes, IsOn, IsDistinct, AtEach, Keeps, IsLists, Chain, order_of, frees_of, places_of, view_of}
 use Rattle.rds_msgs_lists.proofs.Counts.{split_at, times_first, times-append, times-middle}
 use Rattle.rds_msgs_lists.proofs.Rings.{Kept, unlinked_kept, linked_kept, set_keeps}
 use Rattle.rds_msgs_lists.proofs.Keeping.{HasPlaced, apart, set_away, push_away, keeps_off, keeps_put, placed_free, placed_new}
-use Rattle.rds_msgs_lists.proofs.Views.{order_is, lists_by, view_by, indexes_of, on_is, is_on, Cut, cut}
+use Rattle.rds_msgs_lists.proofs.Views.{order_is, lists_by, view_by, indexes_of, on_is, Cut, cut, can_come}
 
 pub length_places : (nodes : List Node) (order : List ℕ) → length (places_of nodes order) ≡ length order
 length_places nodes order = length-map order _
@@ -35,6 +35,13 @@ pub no_ends_at : (n s : ℕ) → get_or (replicate n no_ends) s no_ends ≡ no_e
 no_ends_at zero s = refl
 no_ends_at (suc n) zero = refl
 no_ends_at (suc n) (suc s) = no_ends_at n s
+
+pub all_none : (n m : ℕ) (old items : List Neighbours) (e : Neighbours) → items ≡ take n old ++ replicate (n - m) e → old ≡ [] → m ≡ 0 → e ≡ no_ends
+    → items ≡ replicate n no_ends
+all_none n m old items e h a b d =
+    let z : n - m ≡ n = omega arith in
+    let t : take n ([] {A = Neighbours}) ≡ [] = take_all n [] (omega arith) in
+    h ∙ rw (a, z, d, t) refl
 
 -- lists that none came to
 pub none_yet : (sockets : List Neighbours) (n capacity : ℕ) → sockets ≡ replicate n no_ends
@@ -145,6 +152,8 @@ pub record HasNode (l : Links) (s used : ℕ) (order : List ℕ) : Type 0 where
   pub made : length (placed s l).nodes ≡ max (length l.nodes) (index_from l.free l.nodes + 1)
   pub next : index_from l.free l.nodes ≤ length l.nodes
   pub all_used : index_from l.free l.nodes ≡ length l.nodes → used ≡ length l.nodes
+  pub free_within : IsWithin l.free l.nodes
+  pub none_free : l.free ≡ None → used ≡ length l.nodes
 
 pub has_node : (l : Links) (s used : ℕ) (order frees : List ℕ) → Keeps l order frees → used + length frees ≡ length l.nodes → HasNode l s used order
 has_node l s used order [] h t =
@@ -160,6 +169,8 @@ has_node l s used order [] h t =
       made = omega arith;
       next = omega arith;
       all_used = λ a. omega arith;
+      free_within = rw e tt;
+      none_free = λ a. omega arith;
     }
 has_node l s used order (x ∷ frees) h t =
     let e : l.free ≡ Some x = h.free_ones.0 in
@@ -177,6 +188,8 @@ has_node l s used order (x ∷ frees) h t =
       made = omega arith;
       next = omega arith;
       all_used = λ a. absurd (omega arith);
+      free_within = rw e w;
+      none_free = λ a. absurd (none-some x (sym a ∙ e));
     }
 
 -- an index comes to its lists
@@ -225,3 +238,32 @@ off_before l used spare capacity s h on =
     let o = on_is l.nodes (order_of l used) (index_from l.free l.nodes) on in
     let z = p.it.off_order in
     omega arith
+
+pub can_put : (l : Links) (used spare capacity s : ℕ) → IsLists l used spare capacity → s < length l.sockets
+    → CanCome s (index_from l.free l.nodes) (placed_nodes l.free s l.nodes) l.sockets l.ends
+can_put l used spare capacity s h is =
+    let p = has_node l s used (order_of l used) (frees_of l used) h.keeps h.total in
+    can_come (placed s l) (order_of l used) p.frees p.it.keeps (index_from l.free l.nodes) s p.it.within is
+
+pub node_for : (l : Links) (used spare capacity s : ℕ) → IsLists l used spare capacity → HasNode l s used (order_of l used)
+node_for l used spare capacity s h = has_node l s used (order_of l used) (frees_of l used) h.keeps h.total
+
+-- what is written through a slice of a vector
+pub written : {X : Type 0} (n : ℕ) (ws ys : List X) → length ws ≡ n → take n (ws ++ drop (length ws) ys) ≡ ws
+written n ws ys e = take_at ws (drop (length ws) ys) n e
+
+-- the lists after a removal, and after a push, from what the calls below say
+pub off_is : (l : Links) (x y : ℕ) (n nodes' : List Node) (m sockets' : List Neighbours) (ends' : Neighbours) (free' : Option ℕ) → y ≡ x → n ≡ l.nodes → m ≡ l.sockets
+    → ends' ≡ (short_ring y n l.ends).ends → nodes' ≡ freed y l.free (off_ring y (short_ring y n l.ends).nodes m).nodes
+    → sockets' ≡ set m (node_at (short_ring y n l.ends).nodes y).list (off_ring y (short_ring y n l.ends).nodes m).ends → free' ≡ Some y
+    → record { nodes = nodes'; sockets = sockets'; ends = ends'; free = free' } ≡ taken_off x l
+unfolding taken_off
+off_is l x y n nodes' m sockets' ends' free' a b c e f g i = rw (e, f, g, i, a, b, c) refl
+
+pub on_is_put : (l : Links) (s x : ℕ) (n nodes' : List Node) (m sockets' : List Neighbours) (ends' : Neighbours) (free' : Option ℕ) → x ≡ index_from l.free l.nodes
+    → n ≡ placed_nodes l.free s l.nodes → m ≡ l.sockets
+    → ends' ≡ (end_ring x n l.ends).ends → nodes' ≡ (on_ring s x (end_ring x n l.ends).nodes m).nodes
+    → sockets' ≡ set m s (on_ring s x (end_ring x n l.ends).nodes m).ends → free' ≡ free_from l.free l.nodes
+    → record { nodes = nodes'; sockets = sockets'; ends = ends'; free = free' } ≡ put_on s (index_from l.free l.nodes) (placed s l)
+unfolding put_on
+on_is_put l s x n nodes' m sockets' ends' free' a b c e f g i = rw (e, f, g, i, a, b, c) refl

@@ -1,9 +1,10 @@
-use Rattle.std.proofs.Common.{◌≡◌, ◌<◌, ◌∙◌, length, arith, sym, subst}
-use Rattle.rds_msgs_lists.specs.Nodes.{taken_off}
-use Rattle.rds_msgs_lists.specs.Lists.{ListsView, AtEach, IsOn}
-use Rattle.rds_msgs_lists.proofs.Calls.{within_is, lists_off, view_off}
+use Rattle.std.proofs.Common.{◌≡◌, ℕ, ◌<◌, ◌-◌, ◌∙◌, ◌++◌, List, take, drop, length, arith, sym, subst, ap}
+use Rattle.rds_msgs_lists.specs.Nodes.{Links, taken_off}
+use Rattle.rds_msgs_lists.specs.Lists.{Place, ListsView, AtEach, IsOn, IsLists, view_of}
+use Rattle.rds_msgs_lists.proofs.Calls.{within_is, lists_off, view_off, off_is, written}
 use Rattle.rds_msgs_lists.proofs.Views.{on_is, can_leave}
 use Rattle.rds_msgs_lists.proofs.lists.Lists.remove.Goals as goal
+use Rattle.rds_msgs_lists.proofs.lists.Lists.remove.Goals.{After-take_off}
 
 pub take_off-requires-clause-few : goal.take_off-requires-clause-few
 take_off-requires-clause-few c =
@@ -11,12 +12,31 @@ take_off-requires-clause-few c =
     omega (arith, c.get.ensures, c.self.invariant.few)
 
 pub take_off-requires-clause-can : goal.take_off-requires-clause-can
-take_off-requires-clause-can c = let e = c.deref_mut.ensures in let f = c.deref_mut-2.ensures in ?
+take_off-requires-clause-can c =
+    let on = subst (λ (v : ListsView). IsOn v.places c.args.at) (sym c.self.view_is) c.requires.on in
+    rw (c.get.ensures, c.deref_mut.ensures.value, c.deref_mut-2.ensures.value) (can_leave _ _ _ c.self.invariant.keeps c.args.at (on_is _ _ c.args.at on))
+
+abbrev links : (c : After-take_off) → Links
+links c = record { nodes = c.self.inside.nodes.items; sockets = c.self.inside.sockets.items; ends = c.self.inside.ends; free = c.self.inside.free }
+
+abbrev links' : (c : After-take_off) → Links
+links' c = record {
+  nodes = take c.self.inside.nodes.len (c.take_off.new.nodes ++ drop (length c.take_off.new.nodes) c.self.inside.nodes.items);
+  sockets = take c.self.inside.sockets.len (c.take_off.new.sockets ++ drop (length c.take_off.new.sockets) c.self.inside.sockets.items);
+  ends = c.take_off.new.ends;
+  free = c.take_off.new.free;
+}
+
+after : (c : After-take_off) → links' c ≡ taken_off c.args.at (links c)
+after c =
+    let n : length c.take_off.new.nodes ≡ c.self.inside.nodes.len = omega arith in
+    let m : length c.take_off.new.sockets ≡ c.self.inside.sockets.len = omega arith in
+    let e = c.take_off.ensures in
+    off_is (links c) c.args.at c.get.result c.deref_mut.result.now _ c.deref_mut-2.result.now _ _ _ c.get.ensures c.deref_mut.ensures.value c.deref_mut-2.ensures.value
+    e.ends (written _ _ _ n ∙ e.nodes) (written _ _ _ m ∙ e.sockets) e.free
 
 pub invariant_of-self : goal.invariant_of-self
-unfolding taken_off
 invariant_of-self c = ?
 
 pub returns : goal.returns
-unfolding taken_off
 returns c = ?
