@@ -40,7 +40,7 @@ pub all_none : (n m : ℕ) (old items : List Neighbours) (e : Neighbours) → it
     → items ≡ replicate n no_ends
 all_none n m old items e h a b d =
     let z : n - m ≡ n = omega arith in
-    let t : take n ([] {A = Neighbours}) ≡ [] = take_all n [] (omega arith) in
+    let t : ◌≡◌ {A = List Neighbours} (take n []) [] = take_all n [] (omega arith) in
     h ∙ rw (a, z, d, t) refl
 
 -- lists that none came to

@@ -36,7 +36,19 @@ after c =
     e.ends (written _ _ _ n ∙ e.nodes) (written _ _ _ m ∙ e.sockets) e.free
 
 pub invariant_of-self : goal.invariant_of-self
-invariant_of-self c = ?
+invariant_of-self c =
+    let on = subst (λ (v : ListsView). IsOn v.places c.args.at) (sym c.self.view_is) c.requires.on in
+    let e = after (goal.at.invariant_of-self c).After-take_off in
+    subst (λ (l : Links). IsLists l (c.self.inside.used - 1) c.self.inside.spare c.self.inside.nodes.cap) (sym e)
+    (lists_off _ _ _ _ c.args.at c.self.invariant (on_is _ _ c.args.at on))
 
 pub returns : goal.returns
-returns c = ?
+returns c =
+    let d = (goal.at.returns c).After-take_off in
+    let e = after d in
+    let f = subst (λ (v : ListsView). AtEach v.places c.args.at (λ b p r. view_of (taken_off c.args.at (links d)) (c.self.inside.used - 1) c.self.inside.spare ≡ record v { places = b ++ r })) c.self.view_is
+      (view_off _ _ _ _ c.args.at c.self.invariant) in
+    record {
+      removed = λ before p rest g same.
+        ap (λ (l : Links). view_of l (c.self.inside.used - 1) c.self.inside.spare) e ∙ f before p rest g same;
+    }
