@@ -1,15 +1,15 @@
 -- The list of all and the free ones: what a linking and an unlinking on either side leave of them.
-use Rattle.std.proofs.Common.{◌≡◌, ◌≤◌, ◌<◌, ◌+◌, ◌⊎◌, inl, inr, ℕ, zero, suc, true, false, Option, Some, None, List, [], ◌∷◌, ◌++◌, length, arith, refl, sym, ap, ◌∙◌, get_or, filter}
+use Rattle.std.proofs.Common.{◌≡◌, ◌≤◌, ◌<◌, ◌+◌, inl, inr, ℕ, Option, Some, None, List, [], ◌∷◌, ◌++◌, length, arith, refl, sym, ap, ◌∙◌}
 use Rattle.std.proofs.lemmas.Option.{same_Some, none-some}
 use Rattle.rds_msgs_lists.specs.declared.node.Node.{Node}
 use Rattle.rds_msgs_lists.specs.declared.node.Neighbours.{Neighbours}
 use Rattle.rds_msgs_lists.specs.declared.node.Side.{Side}
-use Rattle.rds_msgs_lists.specs.declared.node.Side.TheVariants.{Connection, Socket}
-use Rattle.rds_msgs_lists.specs.Nodes.{Ring, IsWithin, node_at, neighbours, next_in, previous_in, unlinked, linked, ring_of, socket_ring}
-use Rattle.rds_msgs_lists.specs.Lists.{times, Path, Chain, IsRing, AreRings, is_in}
-use Rattle.rds_msgs_lists.proofs.Counts.{times_first, times-append, times-middle, times-filter-le, filter_same}
-use Rattle.rds_msgs_lists.proofs.Paths.{Keeping, Without, With, head, never, path_on, path_kept, path_without, path_with, path_split, path_start, path_first, path_end, path_last, chain_on, chain_kept}
-use Rattle.rds_msgs_lists.proofs.Rings.{Kept, unlinked_kept, unlinked_without, linked_kept, linked_with}
+use Rattle.rds_msgs_lists.specs.declared.node.Side.TheVariants.{Connection}
+use Rattle.rds_msgs_lists.specs.Nodes.{Ring, IsWithin, node_at, neighbours, next_in, previous_in, unlinked, linked, ring_of}
+use Rattle.rds_msgs_lists.specs.Lists.{times, Chain, IsRing}
+use Rattle.rds_msgs_lists.proofs.Counts.{times-append}
+use Rattle.rds_msgs_lists.proofs.Paths.{Without, With, never, path_on, path_without, path_with, path_split, path_start, path_first, path_end, path_last, chain_on, chain_kept}
+use Rattle.rds_msgs_lists.proofs.Rings.{unlinked_without, linked_with}
 
 -- each index of a list is that of a node
 abbrev pub AreWithin : List Node → List ℕ → Type 0
@@ -33,12 +33,12 @@ beside side r ys x zs w h =
     let s = path_split (next_in side r) (previous_in side r) None ys x zs None h in
     record {
       within_previous = elim (path_last (next_in side r) (previous_in side r) None ys (Some x) s.0) [
-        inl e ↦ within_none _ r.nodes e
-      | inr f ↦ within_is _ r.nodes f.0 f.1 (w f.0 (omega (arith, times-append f.0 ys (x ∷ zs))))
+        | inl e ↦ within_none _ r.nodes e
+        | inr f ↦ within_is _ r.nodes f.0 f.1 (w f.0 (omega (arith, times-append f.0 ys (x ∷ zs))))
       ];
       within_next = elim (path_first (next_in side r) (previous_in side r) (Some x) zs None s.1) [
-        inl e ↦ within_none _ r.nodes e
-      | inr f ↦ within_is _ r.nodes f.0 f.1 (w f.0 (omega (arith, times-append f.0 ys (x ∷ zs))))
+        | inl e ↦ within_none _ r.nodes e
+        | inr f ↦ within_is _ r.nodes f.0 f.1 (w f.0 (omega (arith, times-append f.0 ys (x ∷ zs))))
       ];
       next_back = path_end (next_in side r) (previous_in side r) None ys (Some x) s.0;
       previous_back = path_start (next_in side r) (previous_in side r) (Some x) zs None s.1;
@@ -47,19 +47,19 @@ beside side r ys x zs w h =
 pub last_within : (side : Side) (r : Ring) (xs : List ℕ) → AreWithin r.nodes xs → IsRing side r xs → IsWithin (previous_in side r None) r.nodes
 last_within side r xs w h =
     elim (path_last (next_in side r) (previous_in side r) None xs None h) [
-      inl e ↦ within_none _ r.nodes e
-    | inr f ↦ within_is _ r.nodes f.0 f.1 (w f.0 f.2)
+      | inl e ↦ within_none _ r.nodes e
+      | inr f ↦ within_is _ r.nodes f.0 f.1 (w f.0 f.2)
     ]
 
 -- one that is not on a ring is not its last
 pub not_last : (side : Side) (r : Ring) (xs : List ℕ) (x : ℕ) → times x xs ≡ 0 → IsRing side r xs → previous_in side r None ≡ Some x → ⊥
 not_last side r xs x t h e =
     elim (path_last (next_in side r) (previous_in side r) None xs None h) [
-      inl n ↦ never x _ n e
-    | inr f ↦
-        let same : f.0 ≡ x = same_Some f.0 x (sym f.1 ∙ e) in
-        let i : 1 ≤ times x xs = rw (← same) f.2 in
-        absurd (omega arith)
+      | inl n ↦ never x _ n e
+      | inr f ↦
+          let same : f.0 ≡ x = same_Some f.0 x (sym f.1 ∙ e) in
+          let i : 1 ≤ times x xs = rw (← same) f.2 in
+          absurd (omega arith)
     ]
 
 pub without_at : (side : Side) (r : Ring) (x : ℕ) → Beside side r x → Without (next_in side r) (previous_in side r) (next_in side (unlinked side x r)) (previous_in side (unlinked side x r)) x
@@ -94,9 +94,9 @@ frees_with r xs x free frees w h t wx tf once c =
     let y = with_at Connection r xs x w h t wx in
     chain_on (next_in Connection r) (next_in Connection (linked Connection x r)) free frees
     (λ k i.
-      y.next_same (Some k)
-      (λ e. not_last Connection r xs k (let o = once k in omega arith) h (sym e))
-      (λ e. let same : k ≡ x = same_Some k x e in let z : 1 ≤ times x frees = rw (← same) i in absurd (omega arith)))
+    y.next_same (Some k)
+    (λ e. not_last Connection r xs k (let o = once k in omega arith) h (sym e))
+    (λ e. let same : k ≡ x = same_Some k x e in let z : 1 ≤ times x frees = rw (← same) i in absurd (omega arith)))
     c
 
 -- a change on the lists of sockets leaves the list of all and the free ones

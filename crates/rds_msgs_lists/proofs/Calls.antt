@@ -1,18 +1,19 @@
 -- What each call makes of lists and of what contracts see of them.
-use Rattle.std.proofs.Common.{◌≡◌, ◌≤◌, ◌<◌, ◌+◌, ◌-◌, ◌⊎◌, max, inl, inr, ℕ, zero, suc, Option, Some, None, List, [], ◌∷◌, ◌++◌, length, arith, refl, sym, ap, ◌∙◌, get_or, set, map, subst, length-set, length-append, replicate, take, drop}
-use Rattle.std.proofs.lemmas.Option.{same_Some, none-some}
+use Rattle.std.proofs.Common.{◌≡◌, ◌≤◌, ◌<◌, ◌+◌, ◌-◌, max, inl, inr, ℕ, zero, suc, Option, Some, None, List, [], ◌∷◌, ◌++◌, length, arith, refl, sym, ap, ◌∙◌, get_or, set, subst, length-set, length-append, replicate, take, drop}
+use Rattle.std.proofs.lemmas.Option.{none-some}
 use Rattle.std.proofs.lemmas.Bool.{cases_eq}
 use Rattle.std.proofs.lemmas.List.{map-append, length_push, length-map, take_all, take_at}
 use Rattle.std.specs.List.{All}
+use Rattle.rds_msgs_lists.specs.declared.lists.TheConstants.{MAX_INDEXES}
 use Rattle.rds_msgs_lists.specs.declared.node.Node.{Node}
 use Rattle.rds_msgs_lists.specs.declared.node.Neighbours.{Neighbours}
 use Rattle.rds_msgs_lists.specs.declared.node.Side.TheVariants.{Connection, Socket}
-use Rattle.rds_msgs_lists.specs.Nodes.{Ring, Links, IsWithin, node_at, neighbours, ring_of, socket_ring, no_ends, short_ring, off_ring, freed, taken_off, end_ring, on_ring, put_on, fresh, placed, index_from, placed_nodes, free_from, unlinked, linked, CanCome}
-use Rattle.rds_msgs_lists.specs.Lists.{Place, ListsView, times, indexes, IsOn, IsDistinct, AtEach, Keeps, IsLists, Chain, order_of, frees_of, places_of, view_of}
-use Rattle.rds_msgs_lists.proofs.Counts.{split_at, times_first, times-append, times-middle}
-use Rattle.rds_msgs_lists.proofs.Rings.{Kept, unlinked_kept, linked_kept, set_keeps}
+use Rattle.rds_msgs_lists.specs.Nodes.{Links, IsWithin, node_at, ring_of, socket_ring, no_ends, short_ring, off_ring, freed, taken_off, end_ring, on_ring, put_on, fresh, placed, index_from, placed_nodes, free_from, unlinked, CanCome}
+use Rattle.rds_msgs_lists.specs.Lists.{Place, times, indexes, IsOn, IsDistinct, AtEach, Keeps, IsLists, order_of, frees_of, places_of, view_of}
+use Rattle.rds_msgs_lists.proofs.Counts.{split_at, times_first}
+use Rattle.rds_msgs_lists.proofs.Rings.{unlinked_kept, linked_kept, set_keeps}
 use Rattle.rds_msgs_lists.proofs.Keeping.{HasPlaced, apart, set_away, push_away, keeps_off, keeps_put, placed_free, placed_new}
-use Rattle.rds_msgs_lists.proofs.Views.{order_is, lists_by, view_by, indexes_of, on_is, Cut, cut, can_come}
+use Rattle.rds_msgs_lists.proofs.Views.{lists_by, view_by, indexes_of, on_is, cut, can_come}
 
 pub length_places : (nodes : List Node) (order : List ℕ) → length (places_of nodes order) ≡ length order
 length_places nodes order = length-map order _
@@ -51,8 +52,8 @@ none_yet sockets n capacity e =
     (record {
       all = (refl, refl);
       sockets = λ s i.
-        let d : get_or sockets s no_ends ≡ no_ends = rw e (no_ends_at n s) in
-        (ap (λ (b : Neighbours). b.next) d, ap (λ (b : Neighbours). b.previous) d);
+          let d : get_or sockets s no_ends ≡ no_ends = rw e (no_ends_at n s) in
+          (ap (λ (b : Neighbours). b.next) d, ap (λ (b : Neighbours). b.previous) d);
       free_ones = refl;
       once = λ k. omega arith;
       within = λ k i. absurd (omega arith);
@@ -123,7 +124,7 @@ view_off l used spare capacity x h before p rest e same =
     let count = h.count in
     let v = view_by (taken_off x l) (c.ys ++ c.zs) (x ∷ frees) (used - 1) spare k (omega arith) in
     let f : places_of (taken_off x l).nodes (c.ys ++ c.zs) ≡ before ++ rest =
-      places_same l.nodes (taken_off x l).nodes (c.ys ++ c.zs) (λ j i. off_list x l j) ∙ (map-append _ c.ys c.zs ∙ (ap (λ (w : List Place). w ++ places_of l.nodes c.zs) (sym c.front) ∙ ap (λ (w : List Place). before ++ w) (sym c.back))) in
+    places_same l.nodes (taken_off x l).nodes (c.ys ++ c.zs) (λ j i. off_list x l j) ∙ (map-append _ c.ys c.zs ∙ (ap (λ (w : List Place). w ++ places_of l.nodes c.zs) (sym c.front) ∙ ap (λ (w : List Place). before ++ w) (sym c.back))) in
     v ∙ rw (f, off_sockets x l, off_len x l) refl
 
 -- what a push leaves of the nodes
@@ -193,7 +194,7 @@ has_node l s used order (x ∷ frees) h t =
     }
 
 -- an index comes to its lists
-pub lists_on : (l : Links) (used spare capacity s : ℕ) → IsLists l used spare capacity → s < length l.sockets → used < 4294967294 → 1 ≤ spare
+pub lists_on : (l : Links) (used spare capacity s : ℕ) → IsLists l used spare capacity → s < length l.sockets → used < MAX_INDEXES → 1 ≤ spare
     → IsLists (put_on s (index_from l.free l.nodes) (placed s l)) (used + 1) (spare - 1) capacity
 lists_on l used spare capacity s h is few room =
     let x = index_from l.free l.nodes in
@@ -206,7 +207,7 @@ lists_on l used spare capacity s h is few room =
     let total = p.total in
     lists_by (put_on s x (placed s l)) (order ++ x ∷ []) p.frees (used + 1) (spare - 1) capacity k (omega arith) (omega arith)
     (let f = h.few in let m = p.made in let u = p.all_used in let v = p.next in
-      elim (cases_eq x (length l.nodes)) [ inl y ↦ let z = u y in omega arith | inr ne ↦ omega arith ])
+    elim (cases_eq x (length l.nodes)) [ inl y ↦ let z = u y in omega arith | inr ne ↦ omega arith ])
     (let r = h.room in omega arith)
 
 pub view_on : (l : Links) (used spare capacity s : ℕ) → IsLists l used spare capacity → s < length l.sockets
@@ -228,7 +229,7 @@ view_on l used spare capacity s h is =
     let f : places_of l'.nodes order ≡ places_of l.nodes order = places_same l.nodes l'.nodes order (λ j i. put_list s x (placed s l) j ∙ p.lists j i) in
     let its : (node_at l'.nodes x).list ≡ s = put_list s x (placed s l) x ∙ p.it.its in
     let g : places_of l'.nodes (order ++ x ∷ []) ≡ places_of l.nodes order ++ record { index = x; socket = s } ∷ [] =
-      map-append _ order (x ∷ []) ∙ rw (f, its) refl in
+    map-append _ order (x ∷ []) ∙ rw (f, its) refl in
     v ∙ rw (g, put_sockets s x (placed s l), put_len s x (placed s l) ∙ p.made) refl
 
 -- and was on none

@@ -1,7 +1,6 @@
 -- How often a number stands in a list.
-use Rattle.std.proofs.Common.{◌≡◌, ◌≤◌, ◌<◌, ◌+◌, ◌⊎◌, inl, inr, ℕ, zero, suc, true, false, cond, List, [], ◌∷◌, ◌++◌, length, arith, refl, sym, ap, ◌∙◌, filter, Bool}
-use Rattle.std.proofs.lemmas.Bool.{eqb-true, eqb-false, cases_eq, eq-eqb, ne_eqb, cases_Bool}
-use Rattle.std.proofs.lemmas.Bool.Decides.{nat_tests}
+use Rattle.std.proofs.Common.{◌≡◌, ◌≤◌, ◌+◌, inl, inr, ℕ, true, List, [], ◌∷◌, ◌++◌, arith, refl, sym, ap, ◌∙◌, filter, Bool}
+use Rattle.std.proofs.lemmas.Bool.{cases_eq, eq-eqb, ne_eqb, cases_Bool}
 use Rattle.rds_msgs_lists.specs.Lists.{times}
 
 -- where a number stands in none, it is not the first, and not in the rest
@@ -24,11 +23,11 @@ pub split_at : (k : ℕ) (xs : List ℕ) → 1 ≤ times k xs → (ys : List ℕ
 split_at k [] h = absurd (omega arith)
 split_at k (x ∷ xs) h =
     elim (cases_eq x k) [
-      inl e ↦ ([], xs, ap (λ (y : ℕ). y ∷ xs) e)
-    | inr ne ↦
-        let n : times k (x ∷ xs) ≡ times k xs = times_other k x xs ne in
-        let s = split_at k xs (omega arith) in
-        (x ∷ s.0, s.1, ap (λ (ys : List ℕ). x ∷ ys) s.2)
+      | inl e ↦ ([], xs, ap (λ (y : ℕ). y ∷ xs) e)
+      | inr ne ↦
+          let n : times k (x ∷ xs) ≡ times k xs = times_other k x xs ne in
+          let s = split_at k xs (omega arith) in
+          (x ∷ s.0, s.1, ap (λ (ys : List ℕ). x ∷ ys) s.2)
     ]
 
 -- a filter keeps no more of a number
@@ -41,16 +40,16 @@ pub filtered_passes : (p : ℕ → Bool) (k : ℕ) (xs : List ℕ) → 1 ≤ tim
 filtered_passes p k [] h = absurd (omega arith)
 filtered_passes p k (x ∷ xs) h =
     elim (cases_eq x k) [
-      inl e ↦ elim (cases_Bool (p x)) [
-        inl yes' ↦ ap p (sym e) ∙ yes'
-      | inr no' ↦
-          let t : filter p (x ∷ xs) ≡ filter p xs = rw no' refl in
-          filtered_passes p k xs (omega (arith, ap (times k) t))
+      | inl e ↦ elim (cases_Bool (p x)) [
+        | inl yes' ↦ ap p (sym e) ∙ yes'
+        | inr no' ↦
+            let t : filter p (x ∷ xs) ≡ filter p xs = rw no' refl in
+            filtered_passes p k xs (omega (arith, ap (times k) t))
       ]
-    | inr ne ↦
-        let o = times_other k x (filter p xs) ne in
-        let i : 1 ≤ times k (filter p xs) = grind arith in
-        filtered_passes p k xs i
+      | inr ne ↦
+          let o = times_other k x (filter p xs) ne in
+          let i : 1 ≤ times k (filter p xs) = grind arith in
+          filtered_passes p k xs i
     ]
 
 -- two tests that agree on a list keep the same

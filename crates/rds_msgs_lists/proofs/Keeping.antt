@@ -1,18 +1,17 @@
 -- What every `Lists` keeps, as an index leaves its lists, becomes a free one, takes a node, and comes to lists.
-use Rattle.std.proofs.Common.{◌≡◌, ◌≤◌, ◌<◌, ◌+◌, ◌⊎◌, ◌==◌, inl, inr, ℕ, zero, suc, Option, Some, None, List, [], ◌∷◌, ◌++◌, length, arith, refl, sym, ap, ◌∙◌, get_or, set, filter, subst, length-set, get_or-set_same, get_or-set_other, length-append}
-use Rattle.std.proofs.lemmas.Option.{same_Some, none-some}
+use Rattle.std.proofs.Common.{◌≡◌, ◌≤◌, ◌<◌, ◌+◌, ◌==◌, inl, inr, ℕ, Option, Some, None, List, [], ◌∷◌, ◌++◌, length, arith, refl, sym, ap, ◌∙◌, get_or, set, filter, subst, length-set, get_or-set_same, get_or-set_other}
 use Rattle.std.proofs.lemmas.Bool.{cases_eq, cases_lt}
 use Rattle.std.proofs.lemmas.List.{get_or_append_left, get_or_push, get_or_past, length_push}
 use Rattle.rds_msgs_lists.specs.declared.node.Node.{Node}
 use Rattle.rds_msgs_lists.specs.declared.node.Neighbours.{Neighbours}
 use Rattle.rds_msgs_lists.specs.declared.node.Side.{Side}
 use Rattle.rds_msgs_lists.specs.declared.node.Side.TheVariants.{Connection, Socket}
-use Rattle.rds_msgs_lists.specs.Nodes.{Ring, Links, IsWithin, no_node, node_at, neighbours, next_in, previous_in, unlinked, linked, ring_of, socket_ring, no_ends, fresh, short_ring, off_ring, freed, taken_off, end_ring, on_ring, put_on, placed, placed_nodes, free_from, index_from}
-use Rattle.rds_msgs_lists.specs.Lists.{times, Path, Chain, IsRing, AreRings, Keeps, is_in}
+use Rattle.rds_msgs_lists.specs.Nodes.{Links, no_node, node_at, neighbours, next_in, previous_in, unlinked, linked, ring_of, socket_ring, no_ends, fresh, freed, taken_off, put_on, placed}
+use Rattle.rds_msgs_lists.specs.Lists.{times, Chain, IsRing, AreRings, Keeps, is_in}
 use Rattle.rds_msgs_lists.proofs.Counts.{times_first, times_other, times-append, times-middle, times-filter-le, filter_same}
 use Rattle.rds_msgs_lists.proofs.Paths.{path_on, chain_on}
-use Rattle.rds_msgs_lists.proofs.Rings.{Kept, unlinked_kept, linked_kept}
-use Rattle.rds_msgs_lists.proofs.All.{AreWithin, Beside, beside, ring_without, ring_with, frees_without, frees_with, all_same, frees_same}
+use Rattle.rds_msgs_lists.proofs.Rings.{unlinked_kept, linked_kept}
+use Rattle.rds_msgs_lists.proofs.All.{AreWithin, beside, ring_without, ring_with, frees_without, frees_with, all_same, frees_same}
 use Rattle.rds_msgs_lists.proofs.Sockets.{rings_same, rings_without, rings_with}
 
 -- one that is on no list is none of those on it
@@ -57,11 +56,11 @@ keeps_freed l x order frees h t tf wx =
       sockets = rings_away l.nodes nodes' x away l.sockets order t h.sockets;
       free_ones = (refl, subst (λ (o : Option ℕ). Chain (next_in Connection (ring_of nodes' l.ends)) o frees) (sym (ap (λ (m : Node). m.connection.next) at)) (chain_away l.nodes nodes' x away l.ends l.free frees tf h.free_ones));
       once = λ k.
-        let a = h.once k in
-        elim (cases_eq x k) [
-          inl e ↦ let b : times k order ≡ 0 = rw (← e) t in let d : times k frees ≡ 0 = rw (← e) tf in let f : times k (x ∷ frees) ≡ 1 + times k frees = subst (λ (y : ℕ). times y (x ∷ frees) ≡ 1 + times y frees) e (times_first x frees) in omega arith
-        | inr ne ↦ omega (arith, times_other k x frees ne)
-        ];
+          let a = h.once k in
+          elim (cases_eq x k) [
+            | inl e ↦ let b : times k order ≡ 0 = rw (← e) t in let d : times k frees ≡ 0 = rw (← e) tf in let f : times k (x ∷ frees) ≡ 1 + times k frees = subst (λ (y : ℕ). times y (x ∷ frees) ≡ 1 + times y frees) e (times_first x frees) in omega arith
+            | inr ne ↦ omega (arith, times_other k x frees ne)
+          ];
       within = λ k i. elim (cases_eq x k) [ inl e ↦ omega arith | inr ne ↦ let a = h.within k (omega (arith, times_other k x frees ne)) in omega arith ];
       owned = owned_away l.nodes nodes' x away order (length l.sockets) t h.owned;
     }
@@ -95,8 +94,8 @@ keeps_off l ys x zs frees h =
       once = λ k. let n = times-middle k x ys zs in let a = h.once k in omega arith;
       within = λ k i. let n = times-middle k x ys zs in let a = h.within k (omega arith) in omega arith;
       owned = λ k i.
-        let n = times-middle k x ys zs in
-        rw (k2.list k, k1.list k) (let a = h.owned k (omega arith) in omega (arith, length-set l.sockets s r2.ends));
+          let n = times-middle k x ys zs in
+          rw (k2.list k, k1.list k) (let a = h.owned k (omega arith) in omega (arith, length-set l.sockets s r2.ends));
     })
     t tf (let a = h.within x (omega arith) in omega arith)
 
@@ -121,25 +120,25 @@ keeps_put l x s order frees h t tf wx e is =
       sockets = rings_with r1.nodes l.sockets order x s (k1.list x ∙ e) is w1 t (omega arith) (rings_same l.nodes r1.nodes l.sockets order k1.list k1.others h.sockets);
       free_ones = frees_same r1.nodes r2.nodes r1.ends k2.others l.free frees (frees_with r order x l.free frees w h.all t wx tf once' h.free_ones);
       once = λ k.
-        let a = h.once k in
-        let n = times-append k order (x ∷ []) in
-        elim (cases_eq x k) [
-          inl y ↦ let b : times k order ≡ 0 = rw (← y) t in let d : times k frees ≡ 0 = rw (← y) tf in let f : times k (x ∷ []) ≡ 1 = rw (← y) (times_first x []) in omega arith
-        | inr ne ↦ let f = times_other k x [] ne in omega arith
-        ];
+          let a = h.once k in
+          let n = times-append k order (x ∷ []) in
+          elim (cases_eq x k) [
+            | inl y ↦ let b : times k order ≡ 0 = rw (← y) t in let d : times k frees ≡ 0 = rw (← y) tf in let f : times k (x ∷ []) ≡ 1 = rw (← y) (times_first x []) in omega arith
+            | inr ne ↦ let f = times_other k x [] ne in omega arith
+          ];
       within = λ k i.
-        let n = times-append k order (x ∷ []) in
-        elim (cases_eq x k) [
-          inl y ↦ omega arith
-        | inr ne ↦ let f = times_other k x [] ne in let a = h.within k (omega arith) in omega arith
-        ];
+          let n = times-append k order (x ∷ []) in
+          elim (cases_eq x k) [
+            | inl y ↦ omega arith
+            | inr ne ↦ let f = times_other k x [] ne in let a = h.within k (omega arith) in omega arith
+          ];
       owned = λ k i.
-        let n = times-append k order (x ∷ []) in
-        let ls = length-set l.sockets s r2.ends in
-        rw (k2.list k, k1.list k) (elim (cases_eq x k) [
-          inl y ↦ let b : (node_at l.nodes k).list ≡ s = rw (← y) e in omega arith
-        | inr ne ↦ let f = times_other k x [] ne in let a = h.owned k (omega arith) in omega arith
-        ]);
+          let n = times-append k order (x ∷ []) in
+          let ls = length-set l.sockets s r2.ends in
+          rw (k2.list k, k1.list k) (elim (cases_eq x k) [
+            | inl y ↦ let b : (node_at l.nodes k).list ≡ s = rw (← y) e in omega arith
+            | inr ne ↦ let f = times_other k x [] ne in let a = h.owned k (omega arith) in omega arith
+          ]);
     }
 
 -- What there is once an index has a fresh node.
@@ -179,8 +178,8 @@ placed_free l x s order frees h e =
 pub push_away : (nodes : List Node) (n : Node) (k : ℕ) → (k ≡ length nodes → ⊥) → node_at (nodes ++ n ∷ []) k ≡ node_at nodes k
 push_away nodes n k ne =
     elim (cases_lt k (length nodes)) [
-      inl i ↦ get_or_append_left nodes (n ∷ []) no_node k i
-    | inr j ↦ get_or_past (nodes ++ n ∷ []) k no_node (omega (arith, length_push nodes n)) ∙ sym (get_or_past nodes k no_node j)
+      | inl i ↦ get_or_append_left nodes (n ∷ []) no_node k i
+      | inr j ↦ get_or_past (nodes ++ n ∷ []) k no_node (omega (arith, length_push nodes n)) ∙ sym (get_or_past nodes k no_node j)
     ]
 
 -- one that none had
@@ -191,7 +190,7 @@ placed_new l s order h e =
     let away = push_away l.nodes (fresh s) in
     let len = length_push l.nodes (fresh s) in
     let t : times x order ≡ 0 =
-      elim (cases_eq (times x order) 0) [ inl z ↦ z | inr nz ↦ let a = h.within x (omega arith) in absurd (omega arith) ] in
+    elim (cases_eq (times x order) 0) [ inl z ↦ z | inr nz ↦ let a = h.within x (omega arith) in absurd (omega arith) ] in
     rw e (record {
       keeps = record {
         all = ring_away l.nodes nodes' x away Connection l.ends order t h.all;

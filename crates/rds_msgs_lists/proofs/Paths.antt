@@ -1,8 +1,8 @@
 -- Lists by index: what a path keeps as one of it is taken out, or one is put at its end.
-use Rattle.std.proofs.Common.{◌≡◌, ◌≤◌, ◌<◌, ◌+◌, ◌⊎◌, inl, inr, ℕ, zero, suc, Option, Some, None, List, [], ◌∷◌, ◌++◌, length, arith, refl, sym, ap, ◌∙◌}
+use Rattle.std.proofs.Common.{◌≡◌, ◌≤◌, ◌⊎◌, inl, inr, ℕ, Option, Some, None, List, [], ◌∷◌, ◌++◌, length, arith, refl, sym, ap, ◌∙◌}
 use Rattle.std.proofs.lemmas.Option.{same_Some, none-some}
 use Rattle.rds_msgs_lists.specs.Lists.{times, walk, Path, Chain}
-use Rattle.rds_msgs_lists.proofs.Counts.{absent, times_first, times-append}
+use Rattle.rds_msgs_lists.proofs.Counts.{absent, times_first}
 
 -- What stands behind and before, but for what stood at x.
 pub record Keeping (n p n' p' : Option ℕ → Option ℕ) (x : ℕ) : Type 0 where
@@ -60,10 +60,11 @@ module _ (n p n' p' : Option ℕ → Option ℕ) where
   path_kept x w a [] b na nb t h =
       (w.next_same a (λ e. nb (sym h.0 ∙ e)) ∙ h.0, w.previous_same b (λ e. na (sym h.1 ∙ e)) ∙ h.1)
   path_kept x w a (y ∷ ys) b na nb t h =
-      let s = absent x y ys t in
-      ( w.next_same a (other x y (n a) s.0 h.0) ∙ h.0
-      , w.previous_same (Some y) (λ e. na (sym h.1 ∙ e)) ∙ h.1
-      , path_kept x w (Some y) ys b (other x y (Some y) s.0 refl) nb s.1 h.2)
+      let s = absent x y ys t in (
+        w.next_same a (other x y (n a) s.0 h.0) ∙ h.0,
+        w.previous_same (Some y) (λ e. na (sym h.1 ∙ e)) ∙ h.1,
+        path_kept x w (Some y) ys b (other x y (Some y) s.0 refl) nb s.1 h.2,
+      )
 
   -- a path without x
   pub path_without : (x : ℕ) → Without n p n' p' x → (a : Option ℕ) (ys zs : List ℕ) (b : Option ℕ) → (a ≡ Some x → ⊥) → (b ≡ Some x → ⊥)
@@ -78,20 +79,22 @@ module _ (n p n' p' : Option ℕ → Option ℕ) where
       let f : p' (n (Some x)) ≡ p (Some x) = w.previous_joined in
       (cc, cc, path_kept x w.keeping (Some z) zs b (other x z (Some z) s.0 refl) nb s.1 h.2.2)
   path_without x w a (y ∷ ys) zs b na nb ty tz h =
-      let s = absent x y ys ty in
-      ( w.keeping.next_same a (other x y (n a) s.0 h.0) ∙ h.0
-      , w.keeping.previous_same (Some y) (λ e. na (sym h.1 ∙ e)) ∙ h.1
-      , path_without x w (Some y) ys zs b (other x y (Some y) s.0 refl) nb s.1 tz h.2)
+      let s = absent x y ys ty in (
+        w.keeping.next_same a (other x y (n a) s.0 h.0) ∙ h.0,
+        w.keeping.previous_same (Some y) (λ e. na (sym h.1 ∙ e)) ∙ h.1,
+        path_without x w (Some y) ys zs b (other x y (Some y) s.0 refl) nb s.1 tz h.2,
+      )
 
   -- a path with x at its end
   pub path_with : (x : ℕ) → With n p n' p' x → n (p None) ≡ None → (a : Option ℕ) (xs : List ℕ) → (a ≡ Some x → ⊥)
       → times x xs ≡ 0 → Path n p a xs None → Path n' p' a (xs ++ x ∷ []) None
   path_with x w last a [] na t h = (ap n' (sym h.1) ∙ w.next_last, w.previous_new ∙ h.1, (w.next_new, w.previous_end))
   path_with x w last a (y ∷ ys) na t h =
-      let s = absent x y ys t in
-      ( w.next_same a (λ e. never y (n a) (ap n e ∙ last) h.0) na ∙ h.0
-      , w.previous_same (Some y) (λ e. none-some y (sym e)) (other x y (Some y) s.0 refl) ∙ h.1
-      , path_with x w last (Some y) ys (other x y (Some y) s.0 refl) s.1 h.2)
+      let s = absent x y ys t in (
+        w.next_same a (λ e. never y (n a) (ap n e ∙ last) h.0) na ∙ h.0,
+        w.previous_same (Some y) (λ e. none-some y (sym e)) (other x y (Some y) s.0 refl) ∙ h.1,
+        path_with x w last (Some y) ys (other x y (Some y) s.0 refl) s.1 h.2,
+      )
 
 -- a path is cut where one of it stands
 pub path_split : (n p : Option ℕ → Option ℕ) (a : Option ℕ) (ys : List ℕ) (x : ℕ) (zs : List ℕ) (b : Option ℕ)
@@ -126,8 +129,8 @@ pub path_last : (n p : Option ℕ → Option ℕ) (a : Option ℕ) (xs : List �
 path_last n p a [] b h = inl h.1
 path_last n p a (x ∷ xs) b h =
     elim (path_last n p (Some x) xs b h.2) [
-      inl e ↦ inr (x, e, omega (arith, times_first x xs))
-    | inr f ↦ inr (f.0, f.1, omega arith)
+      | inl e ↦ inr (x, e, omega (arith, times_first x xs))
+      | inr f ↦ inr (f.0, f.1, omega arith)
     ]
 
 -- a chain that x is not on does not begin at x

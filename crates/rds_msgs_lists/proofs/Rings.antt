@@ -1,5 +1,5 @@
 -- What each write of a ring leaves, and what an unlinking and a linking leave of it.
-use Rattle.std.proofs.Common.{◌≡◌, ◌≤◌, ◌<◌, ◌+◌, ◌⊎◌, inl, inr, ℕ, zero, suc, Option, Some, None, List, [], ◌∷◌, length, arith, refl, sym, ap, ◌∙◌, get_or, set, length-set, get_or-set_same, get_or-set_other}
+use Rattle.std.proofs.Common.{◌≡◌, ◌<◌, ◌⊎◌, inl, inr, ℕ, zero, suc, Option, Some, None, List, [], ◌∷◌, length, arith, refl, sym, ap, ◌∙◌, set, length-set, get_or-set_same, get_or-set_other}
 use Rattle.std.proofs.lemmas.Option.{same_Some, none-some}
 use Rattle.std.proofs.lemmas.Bool.{cases_eq}
 use Rattle.rds_msgs_lists.specs.declared.node.Node.{Node}
@@ -7,7 +7,7 @@ use Rattle.rds_msgs_lists.specs.declared.node.Neighbours.{Neighbours}
 use Rattle.rds_msgs_lists.specs.declared.node.Side.{Side}
 use Rattle.rds_msgs_lists.specs.declared.node.Side.TheVariants.{Connection, Socket}
 use Rattle.rds_msgs_lists.specs.Nodes.{Ring, IsWithin, no_node, node_at, neighbours, with_neighbours, next_in, previous_in, ring_node, ring_next, ring_previous, unlinked, linked}
-use Rattle.rds_msgs_lists.proofs.Paths.{Keeping, Without, With}
+use Rattle.rds_msgs_lists.proofs.Paths.{Without, With}
 
 -- the other side
 abbrev pub flip : Side → Side

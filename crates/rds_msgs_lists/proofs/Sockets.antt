@@ -1,19 +1,18 @@
 -- The lists of sockets: what a linking and an unlinking on either side leave of them.
-use Rattle.std.proofs.Common.{◌≡◌, ◌≤◌, ◌<◌, ◌+◌, ◌⊎◌, ◌==◌, inl, inr, ℕ, zero, suc, true, false, Option, Some, None, List, [], ◌∷◌, ◌++◌, length, arith, refl, sym, ap, ◌∙◌, get_or, set, filter, subst, length-set, get_or-set_same, get_or-set_other}
+use Rattle.std.proofs.Common.{◌≡◌, ◌≤◌, ◌<◌, ◌==◌, inl, inr, ℕ, true, false, Option, Some, None, List, [], ◌∷◌, ◌++◌, length, arith, refl, sym, ap, ◌∙◌, set, filter, subst, length-set, get_or-set_same, get_or-set_other}
 use Rattle.std.proofs.lemmas.Option.{same_Some, none-some}
 use Rattle.std.proofs.lemmas.Bool.{cases_eq, eqb-true, eq-eqb, ne_eqb}
 use Rattle.std.proofs.lemmas.List.{append-nil}
 use Rattle.std.proofs.lemmas.List.Elements.{filter-append}
 use Rattle.rds_msgs_lists.specs.declared.node.Node.{Node}
 use Rattle.rds_msgs_lists.specs.declared.node.Neighbours.{Neighbours}
-use Rattle.rds_msgs_lists.specs.declared.node.Side.{Side}
-use Rattle.rds_msgs_lists.specs.declared.node.Side.TheVariants.{Connection, Socket}
-use Rattle.rds_msgs_lists.specs.Nodes.{Ring, IsWithin, node_at, neighbours, next_in, previous_in, unlinked, linked, ring_of, socket_ring, no_ends}
-use Rattle.rds_msgs_lists.specs.Lists.{times, Path, Chain, IsRing, AreRings, is_in}
-use Rattle.rds_msgs_lists.proofs.Counts.{times_first, times-append, times-middle, times-filter-le, filtered_passes, filter_same}
-use Rattle.rds_msgs_lists.proofs.Paths.{Keeping, Without, With, head, never, path_on, path_kept, path_last}
-use Rattle.rds_msgs_lists.proofs.Rings.{Kept, unlinked_kept, unlinked_without, linked_kept, linked_with}
-use Rattle.rds_msgs_lists.proofs.All.{AreWithin, Beside, beside, without_at, with_at, ring_without, ring_with, not_last}
+use Rattle.rds_msgs_lists.specs.declared.node.Side.TheVariants.{Socket}
+use Rattle.rds_msgs_lists.specs.Nodes.{Ring, node_at, neighbours, next_in, previous_in, unlinked, linked, ring_of, socket_ring, no_ends}
+use Rattle.rds_msgs_lists.specs.Lists.{times, IsRing, AreRings, is_in}
+use Rattle.rds_msgs_lists.proofs.Counts.{times-append, times-filter-le, filtered_passes, filter_same}
+use Rattle.rds_msgs_lists.proofs.Paths.{Keeping, path_on, path_kept, path_last}
+use Rattle.rds_msgs_lists.proofs.Rings.{unlinked_kept, linked_kept}
+use Rattle.rds_msgs_lists.proofs.All.{AreWithin, beside, without_at, with_at, ring_without, ring_with}
 
 pub in_same : (nodes nodes' : List Node) (s : ℕ) → ((k : ℕ) → (node_at nodes' k).list ≡ (node_at nodes k).list) → (xs : List ℕ) → filter (is_in nodes' s) xs ≡ filter (is_in nodes s) xs
 in_same nodes nodes' s list xs = filter_same (is_in nodes' s) (is_in nodes s) xs (λ k i. ap (λ (n : ℕ). n == s) (list k))
@@ -44,7 +43,7 @@ pub rings_same : (nodes nodes' : List Node) (sockets : List Neighbours) (order :
 rings_same nodes nodes' sockets order list same h s i =
     rw (in_same nodes nodes' s list order)
     (path_on (next_in Socket (socket_ring nodes sockets s)) (previous_in Socket (socket_ring nodes sockets s)) _ _ None (filter (is_in nodes s) order) None refl refl
-      (λ k j. ap (λ (b : Neighbours). b.next) (same k)) (λ k j. ap (λ (b : Neighbours). b.previous) (same k)) (h s i))
+    (λ k j. ap (λ (b : Neighbours). b.next) (same k)) (λ k j. ap (λ (b : Neighbours). b.previous) (same k)) (h s i))
 
 -- a ring of a socket is what its nodes and its ends are
 pub ring_by : (nodes : List Node) (e : Neighbours) (r : Ring) (xs ys : List ℕ) → r.nodes ≡ nodes → e ≡ r.ends → ys ≡ xs → IsRing Socket r xs → IsRing Socket (record { nodes = nodes; ends = e }) ys
@@ -70,19 +69,20 @@ keep_at r r' e x y = record { next_same = keep_next r r' e x y; previous_same = 
 pub others_far : (nodes : List Node) (r : Ring) (order : List ℕ) (x u s : ℕ) → (u ≡ s → ⊥) → times x order ≡ 0 → IsRing Socket r (filter (is_in nodes s) order)
     → (k : ℕ) → 1 ≤ times k (filter (is_in nodes u) order) → (Some k ≡ previous_in Socket r None → ⊥) × (Some k ≡ Some x → ⊥)
 others_far nodes r order x u s ne t h k i =
-    let own : (node_at nodes k).list ≡ u = eqb-true _ u (filtered_passes (is_in nodes u) k order i) in
-    ( λ a.
-      elim (path_last (next_in Socket r) (previous_in Socket r) None (filter (is_in nodes s) order) None h) [
-        inl n ↦ none-some k (sym n ∙ sym a)
-      | inr f ↦
-          let same : k ≡ f.0 = same_Some k f.0 (a ∙ f.1) in
-          let its : (node_at nodes f.0).list ≡ s = eqb-true _ s (filtered_passes (is_in nodes s) f.0 order f.2) in
-          ne (sym own ∙ (ap (λ (j : ℕ). (node_at nodes j).list) same ∙ its))
-      ]
-    , λ a.
-      let same : k ≡ x = same_Some k x a in
-      let j : 1 ≤ times x (filter (is_in nodes u) order) = rw (← same) i in
-      absurd (omega (arith, times-filter-le (is_in nodes u) x order)))
+    let own : (node_at nodes k).list ≡ u = eqb-true _ u (filtered_passes (is_in nodes u) k order i) in (
+      λ a.
+          elim (path_last (next_in Socket r) (previous_in Socket r) None (filter (is_in nodes s) order) None h) [
+            | inl n ↦ none-some k (sym n ∙ sym a)
+            | inr f ↦
+                let same : k ≡ f.0 = same_Some k f.0 (a ∙ f.1) in
+                let its : (node_at nodes f.0).list ≡ s = eqb-true _ s (filtered_passes (is_in nodes s) f.0 order f.2) in
+                ne (sym own ∙ (ap (λ (j : ℕ). (node_at nodes j).list) same ∙ its))
+          ],
+      λ a.
+          let same : k ≡ x = same_Some k x a in
+          let j : 1 ≤ times x (filter (is_in nodes u) order) = rw (← same) i in
+          absurd (omega (arith, times-filter-le (is_in nodes u) x order)),
+    )
 
 module _ (nodes : List Node) (sockets : List Neighbours) where
   -- an index leaves the list of its socket
@@ -98,24 +98,24 @@ module _ (nodes : List Node) (sockets : List Neighbours) where
       let w' : AreWithin nodes (own s ys ++ x ∷ own s zs) = subst (λ (xs : List ℕ). AreWithin nodes xs) f (own_within nodes s (ys ++ x ∷ zs) w) in
       let h' : IsRing Socket r (own s ys ++ x ∷ own s zs) = subst (λ (xs : List ℕ). IsRing Socket r xs) f (h s is) in
       elim (cases_eq u s) [
-        inl same ↦
-          let z : times x (own s ys ++ own s zs) ≡ 0 =
+        | inl same ↦
+            let z : times x (own s ys ++ own s zs) ≡ 0 =
             omega (arith, times-append x ys zs, times-append x (own s ys) (own s zs), times-filter-le (is_in nodes s) x ys, times-filter-le (is_in nodes s) x zs) in
-          let g = ring_without Socket r (own s ys) x (own s zs) w' z h' in
-          rw same
-          (ring_by r'.nodes _ r' (own s ys ++ own s zs) _ refl (get_or-set_same sockets s r'.ends no_ends is)
+            let g = ring_without Socket r (own s ys) x (own s zs) w' z h' in
+            rw same
+            (ring_by r'.nodes _ r' (own s ys ++ own s zs) _ refl (get_or-set_same sockets s r'.ends no_ends is)
             (in_same nodes r'.nodes s k.list (ys ++ zs) ∙ filter-append (is_in nodes s) ys zs) g)
-      | inr ne ↦
-          let y = without_at Socket r x (beside Socket r (own s ys) x (own s zs) w' h') in
-          let q = socket_ring nodes sockets u in
-          let iv : u < length sockets = omega (arith, length-set sockets s r'.ends) in
-          let kq = keep_at r r' q.ends x y.keeping in
-          let fo : own u (ys ++ x ∷ zs) ≡ own u (ys ++ zs) = filter_out nodes u x ys zs (λ a. ne (sym a ∙ e)) in
-          let hq : IsRing Socket q (own u (ys ++ zs)) = subst (λ (xs : List ℕ). IsRing Socket q xs) fo (h u iv) in
-          let z : times x (own u (ys ++ zs)) ≡ 0 = omega (arith, times-filter-le (is_in nodes u) x (ys ++ zs)) in
-          ring_by r'.nodes _ (ring_of r'.nodes q.ends) (own u (ys ++ zs)) _ refl (get_or-set_other sockets s u r'.ends no_ends ne)
-          (in_same nodes r'.nodes u k.list (ys ++ zs))
-          (path_kept _ _ _ _ x kq None (own u (ys ++ zs)) None (none-some x) (none-some x) z hq)
+        | inr ne ↦
+            let y = without_at Socket r x (beside Socket r (own s ys) x (own s zs) w' h') in
+            let q = socket_ring nodes sockets u in
+            let iv : u < length sockets = omega (arith, length-set sockets s r'.ends) in
+            let kq = keep_at r r' q.ends x y.keeping in
+            let fo : own u (ys ++ x ∷ zs) ≡ own u (ys ++ zs) = filter_out nodes u x ys zs (λ a. ne (sym a ∙ e)) in
+            let hq : IsRing Socket q (own u (ys ++ zs)) = subst (λ (xs : List ℕ). IsRing Socket q xs) fo (h u iv) in
+            let z : times x (own u (ys ++ zs)) ≡ 0 = omega (arith, times-filter-le (is_in nodes u) x (ys ++ zs)) in
+            ring_by r'.nodes _ (ring_of r'.nodes q.ends) (own u (ys ++ zs)) _ refl (get_or-set_other sockets s u r'.ends no_ends ne)
+            (in_same nodes r'.nodes u k.list (ys ++ zs))
+            (path_kept _ _ _ _ x kq None (own u (ys ++ zs)) None (none-some x) (none-some x) z hq)
       ]
 
   -- an index comes to the list of its socket
@@ -130,17 +130,17 @@ module _ (nodes : List Node) (sockets : List Neighbours) where
       let w' : AreWithin nodes (own s order) = own_within nodes s order w in
       let z : times x (own s order) ≡ 0 = omega (arith, times-filter-le (is_in nodes s) x order) in
       elim (cases_eq u s) [
-        inl same ↦
-          rw same
-          (ring_by r'.nodes _ r' (own s order ++ x ∷ []) _ refl (get_or-set_same sockets s r'.ends no_ends is)
+        | inl same ↦
+            rw same
+            (ring_by r'.nodes _ r' (own s order ++ x ∷ []) _ refl (get_or-set_same sockets s r'.ends no_ends is)
             (in_same nodes r'.nodes s k.list (order ++ x ∷ []) ∙ filter_in nodes s x order [] e) (ring_with Socket r (own s order) x w' z wx (h s is)))
-      | inr ne ↦
-          let y = with_at Socket r (own s order) x w' (h s is) z wx in
-          let q = socket_ring nodes sockets u in
-          let iv : u < length sockets = omega (arith, length-set sockets s r'.ends) in
-          let far = others_far nodes r order x u s (λ a. ne a) t (h s is) in
-          ring_by r'.nodes _ (ring_of r'.nodes q.ends) (own u order) _ refl (get_or-set_other sockets s u r'.ends no_ends ne)
-          (in_same nodes r'.nodes u k.list (order ++ x ∷ []) ∙ (filter_out nodes u x order [] (λ a. ne (sym a ∙ e)) ∙ ap (λ (xs : List ℕ). own u xs) (append-nil order)))
-          (path_on (next_in Socket q) (previous_in Socket q) _ _ None (own u order) None refl refl
+        | inr ne ↦
+            let y = with_at Socket r (own s order) x w' (h s is) z wx in
+            let q = socket_ring nodes sockets u in
+            let iv : u < length sockets = omega (arith, length-set sockets s r'.ends) in
+            let far = others_far nodes r order x u s (λ a. ne a) t (h s is) in
+            ring_by r'.nodes _ (ring_of r'.nodes q.ends) (own u order) _ refl (get_or-set_other sockets s u r'.ends no_ends ne)
+            (in_same nodes r'.nodes u k.list (order ++ x ∷ []) ∙ (filter_out nodes u x order [] (λ a. ne (sym a ∙ e)) ∙ ap (λ (xs : List ℕ). own u xs) (append-nil order)))
+            (path_on (next_in Socket q) (previous_in Socket q) _ _ None (own u order) None refl refl
             (λ k i. y.next_same (Some k) (far k i).0 (far k i).1) (λ k i. y.previous_same (Some k) (λ a. none-some k (sym a)) (far k i).1) (h u iv))
       ]

@@ -1,18 +1,14 @@
 -- What contracts see of lists, from what nodes keep.
-use Rattle.std.proofs.Common.{◌≡◌, ◌≤◌, ◌<◌, ◌+◌, ◌-◌, ◌⊎◌, ◌==◌, max, inl, inr, ℕ, zero, suc, true, false, Option, Some, None, List, [], ◌∷◌, ◌++◌, length, arith, refl, sym, ap, ◌∙◌, get_or, set, filter, map, subst, length-set, length-append}
-use Rattle.std.proofs.lemmas.Option.{same_Some, none-some}
-use Rattle.std.proofs.lemmas.Bool.{cases_eq, cases_lt, cases_Bool, eq-eqb}
-use Rattle.std.proofs.lemmas.List.{map-append, length_push}
-use Rattle.std.specs.List.{All}
+use Rattle.std.proofs.Common.{◌≡◌, ◌≤◌, ◌<◌, ◌+◌, ◌-◌, inl, inr, ℕ, Some, None, List, [], ◌∷◌, ◌++◌, length, arith, refl, sym, ap, ◌∙◌, get_or, filter, subst}
+use Rattle.std.proofs.lemmas.Bool.{cases_Bool}
+use Rattle.rds_msgs_lists.specs.declared.lists.TheConstants.{MAX_INDEXES}
 use Rattle.rds_msgs_lists.specs.declared.node.Node.{Node}
-use Rattle.rds_msgs_lists.specs.declared.node.Neighbours.{Neighbours}
-use Rattle.rds_msgs_lists.specs.declared.node.Side.{Side}
 use Rattle.rds_msgs_lists.specs.declared.node.Side.TheVariants.{Connection, Socket}
-use Rattle.rds_msgs_lists.specs.Nodes.{Ring, Links, IsWithin, node_at, next_in, previous_in, ring_of, socket_ring, CanLeave, CanCome, no_ends}
-use Rattle.rds_msgs_lists.specs.Lists.{Place, ListsView, times, indexes, IsOn, IsDistinct, AtEach, first_index, of_socket, is_of, IsRing, AreRings, Keeps, IsLists, is_in, order_of, frees_of, places_of, view_of}
-use Rattle.rds_msgs_lists.proofs.Counts.{split_at, times_first, times-append, times-middle, times-filter-le, filter_same}
+use Rattle.rds_msgs_lists.specs.Nodes.{Links, node_at, next_in, previous_in, ring_of, socket_ring, CanLeave, CanCome, no_ends}
+use Rattle.rds_msgs_lists.specs.Lists.{Place, times, indexes, IsOn, AtEach, first_index, of_socket, IsRing, Keeps, IsLists, is_in, order_of, frees_of, places_of, view_of}
+use Rattle.rds_msgs_lists.proofs.Counts.{split_at, times_first, times-append}
 use Rattle.rds_msgs_lists.proofs.Paths.{head, walk_path, walk_chain, path_split, path_head}
-use Rattle.rds_msgs_lists.proofs.All.{AreWithin, Beside, beside, last_within}
+use Rattle.rds_msgs_lists.proofs.All.{AreWithin, beside, last_within}
 use Rattle.rds_msgs_lists.proofs.Sockets.{filter_in, own_within}
 
 -- walks give the two lists
@@ -28,7 +24,7 @@ frees_is l order frees h used e =
     rw n (walk_chain (next_in Connection (ring_of l.nodes l.ends)) l.free frees h.free_ones)
 
 pub lists_by : (l : Links) (order frees : List ℕ) (used spare capacity : ℕ) → Keeps l order frees → length order ≡ used → used + length frees ≡ length l.nodes
-    → length l.nodes ≤ 4294967294 → used + spare ≤ capacity → IsLists l used spare capacity
+    → length l.nodes ≤ MAX_INDEXES → used + spare ≤ capacity → IsLists l used spare capacity
 lists_by l order frees used spare capacity h n t few room =
     let o = order_is l order frees h used n in
     let f = frees_is l order frees h used t in
@@ -101,8 +97,8 @@ own_places nodes s [] = refl
 own_places nodes s (x ∷ xs) =
     let h = own_places nodes s xs in
     elim (cases_Bool (is_in nodes s x)) [
-      inl y ↦ rw y (ap (λ (ps : List Place). record { index = x; socket = (node_at nodes x).list } ∷ ps) h)
-    | inr n ↦ rw n h
+      | inl y ↦ rw y (ap (λ (ps : List Place). record { index = x; socket = (node_at nodes x).list } ∷ ps) h)
+      | inr n ↦ rw n h
     ]
 
 -- the first on the list of all, and on a socket's

@@ -1,5 +1,6 @@
 -- Indexes on lists: what contracts see of them, and what every `Lists` keeps. Source: this project's own.
-use Rattle.std.specs.Prelude.{◌≡◌, ℕ, zero, suc, ◌+◌, ◌-◌, ◌≤◌, ◌<◌, ◌==◌, Bool, cond, Option, Some, None, List, [], ◌∷◌, ◌++◌, length, map, filter, get_or}
+use Rattle.std.specs.Prelude.{◌≡◌, ℕ, zero, suc, ◌+◌, ◌-◌, ◌≤◌, ◌<◌, ◌==◌, Bool, cond, Option, Some, None, List, [], ◌∷◌, ◌++◌, length, map, filter}
+use Rattle.rds_msgs_lists.specs.declared.lists.TheConstants.{MAX_INDEXES}
 use Rattle.rds_msgs_lists.specs.declared.node.Node.{Node}
 use Rattle.rds_msgs_lists.specs.declared.node.Neighbours.{Neighbours}
 use Rattle.rds_msgs_lists.specs.declared.node.Side.{Side}
@@ -112,7 +113,7 @@ pub record IsLists (l : Links) (used spare capacity : ℕ) : Type 0 where
   pub keeps : Keeps l (order_of l used) (frees_of l used)
   pub count : length (order_of l used) ≡ used
   pub total : used + length (frees_of l used) ≡ length l.nodes
-  pub few : length l.nodes ≤ 4294967294
+  pub few : length l.nodes ≤ MAX_INDEXES
   pub room : used + spare ≤ capacity
 
 -- what contracts see

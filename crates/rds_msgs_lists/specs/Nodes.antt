@@ -1,5 +1,5 @@
 -- Nodes that stand on lists by index, and what linking and unlinking make of them. Source: this project's own.
-use Rattle.std.specs.Prelude.{◌≡◌, ℕ, ◌+◌, ◌<◌, ◌≤◌, ◌==◌, ⊤, Bool, Option, Some, None, List, [], ◌∷◌, ◌++◌, length, get_or, set, filter}
+use Rattle.std.specs.Prelude.{ℕ, ◌<◌, ⊤, Option, Some, None, List, [], ◌∷◌, ◌++◌, length, get_or, set}
 use Rattle.rds_msgs_lists.specs.declared.node.Node.{Node}
 use Rattle.rds_msgs_lists.specs.declared.node.Neighbours.{Neighbours}
 use Rattle.rds_msgs_lists.specs.declared.node.Side.{Side}
@@ -10,9 +10,17 @@ pub record Ring : Type 0 where
   pub nodes : List Node
   pub ends : Neighbours
 
+-- the ends of a list that none made
+abbrev pub no_ends : Neighbours
+no_ends = record { next = None; previous = None }
+
+-- the ring of these
+abbrev pub ring_of : List Node → Neighbours → Ring
+ring_of nodes ends = record { nodes = nodes; ends = ends }
+
 -- a node that none made
 abbrev pub no_node : Node
-no_node = record { connection = record { next = None; previous = None }; socket = record { next = None; previous = None }; list = 0 }
+no_node = record { connection = no_ends; socket = no_ends; list = 0 }
 
 -- the node of an index
 abbrev pub node_at : List Node → ℕ → Node
@@ -76,21 +84,13 @@ pub record Links : Type 0 where
   pub ends : Neighbours
   pub free : Option ℕ
 
--- the ends of a list that none made
-abbrev pub no_ends : Neighbours
-no_ends = record { next = None; previous = None }
-
--- the list of all, as a ring
-abbrev pub ring_of : List Node → Neighbours → Ring
-ring_of nodes ends = record { nodes = nodes; ends = ends }
-
 -- the list of a socket, as a ring
 abbrev pub socket_ring : List Node → List Neighbours → ℕ → Ring
 socket_ring nodes sockets s = record { nodes = nodes; ends = get_or sockets s no_ends }
 
 -- a node on no list yet, for the list of a socket
 abbrev pub fresh : ℕ → Node
-fresh s = record { connection = record { next = None; previous = None }; socket = record { next = None; previous = None }; list = s }
+fresh s = record { connection = no_ends; socket = no_ends; list = s }
 
 -- the ring of all without an index
 abbrev pub short_ring : ℕ → List Node → Neighbours → Ring

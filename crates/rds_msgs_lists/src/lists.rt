@@ -98,7 +98,13 @@ impl Lists {
         ensures all_used { result ≡ self.old.made → length self.old.places ≡ self.old.made }
     {
         let at = take_node(&mut self.nodes, &mut self.free, socket);
-        put(&mut self.nodes, &mut self.sockets, &mut self.ends, socket, at);
+        put(
+            &mut self.nodes,
+            &mut self.sockets,
+            &mut self.ends,
+            socket,
+            at,
+        );
         self.used += 1;
         self.spare -= 1;
         Index::to(at)
@@ -109,7 +115,13 @@ impl Lists {
         requires on { IsOn self.old.places at }
         ensures removed { AtEach self.old.places at (λ before p rest. self.new ≡ record self.old { places = before ++ rest }) }
     {
-        take_off(&mut self.nodes, &mut self.sockets, &mut self.ends, &mut self.free, at.get());
+        take_off(
+            &mut self.nodes,
+            &mut self.sockets,
+            &mut self.ends,
+            &mut self.free,
+            at.get(),
+        );
         self.used -= 1;
     }
 
@@ -153,7 +165,13 @@ fn index(at: Link) -> Option<Index>
 }
 
 /// Takes an index off both lists, and puts it among the free ones.
-fn take_off(nodes: &mut [Node], sockets: &mut [Neighbours], ends: &mut Neighbours, free: &mut Link, at: u32)
+fn take_off(
+    nodes: &mut [Node],
+    sockets: &mut [Neighbours],
+    ends: &mut Neighbours,
+    free: &mut Link,
+    at: u32,
+)
     requires few { at < NO_INDEX }
     requires can { CanLeave at nodes.old sockets.old }
     ensures ends { ends.new ≡ (short_ring at nodes.old ends.old).ends }

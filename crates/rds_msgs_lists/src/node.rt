@@ -1,5 +1,5 @@
-ghost use Rattle.std.specs.Prelude.{◌≡◌, ◌<◌, length, None};
-ghost use Rattle.rds_msgs_lists.specs.Nodes.{Ring, IsWithin, neighbours, with_neighbours, node_at, ring_next, ring_previous, unlinked, linked};
+ghost use Rattle.std.specs.Prelude.{◌≡◌, ◌<◌, length};
+ghost use Rattle.rds_msgs_lists.specs.Nodes.{IsWithin, neighbours, with_neighbours, node_at, no_ends, fresh, ring_of, ring_next, ring_previous, unlinked, linked};
 
 use crate::link::{Link, NO_INDEX};
 
@@ -29,7 +29,7 @@ const _: () = prove!(size_of::<Node>() == 20);
 
 impl Neighbours {
     pub(crate) fn none() -> Neighbours
-        ensures { result ≡ record { next = None; previous = None } }
+        ensures { result ≡ no_ends }
     {
         Neighbours {
             next: Link::none(),
@@ -41,7 +41,7 @@ impl Neighbours {
 impl Node {
     /// A node on no list yet, for the list of a socket.
     pub(crate) fn of(list: u32) -> Node
-        ensures { result ≡ record { connection = record { next = None; previous = None }; socket = record { next = None; previous = None }; list = list } }
+        ensures { result ≡ fresh list }
     {
         Node {
             connection: Neighbours::none(),
@@ -77,7 +77,7 @@ impl Node {
 
 fn set_next(side: Side, nodes: &mut [Node], ends: &mut Neighbours, at: Link, next: Link)
     requires { IsWithin at nodes.old }
-    ensures ring { record { nodes = nodes.new; ends = ends.new } ≡ ring_next side at next (record { nodes = nodes.old; ends = ends.old }) }
+    ensures ring { ring_of nodes.new ends.new ≡ ring_next side at next (ring_of nodes.old ends.old) }
 {
     match at.get() {
         None => ends.next = next,
@@ -92,7 +92,7 @@ fn set_next(side: Side, nodes: &mut [Node], ends: &mut Neighbours, at: Link, nex
 
 fn set_previous(side: Side, nodes: &mut [Node], ends: &mut Neighbours, at: Link, previous: Link)
     requires { IsWithin at nodes.old }
-    ensures ring { record { nodes = nodes.new; ends = ends.new } ≡ ring_previous side at previous (record { nodes = nodes.old; ends = ends.old }) }
+    ensures ring { ring_of nodes.new ends.new ≡ ring_previous side at previous (ring_of nodes.old ends.old) }
 {
     match at.get() {
         None => ends.previous = previous,
@@ -111,7 +111,7 @@ pub(crate) fn unlink(side: Side, nodes: &mut [Node], ends: &mut Neighbours, at: 
     requires within { at < length nodes.old }
     requires next { IsWithin (neighbours side (node_at nodes.old at)).next nodes.old }
     requires previous { IsWithin (neighbours side (node_at nodes.old at)).previous nodes.old }
-    ensures ring { record { nodes = nodes.new; ends = ends.new } ≡ unlinked side at (record { nodes = nodes.old; ends = ends.old }) }
+    ensures ring { ring_of nodes.new ends.new ≡ unlinked side at (ring_of nodes.old ends.old) }
 {
     let by = nodes[at as usize].at(side);
     set_next(side, nodes, ends, by.previous, by.next);
@@ -124,7 +124,7 @@ pub(crate) fn link(side: Side, nodes: &mut [Node], ends: &mut Neighbours, at: u3
     requires within { at < length nodes.old }
     requires few { at < NO_INDEX }
     requires last { IsWithin ends.old.previous nodes.old }
-    ensures ring { record { nodes = nodes.new; ends = ends.new } ≡ linked side at (record { nodes = nodes.old; ends = ends.old }) }
+    ensures ring { ring_of nodes.new ends.new ≡ linked side at (ring_of nodes.old ends.old) }
 {
     let last = ends.previous;
     set_next(side, nodes, ends, last, Link::to(at));

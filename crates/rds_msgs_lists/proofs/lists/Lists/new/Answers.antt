@@ -1,4 +1,4 @@
-use Rattle.std.proofs.Common.{◌≡◌, ◌∙◌, length, replicate, arith, ap, refl}
+use Rattle.std.proofs.Common.{◌≡◌, ◌∙◌, length, ap, refl}
 use Rattle.std.proofs.lemmas.List.{length-replicate}
 use Rattle.rds_msgs_lists.specs.Nodes.{no_ends}
 use Rattle.rds_msgs_lists.specs.Lists.{order_of}

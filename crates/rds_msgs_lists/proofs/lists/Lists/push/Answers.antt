@@ -1,4 +1,5 @@
-use Rattle.std.proofs.Common.{◌≡◌, ℕ, ◌<◌, ◌≤◌, ◌+◌, ◌-◌, max, [], ◌∷◌, ◌∙◌, ◌++◌, List, take, drop, length, arith, sym, subst, ap}
+use Rattle.std.proofs.Common.{◌≡◌, ℕ, ◌<◌, ◌≤◌, ◌+◌, ◌-◌, max, [], ◌∷◌, ◌∙◌, ◌++◌, take, drop, length, arith, sym, subst, ap}
+use Rattle.rds_msgs_lists.specs.declared.lists.TheConstants.{MAX_INDEXES}
 use Rattle.rds_msgs_lists.specs.Nodes.{Links, put_on, placed, index_from}
 use Rattle.rds_msgs_lists.specs.Lists.{ListsView, IsOn, IsLists, view_of}
 use Rattle.rds_msgs_lists.proofs.Calls.{used_is, node_for, can_put, lists_on, view_on, off_before, on_is_put, written}
@@ -47,7 +48,7 @@ after c =
     on_is_put (links c) c.args.socket c.take_node-at.result c.deref_mut.result.now _ c.deref_mut-2.result.now _ _ _ a.at (c.deref_mut.ensures.value ∙ a.nodes) c.deref_mut-2.ensures.value
     e.ends (written _ _ _ n ∙ e.nodes) (written _ _ _ m ∙ e.sockets) a.free
 
-few : (c : After-put) → c.self.inside.used < 4294967294
+few : (c : After-put) → c.self.inside.used < MAX_INDEXES
 few c =
     let p = used_is _ _ _ _ c.self.invariant in
     let v = ap (λ (v : ListsView). length v.places) c.self.view_is in
@@ -67,8 +68,8 @@ returns-clause-pushed c =
     let i = subst (λ (v : ListsView). c.args.socket < v.sockets) (sym c.self.view_is) c.requires.socket in
     let x = index_from c.self.inside.free c.self.inside.nodes.items in
     let f = subst (λ (v : ListsView). view_of (put_on c.args.socket x (placed c.args.socket (links d))) (c.self.inside.used + 1) (c.self.inside.spare - 1)
-      ≡ record { places = v.places ++ record { index = x; socket = c.args.socket } ∷ []; sockets = v.sockets; spare = v.spare - 1; made = max v.made (x + 1) }) c.self.view_is
-      (view_on _ _ _ _ c.args.socket c.self.invariant i) in
+    ≡ record { places = v.places ++ record { index = x; socket = c.args.socket } ∷ []; sockets = v.sockets; spare = v.spare - 1; made = max v.made (x + 1) }) c.self.view_is
+    (view_on _ _ _ _ c.args.socket c.self.invariant i) in
     let e : c.to.result ≡ x = c.to.ensures ∙ c.take_node-at.ensures.at in
     rw e (ap (λ (l : Links). view_of l (c.self.inside.used + 1) (c.self.inside.spare - 1)) (after d) ∙ f)
 

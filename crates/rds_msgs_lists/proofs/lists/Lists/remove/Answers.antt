@@ -1,6 +1,6 @@
-use Rattle.std.proofs.Common.{◌≡◌, ℕ, ◌<◌, ◌-◌, ◌∙◌, ◌++◌, List, take, drop, length, arith, sym, subst, ap}
+use Rattle.std.proofs.Common.{◌≡◌, ◌-◌, ◌∙◌, ◌++◌, take, drop, length, arith, sym, subst, ap}
 use Rattle.rds_msgs_lists.specs.Nodes.{Links, taken_off}
-use Rattle.rds_msgs_lists.specs.Lists.{Place, ListsView, AtEach, IsOn, IsLists, view_of}
+use Rattle.rds_msgs_lists.specs.Lists.{ListsView, AtEach, IsOn, IsLists, view_of}
 use Rattle.rds_msgs_lists.proofs.Calls.{within_is, lists_off, view_off, off_is, written}
 use Rattle.rds_msgs_lists.proofs.Views.{on_is, can_leave}
 use Rattle.rds_msgs_lists.proofs.lists.Lists.remove.Goals as goal
@@ -47,8 +47,8 @@ returns c =
     let d = (goal.at.returns c).After-take_off in
     let e = after d in
     let f = subst (λ (v : ListsView). AtEach v.places c.args.at (λ b p r. view_of (taken_off c.args.at (links d)) (c.self.inside.used - 1) c.self.inside.spare ≡ record v { places = b ++ r })) c.self.view_is
-      (view_off _ _ _ _ c.args.at c.self.invariant) in
+    (view_off _ _ _ _ c.args.at c.self.invariant) in
     record {
       removed = λ before p rest g same.
-        ap (λ (l : Links). view_of l (c.self.inside.used - 1) c.self.inside.spare) e ∙ f before p rest g same;
+          ap (λ (l : Links). view_of l (c.self.inside.used - 1) c.self.inside.spare) e ∙ f before p rest g same;
     }
