@@ -5,6 +5,7 @@ mod index;
 mod link;
 mod lists;
 mod node;
+mod placing;
 
 pub use index::Index;
 pub use lists::{Lists, MAX_INDEXES};

@@ -1,12 +1,11 @@
 ghost use Rattle.std.specs.Prelude.{◌≡◌, ℕ, ◌≤◌, ◌<◌, ◌+◌, ◌-◌, max, Some, None, set, get_or, List, [], ◌∷◌, ◌++◌, length, filter, IfOk, OnOk, OnErr};
 ghost use Rattle.std.specs.List.{All};
-ghost use Rattle.std.specs.Vec.{vec_capacity};
-ghost use Rattle.rds_msgs_lists.specs.Nodes.{Links, CanLeave, CanCome, IsWithin, node_at, no_ends, off_ring, on_ring, index_from, placed_nodes, free_from, freed, short_ring, end_ring};
 ghost use Rattle.rds_msgs_lists.specs.Lists.{Place, IsOn, AtEach, IsDistinct, first_index, of_socket, indexes};
 
 use crate::index::Index;
-use crate::link::{Link, NO_INDEX};
-use crate::node::{Neighbours, Node, Side, link, unlink};
+use crate::link::Link;
+use crate::node::{Neighbours, Node};
+use crate::placing::{put, take_node, take_off};
 use rds_wire::Memory;
 use std::alloc::Global;
 use std::marker::Model;
@@ -162,101 +161,4 @@ fn index(at: Link) -> Option<Index>
     ensures { result ≡ at }
 {
     Some(Index::to(at.get()?))
-}
-
-/// Takes an index off both lists, and puts it among the free ones.
-fn take_off(
-    nodes: &mut [Node],
-    sockets: &mut [Neighbours],
-    ends: &mut Neighbours,
-    free: &mut Link,
-    at: u32,
-)
-    requires few { at < NO_INDEX }
-    requires can { CanLeave at nodes.old sockets.old }
-    ensures ends { ends.new ≡ (short_ring at nodes.old ends.old).ends }
-    ensures nodes { nodes.new ≡ freed at free.old (off_ring at (short_ring at nodes.old ends.old).nodes sockets.old).nodes }
-    ensures sockets { sockets.new ≡ set sockets.old (node_at (short_ring at nodes.old ends.old).nodes at).list (off_ring at (short_ring at nodes.old ends.old).nodes sockets.old).ends }
-    ensures free { free.new ≡ Some at }
-{
-    unlink(Side::Connection, nodes, ends, at);
-    take_off_socket(nodes, sockets, at);
-    free_node(nodes, free, at);
-}
-
-/// Takes an index off the list of its socket.
-fn take_off_socket(nodes: &mut [Node], sockets: &mut [Neighbours], at: u32)
-    requires within { at < length nodes.old }
-    requires owned { (node_at nodes.old at).list < length sockets.old }
-    requires next { IsWithin (node_at nodes.old at).socket.next nodes.old }
-    requires previous { IsWithin (node_at nodes.old at).socket.previous nodes.old }
-    ensures nodes { nodes.new ≡ (off_ring at nodes.old sockets.old).nodes }
-    ensures ends { sockets.new ≡ set sockets.old (node_at nodes.old at).list (off_ring at nodes.old sockets.old).ends }
-{
-    let list = nodes[at as usize].list as usize;
-    let mut ends = sockets[list];
-    unlink(Side::Socket, nodes, &mut ends, at);
-    sockets[list] = ends;
-}
-
-/// Puts a node on the list of the free ones.
-fn free_node(nodes: &mut [Node], free: &mut Link, at: u32)
-    requires within { at < length nodes.old }
-    requires few { at < NO_INDEX }
-    ensures nodes { nodes.new ≡ freed at free.old nodes.old }
-    ensures free { free.new ≡ Some at }
-{
-    let mut node = nodes[at as usize];
-    node.connection = Neighbours {
-        next: *free,
-        previous: Link::none(),
-    };
-    nodes[at as usize] = node;
-    *free = Link::to(at);
-}
-
-/// A node for a socket: a free one, or else a new one.
-fn take_node(nodes: &mut Vec<Node>, free: &mut Link, socket: u32) -> u32
-    requires within { IsWithin free.old nodes.old.items }
-    requires few { free.old ≡ None → length nodes.old.items < MAX_INDEXES }
-    requires room { free.old ≡ None → length nodes.old.items < vec_capacity nodes.old }
-    ensures at { result ≡ index_from free.old nodes.old.items }
-    ensures nodes { nodes.new.items ≡ placed_nodes free.old socket nodes.old.items }
-    ensures free { free.new ≡ free_from free.old nodes.old.items }
-    ensures capacity { vec_capacity nodes.new ≡ vec_capacity nodes.old }
-{
-    let Some(at) = free.get() else {
-        let at = nodes.len() as u32;
-        nodes.push_reserved(Node::of(socket));
-        return at;
-    };
-    *free = nodes[at as usize].connection.next;
-    nodes[at as usize] = Node::of(socket);
-    at
-}
-
-/// Puts a node at the end of the list of all and of a socket's.
-fn put(nodes: &mut [Node], sockets: &mut [Neighbours], ends: &mut Neighbours, socket: u32, at: u32)
-    requires few { at < NO_INDEX }
-    requires can { CanCome socket at nodes.old sockets.old ends.old }
-    ensures ends { ends.new ≡ (end_ring at nodes.old ends.old).ends }
-    ensures nodes { nodes.new ≡ (on_ring socket at (end_ring at nodes.old ends.old).nodes sockets.old).nodes }
-    ensures sockets { sockets.new ≡ set sockets.old socket (on_ring socket at (end_ring at nodes.old ends.old).nodes sockets.old).ends }
-{
-    link(Side::Connection, nodes, ends, at);
-    put_on_socket(nodes, sockets, socket, at);
-}
-
-/// Puts a node at the end of the list of a socket.
-fn put_on_socket(nodes: &mut [Node], sockets: &mut [Neighbours], socket: u32, at: u32)
-    requires within { at < length nodes.old }
-    requires few { at < NO_INDEX }
-    requires owned { socket < length sockets.old }
-    requires last { IsWithin (get_or sockets.old socket no_ends).previous nodes.old }
-    ensures nodes { nodes.new ≡ (on_ring socket at nodes.old sockets.old).nodes }
-    ensures ends { sockets.new ≡ set sockets.old socket (on_ring socket at nodes.old sockets.old).ends }
-{
-    let mut ends = sockets[socket as usize];
-    link(Side::Socket, nodes, &mut ends, at);
-    sockets[socket as usize] = ends;
 }

@@ -1,7 +1,7 @@
 use Rattle.rds_msgs_lists.specs.declared.node.Side.TheVariants.{Connection}
 use Rattle.rds_msgs_lists.specs.Nodes.{ring_of}
 use Rattle.rds_msgs_lists.proofs.Rings.{unlinked_is, owned_then, next_then, previous_then}
-use Rattle.rds_msgs_lists.proofs.lists.take_off.Goals as goal
+use Rattle.rds_msgs_lists.proofs.placing.take_off.Goals as goal
 
 pub take_off_socket-requires-clause-owned : goal.take_off_socket-requires-clause-owned
 take_off_socket-requires-clause-owned c =
