@@ -1,4 +1,5 @@
 pub mod Counts
+pub mod On
 pub mod Paths
 pub mod Rings
 pub mod All

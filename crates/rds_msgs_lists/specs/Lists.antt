@@ -1,5 +1,5 @@
 -- Indexes on lists: what contracts see of them, and what every `Lists` keeps. Source: this project's own.
-use Rattle.std.specs.Prelude.{◌≡◌, ℕ, zero, suc, ◌+◌, ◌-◌, ◌≤◌, ◌<◌, ◌==◌, Bool, cond, Option, Some, None, List, [], ◌∷◌, ◌++◌, length, map, filter}
+use Rattle.std.specs.Prelude.{◌≡◌, ℕ, zero, suc, ◌+◌, ◌-◌, ◌≤◌, ◌<◌, ◌==◌, max, Bool, cond, Option, Some, None, List, [], ◌∷◌, ◌++◌, length, map, filter}
 use Rattle.rds_msgs_lists.specs.declared.lists.TheConstants.{MAX_INDEXES}
 use Rattle.rds_msgs_lists.specs.declared.node.Node.{Node}
 use Rattle.rds_msgs_lists.specs.declared.node.Neighbours.{Neighbours}
@@ -54,9 +54,13 @@ of_socket socket places = filter (is_of socket) places
 abbrev pub AtEach : List Place → ℕ → (List Place → Place → List Place → Type 0) → Type 0
 AtEach places k P = (before : List Place) (p : Place) (rest : List Place) → places ≡ before ++ p ∷ rest → p.index ≡ k → P before p rest
 
--- the lists without an index
-abbrev pub IsWithout : ℕ → ListsView → ListsView → Type 0
-IsWithout k old new = AtEach old.places k (λ before p rest. new ≡ record old { places = before ++ rest })
+-- the lists with an index at the end, of a socket
+abbrev pub after_push : ℕ → ℕ → ListsView → ListsView
+after_push k socket v = record v {
+  places = v.places ++ record { index = k; socket = socket } ∷ [];
+  spare = v.spare - 1;
+  made = max v.made (k + 1);
+}
 
 -- at most so many indexes, from one on, each behind the one before it
 abbrev pub walk : (Option ℕ → Option ℕ) → ℕ → Option ℕ → List ℕ

@@ -100,6 +100,13 @@ short_ring x nodes ends = unlinked Connection x (ring_of nodes ends)
 abbrev pub off_ring : ℕ → List Node → List Neighbours → Ring
 off_ring x nodes sockets = unlinked Socket x (socket_ring nodes sockets (node_at nodes x).list)
 
+-- the socket of an index, on whose list it still is, and the ring of that without it
+abbrev pub socket_left : ℕ → List Node → Neighbours → ℕ
+socket_left x nodes ends = (node_at (short_ring x nodes ends).nodes x).list
+
+abbrev pub off_both : ℕ → List Node → List Neighbours → Neighbours → Ring
+off_both x nodes sockets ends = off_ring x (short_ring x nodes ends).nodes sockets
+
 -- the nodes with a free one
 abbrev pub freed : ℕ → Option ℕ → List Node → List Node
 freed x free nodes = set nodes x (record (node_at nodes x) { connection = record { next = free; previous = None } })
@@ -137,6 +144,10 @@ end_ring x nodes ends = linked Connection x (ring_of nodes ends)
 -- the ring of a socket with an index at its end
 abbrev pub on_ring : ℕ → ℕ → List Node → List Neighbours → Ring
 on_ring s x nodes sockets = linked Socket x (socket_ring nodes sockets s)
+
+-- the ring of a socket with an index at its end, which the list of all has at its end
+abbrev pub on_both : ℕ → ℕ → List Node → List Neighbours → Neighbours → Ring
+on_both s x nodes sockets ends = on_ring s x (end_ring x nodes ends).nodes sockets
 
 -- with an index at the end of both
 unfoldable pub put_on : ℕ → ℕ → Links → Links

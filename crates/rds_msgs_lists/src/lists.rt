@@ -1,6 +1,6 @@
-ghost use Rattle.std.specs.Prelude.{◌≡◌, ℕ, ◌≤◌, ◌<◌, ◌+◌, ◌-◌, max, Some, None, set, get_or, List, [], ◌∷◌, ◌++◌, length, filter, IfOk, OnOk, OnErr};
+ghost use Rattle.std.specs.Prelude.{◌≡◌, ℕ, ◌≤◌, ◌<◌, ◌+◌, ◌-◌, max, Some, None, set, get_or, List, [], ◌∷◌, ◌++◌, length, filter, IfOk, IfSome, OnOk, OnErr};
 ghost use Rattle.std.specs.List.{All};
-ghost use Rattle.rds_msgs_lists.specs.Lists.{Place, IsOn, AtEach, IsDistinct, first_index, of_socket, indexes};
+ghost use Rattle.rds_msgs_lists.specs.Lists.{Place, IsOn, AtEach, IsDistinct, first_index, of_socket, after_push};
 
 use crate::index::Index;
 use crate::link::Link;
@@ -91,7 +91,7 @@ impl Lists {
         requires room { 1 ≤ self.old.spare }
         requires socket { socket < self.old.sockets }
         requires few { length self.old.places < MAX_INDEXES }
-        ensures pushed { self.new ≡ record self.old { places = self.old.places ++ record { index = result; socket = socket } ∷ []; spare = self.old.spare - 1; made = max self.old.made (result + 1) } }
+        ensures pushed { self.new ≡ after_push result socket self.old }
         ensures off { IsOn self.old.places result → ⊥ }
         ensures next { result ≤ self.old.made }
         ensures all_used { result ≡ self.old.made → length self.old.places ≡ self.old.made }
@@ -126,7 +126,8 @@ impl Lists {
 
     /// The first index on the list of all.
     pub fn first(&self) -> Option<Index>
-        ensures { result ≡ first_index self.now.places }
+        ensures first { result ≡ first_index self.now.places }
+        ensures on { IfSome result (IsOn self.now.places) }
     {
         index(self.ends.next)
     }
@@ -135,6 +136,7 @@ impl Lists {
     pub fn after(&self, at: Index) -> Option<Index>
         requires on { IsOn self.now.places at }
         ensures next { AtEach self.now.places at (λ before p rest. result ≡ first_index rest) }
+        ensures on { IfSome result (IsOn self.now.places) }
     {
         index(self.nodes[at.get() as usize].connection.next)
     }
@@ -142,7 +144,8 @@ impl Lists {
     /// The first index on the list of a socket.
     pub fn first_of(&self, socket: u32) -> Option<Index>
         requires socket { socket < self.now.sockets }
-        ensures { result ≡ first_index (of_socket socket self.now.places) }
+        ensures first { result ≡ first_index (of_socket socket self.now.places) }
+        ensures on { IfSome result (IsOn self.now.places) }
     {
         index(self.sockets[socket as usize].next)
     }
@@ -151,6 +154,7 @@ impl Lists {
     pub fn after_of(&self, at: Index) -> Option<Index>
         requires on { IsOn self.now.places at }
         ensures next { AtEach self.now.places at (λ before p rest. result ≡ first_index (of_socket p.socket rest)) }
+        ensures on { IfSome result (IsOn self.now.places) }
     {
         index(self.nodes[at.get() as usize].socket.next)
     }

@@ -1,6 +1,6 @@
 ghost use Rattle.std.specs.Prelude.{◌≡◌, ◌<◌, Some, None, set, get_or, length};
 ghost use Rattle.std.specs.Vec.{vec_capacity};
-ghost use Rattle.rds_msgs_lists.specs.Nodes.{CanLeave, CanCome, IsWithin, node_at, no_ends, off_ring, on_ring, index_from, placed_nodes, free_from, freed, short_ring, end_ring};
+ghost use Rattle.rds_msgs_lists.specs.Nodes.{CanLeave, CanCome, IsWithin, node_at, no_ends, off_ring, on_ring, index_from, placed_nodes, free_from, freed, short_ring, socket_left, off_both, end_ring, on_both};
 
 use crate::link::{Link, NO_INDEX};
 use crate::lists::MAX_INDEXES;
@@ -17,8 +17,8 @@ pub(crate) fn take_off(
     requires few { at < NO_INDEX }
     requires can { CanLeave at nodes.old sockets.old }
     ensures ends { ends.new ≡ (short_ring at nodes.old ends.old).ends }
-    ensures nodes { nodes.new ≡ freed at free.old (off_ring at (short_ring at nodes.old ends.old).nodes sockets.old).nodes }
-    ensures sockets { sockets.new ≡ set sockets.old (node_at (short_ring at nodes.old ends.old).nodes at).list (off_ring at (short_ring at nodes.old ends.old).nodes sockets.old).ends }
+    ensures nodes { nodes.new ≡ freed at free.old (off_both at nodes.old sockets.old ends.old).nodes }
+    ensures sockets { sockets.new ≡ set sockets.old (socket_left at nodes.old ends.old) (off_both at nodes.old sockets.old ends.old).ends }
     ensures free { free.new ≡ Some at }
 {
     unlink(Side::Connection, nodes, ends, at);
@@ -88,8 +88,8 @@ pub(crate) fn put(
     requires few { at < NO_INDEX }
     requires can { CanCome socket at nodes.old sockets.old ends.old }
     ensures ends { ends.new ≡ (end_ring at nodes.old ends.old).ends }
-    ensures nodes { nodes.new ≡ (on_ring socket at (end_ring at nodes.old ends.old).nodes sockets.old).nodes }
-    ensures sockets { sockets.new ≡ set sockets.old socket (on_ring socket at (end_ring at nodes.old ends.old).nodes sockets.old).ends }
+    ensures nodes { nodes.new ≡ (on_both socket at nodes.old sockets.old ends.old).nodes }
+    ensures sockets { sockets.new ≡ set sockets.old socket (on_both socket at nodes.old sockets.old ends.old).ends }
 {
     link(Side::Connection, nodes, ends, at);
     put_on_socket(nodes, sockets, socket, at);
