@@ -1,0 +1,3 @@
+pub mod Arrivals
+pub mod Plain
+pub mod Generated
