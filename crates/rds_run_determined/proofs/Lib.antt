@@ -1,3 +1,4 @@
 pub mod Arrivals
 pub mod Plain
 pub mod Generated
+pub mod Callers

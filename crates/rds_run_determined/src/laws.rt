@@ -1,5 +1,5 @@
 //! What a run comes to where nothing in its script leaves a choice. Bodies are empty; each clause is a theorem.
-ghost use Rattle.std.specs.Prelude.{◌≡◌, ◌<◌, ◌≤◌, ℕ, true, [], List, length};
+ghost use Rattle.std.specs.Prelude.{◌≡◌, ◌<◌, ◌≤◌, ◌+◌, ℕ, true, [], List, length};
 ghost use Rattle.rds_model.specs.declared.entry.Entry.{Entry};
 ghost use Rattle.rds_model.specs.Alive.{alive_numbers};
 ghost use Rattle.rds_model.specs.Fifo.{IsFifo};
@@ -9,6 +9,10 @@ ghost use Rattle.rds_model.specs.Past.{accepted};
 ghost use Rattle.rds_model.specs.Streams.{was_passed};
 ghost use Rattle.rds_model.specs.Sums.{orders};
 ghost use Rattle.rds_script_gen.specs.Generator.{generated};
+ghost use Rattle.rds_script.specs.declared.script.Placed.{Placed};
+ghost use Rattle.rds_run_callers.specs.Places.{Place};
+ghost use Rattle.rds_run_hosts.specs.Obeyed.{HasObeyed};
+ghost use Rattle.rds_run_determined.specs.Put.{own_sum, places_sum};
 ghost use Rattle.rds_run_determined.specs.Sent.{generated_bytes, sent_sum};
 ghost use Rattle.rds_run_determined.specs.Weights.{OnlySends, accepted_sum, orders_sum, passed_sum};
 
@@ -38,4 +42,10 @@ pub fn orders_arrive()
 pub fn generated_sends()
     ensures count { (sends seed : ℕ) → sent_sum (λ payload. 1) (generated sends seed).commands ≡ sends }
     ensures bytes { (sends seed : ℕ) → sent_sum length (generated sends seed).commands ≡ generated_bytes sends }
+{}
+
+/// What a host's caller puts on its routes sends no more than the host's own commands, whatever they are.
+pub fn callers_put()
+    ensures { (weight : List ℕ → ℕ) → (host : ℕ) → (commands : List Placed) → (first last : List Place) → HasObeyed host commands first last →
+        places_sum weight last ≤ places_sum weight first + own_sum weight host commands }
 {}
