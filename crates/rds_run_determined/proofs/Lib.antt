@@ -2,3 +2,4 @@ pub mod Arrivals
 pub mod Plain
 pub mod Generated
 pub mod Callers
+pub mod Slots

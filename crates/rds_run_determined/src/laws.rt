@@ -10,11 +10,12 @@ ghost use Rattle.rds_model.specs.Streams.{was_passed};
 ghost use Rattle.rds_model.specs.Sums.{orders};
 ghost use Rattle.rds_script_gen.specs.Generator.{generated};
 ghost use Rattle.rds_script.specs.declared.script.Placed.{Placed};
+ghost use Rattle.rds_host_end.specs.Joined.{orders_of};
 ghost use Rattle.rds_run_callers.specs.Places.{Place};
 ghost use Rattle.rds_run_hosts.specs.Obeyed.{HasObeyed};
 ghost use Rattle.rds_run_determined.specs.Put.{own_sum, places_sum};
 ghost use Rattle.rds_run_determined.specs.Sent.{generated_bytes, sent_sum};
-ghost use Rattle.rds_run_determined.specs.Weights.{OnlySends, accepted_sum, orders_sum, passed_sum};
+ghost use Rattle.rds_run_determined.specs.Weights.{OnlySends, accepted_sum, orders_sum, passed_sum, slots_sum};
 
 use rds_model::laws::{accounted_of_all, fifo_of_all};
 
@@ -48,4 +49,10 @@ pub fn generated_sends()
 pub fn callers_put()
     ensures { (weight : List ℕ → ℕ) → (host : ℕ) → (commands : List Placed) → (first last : List Place) → HasObeyed host commands first last →
         places_sum weight last ≤ places_sum weight first + own_sum weight host commands }
+{}
+
+/// Where no slot from a number on has an order in a journal, the orders of the slots below it are all of its orders.
+pub fn orders_by_slot()
+    ensures { (weight : List ℕ → ℕ) → (slots : ℕ) → (past : List Entry) → ((slot : ℕ) → slots ≤ slot → orders_of slot past ≡ []) →
+        slots_sum weight slots past ≡ orders_sum weight (orders past) }
 {}
