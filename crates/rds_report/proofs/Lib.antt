@@ -17,3 +17,4 @@ pub mod Parted
 pub mod Parting
 pub mod Added
 pub mod Printing
+pub mod Whole

@@ -24,11 +24,11 @@ use Rattle.rds_report.proofs.Parting.{below_last, below_next, below_none, is_bel
 
 -- the counts of pairs
 
-total_of : (h : Group → List Item) (gs : List Group) → tally (flat_map h gs) ≡ total (map (λ g. tally (h g)) gs)
+pub total_of : (h : Group → List Item) (gs : List Group) → tally (flat_map h gs) ≡ total (map (λ g. tally (h g)) gs)
 total_of h [] = refl
 total_of h (g ∷ gs) = tally_append (h g) (flat_map h gs) ∙ ap (plus (tally (h g))) (total_of h gs)
 
-map_same : (f h : Group → Counts) → ((g : Group) → f g ≡ h g) → (gs : List Group) → map f gs ≡ map h gs
+pub map_same : (f h : Group → Counts) → ((g : Group) → f g ≡ h g) → (gs : List Group) → map f gs ≡ map h gs
 map_same f h same [] = refl
 map_same f h same (g ∷ gs) = ap (λ (c : Counts). c ∷ map f gs) (same g) ∙ ap (λ (l : List Counts). h g ∷ l) (map_same f h same gs)
 
@@ -40,7 +40,7 @@ item_bytes i = payload_bytes i.what
 abbrev datagram_bytes : Datagram → ℕ
 datagram_bytes d = length d.payload
 
-only_bytes : (xs : List Item) → bytes_of xs ≡ bytes_of (of_kind is_received xs)
+pub only_bytes : (xs : List Item) → bytes_of xs ≡ bytes_of (of_kind is_received xs)
 only_bytes [] = refl
 only_bytes (x ∷ xs) = sum_by-cons item_bytes x xs ∙ go (is_received x.what) refl (only_bytes xs)
   where
@@ -61,13 +61,13 @@ only_bytes (x ∷ xs) = sum_by-cons item_bytes x xs ∙ go (is_received x.what) 
         ap (λ (n : ℕ). n + bytes_of xs) (none x.what is) ∙ zero-add (bytes_of xs) ∙ ih
         ∙ sym (ap (λ (b : Bool). bytes_of (cond b (x ∷ of_kind is_received xs) (of_kind is_received xs))) is)
 
-got_bytes : (g : Group) (ds : List Datagram) → bytes_of (map (got_item g) ds) ≡ sum_by datagram_bytes ds
+pub got_bytes : (g : Group) (ds : List Datagram) → bytes_of (map (got_item g) ds) ≡ sum_by datagram_bytes ds
 got_bytes g [] = refl
 got_bytes g (d ∷ ds) =
     sum_by-cons item_bytes (got_item g d) (map (got_item g) ds) ∙ ap (λ (n : ℕ). length d.payload + n) (got_bytes g ds)
     ∙ sym (sum_by-cons datagram_bytes d ds)
 
-bytes_spread : (h : Group → List Item) (k : Group → List Datagram) → ((g : Group) → bytes_of (h g) ≡ sum_by datagram_bytes (k g)) →
+pub bytes_spread : (h : Group → List Item) (k : Group → List Datagram) → ((g : Group) → bytes_of (h g) ≡ sum_by datagram_bytes (k g)) →
     (gs : List Group) → bytes_of (flat_map h gs) ≡ sum_by datagram_bytes (flat_map k gs)
 bytes_spread h k same [] = refl
 bytes_spread h k same (g ∷ gs) =

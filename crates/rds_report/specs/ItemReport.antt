@@ -1,6 +1,6 @@
--- Private: needed by the proofs of `report` and `summary` only. The report of items. Source: this project's own.
+-- Private: needed by the proofs of `report` and `summary`, and by laws, only. The report of items. Source: this project's own.
 use Rattle.std.specs.Prelude.{◌≡◌, ℕ, zero, suc, ⊤, ◌==◌, nat_lt, if◌then◌else◌, ◌&&◌, Bool, true, false, Option, Some, None, List, [], ◌∷◌, ◌++◌, length, filter, map, codes}
-use Rattle.std.specs.List.{flat_map, list_any}
+use Rattle.std.specs.List.{All, flat_map, list_any}
 use Rattle.rds_text.specs.Words.{hex}
 use Rattle.rds_text.specs.declared.host.TheConstants.{MAX_HOSTS}
 use Rattle.rds_report.specs.Item.{What, Accepted, Received, Unread, Dropped, Port0, Cancelled, Item}
@@ -74,6 +74,10 @@ pair_lines g items = pair_text g ++ (counts_line (tally items) ++ flat_map (λ (
 -- the pairs of the items that were accepted
 abbrev pub accepted_pairs : List Item → List Group
 accepted_pairs items = map (λ (i : Item). seen i.group) (filter (λ (i : Item). is_accepted i.what) items)
+
+-- each item is of a pair that has an item that was accepted
+abbrev pub AllOfAccepted : List Item → Type 0
+AllOfAccepted items = All (λ (i : Item). list_any (is_same (seen i.group)) (accepted_pairs items) ≡ true) items
 
 -- the items of a pair
 abbrev pub of_pair : Group → List Item → List Item

@@ -8,6 +8,7 @@ mod counts;
 mod flags;
 mod grouping;
 mod item;
+pub mod laws;
 mod lists;
 mod lost;
 mod print;

@@ -1,0 +1,5 @@
+pub mod Arrivals
+pub mod Plain
+pub mod Generated
+pub mod Callers
+pub mod Slots
