@@ -1,5 +1,5 @@
 -- How many entries a full journal has.
-use Rattle.std.proofs.Common.{◌≡◌, ◌≢◌, ◌+◌, ◌-◌, ◌*◌, ◌<◌, ◌≤◌, ℕ, suc, inl, inr, List, true, length, refl, sym, subst, ◌∙◌, arith}
+use Rattle.std.proofs.Common.{◌≡◌, ◌≢◌, ◌+◌, ◌-◌, ◌*◌, ◌<◌, ◌≤◌, ℕ, suc, filter, [], ◌∷◌, inl, inr, List, true, length, refl, sym, subst, ◌∙◌, arith}
 use Rattle.std.proofs.lemmas.Bool.{cases_lt, cond-false, cond-true, le-ltb, lt-ltb}
 use Rattle.std.proofs.Math.Nat.{mul-le-mul_right}
 use Rattle.std.specs.List.{All}
@@ -9,12 +9,15 @@ use Rattle.rds_model.specs.Bounded.{IsBounded, map_pulls, most_entries}
 use Rattle.rds_model.specs.Honest.{IsHonest}
 use Rattle.rds_model.specs.Legal.{IsLegal}
 use Rattle.rds_model.specs.Sums.{opens, orders}
+use Rattle.rds_model.specs.declared.order.Order.{Order}
+use Rattle.rds_script.specs.Script.{payload_len}
+use Rattle.rds_script.specs.declared.script.Command.{Command}
 use Rattle.rds_script.specs.declared.script.Placed.{Placed}
 use Rattle.rds_run_hosts.specs.Streams.{cuts_between, streams_between}
 use Rattle.rds_run_rounds.specs.Grid.{peer_at}
 use Rattle.rds_run_threads.specs.Causes.{IsFullJournal, IsOfCommands}
-use Rattle.rds_run_laws.specs.Few.{own_commands}
-use Rattle.rds_run_laws.proofs.Doing.{asked_of_done}
+use Rattle.rds_run_laws.specs.Few.{is_own, order_bytes, own_bytes, own_commands, weigh, weight_of}
+use Rattle.rds_run_laws.proofs.Doing.{IsWeighed, asked_of_done, own_weight}
 use Rattle.rds_run_laws.proofs.Standing.{few_of_two, few_standing}
 
 -- the place of a peer in its host's row
@@ -28,12 +31,50 @@ place_of hosts host peer known also apart =
           (peer - 1, omega (arith, more, also), cond-false _ _ _ (le-ltb (peer - 1) host (omega (arith, more))) ∙ next)
     ]
 
+-- by the weights of orders and of commands
+pub standing_weigh : (w : Order → ℕ) (c : Command → ℕ) → IsWeighed w c → (hosts host peer : ℕ) (commands : List Placed) (past : List Entry) → host < hosts →
+    peer < hosts → peer ≢ host → IsOfCommands hosts host peer commands past → weigh w (orders past) ≤ own_weight c host commands
+standing_weigh w c weighed hosts host peer commands past known also apart of =
+    let way = place_of hosts host peer known also apart in
+    few_standing w way.0 (own_weight c host commands) of.last past (asked_of_done w c weighed way.0 hosts host commands of.last of.done way.1)
+    (λ slot p lane at at_lane. of.sent way.0 way.2 slot p lane at at_lane) of.none_else
+
+-- each order weighs one, and so does each command
+each_one : (xs : List Placed) → weight_of (λ x. 1) xs ≡ length xs
+each_one [] = refl
+each_one (x ∷ xs) = let rest = each_one xs in omega (arith, rest)
+
+weigh_one : (list : List Order) → weigh (λ x. 1) list ≡ length list
+weigh_one [] = refl
+weigh_one (x ∷ list) = let rest = weigh_one list in omega (arith, rest)
+
 pub orders_are_few : (hosts host peer : ℕ) (commands : List Placed) (past : List Entry) → host < hosts → peer < hosts → peer ≢ host →
     IsOfCommands hosts host peer commands past → length (orders past) ≤ own_commands host commands
 orders_are_few hosts host peer commands past known also apart of =
-    let way = place_of hosts host peer known also apart in
-    few_standing way.0 (own_commands host commands) of.last past (asked_of_done way.0 hosts host commands of.last of.done way.1)
-    (λ slot p lane at at_lane. of.sent way.0 way.2 slot p lane at at_lane) of.none_else
+    let light : IsWeighed (λ x. 1) (λ x. 1) =
+    record {
+      send = λ _ _ _ _ _ _ _. omega arith;
+      cancel = λ _ _ _ _ _. omega arith;
+      close = λ _ _ _. omega arith;
+      cut = λ _ _. omega arith;
+    } in
+    let all = standing_weigh (λ x. 1) (λ x. 1) light hosts host peer commands past known also apart of in
+    let count = weigh_one (orders past) in
+    let own = each_one (filter (is_own host) commands) in
+    omega (arith, all, count, own)
+
+-- an order has the bytes of the command that puts it
+pub bytes_are_few : (hosts host peer : ℕ) (commands : List Placed) (past : List Entry) → host < hosts → peer < hosts → peer ≢ host →
+    IsOfCommands hosts host peer commands past → weigh order_bytes (orders past) ≤ own_bytes host commands
+bytes_are_few hosts host peer commands past known also apart of =
+    let light : IsWeighed order_bytes payload_len =
+    record {
+      send = λ _ _ _ _ _ _ _. omega arith;
+      cancel = λ _ _ _ _ _. omega arith;
+      close = λ _ _ _. omega arith;
+      cut = λ _ _. omega arith;
+    } in
+    standing_weigh order_bytes payload_len light hosts host peer commands past known also apart of
 
 module _ (bounds : (a b : List Entry) → IsLegal a → IsLegal b → IsHonest a b → IsBounded a b × IsBounded b a)
     (streams : (highest : ℕ) (past : List Entry) → IsLegal past → All (λ s. s ≤ highest) (opens past) → length (opens past) ≤ highest) where

@@ -1,5 +1,5 @@
 -- How many orders stand in the journal of a host's line.
-use Rattle.std.proofs.Common.{◌≡◌, ◌≢◌, ◌+◌, ◌<◌, ◌≤◌, ◌==◌, ℕ, zero, suc, cond, Bool, true, false, List, [], ◌∷◌, ◌++◌, Option, Some, None, inl, inr, filter, length, slice_get, refl, sym, ap, subst, ◌∙◌, arith, length-append}
+use Rattle.std.proofs.Common.{◌≡◌, ◌≢◌, ◌+◌, ◌<◌, ◌≤◌, ◌==◌, ℕ, zero, suc, cond, Bool, true, false, List, [], ◌∷◌, ◌++◌, Option, Some, None, inl, inr, filter, length, slice_get, refl, sym, ap, subst, ◌∙◌, arith}
 use Rattle.std.proofs.lemmas.Bool.{cases_lt, eqb-true}
 use Rattle.rds_model.specs.declared.entry.Entry.{Entry}
 use Rattle.rds_model.specs.declared.entry.Entry.TheVariants.{Accept, Bad, Cancel, Open, Pull, Read, Shut}
@@ -20,7 +20,7 @@ use Rattle.rds_script.specs.declared.script.Placed.{Placed}
 use Rattle.rds_run_callers.specs.Commands.{commander}
 use Rattle.rds_run_callers.specs.Places.{Place, holding_of}
 use Rattle.rds_run_hosts.specs.Obeyed.{is_host}
-use Rattle.rds_run_laws.specs.Few.{is_own, own_commands}
+use Rattle.rds_run_laws.specs.Few.{is_own, own_commands, weigh}
 use Rattle.rds_run_laws.proofs.At.{either_way, same_number, sum_up}
 use Rattle.rds_run_laws.proofs.Asked.{given}
 use Rattle.rds_run_laws.proofs.Doing.{HaveAsked}
@@ -53,111 +53,122 @@ have_slots (Bad stream header cause ∷ past) = have_slots past
 have_slots (Pull stream frame ∷ past) = have_slots past
 have_slots (Read stream frame outcome ∷ past) = have_slots past
 
--- how many of these orders are of a slot
-abbrev count_of : List Order → ℕ → ℕ
-count_of list slot = length (by_key slot_of_order slot list)
+-- of an order's slot there is one in the list, and one fewer in the rest
+some_there : (x : Order) (list : List Order) (slot : ℕ) → slot_of_order x ≡ Some slot → by_key slot_of_order slot (x ∷ list) ≡ [] → ⊥
+some_there x list slot is empty =
+    let key : is_key (slot_of_order x) slot ≡ true = ap (λ o. is_key o slot) is ∙ same_number slot in
+    let rest = by_key slot_of_order slot list in
+    let count : length (by_key slot_of_order slot (x ∷ list)) ≡ suc (length rest) = ap (λ (b : Bool). length (cond b (x ∷ rest) rest)) key in
+    let none = ap length empty in
+    absurd (omega (arith, count, none))
 
-no_fewer : (x : Order) (list : List Order) (slot : ℕ) → count_of list slot ≤ count_of (x ∷ list) slot
-no_fewer x list slot = go (is_key (slot_of_order x) slot)
+rest_empty : (x : Order) (list : List Order) (slot : ℕ) → by_key slot_of_order slot (x ∷ list) ≡ [] → by_key slot_of_order slot list ≡ []
+rest_empty x list slot empty = go (is_key (slot_of_order x) slot) empty
   where
     rest : List Order
     rest = by_key slot_of_order slot list
 
-    go : (b : Bool) → length rest ≤ length (cond b (x ∷ rest) rest)
-    go true = omega arith
-    go false = omega arith
+    go : (b : Bool) → cond b (x ∷ rest) rest ≡ [] → rest ≡ []
+    go true e = absurd (cc)
+    go false e = e
 
-is_its_key : (x : Order) (slot : ℕ) → slot_of_order x ≡ Some slot → is_key (slot_of_order x) slot ≡ true
-is_its_key x slot is = ap (λ o. is_key o slot) is ∙ same_number slot
+module _ (w : Order → ℕ) where
+  -- what those of these orders weigh that are of a slot
+  abbrev slot_weight : List Order → ℕ → ℕ
+  slot_weight list slot = weigh w (by_key slot_of_order slot list)
 
-one_more : (x : Order) (list : List Order) (slot : ℕ) → slot_of_order x ≡ Some slot → count_of (x ∷ list) slot ≡ suc (count_of list slot)
-one_more x list slot is =
-    let rest = by_key slot_of_order slot list in
-    ap (λ (b : Bool). length (cond b (x ∷ rest) rest)) (is_its_key x slot is)
+  no_less : (x : Order) (list : List Order) (slot : ℕ) → slot_weight list slot ≤ slot_weight (x ∷ list) slot
+  no_less x list slot = go (is_key (slot_of_order x) slot)
+    where
+      rest : List Order
+      rest = by_key slot_of_order slot list
 
-none_fewer : (x : Order) (list : List Order) (from count : ℕ) → sum_up (count_of list) from count ≤ sum_up (count_of (x ∷ list)) from count
-none_fewer x list from zero = omega arith
-none_fewer x list from (suc count) =
-    let first = no_fewer x list from in
-    let rest = none_fewer x list (suc from) count in
-    omega (arith, first, rest)
+      go : (b : Bool) → weigh w rest ≤ weigh w (cond b (x ∷ rest) rest)
+      go true = omega arith
+      go false = omega arith
 
-grows : (x : Order) (list : List Order) (slot from count : ℕ) → slot_of_order x ≡ Some slot → from ≤ slot → slot < from + count →
-    sum_up (count_of list) from count + 1 ≤ sum_up (count_of (x ∷ list)) from count
-grows x list slot from zero is low high = absurd (omega (arith, low, high))
-grows x list slot from (suc count) is low high =
-    either_way from slot
-    (λ same.
-    let first : count_of (x ∷ list) from ≡ suc (count_of list from) = one_more x list from (is ∙ ap Some (sym same)) in
-    let rest = none_fewer x list (suc from) count in
-    omega (arith, first, rest))
-    (λ apart.
-    let first = no_fewer x list from in
-    let next : suc from ≤ slot = omega (arith, low, apart) in
-    let rest = grows x list slot (suc from) count is next (omega (arith, high)) in
-    omega (arith, first, rest))
+  is_its_key : (x : Order) (slot : ℕ) → slot_of_order x ≡ Some slot → is_key (slot_of_order x) slot ≡ true
+  is_its_key x slot is = ap (λ o. is_key o slot) is ∙ same_number slot
 
--- all are of the first slots where none is of another
-all_counted : (list : List Order) (count : ℕ) → HaveSlots list → ((slot : ℕ) → count ≤ slot → by_key slot_of_order slot list ≡ []) →
-    length list ≤ sum_up (count_of list) 0 count
-all_counted [] count h none = omega arith
-all_counted (x ∷ list) count h none =
-    let slot = h.0.0 in
-    let rest : length list ≤ sum_up (count_of list) 0 count = all_counted list count h.1 (λ other beyond.
-    let empty = ap length (none other beyond) in
-    let less = no_fewer x list other in
-    empty_of (by_key slot_of_order other list) (omega (arith, empty, less))) in
-    within slot h.0.1 rest
-  where
-    empty_of : (l : List Order) → length l ≤ 0 → l ≡ []
-    empty_of [] few = refl
-    empty_of (y ∷ l) few = absurd (omega (arith, few))
+  so_much_more : (x : Order) (list : List Order) (slot : ℕ) → slot_of_order x ≡ Some slot → slot_weight (x ∷ list) slot ≡ w x + slot_weight list slot
+  so_much_more x list slot is =
+      let rest = by_key slot_of_order slot list in
+      ap (λ (b : Bool). weigh w (cond b (x ∷ rest) rest)) (is_its_key x slot is)
 
-    within : (slot : ℕ) → slot_of_order x ≡ Some slot → length list ≤ sum_up (count_of list) 0 count → suc (length list) ≤ sum_up (count_of (x ∷ list)) 0 count
-    within slot is rest =
-        let more = one_more x list slot is in
-        let low : slot < count = below slot more (λ beyond. ap length (none slot beyond)) in
-        let next = grows x list slot 0 count is (omega arith) (omega (arith, low)) in
-        omega (arith, rest, next)
-      where
-        below : (slot : ℕ) → count_of (x ∷ list) slot ≡ suc (count_of list slot) → (count ≤ slot → count_of (x ∷ list) slot ≡ 0) → slot < count
-        below slot more empty = elim (cases_lt slot count) [
-          | inl low ↦ low
-          | inr high ↦ let e = empty high in absurd (omega (arith, e, more))
-        ]
+  none_less : (x : Order) (list : List Order) (from count : ℕ) → sum_up (slot_weight list) from count ≤ sum_up (slot_weight (x ∷ list)) from count
+  none_less x list from zero = omega arith
+  none_less x list from (suc count) =
+      let first = no_less x list from in
+      let rest = none_less x list (suc from) count in
+      omega (arith, first, rest)
 
-begins_short : {T : Type 0} (front whole : List T) → Begins front whole → length front ≤ length whole
-begins_short front whole is =
-    let long = ap length is.1 ∙ length-append front is.0 in
+  grows : (x : Order) (list : List Order) (slot from count : ℕ) → slot_of_order x ≡ Some slot → from ≤ slot → slot < from + count →
+      sum_up (slot_weight list) from count + w x ≤ sum_up (slot_weight (x ∷ list)) from count
+  grows x list slot from zero is low high = absurd (omega (arith, low, high))
+  grows x list slot from (suc count) is low high =
+      either_way from slot
+      (λ same.
+      let first : slot_weight (x ∷ list) from ≡ w x + slot_weight list from = so_much_more x list from (is ∙ ap Some (sym same)) in
+      let rest = none_less x list (suc from) count in
+      omega (arith, first, rest))
+      (λ apart.
+      let first = no_less x list from in
+      let next : suc from ≤ slot = omega (arith, low, apart) in
+      let rest = grows x list slot (suc from) count is next (omega (arith, high)) in
+      omega (arith, first, rest))
+
+  -- all are of the first slots where none is of another
+  all_weighed : (list : List Order) (count : ℕ) → HaveSlots list → ((slot : ℕ) → count ≤ slot → by_key slot_of_order slot list ≡ []) →
+      weigh w list ≤ sum_up (slot_weight list) 0 count
+  all_weighed [] count h none = omega arith
+  all_weighed (x ∷ list) count h none =
+      let slot = h.0.0 in
+      let rest : weigh w list ≤ sum_up (slot_weight list) 0 count = all_weighed list count h.1 (λ other beyond. rest_empty x list other (none other beyond)) in
+      let low : slot < count = elim (cases_lt slot count) [
+        | inl low ↦ low
+        | inr high ↦ absurd (some_there x list slot h.0.1 (none slot high))
+      ] in
+      let next = grows x list slot 0 count h.0.1 (omega arith) (omega (arith, low)) in
+      omega (arith, rest, next)
+
+begins_short : (w : Order → ℕ) (front whole : List Order) → Begins front whole → weigh w front ≤ weigh w whole
+begins_short w front whole is =
+    let long = ap (weigh w) is.1 ∙ weigh_append front is.0 in
     omega (arith, long)
+  where
+    weigh_append : (xs ys : List Order) → weigh w (xs ++ ys) ≡ weigh w xs + weigh w ys
+    weigh_append [] ys = omega arith
+    weigh_append (x ∷ xs) ys = let rest = weigh_append xs ys in omega (arith, rest)
 
--- those of slots that were put on their routes are no more than were put there
-of_places : (place : ℕ) (list : List Order) (from n : ℕ) (places : List Place) → HaveAsked place n places →
-    ((i : ℕ) (p : Place) (lane : Lane ReaderView) → slice_get places i ≡ Some p → IsLaneAt (holding_of p).routes place lane → count_of list (from + i) ≤ given lane) →
-    sum_up (count_of list) from (length places) ≤ n
-of_places place list from n [] asked each = omega arith
-of_places place list from n (p ∷ places) asked each =
-    let few = asked.2.few in
-    let first = each 0 p asked.2.lane refl asked.2.at in
-    let here : count_of list (from + 0) ≡ count_of list from = ap (count_of list) (let none : from + 0 ≡ from = omega arith in none) in
-    let rest = of_places place list (suc from) asked.1 places asked.3 (λ i q lane at at_lane.
-    let next : from + suc i ≡ suc from + i = omega arith in
-    subst (λ (k : ℕ). count_of list k ≤ given lane) next (each (suc i) q lane at at_lane)) in
-    let sum = asked.4 in
-    omega (arith, few, first, here, rest, sum)
+module _ (w : Order → ℕ) where
+  -- those of slots that were put on their routes weigh no more than what was put there
+  of_places : (place : ℕ) (list : List Order) (from n : ℕ) (places : List Place) → HaveAsked w place n places →
+      ((i : ℕ) (p : Place) (lane : Lane ReaderView) → slice_get places i ≡ Some p → IsLaneAt (holding_of p).routes place lane →
+      slot_weight w list (from + i) ≤ given w lane) →
+      sum_up (slot_weight w list) from (length places) ≤ n
+  of_places place list from n [] asked each = omega arith
+  of_places place list from n (p ∷ places) asked each =
+      let few = asked.2.few in
+      let first = each 0 p asked.2.lane refl asked.2.at in
+      let here : slot_weight w list (from + 0) ≡ slot_weight w list from = ap (slot_weight w list) (let none : from + 0 ≡ from = omega arith in none) in
+      let rest = of_places place list (suc from) asked.1 places asked.3 (λ i q lane at at_lane.
+      let next : from + suc i ≡ suc from + i = omega arith in
+      subst (λ (k : ℕ). slot_weight w list k ≤ given w lane) next (each (suc i) q lane at at_lane)) in
+      let sum = asked.4 in
+      omega (arith, few, first, here, rest, sum)
 
--- so no more orders stand in a journal than its host's slots were asked to put on their routes to its peer
-pub few_standing : (place n : ℕ) (places : List Place) (past : List Entry) → HaveAsked place n places →
-    ((slot : ℕ) (p : Place) (lane : Lane ReaderView) → slice_get places slot ≡ Some p → IsLaneAt (holding_of p).routes place lane →
-    Begins (orders_of slot past) (uncut lane.pass.put)) →
-    ((slot : ℕ) → length places ≤ slot → orders_of slot past ≡ []) → length (orders past) ≤ n
-few_standing place n places past asked sent none =
-    let all = all_counted (orders past) (length places) (have_slots past) none in
-    let few = of_places place (orders past) 0 n places asked (λ i p lane at at_lane.
-    let begin = begins_short (orders_of i past) (uncut lane.pass.put) (sent i p lane at at_lane) in
-    let same : 0 + i ≡ i = omega arith in
-    subst (λ (k : ℕ). count_of (orders past) k ≤ given lane) (sym same) begin) in
-    omega (arith, all, few)
+  -- so what stands in a journal of orders weighs no more than what its host's slots were asked to put on their routes to its peer
+  pub few_standing : (place n : ℕ) (places : List Place) (past : List Entry) → HaveAsked w place n places →
+      ((slot : ℕ) (p : Place) (lane : Lane ReaderView) → slice_get places slot ≡ Some p → IsLaneAt (holding_of p).routes place lane →
+      Begins (orders_of slot past) (uncut lane.pass.put)) →
+      ((slot : ℕ) → length places ≤ slot → orders_of slot past ≡ []) → weigh w (orders past) ≤ n
+  few_standing place n places past asked sent none =
+      let all = all_weighed w (orders past) (length places) (have_slots past) none in
+      let few = of_places place (orders past) 0 n places asked (λ i p lane at at_lane.
+      let begin = begins_short w (orders_of i past) (uncut lane.pass.put) (sent i p lane at at_lane) in
+      let same : 0 + i ≡ i = omega arith in
+      subst (λ (k : ℕ). slot_weight w (orders past) k ≤ given w lane) (sym same) begin) in
+      omega (arith, all, few)
 
 -- two hosts have no command in common
 pub few_of_two : (host peer : ℕ) (commands : List Placed) → peer ≢ host → own_commands host commands + own_commands peer commands ≤ length commands

@@ -7,14 +7,16 @@ ghost use Rattle.rds_model.specs.Sums.{orders};
 ghost use Rattle.rds_script.specs.declared.script.Placed.{Placed};
 ghost use Rattle.rds_run_hosts.specs.Streams.{cuts_between, streams_between};
 ghost use Rattle.rds_run_threads.specs.Causes.{IsFullJournal, IsOfCommands};
-ghost use Rattle.rds_run_laws.specs.Few.{FitsBuffers, PullsNoPort, own_commands};
+ghost use Rattle.rds_run_laws.specs.Few.{FitsBuffers, PullsNoPort, order_bytes, own_bytes, own_commands, weigh};
 
 use rds_model::laws::{bounded_of_all, few_map_pulls, few_streams, pulled_maps};
 
-/// In a journal that is of the script's commands stand at most as many orders as commands are the host's own: a command puts at most one on
-/// the routes to one peer.
+/// In a journal that is of the script's commands stand at most as many orders as commands are the host's own, with at most as many bytes as
+/// these send: a command puts at most one on the routes to one peer.
 pub fn few_orders()
-    ensures { (hosts host peer : ℕ) (commands : List Placed) (past : List Entry) → host < hosts → peer < hosts → (peer ≡ host → ⊥) →
+    ensures bytes { (hosts host peer : ℕ) (commands : List Placed) (past : List Entry) → host < hosts → peer < hosts → (peer ≡ host → ⊥) →
+        IsOfCommands hosts host peer commands past → weigh order_bytes (orders past) ≤ own_bytes host commands }
+    ensures count { (hosts host peer : ℕ) (commands : List Placed) (past : List Entry) → host < hosts → peer < hosts → (peer ≡ host → ⊥) →
         IsOfCommands hosts host peer commands past → length (orders past) ≤ own_commands host commands }
 {}
 
