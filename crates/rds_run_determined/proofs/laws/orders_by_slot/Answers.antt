@@ -1,5 +1,0 @@
-use Rattle.rds_run_determined.proofs.Slots.{by_slots}
-use Rattle.rds_run_determined.proofs.laws.orders_by_slot.Goals as goal
-
-pub returns : goal.returns
-returns c weight slots past none = by_slots weight slots past none

@@ -1,3 +1,0 @@
-pub mod Put
-pub mod Sent
-pub mod Weights

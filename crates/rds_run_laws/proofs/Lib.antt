@@ -1,0 +1,11 @@
+pub mod Arrivals
+pub mod Plain
+pub mod Generated
+pub mod Callers
+pub mod Slots
+pub mod At
+pub mod Asked
+pub mod Doing
+pub mod Standing
+pub mod Bounded
+pub mod Ports

@@ -1,0 +1,4 @@
+pub mod Few
+pub mod Put
+pub mod Sent
+pub mod Weights
