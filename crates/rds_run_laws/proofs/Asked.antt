@@ -14,7 +14,7 @@ use Rattle.rds_socket.specs.declared.error.SendError.TheVariants as send
 use Rattle.rds_line.specs.Keeps.{uncut}
 use Rattle.rds_run_callers.specs.Places.{Place, holding_of}
 use Rattle.rds_run_callers.specs.Tenants.{Asks, Cancels, Closes, ReceivesNext, SendsFrom, SendsOrNot}
-use Rattle.rds_run_laws.specs.Few.{weigh}
+use Rattle.rds_run_laws.proofs.Weighing.{weigh}
 use Rattle.rds_run_laws.proofs.At.{at_set, beside_set, either_way}
 
 -- the orders that a route was given, cuts left out

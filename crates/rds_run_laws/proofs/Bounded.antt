@@ -6,6 +6,8 @@ use Rattle.std.specs.List.{All}
 use Rattle.rds_model.specs.declared.entry.Entry.{Entry}
 use Rattle.rds_model.specs.declared.journal.TheConstants.{MAX_ENTRIES}
 use Rattle.rds_model.specs.Bounded.{IsBounded, map_pulls, most_entries}
+use Rattle.rds_model.specs.Deliveries.{put_bytes}
+use Rattle.rds_model.specs.Fifo.{IsFifo}
 use Rattle.rds_model.specs.Honest.{IsHonest}
 use Rattle.rds_model.specs.Legal.{IsLegal}
 use Rattle.rds_model.specs.Sums.{opens, orders}
@@ -16,8 +18,12 @@ use Rattle.rds_script.specs.declared.script.Placed.{Placed}
 use Rattle.rds_run_hosts.specs.Streams.{cuts_between, streams_between}
 use Rattle.rds_run_rounds.specs.Grid.{peer_at}
 use Rattle.rds_run_threads.specs.Causes.{IsFullJournal, IsOfCommands}
-use Rattle.rds_run_laws.specs.Few.{is_own, order_bytes, own_bytes, own_commands, weigh, weight_of}
+use Rattle.rds_run_laws.specs.Few.{is_own, own_commands}
+use Rattle.rds_run_laws.specs.Put.{own_sum}
+use Rattle.rds_run_laws.specs.Weights.{accepted_sum, orders_sum, passed_sum}
+use Rattle.rds_run_laws.proofs.Weighing.{order_bytes, orders_weigh, own_weigh, weigh, weight_of}
 use Rattle.rds_run_laws.proofs.Doing.{IsWeighed, asked_of_done, own_weight}
+use Rattle.rds_run_laws.proofs.Reaching.{accepted_ordered, delivered_passed}
 use Rattle.rds_run_laws.proofs.Standing.{few_of_two, few_standing}
 
 -- the place of a peer in its host's row
@@ -65,7 +71,7 @@ orders_are_few hosts host peer commands past known also apart of =
 
 -- an order has the bytes of the command that puts it
 pub bytes_are_few : (hosts host peer : ℕ) (commands : List Placed) (past : List Entry) → host < hosts → peer < hosts → peer ≢ host →
-    IsOfCommands hosts host peer commands past → weigh order_bytes (orders past) ≤ own_bytes host commands
+    IsOfCommands hosts host peer commands past → orders_sum length (orders past) ≤ own_sum length host commands
 bytes_are_few hosts host peer commands past known also apart of =
     let light : IsWeighed order_bytes payload_len =
     record {
@@ -74,7 +80,10 @@ bytes_are_few hosts host peer commands past known also apart of =
       close = λ _ _ _. omega arith;
       cut = λ _ _. omega arith;
     } in
-    standing_weigh order_bytes payload_len light hosts host peer commands past known also apart of
+    let all = standing_weigh order_bytes payload_len light hosts host peer commands past known also apart of in
+    let stand = orders_weigh (orders past) in
+    let own = own_weigh host commands in
+    omega (arith, all, stand, own)
 
 module _ (bounds : (a b : List Entry) → IsLegal a → IsLegal b → IsHonest a b → IsBounded a b × IsBounded b a)
     (streams : (highest : ℕ) (past : List Entry) → IsLegal past → All (λ s. s ≤ highest) (opens past) → length (opens past) ≤ highest) where
@@ -107,3 +116,14 @@ many_maps hosts host peer entries commands own other full few lines cuts =
     let all = few_by_limits (length commands) (2 * streams_between host peer commands) (map_pulls own + map_pulls other) lines (omega (arith, cuts)) in
     let most = full.most in
     omega (arith, few, all, most)
+
+-- what one journal of a run delivers to a slot its peer's commands sent
+pub few_delivered : ((weight : List ℕ → ℕ) (a b : List Entry) → IsFifo a b → passed_sum weight b ≤ accepted_sum weight a) →
+    (hosts host peer slot : ℕ) (commands : List Placed) (own other : List Entry) → host < hosts → peer < hosts → peer ≢ host → IsLegal other →
+    IsFifo other own → IsOfCommands hosts peer host commands other → put_bytes slot own ≤ own_sum length peer commands
+few_delivered few hosts host peer slot commands own other known also apart legal fifo of =
+    let put = delivered_passed slot own in
+    let passed = few length other own fifo in
+    let accepted = accepted_ordered other legal in
+    let sent = bytes_are_few hosts peer host commands other also known (λ same. apart (sym same)) of in
+    omega (arith, put, passed, accepted, sent)

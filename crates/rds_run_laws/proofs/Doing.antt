@@ -22,7 +22,8 @@ use Rattle.rds_run_callers.specs.Places.{Bound, Ended, Place, Spare, Vacant, hol
 use Rattle.rds_run_callers.specs.Tenants.{Cancels, Closes, ReceivesNext, SendsFrom}
 use Rattle.rds_run_hosts.specs.Obeyed.{AreNewPlaces, DoesCommand, HasDone, HasObeyed, is_host}
 use Rattle.rds_run_rounds.specs.Grid.{others, peer_at}
-use Rattle.rds_run_laws.specs.Few.{is_own, weigh, weight_of}
+use Rattle.rds_run_laws.specs.Few.{is_own}
+use Rattle.rds_run_laws.proofs.Weighing.{weigh, weight_of}
 use Rattle.rds_run_laws.proofs.At.{same_number, some_at}
 use Rattle.rds_run_laws.proofs.Asked.{HasAsked, Keeps, asks, cancels, closes, keeps_same, receives, sends_from}
 

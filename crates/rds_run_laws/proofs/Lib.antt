@@ -3,6 +3,8 @@ pub mod Plain
 pub mod Generated
 pub mod Callers
 pub mod Slots
+pub mod Reaching
+pub mod Weighing
 pub mod At
 pub mod Asked
 pub mod Doing

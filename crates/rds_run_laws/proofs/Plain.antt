@@ -272,7 +272,7 @@ port_0_passes outcome.AckOnly is = cc
 port_0_passes outcome.Map is = cc
 port_0_passes outcome.OddMap is = cc
 
-delivery_passes : (slot : ℕ) (o : Outcome) → is_delivery_to slot o ≡ true → passes o ≡ true
+pub delivery_passes : (slot : ℕ) (o : Outcome) → is_delivery_to slot o ≡ true → passes o ≡ true
 delivery_passes slot (outcome.Slot to) is = refl
 delivery_passes slot outcome.NoSocket is = cc
 delivery_passes slot outcome.Old is = cc

@@ -13,6 +13,7 @@ use Rattle.rds_model.specs.declared.entry.Entry.{Entry}
 use Rattle.rds_model.specs.declared.entry.Entry.TheVariants.{Pull}
 use Rattle.rds_model.specs.declared.journal.TheConstants.{MAX_ENTRIES}
 use Rattle.rds_model.specs.Bounded.{map_pulls}
+use Rattle.rds_model.specs.Deliveries.{put_bytes}
 use Rattle.rds_model.specs.Legal.{IsLegal}
 use Rattle.rds_model.specs.Owed.{is_map}
 use Rattle.rds_model.specs.Past.{Moment, before, now}
@@ -20,7 +21,7 @@ use Rattle.rds_model.specs.Sums.{opens}
 use Rattle.rds_script.specs.declared.script.Placed.{Placed}
 use Rattle.rds_run_hosts.specs.Streams.{cuts_between, streams_between}
 use Rattle.rds_run_threads.specs.Causes.{IsFilledAlone, IsFullJournal}
-use Rattle.rds_run_laws.specs.Few.{FitsBuffers, PullsNoPort}
+use Rattle.rds_run_laws.specs.Few.{HaveRoomFor, PullsNoPort}
 
 stands : (e : Entry) (p past : List Entry) → Moment (e ∷ p) past → Contains past e
 stands e p _ now = (0, omega arith, refl)
@@ -70,14 +71,15 @@ module _ (pulled : (s : ℕ) (f : Frame) (p past : List Entry) → IsLegal past 
         let second = streams (streams_between host peer commands) other legal_other full.other_opened in
         absurd (omega (arith, one, two, first, second, many, cuts))
 
--- where no buffer filled, no port was pulled
-pub fits_pulls_none : (host peer : ℕ) (commands : List Placed) (past : List Entry) → IsFilledAlone 2 host peer commands past →
-    FitsBuffers host commands past → PullsNoPort past
-fits_pulls_none host peer commands past filled fits port small pulled =
+-- where each receive buffer has room for all that is delivered, no port was pulled
+pub fits_pulls_none : (host peer bytes : ℕ) (commands : List Placed) (past : List Entry) → IsFilledAlone 2 host peer commands past →
+    ((slot : ℕ) → put_bytes slot past ≤ bytes) → HaveRoomFor bytes host commands → PullsNoPort past
+fits_pulls_none host peer bytes commands past filled few room port small pulled =
     let f = filled.2 port small pulled in
     let b = f.asked in
     let there : Contains commands b.placed =
     subst (λ (l : List Placed). Contains l b.placed) (sym b.order) (Contains-append_right b.before (b.placed ∷ b.after) b.placed (0, omega arith, refl)) in
-    let least = fits f.slot f.rcvbuf b.placed there b.asks in
+    let least = room f.rcvbuf b.placed there b.asks in
+    let most = few f.slot in
     let above = f.above in
-    absurd (omega (arith, least, above))
+    absurd (omega (arith, least, most, above))

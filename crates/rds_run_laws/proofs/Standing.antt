@@ -20,7 +20,8 @@ use Rattle.rds_script.specs.declared.script.Placed.{Placed}
 use Rattle.rds_run_callers.specs.Commands.{commander}
 use Rattle.rds_run_callers.specs.Places.{Place, holding_of}
 use Rattle.rds_run_hosts.specs.Obeyed.{is_host}
-use Rattle.rds_run_laws.specs.Few.{is_own, own_commands, weigh}
+use Rattle.rds_run_laws.specs.Few.{is_own, own_commands}
+use Rattle.rds_run_laws.proofs.Weighing.{weigh}
 use Rattle.rds_run_laws.proofs.At.{either_way, same_number, sum_up}
 use Rattle.rds_run_laws.proofs.Asked.{given}
 use Rattle.rds_run_laws.proofs.Doing.{HaveAsked}

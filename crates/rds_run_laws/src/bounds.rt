@@ -7,15 +7,18 @@ ghost use Rattle.rds_model.specs.Sums.{orders};
 ghost use Rattle.rds_script.specs.declared.script.Placed.{Placed};
 ghost use Rattle.rds_run_hosts.specs.Streams.{cuts_between, streams_between};
 ghost use Rattle.rds_run_threads.specs.Causes.{IsFullJournal, IsOfCommands};
-ghost use Rattle.rds_run_laws.specs.Few.{FitsBuffers, PullsNoPort, order_bytes, own_bytes, own_commands, weigh};
+ghost use Rattle.rds_run_laws.specs.Few.{HoldAll, PullsNoPort, own_commands};
+ghost use Rattle.rds_run_laws.specs.Put.{own_sum};
+ghost use Rattle.rds_run_laws.specs.Weights.{orders_sum};
 
+use crate::sums::sums_of_journals;
 use rds_model::laws::{bounded_of_all, few_map_pulls, few_streams, pulled_maps};
 
 /// In a journal that is of the script's commands stand at most as many orders as commands are the host's own, with at most as many bytes as
 /// these send: a command puts at most one on the routes to one peer.
 pub fn few_orders()
     ensures bytes { (hosts host peer : ℕ) (commands : List Placed) (past : List Entry) → host < hosts → peer < hosts → (peer ≡ host → ⊥) →
-        IsOfCommands hosts host peer commands past → weigh order_bytes (orders past) ≤ own_bytes host commands }
+        IsOfCommands hosts host peer commands past → orders_sum length (orders past) ≤ own_sum length host commands }
     ensures count { (hosts host peer : ℕ) (commands : List Placed) (past : List Entry) → host < hosts → peer < hosts → (peer ≡ host → ⊥) →
         IsOfCommands hosts host peer commands past → length (orders past) ≤ own_commands host commands }
 {}
@@ -48,11 +51,13 @@ pub fn full_by_maps()
     pulled_maps();
 }
 
-/// Of two hosts alone no journal fills where no more is delivered to a slot than a receive buffer holds.
+/// Of two hosts alone no journal fills, where each receive buffer has room for all that the other host's commands send, and ends tell their
+/// bytes: a condition on the script and on nothing else. So a run of it over memory never answers 7.
 pub fn none_full_of_two()
     ensures { (host peer entries : ℕ) (commands : List Placed) (own other : List Entry) →
         IsFullJournal true MAX_ENTRIES 2 commands host peer entries own other → length commands ≤ 200000 → cuts_between host peer commands ≤ 1024 →
-        FitsBuffers host commands own → FitsBuffers peer commands other → ⊥ }
+        HoldAll host peer commands → ⊥ }
 {
     full_by_maps();
+    sums_of_journals();
 }
