@@ -16,7 +16,11 @@ WORDS = [
     [], [""], ["play", "x"], ["play", "--help"], ["--help"], ["-h"], ["--version"], ["PLAY"], ["play", "--", "--"], ["run", "--wire"], ["run", "--wire", "udp"],
     ["run", "--wire="], ["run", "--wire", "tcp", "--wire", "tcp"], ["run", "tcp"], ["run", "--wires", "tcp"], ["gen"], ["gen", "1"], ["gen", "0", "1"],
     ["gen", "100001", "1"], ["gen", "1", "18446744073709551616"], ["gen", "01", "1"], ["gen", "+1", "1"], ["gen", "-1", "1"], ["gen", "1", "1", "1"], ["gen", "1 ", "1"],
-    [b"\xff"], [b"play\xc3"], ["p" * 100_000], ["play"] * 1_000,
+    [b"\xff"], [b"play\xc3"], ["p" * 100_000], ["play"] * 1_000, ["play "], [" play"], ["play", ""], ["play", "--", "x"], ["play", "-"], ["play", "--wire", "tcp"],
+    ["run", ""], ["run", "--", "--"], ["run", "-w", "tcp"], ["run", "--wire", ""], ["run", "--wire", "TCP"], ["run", "--wire=tcp", "x"], ["run", "--wir", "tcp"],
+    ["run", "--wire=memory", "--wire=memory"], ["run", "memory"], ["run", "--wire", "tcp", "--help"], ["gen", "", "1"], ["gen", "1", ""], ["gen", "1.0", "1"],
+    ["gen", "1e3", "1"], ["gen", "0x10", "1"], ["gen", "1", "-1"], ["gen", "1", "+1"], ["gen", "1", "007"], ["gen", "4294967297", "1"], ["gen", "--wire", "tcp"],
+    ["gen", "1", "1", "--wire", "tcp"], ["gen", "\u0663", "1"], ["gen", "1", "99999999999999999999999999"], ["trail"], ["audit"], ["play", "\n"], ["run\n"],
 ]
 
 # Texts of scripts, with the status and the line that `play` and `run` answer.
@@ -50,6 +54,23 @@ TEXTS = [
 ]
 
 
+# Texts of so many bytes, each of which is refused or read at its end. The time that they take has to grow no faster than they do.
+GROWING = [
+    ("zeros", lambda size: bytes(size)),
+    ("newlines", lambda size: b"\n" * size),
+    ("spaces and no newline", lambda size: b" " * size),
+    ("one word", lambda size: b"a" * size),
+    ("one comment", lambda size: b"#" * size),
+    ("words", lambda size: b"hosts" + b" 2" * (size // 2 - 3)),
+    ("digits", lambda size: b"hosts 2\nrecv A " + b"1" * (size - 20)),
+    ("a payload", lambda size: b"hosts 2\nsend A 1 B 2 x:" + b"00" * (size // 2 - 20)),
+    ("long comments", lambda size: (b"#" * 99 + b"\r\n") * (size // 101)),
+    ("bytes that are no UTF-8 in the last line", lambda size: (b"#" * 99 + b"\n") * (size // 101) + b"\xc3"),
+    ("a zero byte at the end", lambda size: b"#" * (size - 1) + b"\0"),
+    ("sends", lambda size: b"hosts 2\n" + b"send A 1 B 2 x:%s\n" % (b"5a" * 20_000) * (size // 40_016)),
+]
+
+
 def limited(kind, most):
     """Returns what sets a limit of the system for a program that is to be started."""
     return lambda: resource.setrlimit(kind, (most, most))
@@ -75,6 +96,25 @@ def refusals(program):
         for words in (["play"], ["run"], ["run", "--wire", "memory"]):
             status, line, error = answer(program, words, text)
             yield f"{' '.join(words)}: {name}", (status, line, error) == (wanted, last, b""), (status, line[:80], error)
+
+
+def processor_time(program, words, given):
+    """Returns the least processor time that the program takes for this input, of three turns, in seconds."""
+    least = float("inf")
+    for _ in range(3):
+        before = resource.getrusage(resource.RUSAGE_CHILDREN)
+        answer(program, words, given)
+        after = resource.getrusage(resource.RUSAGE_CHILDREN)
+        least = min(least, after.ru_utime + after.ru_stime - before.ru_utime - before.ru_stime)
+    return least
+
+
+def growths(program):
+    """Yields each text at 2 and at 16 MiB, likewise: it may take 24 times as long, which is three times its share, or twenty milliseconds."""
+    for name, made in GROWING:
+        for words in (["play"], ["run"]):
+            small, large = (processor_time(program, words, made(size * MIB)) for size in (2, 16))
+            yield f"{words[0]}: the time of 16 MiB of {name}", large <= max(0.02, 24 * small), (small, large)
 
 
 def faults(program):
@@ -105,7 +145,7 @@ def faults(program):
 
 def main(program):
     count = wrong = 0
-    for part in (refusals, faults):
+    for part in (refusals, growths, faults):
         for name, right, got in part(program):
             count += 1
             wrong += not right

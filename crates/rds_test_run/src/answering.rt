@@ -25,7 +25,7 @@ fn main_of<R: Threads + Wait + Net + Sync>(
 }
 
 // Whether there was memory to add each of the words.
-fn add_words(alloc: Global, all: &mut Vec<String>, words: &[&str]) -> bool {
+pub(crate) fn add_words(alloc: Global, all: &mut Vec<String>, words: &[&str]) -> bool {
     for word in words {
         let Ok(text) = String::from_str(alloc, word) else {
             return false;

@@ -14,4 +14,6 @@ mod texts;
 #[cfg(test)]
 mod unfinished;
 #[cfg(test)]
+mod writes;
+#[cfg(test)]
 mod written;

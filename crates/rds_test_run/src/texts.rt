@@ -9,21 +9,21 @@ use std::test::Fail;
 use std::thread;
 use std::thread::Threads;
 
-const HELLO: &[u8] =
+pub(crate) const HELLO: &[u8] =
     b"hosts 2\nbind A 4000 65536 65536\nbind B 4001 65536 65536\nsend A 4000 B 4001 t:hello\ndrain\nrecv B 4001\n";
 
-const HELLO_TEXT: &[u8] =
+pub(crate) const HELLO_TEXT: &[u8] =
     b"A:4000>B:4001 accepted 1 received 1 unread 0 dropped 0 port0 0 cancelled 0 pending 0\n data=68656c6c6f\nend ok\n";
 
 // Three hosts, each of which sends to each other one. One of their streams is cut.
-const THREE: &[u8] = b"hosts 3\n\
+pub(crate) const THREE: &[u8] = b"hosts 3\n\
 bind A 4000 65536 65536\nbind B 4001 65536 65536\nbind C 4002 65536 65536\n\
 send A 4000 B 4001 t:ab\nsend A 4000 C 4002 t:ac\ncut A B\n\
 send B 4001 A 4000 t:ba\nsend B 4001 C 4002 t:bc\n\
 send C 4002 A 4000 t:ca\nsend C 4002 B 4001 t:cb\n\
 drain\nrecv C 4002\n";
 
-const THREE_TEXT: &[u8] =
+pub(crate) const THREE_TEXT: &[u8] =
     b"B:4001>A:4000 accepted 1 received 1 unread 0 dropped 0 port0 0 cancelled 0 pending 0\n data=6261\n\
 C:4002>A:4000 accepted 1 received 1 unread 0 dropped 0 port0 0 cancelled 0 pending 0\n data=6361\n\
 A:4000>B:4001 accepted 1 received 1 unread 0 dropped 0 port0 0 cancelled 0 pending 0\n data=6162\n\

@@ -23,13 +23,14 @@ use std::sync::Wait;
 use std::thread::Threads;
 
 /// The files of cases, each named for what its scripts show.
-const FILES: [&str; 14] = [
+const FILES: [&str; 16] = [
     "binds.cases",
     "sends.cases",
     "receives.cases",
     "moves.cases",
     "cuts.cases",
     "cut_at_each_byte.cases",
+    "cut_within_the_map.cases",
     "cancellations.cases",
     "closes.cases",
     "congestion.cases",
@@ -38,6 +39,7 @@ const FILES: [&str; 14] = [
     "full_journals.cases",
     "each_limit.cases",
     "refused_texts.cases",
+    "malformed.cases",
 ];
 
 /// Scripts that are run by threads, and how often each is.
