@@ -6,6 +6,8 @@ mod headers;
 #[cfg(test)]
 mod journal;
 #[cfg(test)]
+mod lists;
+#[cfg(test)]
 mod map;
 #[cfg(test)]
 mod steps;
