@@ -1,4 +1,4 @@
-//! Tests of a connection and of what it stands on: journal, congestion map, store of messages.
+//! Tests of a connection and of what it stands on: journal, congestion map, indexes on two lists, store of messages.
 #![tactic(auto)]
 
 #[cfg(test)]

@@ -36,7 +36,10 @@ fn all(lists: &Lists) -> u32 {
     let mut at = lists.first();
     for _ in 0..6 {
         let Some(i) = at else { return digits };
-        digits = digits.wrapping_mul(10).wrapping_add(i.get()).wrapping_add(1);
+        digits = digits
+            .wrapping_mul(10)
+            .wrapping_add(i.get())
+            .wrapping_add(1);
         at = lists.after(i);
     }
     digits
@@ -50,7 +53,10 @@ fn of(lists: &Lists, socket: u32) -> u32
     let mut at = lists.first_of(socket);
     for _ in 0..6 {
         let Some(i) = at else { return digits };
-        digits = digits.wrapping_mul(10).wrapping_add(i.get()).wrapping_add(1);
+        digits = digits
+            .wrapping_mul(10)
+            .wrapping_add(i.get())
+            .wrapping_add(1);
         at = lists.after_of(i);
     }
     digits
