@@ -1,9 +1,9 @@
 -- Which indexes are on the lists, by their places.
-use Rattle.std.proofs.Common.{◌≡◌, ◌≤◌, ◌+◌, ◌⊎◌, inl, inr, ℕ, Option, Some, None, List, [], ◌∷◌, ◌++◌, arith, refl, sym, ap, ◌∙◌}
+use Rattle.std.proofs.Common.{◌≡◌, ◌≤◌, inl, inr, ℕ, Option, Some, None, List, [], ◌∷◌, ◌++◌, arith, refl, sym, ap, ◌∙◌}
 use Rattle.std.specs.Option.{IfSome}
 use Rattle.std.proofs.lemmas.Bool.{cases_eq}
 use Rattle.std.proofs.lemmas.Option.{same_Some, none-some}
-use Rattle.rds_msgs_lists.specs.Lists.{Place, AtEach, IsOn, first_index, indexes, is_of, of_socket, times}
+use Rattle.rds_msgs_lists.specs.Lists.{Place, ListsView, AtEach, IsOn, first_index, indexes, of_socket, times}
 use Rattle.rds_msgs_lists.proofs.Counts.{times_first, times_other}
 
 pub first_on : (xs : List Place) (k : ℕ) → first_index xs ≡ Some k → IsOn xs k
@@ -62,3 +62,7 @@ after_of_if xs j r on h =
     let i = first_on (of_socket c.place.socket c.rest) k (sym e ∙ f) in
     let t = own_times c.place.socket k c.rest in
     rw c.whole (rest_on c.before c.place c.rest k (omega arith)))
+
+-- a change of the places changes only them
+pub only_places : (v w : ListsView) (places : List Place) → w ≡ record v { places = places } → w ≡ record v { places = w.places }
+only_places v w places e = e ∙ ap (λ (p : List Place). record v { places = p }) (sym (ap (λ (u : ListsView). u.places) e))

@@ -113,6 +113,7 @@ impl Lists {
     pub fn remove(&mut self, at: Index)
         requires on { IsOn self.old.places at }
         ensures removed { AtEach self.old.places at (λ before p rest. self.new ≡ record self.old { places = before ++ rest }) }
+        ensures rest { self.new ≡ record self.old { places = self.new.places } }
     {
         take_off(
             &mut self.nodes,

@@ -1,10 +1,12 @@
-//! Tests of a connection and of what it stands on: journal, congestion map, store of messages.
+//! Tests of a connection and of what it stands on: journal, congestion map, indexes on two lists, store of messages.
 #![tactic(auto)]
 
 #[cfg(test)]
 mod headers;
 #[cfg(test)]
 mod journal;
+#[cfg(test)]
+mod lists;
 #[cfg(test)]
 mod map;
 #[cfg(test)]

@@ -2,7 +2,7 @@ use Rattle.std.proofs.Common.{◌≡◌, ℕ, ◌<◌, ◌∙◌, ◌++◌, ◌�
 use Rattle.std.proofs.lemmas.List.{get_or_read}
 use Rattle.rds_msgs_lists.specs.declared.node.Node.{Node}
 use Rattle.rds_msgs_lists.specs.Nodes.{node_at, no_node}
-use Rattle.rds_msgs_lists.specs.Lists.{Place, ListsView, AtEach, IsOn, first_index, of_socket}
+use Rattle.rds_msgs_lists.specs.Lists.{Place, ListsView, AtEach, IsOn, first_index}
 use Rattle.rds_msgs_lists.proofs.On.{after_if}
 use Rattle.rds_msgs_lists.proofs.Calls.{within_is}
 use Rattle.rds_msgs_lists.proofs.Views.{after_is}

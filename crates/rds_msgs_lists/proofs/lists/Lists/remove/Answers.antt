@@ -1,7 +1,8 @@
-use Rattle.std.proofs.Common.{◌≡◌, ◌-◌, ◌∙◌, ◌++◌, take, drop, length, arith, sym, subst, ap}
+use Rattle.std.proofs.Common.{◌≡◌, ◌-◌, ◌∙◌, ◌++◌, take, drop, length, arith, sym, subst, ap, List, ◌∷◌}
 use Rattle.rds_msgs_lists.specs.Nodes.{Links, taken_off}
-use Rattle.rds_msgs_lists.specs.Lists.{ListsView, AtEach, IsOn, IsLists, view_of}
+use Rattle.rds_msgs_lists.specs.Lists.{Place, ListsView, AtEach, IsOn, IsLists, view_of}
 use Rattle.rds_msgs_lists.proofs.Calls.{within_is, lists_off, view_off, off_is, written}
+use Rattle.rds_msgs_lists.proofs.On.{has_place, only_places}
 use Rattle.rds_msgs_lists.proofs.Views.{on_is, can_leave}
 use Rattle.rds_msgs_lists.proofs.lists.Lists.remove.Goals as goal
 use Rattle.rds_msgs_lists.proofs.lists.Lists.remove.Goals.{After-take_off}
@@ -48,7 +49,7 @@ returns c =
     let e = after d in
     let f = subst (λ (v : ListsView). AtEach v.places c.args.at (λ b p r. view_of (taken_off c.args.at (links d)) (c.self.inside.used - 1) c.self.inside.spare ≡ record v { places = b ++ r })) c.self.view_is
     (view_off _ _ _ _ c.args.at c.self.invariant) in
-    record {
-      removed = λ before p rest g same.
-          ap (λ (l : Links). view_of l (c.self.inside.used - 1) c.self.inside.spare) e ∙ f before p rest g same;
-    }
+    let n = λ (before : List Place) (p : Place) (rest : List Place) (g : c.args.self.now.places ≡ before ++ p ∷ rest) (same : p.index ≡ c.args.at).
+    ap (λ (l : Links). view_of l (c.self.inside.used - 1) c.self.inside.spare) e ∙ f before p rest g same in
+    let h = has_place c.args.self.now.places c.args.at c.requires.on in
+    record { removed = n; rest = only_places c.args.self.now _ _ (n h.before h.place h.rest h.whole h.its) }
