@@ -1,10 +1,9 @@
 -- What contracts see of a store of messages, and what its calls make of it. Source: this project's own.
-use Rattle.std.specs.Prelude.{ℕ, ◌+◌, ◌-◌, ◌≤◌, ◌<◌, ◌==◌, ◌&&◌, not, Bool, List, length, take, drop, map, filter, sum_by}
+use Rattle.std.specs.Prelude.{ℕ, ◌-◌, ◌<◌, ◌==◌, ◌&&◌, not, Bool, List, length, take, drop, map, filter, sum_by}
 use Rattle.std.specs.List.{AllPairs}
 use Rattle.rds_model.specs.declared.entry.Msg.{Msg}
 use Rattle.rds_model.specs.declared.entry.Target.{Target}
 use Rattle.rds_model.specs.Alive.{aims_at}
-use Rattle.rds_msgs.specs.declared.store.TheConstants.{MAX_MESSAGES}
 
 -- the messages in the order of their numbers; how many of them, from the front, are pulled; for how many more there is
 -- room; and below which number the slots are
@@ -25,6 +24,10 @@ message_numbers messages = map (λ (m : Msg). m.num) messages
 -- the bytes of messages
 abbrev pub bytes_of : List Msg → ℕ
 bytes_of messages = sum_by (λ (m : Msg). m.len) messages
+
+-- the messages of a slot
+abbrev pub messages_from : ℕ → List Msg → List Msg
+messages_from slot messages = filter (λ (m : Msg). m.slot == slot) messages
 
 -- a cancellation by a slot takes a message: it is the slot's, and the target covers its destination port
 abbrev pub covers_message : ℕ → Target → Msg → Bool
@@ -48,10 +51,3 @@ after_cancel slot target h = record h {
 -- the store without its first message
 abbrev pub without_first : StoreView → StoreView
 without_first h = record h { messages = drop 1 h.messages; mark = h.mark - 1 }
-
--- What every store keeps, with room for `capacity` messages in all.
-pub record IsStore (messages : List Msg) (mark spare capacity : ℕ) : Type 0 where
-  pub ascending : IsAscending messages
-  pub pulled : mark ≤ length messages
-  pub few : length messages ≤ MAX_MESSAGES
-  pub room : length messages + spare ≤ capacity

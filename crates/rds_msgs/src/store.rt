@@ -1,13 +1,14 @@
 ghost use Rattle.std.specs.Prelude.{◌≡◌, ◌⊎◌, ◌≤◌, ◌<◌, ◌+◌, ◌-◌, ◌==◌, max, [], ◌∷◌, ◌++◌, length, slice_get, IfOk, OnOk, OnErr, IfSome, OnSome, IfNone, IsTrue, ◌↔◌, option_copied, All};
 ghost use Rattle.rds_model.specs.declared.entry.Target.TheVariants.{Port, All as Every};
-ghost use Rattle.rds_msgs.specs.Messages.{IsAscending, message_numbers, bytes_of, covered_messages, after_cancel, without_first};
+ghost use Rattle.rds_msgs.specs.Messages.{IsAscending, message_numbers, bytes_of, covered_messages, messages_from, after_cancel, without_first};
 
 use crate::Steps;
-use crate::walk::{covers, withdraw};
+use crate::parts::{has_slot, list_of, marked, message, put, take_off};
+use crate::slot_walk::{push_covered, withdraw};
 use rds_model::{Msg, NO_SLOT, Target};
+use rds_msgs_lists::{Index, Lists};
 use rds_wire::Memory;
 use std::alloc::Global;
-use std::collections::VecDeque;
 use std::marker::Model;
 use std::sync::ledger::Ledger;
 
@@ -16,23 +17,26 @@ pub const MAX_MESSAGES: u32 = 4_294_967_294;
 
 /// Messages in the order of their numbers, with a mark between those that are pulled and those that aren't. Contracts
 /// see the list, the mark, the number of further messages for which there is room, and the number of slots.
+///
+/// The message of an index is the one that `items` has there; the mark is the first that isn't pulled, or none.
 #[derive(Drop)]
 pub struct Store {
-    messages: VecDeque<Msg>,
-    mark: usize,
-    spare: u32,
+    lists: Lists,
+    items: Vec<Msg>,
+    mark: Option<Index>,
     slots: u16,
 }
 
 impl Model for Store {
-    ghost use Rattle.std.specs.VecDeque.{deque_capacity};
-    ghost use Rattle.rds_msgs.specs.Messages.{StoreView, IsStore};
+    ghost use Rattle.std.specs.Vec.{vec_capacity};
+    ghost use Rattle.rds_msgs.specs.Messages.{StoreView};
+    ghost use Rattle.rds_msgs.specs.Kept.{seen, IsStore};
 
     ghost Value = { StoreView };
 
-    ghost view = { λ s. record { messages = s.messages.items; mark = s.mark; spare = s.spare; slots = s.slots } };
+    ghost view = { λ s. seen s.lists s.items.items s.mark s.slots };
 
-    ghost invariant = { λ s. IsStore s.messages.items s.mark s.spare (deque_capacity s.messages) };
+    ghost invariant = { λ s. IsStore s.lists s.items.items s.mark s.slots (vec_capacity s.items) };
 }
 
 impl Store {
@@ -45,9 +49,9 @@ impl Store {
         ensures empty { IfOk result (λ s. s ≡ record { messages = []; mark = 0; spare = 0; slots = slots }) }
     {
         Ok(Store {
-            messages: VecDeque::new(alloc),
-            mark: 0,
-            spare: 0,
+            lists: Lists::new(alloc, u32::from(slots) + 1)?,
+            items: Vec::new(alloc),
+            mark: None,
             slots,
         })
     }
@@ -61,9 +65,10 @@ impl Store {
         ensures ok { OnOk result (self.new ≡ record self.old { spare = max self.old.spare n }) }
         ensures err { OnErr result (self.new ≡ self.old) }
     {
-        self.messages.reserve(n as usize)?;
-        self.spare = self.spare.max(n);
-        Ok(())
+        let used = self.lists.len();
+        let free = self.items.len() as u32 - used;
+        self.items.reserve(n.saturating_sub(free) as usize)?;
+        self.lists.reserve(n)
     }
 
     /// How many messages there are.
@@ -73,14 +78,14 @@ impl Store {
         ensures most { length self.now.messages ≤ MAX_MESSAGES }
         ensures ascending { IsAscending self.now.messages }
     {
-        self.messages.len() as u32
+        self.lists.len()
     }
 
     /// Whether there is none.
     pub fn is_empty(&self) -> bool
         ensures { result ≡ (length self.now.messages == 0) }
     {
-        self.messages.is_empty()
+        self.lists.len() == 0
     }
 
     /// Below which number the slots of sockets are.
@@ -98,22 +103,27 @@ impl Store {
         requires owned { (m.slot < self.old.slots) ⊎ (m.slot ≡ NO_SLOT) }
         ensures { self.new ≡ record self.old { messages = self.old.messages ++ m ∷ []; spare = self.old.spare - 1 } }
     {
-        self.messages.push_back_reserved(m);
-        self.spare -= 1;
+        let at = self.lists.push(list_of(self.slots, m.slot));
+        put(&mut self.items, at, m);
+        self.mark = marked(self.mark, at);
     }
 
     /// The least message that isn't pulled.
     pub fn next_to_pull(&self) -> Option<&Msg>
         ensures { option_copied result ≡ slice_get self.now.messages self.now.mark }
     {
-        self.messages.get(self.mark)
+        let at = self.mark?;
+        Some(&self.items[at.get() as usize])
     }
 
     /// Whether exactly one message isn't pulled.
     pub fn is_last(&self) -> bool
         ensures { IsTrue result ↔ (self.now.mark + 1 ≡ length self.now.messages) }
     {
-        self.mark + 1 == self.messages.len()
+        match self.mark {
+            None => false,
+            Some(at) => self.lists.after(at).is_none(),
+        }
     }
 
     /// Counts the least message that isn't pulled as pulled.
@@ -121,14 +131,16 @@ impl Store {
         requires { self.old.mark < length self.old.messages }
         ensures { self.new ≡ record self.old { mark = self.old.mark + 1 } }
     {
-        self.mark += 1;
+        if let Some(at) = self.mark {
+            self.mark = self.lists.after(at);
+        }
     }
 
     /// Counts no message as pulled.
     pub fn reset(&mut self)
         ensures { self.new ≡ record self.old { mark = 0 } }
     {
-        self.mark = 0;
+        self.mark = self.lists.first();
     }
 
     /// Takes out the least message, where its number is at most `upto`.
@@ -141,18 +153,20 @@ impl Store {
         ensures cost { steps.new ≡ steps.old + 1 }
     {
         steps.tick();
-        if self.messages.front()?.num > upto {
+        let at = self.lists.first()?;
+        let m = message(&self.items, at);
+        if m.num > upto {
             return None;
         }
-        self.mark = self.mark.saturating_sub(1);
-        self.messages.pop_front()
+        self.mark = take_off(&mut self.lists, self.mark, at);
+        Some(m)
     }
 
     /// Takes out the messages of a slot to a port, and gives their bytes.
     pub fn cancel<L: Ledger>(&mut self, slot: u16, dport: u16, steps: &mut Steps<L>) -> u64
         ensures bytes { result ≡ bytes_of (covered_messages slot (Port dport) self.old.messages) }
         ensures rest { self.new ≡ after_cancel slot (Port dport) self.old }
-        ensures cost { steps.new ≤ steps.old + length self.old.messages + 1 }
+        ensures cost { steps.new ≤ steps.old + length (messages_from slot self.old.messages) + 1 }
     {
         self.take_out(slot, Target::Port(dport), steps)
     }
@@ -161,7 +175,7 @@ impl Store {
     pub fn cancel_all<L: Ledger>(&mut self, slot: u16, steps: &mut Steps<L>) -> u64
         ensures bytes { result ≡ bytes_of (covered_messages slot Every self.old.messages) }
         ensures rest { self.new ≡ after_cancel slot Every self.old }
-        ensures cost { steps.new ≤ steps.old + length self.old.messages + 1 }
+        ensures cost { steps.new ≤ steps.old + length (messages_from slot self.old.messages) + 1 }
     {
         self.take_out(slot, Target::All, steps)
     }
@@ -169,11 +183,23 @@ impl Store {
     fn take_out<L: Ledger>(&mut self, slot: u16, target: Target, steps: &mut Steps<L>) -> u64
         ensures bytes { result ≡ bytes_of (covered_messages slot target self.old.messages) }
         ensures rest { self.new ≡ after_cancel slot target self.old }
-        ensures cost { steps.new ≡ steps.old + length self.old.messages + 1 }
+        ensures cost { steps.new ≤ steps.old + length (messages_from slot self.old.messages) + 1 }
     {
-        let withdrawn = withdraw(&mut self.messages, self.mark, slot, target, steps);
-        self.mark = withdrawn.mark;
-        withdrawn.bytes
+        steps.tick();
+        if !has_slot(self.slots, slot) {
+            return 0;
+        }
+        let left = withdraw(
+            &mut self.lists,
+            &self.items,
+            self.mark,
+            self.slots,
+            slot,
+            target,
+            steps,
+        );
+        self.mark = left.mark;
+        left.bytes
     }
 
     /// Replaces `out` by the numbers of the messages that such a cancellation would take, ascending.
@@ -185,12 +211,16 @@ impl Store {
         ensures ok { OnOk result (out.new.items ≡ message_numbers (covered_messages slot target.now self.now.messages)) }
         ensures err { OnErr result (out.new.items ≡ out.old.items) }
     {
-        let found = self
-            .messages
-            .iter()
-            .filter(|m| covers(slot, *target, m))
-            .map(|m| m.num)
-            .collect(*out.allocator())?;
+        let mut found = Vec::new(*out.allocator());
+        push_covered(
+            &self.lists,
+            &self.items,
+            self.mark,
+            self.slots,
+            slot,
+            *target,
+            &mut found,
+        )?;
         *out = found;
         Ok(())
     }

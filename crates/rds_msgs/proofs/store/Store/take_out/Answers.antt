@@ -1,8 +1,17 @@
-use Rattle.rds_msgs.proofs.Order.{cancelled_kept}
+use Rattle.std.proofs.Common.{◌≡◌, sym, ap, ◌∙◌, subst}
+use Rattle.rds_msgs.specs.Messages.{StoreView, after_cancel, bytes_of, covered_messages}
+use Rattle.rds_msgs.proofs.Calls.{Untouched, untouched}
+use Rattle.rds_msgs.proofs.Places.{not_true}
 use Rattle.rds_msgs.proofs.store.Store.take_out.Goals as goal
 
-pub invariant_of-self : goal.invariant_of-self
-invariant_of-self g c =
-    let walk = c.withdraw-withdrawn.ensures in
-    rw (walk.left, walk.mark, walk.room)
-    (cancelled_kept c.args.slot c.args.target c.self.inside.messages.items c.self.inside.mark c.self.inside.spare _ c.self.invariant)
+pub returns-then-not-has_slot-clause-bytes : goal.returns-then-not-has_slot-clause-bytes
+returns-then-not-has_slot-clause-bytes g c =
+    let i = c.self.inside in
+    let u = untouched c.args.slot c.args.target i.lists i.items.items i.mark i.slots c.self.invariant.kept (λ h. not_true ((c.if-not-has_slot.ensures {u = tt}).1 h)) in
+    subst (λ (h : StoreView). 0 ≡ bytes_of (covered_messages c.args.slot c.args.target h.messages)) c.self.view_is (sym (ap bytes_of u.none))
+
+pub returns-then-not-has_slot-clause-rest : goal.returns-then-not-has_slot-clause-rest
+returns-then-not-has_slot-clause-rest g c =
+    let i = c.self.inside in
+    let u = untouched c.args.slot c.args.target i.lists i.items.items i.mark i.slots c.self.invariant.kept (λ h. not_true ((c.if-not-has_slot.ensures {u = tt}).1 h)) in
+    subst (λ (h : StoreView). h ≡ after_cancel c.args.slot c.args.target h) c.self.view_is u.same
