@@ -1,14 +1,14 @@
 -- What the calls on a store make of what contracts see.
-use Rattle.std.proofs.Common.{◌≡◌, ◌≢◌, ◌≤◌, ◌<◌, ◌+◌, ◌-◌, min, inl, inr, not, ℕ, zero, suc, true, false, Option, Some, None, List, [], ◌∷◌, ◌++◌, length, arith, refl, sym, ap, ◌∙◌, subst, map, take, drop, get_or, slice_get, slice_index_or, Bool, IsTrue, ◌↔◌}
-use Rattle.std.proofs.lemmas.Bool.{eq-eqb, ne_eqb}
+use Rattle.std.proofs.Common.{◌≡◌, ◌≤◌, ◌<◌, ◌+◌, ◌-◌, min, not, ℕ, zero, suc, true, false, Option, Some, None, List, [], ◌∷◌, ◌++◌, length, arith, refl, sym, ap, ◌∙◌, subst, get_or, slice_get, slice_index_or, Bool, IsTrue, ◌↔◌}
+use Rattle.std.proofs.lemmas.Bool.{ne_eqb}
 use Rattle.std.proofs.lemmas.Option.{same_Some, none-some}
 use Rattle.std.proofs.lemmas.List.{length-map, length-append, length-take-le, append_assoc}
 use Rattle.std.specs.List.{AllByRecursion}
-use Rattle.std.specs.Option.{IfSome, is_some}
+use Rattle.std.specs.Option.{is_some}
 use Rattle.rds_model.specs.declared.entry.Msg.{Msg}
 use Rattle.rds_model.specs.declared.entry.Target.{Target}
 use Rattle.rds_msgs_lists.specs.Lists.{Place, ListsView, AtEach, IsOn, IsDistinct, first_index, after_push}
-use Rattle.rds_msgs.specs.Messages.{StoreView, after_cancel, bytes_of, covered_messages, without_first}
+use Rattle.rds_msgs.specs.Messages.{after_cancel, covered_messages, without_first}
 use Rattle.rds_msgs.specs.Kept.{IsKept, IsListed, HasSlot, count_before, mark_with, mark_without, message_at, messages_at, no_message, seen}
 use Rattle.rds_msgs.proofs.Places.{not_true, HasPlace, has_place, distinct_off}
 use Rattle.rds_msgs.proofs.Marks.{count_none, count_most, count_at, count_first, count_with, moves_by, Moves}

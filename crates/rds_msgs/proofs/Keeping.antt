@@ -1,18 +1,17 @@
 -- What a store keeps where an index leaves its lists and where one comes.
-use Rattle.std.proofs.Common.{◌≡◌, ◌≢◌, ◌⊎◌, ◌≤◌, ◌<◌, ◌+◌, ◌-◌, min, max, inl, inr, ℕ, true, false, Option, Some, None, List, [], ◌∷◌, ◌++◌, length, arith, refl, sym, ap, ◌∙◌, Bool, cond, get_or, map, subst, drop, length-append}
-use Rattle.std.proofs.lemmas.Bool.{cases_eq, cases_Bool, eq-eqb, ne_eqb}
+use Rattle.std.proofs.Common.{◌≡◌, ◌≢◌, ◌≤◌, ◌<◌, ◌+◌, ◌-◌, min, max, inl, inr, ℕ, Option, Some, None, List, [], ◌∷◌, ◌++◌, length, arith, refl, sym, ap, ◌∙◌, get_or, subst, length-append}
+use Rattle.std.proofs.lemmas.Bool.{cases_eq, eq-eqb, ne_eqb}
 use Rattle.std.proofs.lemmas.List.{map-append}
 use Rattle.std.proofs.lemmas.List.Edits.{remove-append_right}
 use Rattle.std.proofs.lemmas.List.Quantifiers.{all_pairs_push, all_pairs_remove}
-use Rattle.std.specs.List.{All, AllPairs, AllByRecursion, remove}
+use Rattle.std.specs.List.{All, AllByRecursion, remove}
 use Rattle.std.specs.Option.{IfSome}
 use Rattle.rds_model.specs.declared.entry.Msg.{Msg}
 use Rattle.rds_msgs_lists.specs.Lists.{Place, ListsView, IsOn, IsDistinct, first_index, indexes, times, after_push}
 use Rattle.rds_msgs.specs.declared.store.TheConstants.{MAX_MESSAGES}
-use Rattle.rds_msgs.specs.Messages.{StoreView, IsAscending}
-use Rattle.rds_msgs.specs.Kept.{IsKept, IsListed, HasSlot, count_before, is_at, mark_without, mark_with, message_at, messages_at, no_message, seen}
-use Rattle.rds_msgs.proofs.Places.{if_some, times_first, times_other, times_split, times_off, apart, first_on, distinct_off, all_parts, all_whole}
-use Rattle.rds_msgs.proofs.Marks.{count_with}
+use Rattle.rds_msgs.specs.Messages.{IsAscending}
+use Rattle.rds_msgs.specs.Kept.{IsKept, IsListed, HasSlot, mark_without, mark_with, message_at, messages_at, no_message}
+use Rattle.rds_msgs.proofs.Places.{if_some, times_first, times_other, times_split, times_off, first_on, distinct_off, all_parts, all_whole}
 
 -- messages in order stay so without one of them
 pub ascending_off : (before : List Msg) (m : Msg) (rest : List Msg) → IsAscending (before ++ m ∷ rest) → IsAscending (before ++ rest)
@@ -24,7 +23,7 @@ ascending_off before m rest h =
     subst IsAscending e (all_pairs_remove (λ (a b : Msg). a.num < b.num) (before ++ m ∷ rest) (length before) (omega arith) h)
 
 pub times_most : (k x : ℕ) → times k (x ∷ []) ≤ 1
-times_most k x = elim (cases_eq x k) [ | inl e ↦ let t = eq-eqb x k e in grind arith | inr ne ↦ let t = times_other k x [] ne in omega arith ]
+times_most k x = elim (cases_eq x k) [ inl e ↦ let t = eq-eqb x k e in grind arith | inr ne ↦ let t = times_other k x [] ne in omega arith ]
 
 pub on_off : (k : ℕ) (before : List Place) (p : Place) (rest : List Place) → IsOn (before ++ p ∷ rest) k → (p.index ≡ k → ⊥) → IsOn (before ++ rest) k
 on_off k before p rest h ne =
@@ -98,7 +97,7 @@ distinct_with xs p d off k =
     elim (cases_eq p.index k) [
       | inl e ↦
           let z : IsOn xs k → ⊥ = subst (λ (j : ℕ). IsOn xs j → ⊥) e off in
-          elim (cases_eq (times k (indexes xs)) 0) [ | inl n ↦ let o = times_most k p.index in omega arith | inr ne ↦ absurd (z (omega arith)) ]
+          elim (cases_eq (times k (indexes xs)) 0) [ inl n ↦ let o = times_most k p.index in omega arith | inr ne ↦ absurd (z (omega arith)) ]
       | inr ne ↦ let o = times_other k p.index [] ne in omega arith
     ]
 
@@ -139,5 +138,5 @@ module _ (lists : ListsView) (items items' : List Msg) (mark : Option ℕ) (slot
         held = let a = w.len in let b = h.held in omega arith;
         sockets = h.sockets;
         listed = all_whole (IsListed items' slots) lists.places _ (listed_same items items' slots lists.places others_same h.listed)
-          (subst (λ (n : Msg). (min m.slot slots ≡ min n.slot slots) × HasSlot slots n.slot) (sym w.here) (refl, own), tt);
+            (subst (λ (n : Msg). (min m.slot slots ≡ min n.slot slots) × HasSlot slots n.slot) (sym w.here) (refl, own), tt);
       }

@@ -1,11 +1,11 @@
 -- How many places stand before the mark, where indexes leave and come.
-use Rattle.std.proofs.Common.{◌≡◌, ◌≤◌, ◌<◌, ◌+◌, ◌-◌, inl, inr, ℕ, zero, suc, true, false, Option, Some, None, List, [], ◌∷◌, ◌++◌, length, arith, refl, sym, ap, ◌∙◌, Bool, cond, get_or, slice_get, map, length-append}
+use Rattle.std.proofs.Common.{◌≡◌, ◌≤◌, ◌<◌, ◌+◌, inl, inr, ℕ, suc, true, false, Option, Some, None, List, [], ◌∷◌, ◌++◌, length, arith, refl, sym, ap, ◌∙◌, get_or, slice_get, length-append}
 use Rattle.std.proofs.lemmas.Bool.{cases_eq, cases_Bool, eq-eqb, ne_eqb, eqb-true}
 use Rattle.std.specs.Option.{IfSome}
 use Rattle.rds_model.specs.declared.entry.Msg.{Msg}
 use Rattle.rds_msgs_lists.specs.Lists.{Place, IsOn, IsDistinct, first_index, indexes, times}
 use Rattle.rds_msgs.specs.Kept.{count_before, is_at, mark_without, mark_with, messages_at, no_message}
-use Rattle.rds_msgs.proofs.Places.{times_first, times_other, times_split, times_off, apart, first_on}
+use Rattle.rds_msgs.proofs.Places.{times_other, apart}
 
 pub count_none : (xs : List Place) → count_before None xs ≡ length xs
 count_none [] = refl
@@ -13,7 +13,7 @@ count_none (p ∷ xs) = ap suc (count_none xs)
 
 pub count_most : (mark : Option ℕ) (xs : List Place) → count_before mark xs ≤ length xs
 count_most mark [] = omega arith
-count_most mark (p ∷ xs) = let h = count_most mark xs in elim (cases_Bool (is_at mark p.index)) [ | inl t ↦ rw t (omega arith) | inr f ↦ rw f (omega arith) ]
+count_most mark (p ∷ xs) = let h = count_most mark xs in elim (cases_Bool (is_at mark p.index)) [ inl t ↦ rw t (omega arith) | inr f ↦ rw f (omega arith) ]
 
 -- at the front, and elsewhere
 pub count_here : (k : ℕ) (p : Place) (xs : List Place) → p.index ≡ k → count_before (Some k) (p ∷ xs) ≡ 0
@@ -114,7 +114,7 @@ moves_by mark left places places' before p rest n d d' e f g h = rw (e, f, g, h)
 -- an index comes
 pub count_with : (mark : Option ℕ) (xs : List Place) (p : Place) → IfSome mark (IsOn xs) → (IsOn xs p.index → ⊥) → count_before (mark_with p.index mark) (xs ++ p ∷ []) ≡ count_before mark xs
 count_with None xs p on off =
-    let z : times p.index (indexes xs) ≡ 0 = elim (cases_eq (times p.index (indexes xs)) 0) [ | inl e ↦ e | inr ne ↦ absurd (off (omega arith)) ] in
+    let z : times p.index (indexes xs) ≡ 0 = elim (cases_eq (times p.index (indexes xs)) 0) [ inl e ↦ e | inr ne ↦ absurd (off (omega arith)) ] in
     let a = count_past p.index xs (p ∷ []) z in
     let b = count_here p.index p [] refl in
     let c = count_none xs in

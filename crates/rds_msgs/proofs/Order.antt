@@ -1,5 +1,5 @@
 -- Messages in the order of their numbers.
-use Rattle.std.proofs.Common.{◌≡◌, ◌<◌, ◌+◌, ℕ, zero, suc, List, [], ◌∷◌, length, arith, slice_index_or}
+use Rattle.std.proofs.Common.{◌≡◌, ◌<◌, ℕ, zero, suc, List, [], ◌∷◌, arith, slice_index_or}
 use Rattle.std.specs.List.{All}
 use Rattle.rds_model.specs.declared.entry.Msg.{Msg}
 use Rattle.rds_msgs.specs.Messages.{IsAscending}

@@ -1,6 +1,5 @@
 -- A walk along the list of a slot that changes nothing.
-use Rattle.std.proofs.Common.{◌≡◌, ◌≤◌, ◌<◌, ◌+◌, ◌-◌, min, inl, inr, ℕ, suc, true, false, Option, Some, None, List, [], ◌∷◌, ◌++◌, length, arith, refl, sym, ap, ◌∙◌, subst, map, get_or, filter, cond, Bool}
-use Rattle.std.proofs.lemmas.Bool.{cases_eq, eq-eqb}
+use Rattle.std.proofs.Common.{◌≡◌, ◌≤◌, ◌<◌, ◌+◌, min, ℕ, true, false, Option, Some, None, List, [], ◌∷◌, ◌++◌, length, arith, refl, sym, ap, ◌∙◌, subst, get_or, cond, Bool}
 use Rattle.std.proofs.lemmas.List.{append_assoc, map-append, append-nil, length-append}
 use Rattle.std.proofs.lemmas.List.Elements.{filter-append}
 use Rattle.std.specs.List.{AllByRecursion}
@@ -9,12 +8,12 @@ use Rattle.rds_model.specs.declared.entry.Msg.{Msg}
 use Rattle.rds_model.specs.declared.entry.Target.{Target}
 use Rattle.rds_model.specs.declared.entry.TheConstants.{NO_SLOT}
 use Rattle.rds_model.specs.Alive.{aims_at}
-use Rattle.rds_msgs_lists.specs.Lists.{Place, ListsView, AtEach, IsOn, IsDistinct, first_index, indexes, of_socket, times}
+use Rattle.rds_msgs_lists.specs.Lists.{Place, AtEach, IsOn, IsDistinct, first_index, indexes, of_socket, times}
 use Rattle.rds_msgs.specs.Messages.{covers_message, covered_messages, message_numbers}
-use Rattle.rds_msgs.specs.Kept.{IsKept, IsListed, HasSlot, count_before, message_at, messages_at, no_message}
-use Rattle.rds_msgs.proofs.Places.{first_of_is, none_of, all_parts, has_place, apart, first_on, own_times, times_split, times_first}
-use Rattle.rds_msgs.proofs.Marks.{count_none, count_at, count_past, count_there, count_most}
-use Rattle.rds_msgs.proofs.Withdrawing.{AreLeft, none_taken, between_left, covers_own}
+use Rattle.rds_msgs.specs.Kept.{IsListed, HasSlot, count_before, message_at, messages_at, no_message}
+use Rattle.rds_msgs.proofs.Places.{first_of_is, none_of, all_parts, has_place, first_on, own_times, times_split, times_first}
+use Rattle.rds_msgs.proofs.Marks.{count_none, count_at, count_past, count_there}
+use Rattle.rds_msgs.proofs.Withdrawing.{none_taken, between_left, covers_own}
 
 -- the next index of a socket stands behind this one
 pub behind : (socket : ℕ) (before : List Place) (p : Place) (rest : List Place) → IsDistinct (before ++ p ∷ rest)
@@ -94,9 +93,9 @@ module _ (items : List Msg) (slots slot : ℕ) (target : Target) (places : List 
           next_is = after (v.done ++ f.before) f.place f.rest whole f.its ∙ ap (λ (j : ℕ). first_index (of_socket j f.rest)) f.owner;
           on = on;
           found = found c
-            ∙ (ap (λ (xs : List ℕ). xs ++ number_of m) v.found
-            ∙ (append_assoc begun (message_numbers (covered_messages slot target (messages_at items v.done))) (number_of m)
-            ∙ ap (λ (xs : List ℕ). begun ++ xs) (sym (ap message_numbers cs ∙ map-append (λ (j : Msg). j.num) (covered_messages slot target (messages_at items v.done)) (covered_messages slot target (m ∷ []))))));
+              ∙ (ap (λ (xs : List ℕ). xs ++ number_of m) v.found
+              ∙ (append_assoc begun (message_numbers (covered_messages slot target (messages_at items v.done))) (number_of m)
+              ∙ ap (λ (xs : List ℕ). begun ++ xs) (sym (ap message_numbers cs ∙ map-append (λ (j : Msg). j.num) (covered_messages slot target (messages_at items v.done)) (covered_messages slot target (m ∷ []))))));
         }
 
     pub visits_end : (numbers : List ℕ) → Visits None numbers → numbers ≡ begun ++ message_numbers (covered_messages slot target (messages_at items places))

@@ -1,6 +1,6 @@
 -- A cancellation walks the list of its slot.
-use Rattle.std.proofs.Common.{◌≡◌, ◌≤◌, ◌<◌, ◌+◌, ◌*◌, min, ℕ, true, false, Option, Some, None, List, [], ◌∷◌, ◌++◌, length, arith, refl, sym, ap, ◌∙◌, take, subst, map, length-append, get_or}
-use Rattle.std.proofs.lemmas.List.{append_assoc, map-append, length-map, take-map}
+use Rattle.std.proofs.Common.{◌≡◌, ◌≤◌, ◌+◌, ◌*◌, min, ℕ, true, false, Option, Some, None, List, [], ◌∷◌, ◌++◌, length, arith, refl, sym, ap, ◌∙◌, subst, length-append, get_or}
+use Rattle.std.proofs.lemmas.List.{append_assoc, map-append, length-map}
 use Rattle.std.specs.List.{AllByRecursion}
 use Rattle.std.specs.Option.{IfSome}
 use Rattle.rds_model.specs.declared.entry.Msg.{Msg}
@@ -10,10 +10,10 @@ use Rattle.rds_model.specs.Alive.{aims_at}
 use Rattle.rds_msgs_lists.specs.Lists.{Place, ListsView, AtEach, IsOn, IsDistinct, first_index, of_socket}
 use Rattle.rds_msgs.specs.Messages.{after_cancel, bytes_of, covers_message, covered_messages, messages_from}
 use Rattle.rds_msgs.specs.Kept.{IsKept, IsListed, HasSlot, count_before, mark_without, message_at, messages_at, no_message, seen}
-use Rattle.rds_msgs.proofs.Places.{FirstOf, first_of_is, none_of, all_parts, distinct_off, first_of_on}
+use Rattle.rds_msgs.proofs.Places.{first_of_is, none_of, all_parts, distinct_off, first_of_on}
 use Rattle.rds_msgs.proofs.Marks.{count_most, moves_by, Moves}
 use Rattle.rds_msgs.proofs.Keeping.{kept_off}
-use Rattle.rds_msgs.proofs.Withdrawing.{AreLeft, Stays, Ends, stays_first, stays_past, stays_off, stays_end, between_left, covers_own, length_from}
+use Rattle.rds_msgs.proofs.Withdrawing.{Stays, stays_first, stays_past, stays_off, stays_end, between_left, covers_own, length_from}
 
 module _ (items : List Msg) (slots slot : ℕ) (target : Target) where
   -- The walk is at `next`: of the places those up to it are passed, and it took so many bytes.
@@ -87,7 +87,7 @@ module _ (items : List Msg) (slots slot : ℕ) (target : Target) where
           owner = f.owner;
           listed = m.1.0;
           stays = subst (λ (xs : List Msg). Stays slot target (messages_at items old.places) (count_before first old.places) xs (message_at items f.place ∷ messages_at items f.rest) (count_before mark now.places) bytes)
-            (sym (map-append (message_at items) w.done f.before)) s;
+              (sym (map-append (message_at items) w.done f.before)) s;
           counted = omega arith;
         }
 
@@ -119,7 +119,7 @@ module _ (items : List Msg) (slots slot : ℕ) (target : Target) where
           next_is = after s.before s.place s.rest s.whole s.its ∙ ap (λ (j : ℕ). first_index (of_socket j s.rest)) s.owner;
           on = on;
           stays = subst (λ (xs : List Msg). Stays slot target (messages_at items old.places) (count_before first old.places) xs (messages_at items s.rest) (count_before mark now.places) bytes)
-            (sym (map-append (message_at items) s.before (s.place ∷ []))) t;
+              (sym (map-append (message_at items) s.before (s.place ∷ []))) t;
           fewer = w.fewer;
           fits = w.fits;
           counted = s.counted;

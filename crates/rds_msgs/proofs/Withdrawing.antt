@@ -1,15 +1,15 @@
 -- What a cancellation leaves and takes, message by message: those that it has passed, and those to come.
-use Rattle.std.proofs.Common.{◌≡◌, ◌⊎◌, ◌≤◌, ◌<◌, ◌+◌, ◌-◌, ◌*◌, ◌==◌, ◌&&◌, not, min, inl, inr, ℕ, zero, suc, true, false, Option, Some, None, List, [], ◌∷◌, ◌++◌, length, arith, refl, sym, ap, ◌∙◌, Bool, cond, filter, take, map, subst, sum_by, length-append, nat_lt}
-use Rattle.std.proofs.lemmas.Bool.{cases_eq, cases_Bool, eq-eqb, ne_eqb, eqb-true}
+use Rattle.std.proofs.Common.{◌≡◌, ◌≤◌, ◌<◌, ◌+◌, ◌-◌, ◌==◌, not, min, inl, inr, ℕ, zero, suc, true, false, List, [], ◌∷◌, ◌++◌, length, arith, refl, sym, ap, ◌∙◌, filter, take, subst, length-append, nat_lt}
+use Rattle.std.proofs.lemmas.Bool.{cases_eq, cases_Bool, eq-eqb, ne_eqb}
 use Rattle.std.proofs.lemmas.List.{append_assoc, take_all, length-take-le}
 use Rattle.std.proofs.lemmas.List.Elements.{filter-append}
-use Rattle.std.proofs.lemmas.List.Sums.{sum_by-append, sum_by-cons}
+use Rattle.std.proofs.lemmas.List.Sums.{sum_by-cons}
 use Rattle.std.specs.List.{AllByRecursion}
 use Rattle.rds_model.specs.declared.entry.Msg.{Msg}
 use Rattle.rds_model.specs.declared.entry.Target.{Target}
 use Rattle.rds_model.specs.declared.entry.TheConstants.{NO_SLOT}
 use Rattle.rds_model.specs.Alive.{aims_at}
-use Rattle.rds_msgs_lists.specs.Lists.{Place, first_index, of_socket, is_of}
+use Rattle.rds_msgs_lists.specs.Lists.{Place, of_socket, is_of}
 use Rattle.rds_msgs.specs.Messages.{covers_message, covered_messages, uncovered_messages, bytes_of, messages_from}
 use Rattle.rds_msgs.specs.Kept.{IsListed, HasSlot, message_at, messages_at}
 use Rattle.rds_msgs.proofs.Marks.{Moves}
@@ -75,9 +75,9 @@ module _ (slot : ℕ) (target : Target) where
       record {
         left = append_assoc done between (uncovered_messages slot target todo) ∙ (ap (λ (xs : List Msg). done ++ xs) (sym u) ∙ s.left);
         pulled_left =
-          rw (n, z, take_parts mark done between)
-          (append_assoc (take mark done) (take (mark - length done) between) (uncovered_messages slot target (take ((mark - length done) - length between) todo))
-          ∙ (ap (λ (xs : List Msg). take mark done ++ xs) (sym f) ∙ s.pulled_left));
+            rw (n, z, take_parts mark done between)
+            (append_assoc (take mark done) (take (mark - length done) between) (uncovered_messages slot target (take ((mark - length done) - length between) todo))
+            ∙ (ap (λ (xs : List Msg). take mark done ++ xs) (sym f) ∙ s.pulled_left));
         taken = ap (λ (xs : List Msg). bytes + bytes_of xs) (sym c) ∙ s.taken;
       }
 
@@ -189,5 +189,4 @@ module _ (items : List Msg) (slots slot : ℕ) (most : slots ≤ NO_SLOT) (has :
             let b : length (of_socket (min slot slots) (p ∷ xs)) ≡ length (of_socket (min slot slots) xs) = rw f refl in
             omega arith
       ]
-
   -- a slot that has no list has no message

@@ -1,4 +1,4 @@
-ghost use Rattle.std.specs.Prelude.{◌≡◌, ◌≤◌, ◌+◌, cond, length, IfSome, OnOk, [], ◌∷◌, ◌++◌};
+ghost use Rattle.std.specs.Prelude.{◌≡◌, ◌≤◌, ◌+◌, None, cond, length, IfSome, OnOk, [], ◌∷◌, ◌++◌};
 ghost use Rattle.rds_msgs_lists.specs.Lists.{IsOn};
 ghost use Rattle.rds_msgs.specs.Messages.{after_cancel, bytes_of, covered_messages, messages_from, message_numbers};
 ghost use Rattle.rds_msgs.specs.Kept.{HasSlot, IsKept, seen, messages_at};
@@ -33,8 +33,9 @@ pub(crate) fn withdraw<L: Ledger>(
     ensures left { seen lists.new items.now result.mark slots ≡ after_cancel slot target (seen lists.old items.now mark slots) }
     ensures bytes { result.bytes ≡ bytes_of (covered_messages slot target (messages_at items.now lists.old.places)) }
     ensures fewer { length lists.new.places ≤ length lists.old.places }
-    ensures cost { steps.new ≤ steps.old + length (messages_from slot (messages_at items.now lists.old.places)) }
+    ensures cost { steps.new ≤ steps.old + length (messages_from slot (messages_at items.now lists.old.places)) + 1 }
 {
+    steps.tick();
     let mut left = Withdrawn { mark, bytes: 0 };
     let mut next = lists.first_of(list_of(slots, slot));
     while let Some(at) = next {
@@ -53,13 +54,12 @@ pub(crate) fn withdraw<L: Ledger>(
 pub(crate) fn push_covered(
     lists: &Lists,
     items: &[Msg],
-    mark: Option<Index>,
     slots: u16,
     slot: u16,
     target: Target,
     out: &mut Vec<u64>,
 ) -> Result<(), Memory>
-    requires kept { IsKept lists.now items.now mark slots }
+    requires kept { IsKept lists.now items.now None slots }
     ensures ok { OnOk result (out.new.items ≡ out.old.items ++ message_numbers (covered_messages slot target (messages_at items.now lists.now.places))) }
 {
     if !has_slot(slots, slot) {
@@ -67,9 +67,10 @@ pub(crate) fn push_covered(
     }
     let mut next = lists.first_of(list_of(slots, slot));
     while let Some(at) = next {
+        let behind = lists.after_of(at);
         let m = message(items, at);
         push_where(out, m.num, target.covers(m.dport))?;
-        next = lists.after_of(at);
+        next = behind;
     }
     Ok(())
 }

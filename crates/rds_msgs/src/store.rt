@@ -185,7 +185,6 @@ impl Store {
         ensures rest { self.new ≡ after_cancel slot target self.old }
         ensures cost { steps.new ≤ steps.old + length (messages_from slot self.old.messages) + 1 }
     {
-        steps.tick();
         if !has_slot(self.slots, slot) {
             return 0;
         }
@@ -215,7 +214,6 @@ impl Store {
         push_covered(
             &self.lists,
             &self.items,
-            self.mark,
             self.slots,
             slot,
             *target,

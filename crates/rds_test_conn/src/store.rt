@@ -1,6 +1,7 @@
 //! Messages that leave the store.
-ghost use Rattle.std.specs.Prelude.{◌≡◌, ◌+◌, ◌<◌, OnOk};
+ghost use Rattle.std.specs.Prelude.{◌≡◌, ◌+◌, ◌≤◌, ◌<◌, ◌==◌, cond, [], length, OnOk};
 ghost use Rattle.std.specs.List.{All};
+ghost use Rattle.rds_msgs.specs.Messages.{messages_from};
 
 use rds_model::{NO_SLOT, Target};
 use rds_msgs::{MAX_MESSAGES, Msg, Steps, Store};
@@ -14,7 +15,8 @@ use std::test::Fail;
 /// Appends a message of as many bytes as its port has hundreds.
 fn accept(store: &mut Store, num: u64, slot: u16, dport: u16) -> Result<(), Memory>
     requires { All (λ (k : Msg). k.num < num) store.old.messages }
-    ensures { OnOk result (All (λ (k : Msg). k.num < num + 1) store.new.messages) }
+    ensures above { OnOk result (All (λ (k : Msg). k.num < num + 1) store.new.messages) }
+    ensures from { OnOk result (length (messages_from 1 store.new.messages) ≤ length (messages_from 1 store.old.messages) + cond (slot == 1) 1 0) }
 {
     store.reserve(1)?;
     if store.len() < MAX_MESSAGES && (slot < store.slots() || slot == NO_SLOT) {
@@ -89,7 +91,9 @@ fn cancelling<L: Ledger>(rt: &impl Abort, alloc: Global, store: &mut Store, blan
 }
 
 /// Takes out the first message where it is acknowledged, and gives its number, or 0 where it stays.
-fn pop<L: Ledger>(store: &mut Store, upto: u64, steps: &mut Steps<L>) -> u64 {
+fn pop<L: Ledger>(store: &mut Store, upto: u64, steps: &mut Steps<L>) -> u64
+    ensures { steps.new ≡ steps.old + 1 }
+{
     let Some(m) = store.pop_acked(upto, steps) else {
         return 0;
     };
@@ -117,6 +121,50 @@ fn acknowledging<L: Ledger>(rt: &impl Abort, store: &mut Store, blank: Blank)
     );
 }
 
+/// Appends 100,000 messages of slot 0, and three of slot 1.
+fn fill_many(store: &mut Store) -> Result<(), Memory>
+    requires { store.old.messages ≡ [] }
+    ensures { OnOk result (length (messages_from 1 store.new.messages) ≤ 3) }
+{
+    for num in 1..100_001 {
+        accept(store, num, 0, 400)?;
+    }
+    accept(store, 100_001, 1, 400)?;
+    accept(store, 100_002, 1, 400)?;
+    accept(store, 100_003, 1, 400)
+}
+
+/// Cancels those of slot 1, by four steps at most.
+fn cancel_three<L: Ledger>(store: &mut Store, steps: &mut Steps<L>) -> u64
+    requires three { length (messages_from 1 store.old.messages) ≤ 3 }
+    ensures cost { steps.new ≤ steps.old + 4 }
+{
+    store.cancel(1, 400, steps)
+}
+
+/// What leaves where 2 messages are acknowledged three times, by three steps.
+fn pop_three<L: Ledger>(store: &mut Store, steps: &mut Steps<L>) -> [u64; 3]
+    ensures cost { steps.new ≡ steps.old + 3 }
+{
+    [
+        pop(store, 2, steps),
+        pop(store, 2, steps),
+        pop(store, 2, steps),
+    ]
+}
+
+fn counting<L: Ledger>(rt: &impl Abort, store: &mut Store, blank: Blank)
+    requires three { length (messages_from 1 store.old.messages) ≤ 3 }
+    requires name { blank.name ≡ L.name }
+    requires parts { blank.parts ≡ L.parts }
+    requires whole { 0 < L.parts }
+{
+    let mut steps = Steps::<L>::new(blank);
+    assert!(rt; cancel_three(store, &mut steps) == 12);
+    assert!(rt; store.len() == 100_000);
+    assert!(rt; pop_three(store, &mut steps) == [1, 2, 0]);
+}
+
 #[test]
 fn cancelled_messages_leave(rt: HostRuntime) -> Result<(), Fail> {
     let mut store = five(rt.alloc())?;
@@ -128,5 +176,13 @@ fn cancelled_messages_leave(rt: HostRuntime) -> Result<(), Fail> {
 fn acknowledged_messages_leave(rt: HostRuntime) -> Result<(), Fail> {
     let mut store = five(rt.alloc())?;
     acknowledging::<Brand>(&rt, &mut store, Blank::new(1));
+    Ok(())
+}
+
+#[test]
+fn a_cancellation_visits_the_messages_of_its_slot(rt: HostRuntime) -> Result<(), Fail> {
+    let mut store = Store::new(rt.alloc(), 2)?;
+    fill_many(&mut store)?;
+    counting::<Brand>(&rt, &mut store, Blank::new(1));
     Ok(())
 }

@@ -1,11 +1,11 @@
-use Rattle.std.proofs.Common.{◌≡◌, ◌≤◌, ◌<◌, ◌+◌, ◌-◌, ◌∷◌, [], ◌++◌, min, length, subst, sym, ap, refl, ◌∙◌, Option, ℕ, arith, length-append}
+use Rattle.std.proofs.Common.{◌≡◌, ◌≤◌, ◌<◌, ◌-◌, ◌∷◌, [], ◌++◌, min, length, subst, sym, ap, ◌∙◌, ℕ, arith, length-append}
 use Rattle.std.proofs.lemmas.List.{length-map}
 use Rattle.std.specs.List.{All}
 use Rattle.rds_model.specs.declared.entry.Msg.{Msg}
-use Rattle.rds_msgs_lists.specs.Lists.{ListsView, IsOn, after_push}
+use Rattle.rds_msgs_lists.specs.Lists.{after_push}
 use Rattle.rds_msgs.specs.declared.store.TheConstants.{MAX_MESSAGES}
 use Rattle.rds_msgs.specs.Messages.{StoreView}
-use Rattle.rds_msgs.specs.Kept.{IsKept, IsStore, HasSlot, seen, mark_with, message_at}
+use Rattle.rds_msgs.specs.Kept.{HasSlot, seen, message_at}
 use Rattle.rds_msgs.proofs.Keeping.{Written, kept_with}
 use Rattle.rds_msgs.proofs.Calls.{appended}
 use Rattle.rds_msgs.proofs.store.Store.append.Goals as goal

@@ -1,4 +1,4 @@
-use Rattle.std.proofs.Common.{◌≡◌, ◌+◌, ◌↔◌, IsTrue, length, subst, sym, ap, ◌∙◌, false, Option, Some, None, ℕ}
+use Rattle.std.proofs.Common.{◌≡◌, ◌+◌, ◌↔◌, IsTrue, length, subst, sym, false, Option, ℕ}
 use Rattle.rds_msgs_lists.specs.Lists.{IsOn}
 use Rattle.rds_msgs.specs.Messages.{StoreView}
 use Rattle.rds_msgs.specs.Kept.{count_before, messages_at}

@@ -1,4 +1,4 @@
-use Rattle.std.proofs.Common.{◌≡◌, ◌+◌, ◌<◌, length, subst, sym, ap, refl, ◌∙◌, Some, Option, ℕ}
+use Rattle.std.proofs.Common.{◌≡◌, ◌+◌, ◌<◌, length, subst, sym, ap, refl, ◌∙◌, Option, ℕ}
 use Rattle.rds_msgs_lists.specs.Lists.{IsOn}
 use Rattle.rds_msgs.specs.Messages.{StoreView}
 use Rattle.rds_msgs.specs.Kept.{count_before, seen}

@@ -1,6 +1,5 @@
-use Rattle.std.proofs.Common.{◌≡◌, ◌∙◌, sym, ap, subst, refl, slice_get, option_copied, Option, Some, None, ℕ, arith, get_or, length, ◌<◌}
+use Rattle.std.proofs.Common.{◌≡◌, ◌∙◌, sym, ap, subst, slice_get, Option, Some, None, ℕ, arith, get_or}
 use Rattle.std.proofs.lemmas.List.{get_or_read}
-use Rattle.rds_model.specs.declared.entry.Msg.{Msg}
 use Rattle.rds_msgs_lists.specs.Lists.{IsOn}
 use Rattle.rds_msgs.specs.Messages.{StoreView}
 use Rattle.rds_msgs.specs.Kept.{count_before, messages_at, no_message}

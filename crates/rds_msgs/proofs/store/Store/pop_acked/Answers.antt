@@ -1,8 +1,8 @@
-use Rattle.std.proofs.Common.{◌≡◌, ◌≤◌, ◌<◌, ◌+◌, ◌∷◌, ◌∙◌, ap, sym, subst, arith, get_or, length, slice_index_or}
+use Rattle.std.proofs.Common.{◌≡◌, ◌<◌, ◌∷◌, ◌∙◌, ap, sym, subst, arith, get_or}
 use Rattle.std.specs.List.{All}
 use Rattle.rds_model.specs.declared.entry.Msg.{Msg}
 use Rattle.rds_msgs.specs.Messages.{StoreView, without_first}
-use Rattle.rds_msgs.specs.Kept.{IsStore, messages_at, no_message, seen}
+use Rattle.rds_msgs.specs.Kept.{messages_at, no_message, seen}
 use Rattle.rds_msgs.proofs.Order.{above_first}
 use Rattle.rds_msgs.proofs.Calls.{Popped, popped, first_read}
 use Rattle.rds_msgs.proofs.store.Store.pop_acked.Given.{Over}

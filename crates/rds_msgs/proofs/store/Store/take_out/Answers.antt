@@ -1,6 +1,6 @@
-use Rattle.std.proofs.Common.{◌≡◌, sym, ap, ◌∙◌, subst}
+use Rattle.std.proofs.Common.{◌≡◌, sym, ap, subst}
 use Rattle.rds_msgs.specs.Messages.{StoreView, after_cancel, bytes_of, covered_messages}
-use Rattle.rds_msgs.proofs.Calls.{Untouched, untouched}
+use Rattle.rds_msgs.proofs.Calls.{untouched}
 use Rattle.rds_msgs.proofs.Places.{not_true}
 use Rattle.rds_msgs.proofs.store.Store.take_out.Goals as goal
 
