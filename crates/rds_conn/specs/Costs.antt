@@ -14,7 +14,8 @@ slot_numbers slot past = filter (λ n. is_from slot (datagram past n)) (alive_nu
 abbrev pub acked_numbers : ℕ → List Entry → List ℕ
 acked_numbers ack past = filter (λ n. nat_le n ack) (alive_numbers past)
 
--- an order takes at most so many steps: where it takes back, one for each number of the slot that is alive, and one
+-- An order takes at most so many steps: none for a datagram; where datagrams are taken back, one for each number of the
+-- slot that is alive, and one.
 abbrev pub order_steps : Order → List Entry → ℕ
 order_steps (order.Send slot sport dport payload) past = 0
 order_steps (order.Cancel slot dport) past = length (slot_numbers slot past) + 1
