@@ -1,5 +1,5 @@
 -- How the counts of a legal journal bound one another.
-use Rattle.std.proofs.Common.{◌≡◌, inl, inr, ℕ, ◌≤◌, ◌&&◌, ◌||◌, ◌==◌, max, true, false, is_some, List, [], ◌∷◌, length, refl, ap, arith}
+use Rattle.std.proofs.Common.{◌≡◌, inl, inr, ℕ, ◌≤◌, ◌&&◌, ◌==◌, max, true, is_some, List, [], ◌∷◌, length, ap, arith}
 use Rattle.std.proofs.lemmas.Bool.{and_parts, and_from, or_right, or_left, or_cases, eq-eqb, cases_lt, eqb-true, cond_both, cases_Bool, cond-true, cond-false, cases_eq, false≢true}
 use Rattle.rds_wire.specs.CauseLaws.{ack-cause}
 use Rattle.rds_model.specs.declared.entry.Entry.{Entry}

@@ -5,6 +5,7 @@ pub mod AliveSteps
 pub mod Untouched
 pub mod Messages
 pub mod MessagesHeld
+pub mod Costs
 pub mod KeepsStreams
 pub mod Totals
 pub mod ReleasedBytes

@@ -3,8 +3,8 @@ use Rattle.std.proofs.Common.{◌≡◌, ℕ, ◌<◌, ◌&&◌, ◌||◌, ◌==
 use Rattle.std.proofs.lemmas.Bool.{ne_eqb}
 use Rattle.rds_wire.specs.Bytes.{header_bytes}
 use Rattle.rds_model.specs.declared.entry.Entry.{Entry}
-use Rattle.rds_model.specs.declared.entry.Entry.TheVariants.{Accept, Cancel, Open, Pull, Read, Shut, Bad}
-use Rattle.rds_model.specs.Past.{now, accepted, open_stream, newest_stream, is_datagram, carries_number}
+use Rattle.rds_model.specs.declared.entry.Entry.TheVariants.{Open, Pull, Read, Bad}
+use Rattle.rds_model.specs.Past.{now, accepted, newest_stream, is_datagram, carries_number}
 use Rattle.rds_model.specs.Streams.{pulled_on, read_frames, refused_bytes}
 use Rattle.rds_model.specs.Alive.{is_alive, alive_numbers, due_numbers}
 use Rattle.rds_model.specs.Owed.{asks, is_map, wants_answer, last_map, unasked, is_asked, must_ask}

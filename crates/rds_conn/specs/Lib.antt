@@ -8,4 +8,5 @@ pub mod Choosing
 pub mod Pulling
 pub mod Feeding
 pub mod Passing
+pub mod Costs
 pub mod Invariant

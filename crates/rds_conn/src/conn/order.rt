@@ -5,6 +5,7 @@ ghost use Rattle.rds_model.specs.declared.entry.Target.TheVariants as target;
 ghost use Rattle.rds_model.specs.declared.entry.Msg.{Msg};
 ghost use Rattle.rds_conn.specs.Connection.{IsReady, freed_bytes_of, with_entries};
 ghost use Rattle.rds_conn.specs.Released.{released_bytes};
+ghost use Rattle.rds_conn.specs.Costs.{slot_numbers, order_steps};
 ghost use Rattle.rds_conn.specs.Orders.{IsOrderFor, after_order, accepted_bytes};
 ghost use Rattle.rds_model.specs.Alive.{alive_bytes};
 
@@ -26,6 +27,7 @@ impl Conn {
             freed_bytes_of slot self.new + released_bytes slot self.old.log.past ≡ freed_bytes_of slot self.old + released_bytes slot self.new.log.past }
         ensures conserved { (slot : ℕ) → slot < self.old.slots → freed_bytes_of slot self.new + alive_bytes slot self.new.log.past
             ≡ freed_bytes_of slot self.old + alive_bytes slot self.old.log.past + accepted_bytes slot order }
+        ensures few { steps.new ≤ steps.old + order_steps order self.old.log.past }
     {
         match order {
             Order::Send {
@@ -73,6 +75,7 @@ impl Conn {
             freed_bytes_of other self.new + released_bytes other self.old.log.past ≡ freed_bytes_of other self.old + released_bytes other self.new.log.past }
         ensures conserved { (other : ℕ) → other < self.old.slots →
             freed_bytes_of other self.new + alive_bytes other self.new.log.past ≡ freed_bytes_of other self.old + alive_bytes other self.old.log.past }
+        ensures few { steps.new ≤ steps.old + length (slot_numbers slot self.old.log.past) + 1 }
     {
         let bytes = self.store.cancel(slot, dport, steps);
         self.freed.add(slot, bytes);
@@ -91,6 +94,7 @@ impl Conn {
             freed_bytes_of other self.new + released_bytes other self.old.log.past ≡ freed_bytes_of other self.old + released_bytes other self.new.log.past }
         ensures conserved { (other : ℕ) → other < self.old.slots →
             freed_bytes_of other self.new + alive_bytes other self.new.log.past ≡ freed_bytes_of other self.old + alive_bytes other self.old.log.past }
+        ensures few { steps.new ≤ steps.old + length (slot_numbers slot self.old.log.past) + 1 }
     {
         let bytes = self.store.cancel_all(slot, steps);
         self.freed.add(slot, bytes);

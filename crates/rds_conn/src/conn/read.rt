@@ -8,6 +8,7 @@ ghost use Rattle.rds_model.specs.Legal.{pong_for};
 ghost use Rattle.rds_model.specs.Reading.{verdict_of as verdict_after, Obeys};
 ghost use Rattle.rds_msgs.specs.Messages.{bytes_of};
 ghost use Rattle.rds_conn.specs.Connection.{IsReady, freed_bytes_of, stream_of};
+ghost use Rattle.rds_conn.specs.Costs.{acked_numbers};
 ghost use Rattle.rds_conn.specs.Freeing.{Frees, acknowledged};
 ghost use Rattle.rds_conn.specs.Released.{released_bytes};
 ghost use Rattle.rds_conn.specs.Passing.{Matches, Passes, outcome_of as outcome_after, after_pass};
@@ -50,6 +51,7 @@ impl Conn {
         requires waiting { IsSome self.old.waiting }
         requires found { IfSome self.old.waiting (λ f. Matches self.old.slots (verdict_after self.old.log.past f.header) found) }
         ensures passes { Passes found self.old self.new }
+        ensures few { IfSome self.old.waiting (λ f. steps.new ≡ steps.old + length (acked_numbers f.header.ack self.old.log.past) + 1) }
     {
         self.known();
         self.pass_found(found, steps);
@@ -66,6 +68,7 @@ impl Conn {
         ensures freed { (slot : ℕ) → slot < self.old.slots →
             freed_bytes_of slot self.new + released_bytes slot self.old.log.past ≡ freed_bytes_of slot self.old + released_bytes slot self.new.log.past }
         ensures on { IsSome (stream_of self.old) }
+        ensures few { IfSome self.old.waiting (λ f. steps.new ≡ steps.old + length (acked_numbers f.header.ack self.old.log.past) + 1) }
     {
         self.known();
         let Some(verdict) = self.verdict() else {
@@ -87,6 +90,7 @@ impl Conn {
         ensures freed { (slot : ℕ) → slot < self.old.slots →
             freed_bytes_of slot self.new + released_bytes slot self.old.log.past ≡ freed_bytes_of slot self.old + released_bytes slot self.new.log.past }
         ensures on { IsSome (stream_of self.old) }
+        ensures few { IfSome self.old.waiting (λ f. steps.new ≡ steps.old + length (acked_numbers f.header.ack self.old.log.past) + 1) }
     {
         let Some(stream) = self.stream else {
             unreachable!()
@@ -115,6 +119,7 @@ impl Conn {
         ensures freed { (slot : ℕ) → slot < self.old.slots →
             freed_bytes_of slot self.new + released_bytes slot self.old.log.past ≡ freed_bytes_of slot self.old + released_bytes slot self.new.log.past }
         ensures on { IsSome (stream_of self.old) }
+        ensures few { IfSome self.old.waiting (λ f. steps.new ≡ steps.old + length (acked_numbers f.header.ack self.old.log.past) + 1) }
     {
         let Some(stream) = self.stream else {
             unreachable!()
@@ -161,6 +166,7 @@ fn acknowledge<L: Ledger>(
     requires fits { sum freed.old + bytes_of store.old.messages < 2 ^ 64 }
     ensures store { store.new ≡ acknowledged upto store.old }
     ensures freed { Frees store.old store.new freed.old freed.new }
+    ensures few { steps.new + length store.new.messages ≡ steps.old + length store.old.messages + 1 }
 {
     while let Some(msg) = store.pop_acked(upto, steps) {
         freed.add(msg.slot, u64::from(msg.len));

@@ -1,6 +1,7 @@
 use Rattle.std.proofs.Common.{ap, arith}
 use Rattle.rds_model.specs.declared.entry.Target.TheVariants.{All}
 use Rattle.rds_conn.specs.Connection.{Connection}
+use Rattle.rds_conn.proofs.Costs.{length-messages_from}
 use Rattle.rds_conn.proofs.KeepsOrders.{keeps_cancel, frees_cancel, conserved_cancel, cancel_fits}
 use Rattle.rds_conn.proofs.conn.Conn.cancel_all.Goals as goal
 
@@ -23,3 +24,8 @@ pub returns-clause-conserved : goal.returns-clause-conserved
 returns-clause-conserved g c =
     rw (← c.self.view_is, c.push.ensures, c.add.ensures, c.cancel_all-bytes.ensures.bytes)
     (λ s within. conserved_cancel c.self.inside c.args.slot All s c.self.invariant within)
+
+pub returns-clause-few : goal.returns-clause-few
+returns-clause-few g c =
+    let messages = length-messages_from c.args.slot c.self.inside.journal.past c.self.inside.store.messages c.self.invariant.stored.holds.alive in
+    rw (← c.self.view_is) (omega (arith, messages, c.cancel_all-bytes.ensures.cost))

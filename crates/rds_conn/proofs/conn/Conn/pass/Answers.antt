@@ -5,4 +5,5 @@ pub returns : goal.returns
 returns g c = record {
   passes = passes_of c.args.found c.args.self.now c.pass_found.new.self c.pass_found.ensures.on c.requires.waiting c.known.ensures.sound
       c.known-2.ensures.whole c.pass_found.ensures.entry c.pass_found.ensures.freed;
+  few = c.pass_found.ensures.few;
 }

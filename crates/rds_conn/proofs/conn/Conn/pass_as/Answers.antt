@@ -2,6 +2,7 @@ use Rattle.std.proofs.Common.{◌≡◌, Some, IfSome, ap, ◌∙◌, sym, subst
 use Rattle.rds_wire.specs.declared.frame.Frame.{Frame}
 use Rattle.rds_model.specs.Reading.{verdict_of, Obeys}
 use Rattle.rds_conn.specs.Connection.{Connection}
+use Rattle.rds_conn.proofs.Costs.{acked_steps}
 use Rattle.rds_conn.proofs.KeepsPassing.{keeps_passed, frees_passed, passed_fits, of_some}
 use Rattle.rds_conn.proofs.conn.Conn.pass_as.Goals as goal
 
@@ -24,3 +25,9 @@ returns-clause-freed g c =
     rw (← c.self.view_is, c.push.ensures)
     (λ s within. frees_passed c.self.inside c.in-Some.stream c.in-Some-done.frame c.args.outcome c.acknowledge.new.store c.acknowledge.new.freed s
     c.self.invariant within (record { store_is = c.acknowledge.ensures.store; frees = c.acknowledge.ensures.freed }))
+
+pub returns-clause-few : goal.returns-clause-few
+returns-clause-few g c =
+    let waiting : c.self.inside.splitter.waiting ≡ Some c.in-Some-done.frame = sym c.done.ensures.frame ∙ c.in-Some-done.is in
+    rw (← c.self.view_is) (acked_steps c.self.inside c.in-Some-done.frame c.acknowledge.new.store c.args.steps.now c.acknowledge.new.steps
+    c.self.invariant waiting c.acknowledge.ensures.store c.acknowledge.ensures.few)

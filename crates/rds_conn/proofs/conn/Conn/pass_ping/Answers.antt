@@ -6,6 +6,7 @@ use Rattle.rds_model.specs.declared.entry.Verdict.TheVariants as verdict
 use Rattle.rds_model.specs.Past.{accepted}
 use Rattle.rds_model.specs.Reading.{verdict_of}
 use Rattle.rds_conn.specs.Connection.{Connection}
+use Rattle.rds_conn.proofs.Costs.{acked_steps}
 use Rattle.rds_conn.proofs.KeepsOrders.{takes_message}
 use Rattle.rds_conn.proofs.KeepsPassing.{keeps_answered, frees_answered, answer_next, passed_fits, of_some}
 use Rattle.rds_conn.proofs.conn.Conn.pass_ping.Goals as goal
@@ -66,3 +67,9 @@ returns-clause-freed g c =
     c.self.invariant within c.in-Some.is waiting
     (of_some (λ (f : Frame). verdict_of c.self.inside.journal.past f.header ≡ verdict.Ping) c.self.inside.splitter.waiting c.in-Some-done.frame waiting ping)
     (record { store_is = c.acknowledge.ensures.store; frees = c.acknowledge.ensures.freed }))
+
+pub returns-clause-few : goal.returns-clause-few
+returns-clause-few g c =
+    let waiting : c.self.inside.splitter.waiting ≡ Some c.in-Some-done.frame = sym c.done.ensures.frame ∙ c.in-Some-done.is in
+    rw (← c.self.view_is) (acked_steps c.self.inside c.in-Some-done.frame c.acknowledge.new.store c.args.steps.now c.acknowledge.new.steps
+    c.self.invariant waiting c.acknowledge.ensures.store c.acknowledge.ensures.few)
