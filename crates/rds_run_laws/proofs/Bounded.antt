@@ -27,7 +27,7 @@ use Rattle.rds_run_laws.proofs.Reaching.{accepted_ordered, delivered_passed}
 use Rattle.rds_run_laws.proofs.Standing.{few_of_two, few_standing}
 
 -- the place of a peer in its host's row
-place_of : (hosts host peer : ℕ) → host < hosts → peer < hosts → peer ≢ host → (place : ℕ) × (suc place < hosts) × (peer_at host place ≡ peer)
+pub place_of : (hosts host peer : ℕ) → host < hosts → peer < hosts → peer ≢ host → (place : ℕ) × (suc place < hosts) × (peer_at host place ≡ peer)
 place_of hosts host peer known also apart =
     elim (cases_lt peer host) [
       | inl low ↦ (peer, omega (arith, low, known), cond-true _ _ _ (lt-ltb peer host low))

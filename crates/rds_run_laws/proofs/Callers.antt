@@ -27,7 +27,7 @@ use Rattle.rds_run_laws.specs.Sent.{sent_by}
 use Rattle.rds_run_laws.specs.Weights.{orders_sum}
 
 -- a sum with one term changed
-set_sum : {X : Type 0} (f : X → ℕ) (xs : List X) (i : ℕ) (x y : X) → slice_get xs i ≡ Some x → sum_by f (slice_set xs i y) + f x ≡ sum_by f xs + f y
+pub set_sum : {X : Type 0} (f : X → ℕ) (xs : List X) (i : ℕ) (x y : X) → slice_get xs i ≡ Some x → sum_by f (slice_set xs i y) + f x ≡ sum_by f xs + f y
 set_sum f xs i x y at =
     let changed = sum_by-set f xs i y x (slice_get_within xs i x at) in
     let here = ap f (get_or_from_slice_get xs i x x at) in
@@ -40,7 +40,7 @@ module _ (w : List ℕ → ℕ) where
   abbrev place_sum : Place → ℕ
   place_sum p = routes_sum w (holding_of p).routes
 
-  put_more : (xs : List Order) (item : Order) → orders_sum w (xs ++ item ∷ []) ≡ orders_sum w xs + orders_sum w (item ∷ [])
+  pub put_more : (xs : List Order) (item : Order) → orders_sum w (xs ++ item ∷ []) ≡ orders_sum w xs + orders_sum w (item ∷ [])
   put_more [] item = omega arith
   put_more (order.Send s f t p ∷ xs) item = let ih = put_more xs item in omega (arith, ih)
   put_more (order.Cancel s t ∷ xs) item = put_more xs item
@@ -125,7 +125,7 @@ module _ (w : List ℕ → ℕ) where
       let same = ap (places_sum w) is in
       omega (arith, changed, routes, same)
 
-  held_by : (p : Place) (h : Holding ReaderView) → holding_of (with_holding p h) ≡ h
+  pub held_by : (p : Place) (h : Holding ReaderView) → holding_of (with_holding p h) ≡ h
   held_by (Vacant k) h = refl
   held_by (Bound o got) h = refl
   held_by (Ended port k got) h = refl

@@ -11,3 +11,15 @@ pub mod Doing
 pub mod Standing
 pub mod Bounded
 pub mod Ports
+pub mod Pulled
+pub mod Growing
+pub mod Effects
+pub mod Walking
+pub mod Binding
+pub mod Shares
+pub mod Calmly
+pub mod Harmless
+pub mod Meeting
+pub mod Ordered
+pub mod Clear
+pub mod Carried

@@ -1,7 +1,9 @@
 -- What the callers of a run put on their routes, and what their hosts' own commands send, by a weight of payloads. Source: this project's own.
-use Rattle.std.specs.Prelude.{ℕ, ◌+◌, if◌then◌else◌, List, [], ◌∷◌, sum_by}
+use Rattle.std.specs.Prelude.{ℕ, ◌+◌, ◌==◌, ◌&&◌, if◌then◌else◌, List, [], ◌∷◌, sum_by}
 use Rattle.rds_fmap.specs.Readers.{ReaderView}
 use Rattle.rds_socket_parts.specs.Lanes.{Lane}
+use Rattle.rds_script.specs.declared.script.Command.{Command}
+use Rattle.rds_script.specs.declared.script.Command.TheVariants.{Send}
 use Rattle.rds_script.specs.declared.script.Placed.{Placed}
 use Rattle.rds_run_callers.specs.Commands.{commander}
 use Rattle.rds_run_callers.specs.Places.{Place, holding_of}
@@ -22,3 +24,13 @@ abbrev pub own_sum : (List ℕ → ℕ) → (host : ℕ) → List Placed → ℕ
 own_sum weight host [] = 0
 own_sum weight host (placed ∷ commands) =
     (if is_host host (commander placed.command) then sent_by weight placed.command else 0) + own_sum weight host commands
+
+-- the weight of the datagram that a command has one host send to another, or 0
+abbrev pub sent_to : (List ℕ → ℕ) → (host peer : ℕ) → Command → ℕ
+sent_to weight host peer (Send by port to dport payload) = if by == host && (to == peer) then weight payload else 0
+sent_to weight host peer _ = 0
+
+-- what the commands have one host send to another
+abbrev pub sent_between : (List ℕ → ℕ) → (host peer : ℕ) → List Placed → ℕ
+sent_between weight host peer [] = 0
+sent_between weight host peer (placed ∷ commands) = sent_to weight host peer placed.command + sent_between weight host peer commands

@@ -1,0 +1,62 @@
+-- Scripts of which a run comes to the same, however its threads take turns. Source: this project's own.
+use Rattle.std.specs.Prelude.{◌≡◌, ◌≢◌, ◌<◌, ◌≤◌, ℕ, List, All, Contains, filter, length}
+use Rattle.rds_wire.specs.declared.kind.TheConstants.{MAX_LENGTH}
+use Rattle.rds_model.specs.declared.entry.Entry.{Entry}
+use Rattle.rds_model.specs.declared.entry.TheConstants.{MAX_SLOTS}
+use Rattle.rds_model.specs.Sums.{orders}
+use Rattle.rds_script.specs.declared.script.Command.{Command}
+use Rattle.rds_script.specs.declared.script.Command.TheVariants.{Bind, BindAny, Send, Recv, Cancel, Close, Open, Move, Cut, Drain}
+use Rattle.rds_script.specs.declared.script.Placed.{Placed}
+use Rattle.rds_run_hosts.specs.Obeyed.{after_binds, is_bind_of, leading_binds}
+use Rattle.rds_run_laws.specs.Put.{sent_between}
+use Rattle.rds_run_laws.specs.Sent.{sent_sum}
+use Rattle.rds_run_laws.specs.Weights.{orders_sum, passed_sum}
+
+-- the command binds a port that isn't reserved, and each of its buffers has room for so many bytes
+abbrev pub BindsAmply : (bytes : ℕ) → Command → Type 0
+BindsAmply bytes (Bind host port sndbuf rcvbuf) = (2 ≤ port) × (bytes ≤ sndbuf) × (bytes ≤ rcvbuf)
+BindsAmply bytes _ = ⊥
+
+-- the command has the host bind the port
+abbrev pub BindsPort : (host port : ℕ) → Command → Type 0
+BindsPort host port (Bind by at sndbuf rcvbuf) = (by ≡ host) × (at ≡ port)
+BindsPort host port _ = ⊥
+
+-- one of these commands does
+abbrev pub HasBind : (host port : ℕ) → List Placed → Type 0
+HasBind host port commands = (placed : Placed) × Contains commands placed × BindsPort host port placed.command
+
+-- A send goes from a port that one of these binds takes to one that another host's bind takes, two of so many hosts, and is short enough.
+pub record SendsAcross (hosts : ℕ) (binds : List Placed) (host port to dport bytes : ℕ) : Type 0 where
+  pub from : HasBind host port binds
+  pub into : HasBind to dport binds
+  pub known : host < hosts
+  pub to_known : to < hosts
+  pub apart : to ≢ host
+  pub short : bytes ≤ MAX_LENGTH
+
+-- the command sends so, or it binds, takes back and closes nothing
+abbrev pub IsCalmAfter : (hosts : ℕ) → (binds : List Placed) → Command → Type 0
+IsCalmAfter hosts binds (Bind host port sndbuf rcvbuf) = ⊥
+IsCalmAfter hosts binds (BindAny host port sndbuf rcvbuf) = ⊥
+IsCalmAfter hosts binds (Send host port to dport payload) = SendsAcross hosts binds host port to dport (length payload)
+IsCalmAfter hosts binds (Recv host port) = Unit {0}
+IsCalmAfter hosts binds (Cancel host port to dport) = ⊥
+IsCalmAfter hosts binds (Close host port) = ⊥
+IsCalmAfter hosts binds (Open host to) = Unit {0}
+IsCalmAfter hosts binds (Move host to bytes) = Unit {0}
+IsCalmAfter hosts binds (Cut host to) = Unit {0}
+IsCalmAfter hosts binds Drain = Unit {0}
+
+-- The binds of the script come first, each with a port that it names and with buffers that have room for all that the script sends, no more than
+-- a host has slots. Then each send goes from a bound port to a bound port of another host, and nothing is taken back or closed.
+pub record IsCalm (hosts : ℕ) (commands : List Placed) : Type 0 where
+  pub binds : All (λ (placed : Placed). BindsAmply (sent_sum length commands) placed.command) (leading_binds commands)
+  pub slots : (host : ℕ) → length (filter (is_bind_of host) commands) ≤ MAX_SLOTS
+  pub rest : All (λ (placed : Placed). IsCalmAfter hosts (leading_binds commands) placed.command) (after_binds commands)
+
+-- The journal of a host with a peer was ordered to send exactly what the commands have the one send to the other, and what it passed is exactly
+-- what they have the other send to the one, by whatever weight of payloads.
+pub record CarriesAll (host peer : ℕ) (commands : List Placed) (past : List Entry) : Type 0 where
+  pub sent : (weight : List ℕ → ℕ) → orders_sum weight (orders past) ≡ sent_between weight host peer commands
+  pub came : (weight : List ℕ → ℕ) → passed_sum weight past ≡ sent_between weight peer host commands
