@@ -18,7 +18,7 @@ use Rattle.rds_run_laws.specs.Calm.{BindsAmply, BindsPort, HasBind, IsCalm, IsCa
 use Rattle.rds_run_laws.specs.Few.{is_own}
 use Rattle.rds_run_laws.specs.Put.{own_sum, sent_between, sent_to}
 use Rattle.rds_run_laws.specs.Sent.{sent_by, sent_sum}
-use Rattle.rds_run_laws.specs.Weights.{OnlySends, SendsToPort}
+use Rattle.rds_run_laws.specs.Weights.{Weight, by_length}
 use Rattle.rds_run_laws.proofs.Bounded.{standing_weigh}
 use Rattle.rds_run_laws.proofs.Doing.{IsWeighed, own_weight}
 use Rattle.rds_run_laws.proofs.Standing.{HaveSlots, have_slots}
@@ -48,7 +48,7 @@ fewer_lead test (placed ∷ commands) = go (binds placed.command) (fewer_lead te
         either true xs ys few = omega (arith, few)
         either false xs ys few = few
 
-bind_sends : (w : List ℕ → ℕ) (host peer : ℕ) (c : Command) → binds c ≡ true → (sent_to w host peer c ≡ 0) × (sent_by w c ≡ 0)
+bind_sends : (w : Weight) (host peer : ℕ) (c : Command) → binds c ≡ true → (sent_to w host peer c ≡ 0) × (sent_by w c ≡ 0)
 bind_sends w host peer (script.Bind by port sndbuf rcvbuf) is = (refl, refl)
 bind_sends w host peer (script.BindAny by port sndbuf rcvbuf) is = (refl, refl)
 bind_sends w host peer (script.Send by port to dport payload) is = absurd (cc)
@@ -61,7 +61,7 @@ bind_sends w host peer (script.Cut by to) is = absurd (cc)
 bind_sends w host peer script.Drain is = absurd (cc)
 
 -- what is sent is sent after the binds
-pub sent_after : (w : List ℕ → ℕ) (host peer : ℕ) (commands : List Placed) → sent_between w host peer (after_binds commands) ≡ sent_between w host peer commands
+pub sent_after : (w : Weight) (host peer : ℕ) (commands : List Placed) → sent_between w host peer (after_binds commands) ≡ sent_between w host peer commands
 sent_after w host peer [] = refl
 sent_after w host peer (placed ∷ commands) = go (binds placed.command) refl (sent_after w host peer commands)
   where
@@ -71,7 +71,7 @@ sent_after w host peer (placed ∷ commands) = go (binds placed.command) refl (s
     go false is ih = refl
 
 -- one host's share after the binds is no more than all
-pub own_after : (w : List ℕ → ℕ) (host : ℕ) (commands : List Placed) → own_sum w host (after_binds commands) ≤ own_sum w host commands
+pub own_after : (w : Weight) (host : ℕ) (commands : List Placed) → own_sum w host (after_binds commands) ≤ own_sum w host commands
 own_after w host [] = omega arith
 own_after w host (placed ∷ commands) = go (binds placed.command) (own_after w host commands)
   where
@@ -82,19 +82,19 @@ own_after w host (placed ∷ commands) = go (binds placed.command) (own_after w 
 
 module _ (hosts : ℕ) (commands : List Placed) (calm : IsCalm hosts commands) where
   -- each receive buffer that a bind asks for has room
-  pub roomy : (host rcvbuf : ℕ) (placed : Placed) → Contains commands placed → BindsWith host rcvbuf placed.command → sent_sum length commands ≤ rcvbuf
+  pub roomy : (host rcvbuf : ℕ) (placed : Placed) → Contains commands placed → BindsWith host rcvbuf placed.command → sent_sum by_length commands ≤ rcvbuf
   roomy host rcvbuf placed inside asks =
       All-contains Roomy commands placed (of_both Roomy commands (map_all _ Roomy (leading_binds commands) (λ p. amply p.command) calm.binds)
       (map_all _ Roomy (after_binds commands) (λ p. after p.command) calm.rest)) inside host rcvbuf asks
     where
       Roomy : Placed → Type 0
-      Roomy p = (h n : ℕ) → BindsWith h n p.command → sent_sum length commands ≤ n
+      Roomy p = (h n : ℕ) → BindsWith h n p.command → sent_sum by_length commands ≤ n
 
       map_all : (P Q : Placed → Type 0) (xs : List Placed) → ((p : Placed) → P p → Q p) → All P xs → All Q xs
       map_all P Q xs each all = λ i d within. each _ (all i d within)
 
-      amply : (c : Command) → BindsAmply (sent_sum length commands) c → (h n : ℕ) → BindsWith h n c → sent_sum length commands ≤ n
-      amply (script.Bind by port sndbuf rcv) is h n asked = subst (λ (k : ℕ). sent_sum length commands ≤ k) asked.1 is.2
+      amply : (c : Command) → BindsAmply (sent_sum by_length commands) c → (h n : ℕ) → BindsWith h n c → sent_sum by_length commands ≤ n
+      amply (script.Bind by port sndbuf rcv) is h n asked = subst (λ (k : ℕ). sent_sum by_length commands ≤ k) asked.1 is.2
       amply (script.BindAny by port sndbuf rcv) is h n asked = absurd is
       amply (script.Send by port to dport payload) is h n asked = absurd is
       amply (script.Recv by port) is h n asked = absurd is
@@ -105,7 +105,7 @@ module _ (hosts : ℕ) (commands : List Placed) (calm : IsCalm hosts commands) w
       amply (script.Cut by to) is h n asked = absurd is
       amply script.Drain is h n asked = absurd is
 
-      after : (c : Command) → IsCalmAfter hosts (leading_binds commands) c → (h n : ℕ) → BindsWith h n c → sent_sum length commands ≤ n
+      after : (c : Command) → IsCalmAfter hosts (leading_binds commands) c → (h n : ℕ) → BindsWith h n c → sent_sum by_length commands ≤ n
       after (script.Bind by port sndbuf rcv) is h n asked = absurd is
       after (script.BindAny by port sndbuf rcv) is h n asked = absurd is
       after (script.Send by port to dport payload) is h n asked = absurd asked

@@ -30,7 +30,7 @@ use Rattle.rds_run_threads.proofs.Rows.{peer_apart}
 use Rattle.rds_run_laws.specs.Calm.{CarriesAll, HasBind, IsCalm}
 use Rattle.rds_run_laws.specs.Put.{own_sum, sent_between}
 use Rattle.rds_run_laws.specs.Sent.{sent_by, sent_sum}
-use Rattle.rds_run_laws.specs.Weights.{OnlySends, accepted_sum, orders_sum, passed_sum}
+use Rattle.rds_run_laws.specs.Weights.{Weight, by_length, OnlySends, accepted_sum, orders_sum, passed_sum}
 use Rattle.rds_run_laws.proofs.Arrivals.{passed_all}
 use Rattle.rds_run_laws.proofs.Binding.{IsHeldIn, all_amply_kind, lead, vacancies, vacancy}
 use Rattle.rds_run_laws.proofs.Calmly.{fewer_lead, own_after, sent_after}
@@ -59,7 +59,7 @@ sum_ones f (x ∷ xs) each =
     let rest = sum_ones f xs (λ i y at. each (suc i) y at) in
     omega (arith, whole, here, rest)
 
-own_most : (w : List ℕ → ℕ) (host : ℕ) (commands : List Placed) → own_sum w host commands ≤ sent_sum w commands
+own_most : (w : Weight) (host : ℕ) (commands : List Placed) → own_sum w host commands ≤ sent_sum w commands
 own_most w host [] = omega arith
 own_most w host (placed ∷ commands) = go (is_host host (commander placed.command)) (own_most w host commands)
   where
@@ -81,7 +81,7 @@ module _ (hosts host : ℕ) (first : List Place) (fresh : AreNewPlaces hosts hos
   vacant_all : vacancies first ≡ length first
   vacant_all = sum_ones vacancy first (λ i p at. ap vacancy (fresh i p at).vacant)
 
-  nothing_put : (w : List ℕ → ℕ) (place : ℕ) → slots_weight w place first ≡ 0
+  nothing_put : (w : Weight) (place : ℕ) → slots_weight w place first ≡ 0
   nothing_put w place = sum_none (slot_weight w place) first each
     where
       of_lane : (routes : List (Lane ReaderView)) → All (λ (lane : Lane ReaderView). lane.pass.put ≡ []) routes → (o : Option (Lane ReaderView)) →
@@ -110,7 +110,7 @@ module _ (pulled : (s : ℕ) (f : Frame) (p past : List Entry) → IsLegal past 
     (hosts : ℕ) (commands : List Placed) (ends : List FinalHost) (calm : IsCalm hosts commands) (did : AreEnds true hosts commands ends)
     (acknowledged : AreAcknowledged ends) where
   abbrev bytes : ℕ
-  bytes = sent_sum length commands
+  bytes = sent_sum by_length commands
 
   -- of one host
   module _ (host : ℕ) (end : FinalHost) (stands : slice_get ends host ≡ Some end) where
@@ -139,15 +139,15 @@ module _ (pulled : (s : ℕ) (f : Frame) (p past : List Entry) → IsLegal past 
         (obeyed_grow bytes host (after_binds commands) outcome.found.led outcome.last (all_kind hosts host bytes (leading_binds commands) (after_binds commands) calm.rest) outcome.found.rest)
         stands_led
 
-    pub sent_all : (w : List ℕ → ℕ) (place : ℕ) (side : FinalJournal) → slice_get end.sides place ≡ Some side →
+    pub sent_all : (w : Weight) (place : ℕ) (side : FinalJournal) → slice_get end.sides place ≡ Some side →
         orders_sum w (orders side.past) ≡ sent_between w host (peer_at host place) commands
     sent_all w place side at =
         let inside = slice_get_within end.sides place side at in
         let count = side_count hosts commands ends did host end stands in
         let within : suc place < hosts = omega (arith, inside, count) in
         let clear = all_clear hosts commands ends did acknowledged calm pulled host end stands stands_last.lead in
-        let own = own_after length host commands in
-        let most = own_most length host commands in
+        let own = own_after by_length host commands in
+        let most = own_most by_length host commands in
         let none = nothing_sent hosts host outcome.done.first outcome.done.new in
         let quiet = led_all.0.total in
         let walked = walk hosts host bytes (leading_binds commands) (after_binds commands) outcome.found.led outcome.last calm.rest stands_led clear outcome.found.rest
@@ -158,7 +158,7 @@ module _ (pulled : (s : ℕ) (f : Frame) (p past : List Entry) → IsLegal past 
         let stood = put_is_ordered w place hosts host commands end.sides end.sockets side outcome at within stands_last.lead in
         omega (arith, walked, before, nothing, after, stood)
 
-  came_all : (w : List ℕ → ℕ) (host place : ℕ) (end : FinalHost) (side : FinalJournal) → slice_get ends host ≡ Some end → slice_get end.sides place ≡ Some side →
+  came_all : (w : Weight) (host place : ℕ) (end : FinalHost) (side : FinalJournal) → slice_get ends host ≡ Some end → slice_get end.sides place ≡ Some side →
       passed_sum w side.past ≡ sent_between w (peer_at host place) host commands
   came_all w host place end side stands at =
       let peer = peer_at host place in

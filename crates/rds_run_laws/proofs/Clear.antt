@@ -33,6 +33,7 @@ use Rattle.rds_run_laws.specs.Calm.{IsCalm}
 use Rattle.rds_run_laws.specs.Few.{PullsNoPort}
 use Rattle.rds_run_laws.specs.Put.{own_sum}
 use Rattle.rds_run_laws.specs.Sent.{sent_sum}
+use Rattle.rds_run_laws.specs.Weights.{by_length}
 use Rattle.rds_run_laws.proofs.Arrivals.{passed_few}
 use Rattle.rds_run_laws.proofs.Bounded.{few_delivered}
 use Rattle.rds_run_laws.proofs.Calmly.{roomy}
@@ -53,7 +54,7 @@ module _ (hosts : ℕ) (commands : List Placed) (ends : List FinalHost) (did : A
 
   -- what a journal delivers to a slot is no more than what the peer's commands send
   few_put : (host place slot : ℕ) (end : FinalHost) (side : FinalJournal) → slice_get ends host ≡ Some end → slice_get end.sides place ≡ Some side →
-      put_bytes slot side.past ≤ own_sum length (peer_at host place) commands
+      put_bytes slot side.past ≤ own_sum by_length (peer_at host place) commands
   few_put host place slot end side stands at =
       let m = meets_at hosts commands ends did acknowledged host place end side stands at in
       few_delivered (λ w a b fifo. passed_few w a b fifo) hosts host (peer_at host place) slot commands side.past m.back.past
@@ -70,13 +71,13 @@ module _ (hosts : ℕ) (commands : List Placed) (ends : List FinalHost) (did : A
         subst (λ (l : List Placed). Contains l asked.placed) (sym asked.order)
         (Contains-append_right asked.before (asked.placed ∷ asked.after) asked.placed (0, omega arith, refl)) in
         let least = roomy hosts commands calm host filled.rcvbuf asked.placed there asked.asks in
-        let put = total_few (λ (s : FinalJournal). put_bytes filled.slot s.past) (λ i. own_sum length (peer_at host i) commands) 0 end.sides
+        let put = total_few (λ (s : FinalJournal). put_bytes filled.slot s.past) (λ i. own_sum by_length (peer_at host i) commands) 0 end.sides
         (λ i x at_x.
         let few = few_put host i filled.slot end x stands at_x in
-        let same : own_sum length (peer_at host (0 + i)) commands ≡ own_sum length (peer_at host i) commands =
-        ap (λ (n : ℕ). own_sum length (peer_at host n) commands) (let n : 0 + i ≡ i = omega arith in n) in
+        let same : own_sum by_length (peer_at host (0 + i)) commands ≡ own_sum by_length (peer_at host i) commands =
+        ap (λ (n : ℕ). own_sum by_length (peer_at host n) commands) (let n : 0 + i ≡ i = omega arith in n) in
         omega (arith, few, same)) in
-        let share = shares length (peer_at host) (place_is host) 0 (length end.sides) commands in
+        let share = shares by_length (peer_at host) (place_is host) 0 (length end.sides) commands in
         let above = filled.above in
         absurd (omega (arith, least, put, share, above))
       where

@@ -29,7 +29,7 @@ use Rattle.rds_run_threads.proofs.At.{all_at, at_set, beside_set, some_at}
 use Rattle.rds_run_threads.proofs.Rows.{place_is}
 use Rattle.rds_run_laws.specs.Put.{sent_to}
 use Rattle.rds_run_laws.specs.Sent.{sent_by}
-use Rattle.rds_run_laws.specs.Weights.{orders_sum}
+use Rattle.rds_run_laws.specs.Weights.{Weight, by_length, orders_sum}
 use Rattle.rds_run_laws.proofs.Callers.{held_by, put_more, set_sum}
 use Rattle.rds_run_laws.proofs.Growing.{look_grows}
 
@@ -45,7 +45,7 @@ total_of places = sum_by (λ (p : Place). (holding_of p).total) places
 abbrev pub LeadToOthers : (hosts host : ℕ) → List (Lane ReaderView) → Type 0
 LeadToOthers hosts host routes = peers_of routes ≡ map address_of (others hosts host)
 
-module _ (w : List ℕ → ℕ) (place : ℕ) where
+module _ (w : Weight) (place : ℕ) where
   abbrev pub lane_weight : Option (Lane ReaderView) → ℕ
   lane_weight None = 0
   lane_weight (Some lane) = orders_sum w lane.pass.put
@@ -155,21 +155,21 @@ module _ (hosts host dport : ℕ) (payload : List ℕ) (o q : Open ReaderView) w
 -- what a send that succeeds adds
 module _ (hosts host to dport : ℕ) (payload : List ℕ) (o q : Open ReaderView) (lead : LeadToOthers hosts host o.own.routes)
     (sent : IsSent IsLook (address_of to) dport payload o q) where
-  pub sent_weight : (w : List ℕ → ℕ) (place : ℕ) →
-      route_weight w place q.own.routes ≡ route_weight w place o.own.routes + cond (to == peer_at host place) (w payload) 0
+  pub sent_weight : (w : Weight) (place : ℕ) →
+      route_weight w place q.own.routes ≡ route_weight w place o.own.routes + cond (to == peer_at host place) (w o.port dport payload) 0
   sent_weight w place = go sent
     where
-      go : IsSent IsLook (address_of to) dport payload o q → route_weight w place q.own.routes ≡ route_weight w place o.own.routes + cond (to == peer_at host place) (w payload) 0
+      go : IsSent IsLook (address_of to) dport payload o q → route_weight w place q.own.routes ≡ route_weight w place o.own.routes + cond (to == peer_at host place) (w o.port dport payload) 0
       go (routes, freed, clear, fits, put, is) =
           let looked = look_to w place (address_of to) dport (record { version = clear.version; set = false }) o.own.routes routes clear.look in
           let more = put_to w place (address_of to) (order_of o dport payload) routes q.own.routes put in
           let same_peers : peers_of routes ≡ peers_of o.own.routes = (look_grows (address_of to) dport (record { version = clear.version; set = false }) o.own.routes routes clear.look).peers in
           let there = leads_there hosts host to put.0 routes (same_peers ∙ lead) put.1 in
-          let either = ap (λ (b : Bool). cond b (w payload + 0) 0) (same_test put.0 there) in
+          let either = ap (λ (b : Bool). cond b (w o.port dport payload + 0) 0) (same_test put.0 there) in
           let plain = no_more (to == peer_at host place) in
           omega (arith, looked, more, either, plain)
         where
-          no_more : (b : Bool) → cond b (w payload + 0) 0 ≡ cond b (w payload) 0
+          no_more : (b : Bool) → cond b (w o.port dport payload + 0) 0 ≡ cond b (w o.port dport payload) 0
           no_more true = omega arith
           no_more false = refl
 
@@ -185,17 +185,17 @@ module _ (hosts host to dport : ℕ) (payload : List ℕ) (o q : Open ReaderView
 
 -- What a command adds to what the slots of a host have put, and to the bytes that they have sent.
 pub record Adds (host : ℕ) (c : Command) (old new : List Place) : Type 0 where
-  pub weight : (w : List ℕ → ℕ) (place : ℕ) → slots_weight w place new ≡ slots_weight w place old + sent_to w host (peer_at host place) c
-  pub total : total_of new ≡ total_of old + sent_by length c
+  pub weight : (w : Weight) (place : ℕ) → slots_weight w place new ≡ slots_weight w place old + sent_to w host (peer_at host place) c
+  pub total : total_of new ≡ total_of old + sent_by by_length c
 
 -- a slot has put and sent as much as before
 pub record IsQuiet (p q : Place) : Type 0 where
-  pub weight : (w : List ℕ → ℕ) (place : ℕ) → slot_weight w place q ≡ slot_weight w place p
+  pub weight : (w : Weight) (place : ℕ) → slot_weight w place q ≡ slot_weight w place p
   pub total : (holding_of q).total ≡ (holding_of p).total
 
 -- nothing was put or sent
 pub record AddsNothing (old new : List Place) : Type 0 where
-  pub weight : (w : List ℕ → ℕ) (place : ℕ) → slots_weight w place new ≡ slots_weight w place old
+  pub weight : (w : Weight) (place : ℕ) → slots_weight w place new ≡ slots_weight w place old
   pub total : total_of new ≡ total_of old
 
 pub nothing_done : (old new : List Place) → new ≡ old → AddsNothing old new
@@ -235,11 +235,11 @@ cut_quietly peer p h (inl (put, is)) = record {
       let none = either_way (put.0 == place) 0 in
       let held = ap (λ (k : Holding ReaderView). route_weight w place k.routes) (held_by w p h) in
       omega (arith, more, none, held);
-  total = ap (λ (k : Holding ReaderView). k.total) (held_by length p h) ∙ ap (λ (k : Holding ReaderView). k.total) is;
+  total = ap (λ (k : Holding ReaderView). k.total) (held_by by_length p h) ∙ ap (λ (k : Holding ReaderView). k.total) is;
 }
 cut_quietly peer p h (inr (none, is)) = record {
   weight = λ w place. ap (λ (k : Holding ReaderView). route_weight w place k.routes) (held_by w p h ∙ is);
-  total = ap (λ (k : Holding ReaderView). k.total) (held_by length p h ∙ is);
+  total = ap (λ (k : Holding ReaderView). k.total) (held_by by_length p h ∙ is);
 }
 
 pub cuts_quietly : (peer : ℕ) (old new : List Place) → CutsByLast peer old new → AddsNothing old new

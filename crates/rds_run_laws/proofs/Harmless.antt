@@ -14,7 +14,7 @@ use Rattle.rds_run_threads.specs.Causes.{IsOfCommands}
 use Rattle.rds_run_laws.specs.Calm.{BindsAmply, BindsPort, HasBind, IsCalm, IsCalmAfter}
 use Rattle.rds_run_laws.specs.Few.{is_own}
 use Rattle.rds_run_laws.specs.Sent.{sent_sum}
-use Rattle.rds_run_laws.specs.Weights.{OnlySends, SendsToPort}
+use Rattle.rds_run_laws.specs.Weights.{OnlySends, SendsToPort, by_length}
 use Rattle.rds_run_laws.proofs.Bounded.{standing_weigh}
 use Rattle.rds_run_laws.proofs.Calmly.{of_both}
 use Rattle.rds_run_laws.proofs.Doing.{IsWeighed}
@@ -63,9 +63,9 @@ none_own host (placed ∷ commands) all =
 module _ (hosts : ℕ) (commands : List Placed) (calm : IsCalm hosts commands) where
   bound_above : (host port : ℕ) → HasBind host port (leading_binds commands) → 2 ≤ port
   bound_above host port (placed, inside, takes) =
-      go placed.command (All-contains (λ (p : Placed). BindsAmply (sent_sum length commands) p.command) (leading_binds commands) placed calm.binds inside) takes
+      go placed.command (All-contains (λ (p : Placed). BindsAmply (sent_sum by_length commands) p.command) (leading_binds commands) placed calm.binds inside) takes
     where
-      go : (c : Command) → BindsAmply (sent_sum length commands) c → BindsPort host port c → 2 ≤ port
+      go : (c : Command) → BindsAmply (sent_sum by_length commands) c → BindsPort host port c → 2 ≤ port
       go (script.Bind by at sndbuf rcvbuf) amply is = subst (λ (n : ℕ). 2 ≤ n) is.1 amply.0
       go (script.BindAny by at sndbuf rcvbuf) amply is = absurd is
       go (script.Send by at to dport payload) amply is = absurd is
@@ -80,7 +80,7 @@ module _ (hosts : ℕ) (commands : List Placed) (calm : IsCalm hosts commands) w
   abbrev Harmless : Placed → Type 0
   Harmless p = harms p.command ≡ 0
 
-  bind_harmless : (c : Command) → BindsAmply (sent_sum length commands) c → harms c ≡ 0
+  bind_harmless : (c : Command) → BindsAmply (sent_sum by_length commands) c → harms c ≡ 0
   bind_harmless (script.Bind by at sndbuf rcvbuf) amply = refl
   bind_harmless (script.BindAny by at sndbuf rcvbuf) amply = absurd amply
   bind_harmless (script.Send by at to dport payload) amply = absurd amply

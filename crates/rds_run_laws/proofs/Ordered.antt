@@ -17,13 +17,13 @@ use Rattle.rds_run_callers.specs.Places.{Place, holding_of}
 use Rattle.rds_run_hosts.proofs.Made.{peers_count}
 use Rattle.rds_run_threads.specs.Outcome.{IsOutcome}
 use Rattle.rds_run_threads.proofs.At.{all_at, some_at}
-use Rattle.rds_run_laws.specs.Weights.{orders_sum, slots_sum}
+use Rattle.rds_run_laws.specs.Weights.{Weight, orders_sum, slots_sum}
 use Rattle.rds_run_laws.proofs.At.{sum_up}
 use Rattle.rds_run_laws.proofs.Effects.{LeadToOthers, lane_weight, slot_weight, slots_weight}
 use Rattle.rds_run_laws.proofs.Shares.{sum_up_last}
 use Rattle.rds_run_laws.proofs.Slots.{by_slots}
 
-module _ (w : List ℕ → ℕ) where
+module _ (w : Weight) where
   uncut_sum : (list : List Order) → orders_sum w (uncut list) ≡ orders_sum w list
   uncut_sum [] = refl
   uncut_sum (order.Send slot sport dport payload ∷ list) = let rest = uncut_sum list in omega (arith, rest)

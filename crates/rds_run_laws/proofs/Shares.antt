@@ -7,6 +7,7 @@ use Rattle.rds_run_callers.specs.Commands.{commander}
 use Rattle.rds_run_hosts.specs.Obeyed.{is_host}
 use Rattle.rds_run_laws.specs.Put.{own_sum}
 use Rattle.rds_run_laws.specs.Sent.{sent_by, sent_sum}
+use Rattle.rds_run_laws.specs.Weights.{Weight}
 use Rattle.rds_run_laws.proofs.At.{sum_up}
 
 pub sum_up_plus : (f g : ℕ → ℕ) (from count : ℕ) → sum_up (λ i. f i + g i) from count ≡ sum_up f from count + sum_up g from count
@@ -64,7 +65,7 @@ is_one a b None one other = absurd (cc)
 is_one a b (Some c) one other = sym (eqb-true c a one) ∙ eqb-true c b other
 
 -- the commands of different hosts send no more than all commands
-pub shares : (w : List ℕ → ℕ) (number : ℕ → ℕ) → ((i j : ℕ) → number i ≡ number j → i ≡ j) → (from count : ℕ) (commands : List Placed) →
+pub shares : (w : Weight) (number : ℕ → ℕ) → ((i j : ℕ) → number i ≡ number j → i ≡ j) → (from count : ℕ) (commands : List Placed) →
     sum_up (λ i. own_sum w (number i) commands) from count ≤ sent_sum w commands
 shares w number once_each from count [] = let none = sum_up_none (λ i. 0) from count (λ i least. refl) in omega (arith, none)
 shares w number once_each from count (placed ∷ commands) =

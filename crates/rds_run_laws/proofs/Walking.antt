@@ -25,6 +25,7 @@ use Rattle.rds_run_threads.proofs.At.{at_set, stood_at}
 use Rattle.rds_run_laws.specs.Calm.{HasBind, IsCalmAfter, SendsAcross}
 use Rattle.rds_run_laws.specs.Put.{own_sum, sent_between, sent_to}
 use Rattle.rds_run_laws.specs.Sent.{sent_by}
+use Rattle.rds_run_laws.specs.Weights.{Weight, by_length}
 use Rattle.rds_run_laws.proofs.Bounded.{place_of}
 use Rattle.rds_run_laws.proofs.Callers.{set_sum}
 use Rattle.rds_run_laws.proofs.Effects.{Adds, AddsNothing, LeadToOthers, cuts_quietly, nothing_done, receives_quietly, send_succeeds, sent_total, sent_weight, slot_weight, slots_weight, total_of}
@@ -41,7 +42,7 @@ part_of f [] i x at = absurd (cc)
 part_of f (y ∷ xs) zero x at = let whole = sum_by-cons f y xs in let same = ap f (same_Some y x at) in omega (arith, whole, same)
 part_of f (y ∷ xs) (suc i) x at = let whole = sum_by-cons f y xs in let rest = part_of f xs i x at in omega (arith, whole, rest)
 
-adds_nothing : (host : ℕ) (c : Command) (old new : List Place) → ((w : List ℕ → ℕ) (peer : ℕ) → sent_to w host peer c ≡ 0) → sent_by length c ≡ 0 →
+adds_nothing : (host : ℕ) (c : Command) (old new : List Place) → ((w : Weight) (peer : ℕ) → sent_to w host peer c ≡ 0) → sent_by by_length c ≡ 0 →
     AddsNothing old new → Adds host c old new
 adds_nothing host c old new none no_bytes nothing = record {
   weight = λ w place. let same = nothing.weight w place in let zero = none w (peer_at host place) in omega (arith, same, zero);
@@ -93,8 +94,9 @@ module _ (hosts host bytes : ℕ) (binds : List Placed) where
         let whole = ap (slots_weight w place) is in
         let here = ap (slot_weight w place) is_p in
         let more = sent_weight hosts host to dport payload o q lead sent w place in
-        let counts = ap (λ (b : Bool). cond (b && (to == peer_at host place)) (w payload) 0) (eq-eqb host host refl) in
-        omega (arith, changed, whole, here, more, counts);
+        let counts = ap (λ (b : Bool). cond (b && (to == peer_at host place)) (w port dport payload) 0) (eq-eqb host host refl) in
+        let named = ap (λ (n : ℕ). cond (to == peer_at host place) (w n dport payload) 0) called in
+        omega (arith, changed, whole, here, more, counts, named);
     total =
         let changed = set_sum (λ (x : Place). (holding_of x).total) old slot (Bound o got) p at in
         let whole = ap total_of is in
@@ -120,7 +122,7 @@ module _ (hosts host bytes : ℕ) (binds : List Placed) where
           (λ i lane at_lane seen looked. clear slot (Bound q got) stands i lane at_lane dport seen looked)
           (subst (λ (n : ℕ). SendsOrNot (address_of n) dport payload o q) (sym way.2) tried))
 
-  does : (c : Command) (old new : List Place) → IsCalmAfter hosts binds c → Stands old → AreClear new → total_of old + sent_by length c ≤ bytes →
+  does : (c : Command) (old new : List Place) → IsCalmAfter hosts binds c → Stands old → AreClear new → total_of old + sent_by by_length c ≤ bytes →
       commander c ≡ Some host → IsDone c old new → Adds host c old new
   does (script.Bind by port sndbuf rcvbuf) old new calm s clear few own done = absurd calm
   does (script.BindAny by port sndbuf rcvbuf) old new calm s clear few own done = absurd calm
@@ -160,9 +162,9 @@ module _ (hosts host bytes : ℕ) (binds : List Placed) where
       (calm_is_kind placed.command (All-head CalmAfter placed commands all), all_kind commands (All-tail CalmAfter placed commands all))
 
   -- what another host's command sends isn't this one's
-  not_its_own : (w : List ℕ → ℕ) (peer : ℕ) (c : Command) → commander c ≢ Some host → sent_to w host peer c ≡ 0
+  not_its_own : (w : Weight) (peer : ℕ) (c : Command) → commander c ≢ Some host → sent_to w host peer c ≡ 0
   not_its_own w peer (script.Send by port to dport payload) other =
-      ap (λ (b : Bool). cond (b && (to == peer)) (w payload) 0) (ne_eqb by host (λ same. other (ap Some same)))
+      ap (λ (b : Bool). cond (b && (to == peer)) (w port dport payload) 0) (ne_eqb by host (λ same. other (ap Some same)))
   not_its_own w peer (script.Bind by port sndbuf rcvbuf) other = refl
   not_its_own w peer (script.BindAny by port sndbuf rcvbuf) other = refl
   not_its_own w peer (script.Recv by port) other = refl
@@ -175,15 +177,15 @@ module _ (hosts host bytes : ℕ) (binds : List Placed) where
 
   -- all commands after the binds
   pub walk : (commands : List Placed) (first last : List Place) → All CalmAfter commands → Stands first → AreClear last →
-      HasObeyed host commands first last → total_of first + own_sum length host commands ≤ bytes → (w : List ℕ → ℕ) (place : ℕ) →
+      HasObeyed host commands first last → total_of first + own_sum by_length host commands ≤ bytes → (w : Weight) (place : ℕ) →
       slots_weight w place last ≡ slots_weight w place first + sent_between w host (peer_at host place) commands
   walk [] first last calm s clear same few w place = let is = ap (slots_weight w place) same in omega (arith, is)
   walk (placed ∷ commands) first last calm s clear (middle, inl (own, did), later) few w place =
       let rest = All-tail CalmAfter placed commands calm in
       let this = All-head CalmAfter placed commands calm in
       let grow = obeyed_grow bytes host commands middle last (all_kind commands rest) later in
-      let counts : cond (is_host host (commander placed.command)) (sent_by length placed.command) 0 ≡ sent_by length placed.command =
-      ap (λ (b : Bool). cond b (sent_by length placed.command) 0) (ap (is_host host) own ∙ eq-eqb host host refl) in
+      let counts : cond (is_host host (commander placed.command)) (sent_by by_length placed.command) 0 ≡ sent_by by_length placed.command =
+      ap (λ (b : Bool). cond b (sent_by by_length placed.command) 0) (ap (is_host host) own ∙ eq-eqb host host refl) in
       let adds = does placed.command first middle this s (clear_before middle last grow clear) (omega (arith, few, counts)) own did in
       let stands = stands_then first middle (does_grow bytes host placed first middle (calm_is_kind placed.command this) (inl (own, did))) s in
       let total = adds.total in

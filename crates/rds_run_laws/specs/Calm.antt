@@ -10,7 +10,7 @@ use Rattle.rds_script.specs.declared.script.Placed.{Placed}
 use Rattle.rds_run_hosts.specs.Obeyed.{after_binds, is_bind_of, leading_binds}
 use Rattle.rds_run_laws.specs.Put.{sent_between}
 use Rattle.rds_run_laws.specs.Sent.{sent_sum}
-use Rattle.rds_run_laws.specs.Weights.{orders_sum, passed_sum}
+use Rattle.rds_run_laws.specs.Weights.{Weight, by_length, orders_sum, passed_sum}
 
 -- the command binds a port that isn't reserved, and each of its buffers has room for so many bytes
 abbrev pub BindsAmply : (bytes : ℕ) → Command → Type 0
@@ -51,12 +51,12 @@ IsCalmAfter hosts binds Drain = Unit {0}
 -- The binds of the script come first, each with a port that it names and with buffers that have room for all that the script sends, no more than
 -- a host has slots. Then each send goes from a bound port to a bound port of another host, and nothing is taken back or closed.
 pub record IsCalm (hosts : ℕ) (commands : List Placed) : Type 0 where
-  pub binds : All (λ (placed : Placed). BindsAmply (sent_sum length commands) placed.command) (leading_binds commands)
+  pub binds : All (λ (placed : Placed). BindsAmply (sent_sum by_length commands) placed.command) (leading_binds commands)
   pub slots : (host : ℕ) → length (filter (is_bind_of host) commands) ≤ MAX_SLOTS
   pub rest : All (λ (placed : Placed). IsCalmAfter hosts (leading_binds commands) placed.command) (after_binds commands)
 
 -- The journal of a host with a peer was ordered to send exactly what the commands have the one send to the other, and what it passed is exactly
--- what they have the other send to the one, by whatever weight of payloads.
+-- what they have the other send to the one, by whatever weight of datagrams.
 pub record CarriesAll (host peer : ℕ) (commands : List Placed) (past : List Entry) : Type 0 where
-  pub sent : (weight : List ℕ → ℕ) → orders_sum weight (orders past) ≡ sent_between weight host peer commands
-  pub came : (weight : List ℕ → ℕ) → passed_sum weight past ≡ sent_between weight peer host commands
+  pub sent : (weight : Weight) → orders_sum weight (orders past) ≡ sent_between weight host peer commands
+  pub came : (weight : Weight) → passed_sum weight past ≡ sent_between weight peer host commands
