@@ -36,28 +36,13 @@ use Rattle.rds_run_laws.proofs.Binding.{IsHeldIn, all_amply_kind, lead, vacancie
 use Rattle.rds_run_laws.proofs.Calmly.{fewer_lead, own_after, sent_after}
 use Rattle.rds_run_laws.proofs.Clear.{all_clear, back_commands}
 use Rattle.rds_run_laws.proofs.Effects.{AddsNothing, LeadToOthers, lane_weight, route_weight, slot_weight, slots_weight, total_of}
-use Rattle.rds_run_laws.proofs.Growing.{AllGrow, HasRoom, obeyed_grow}
+use Rattle.rds_run_laws.proofs.Growing.{AllGrow, HasRoom, IsLive, obeyed_grow}
 use Rattle.rds_run_laws.proofs.Harmless.{only_sends}
 use Rattle.rds_run_laws.proofs.Meeting.{host_within, meets_at, of_outcome, side_count}
 use Rattle.rds_run_laws.proofs.Ordered.{put_is_ordered}
 use Rattle.rds_run_laws.proofs.Plain.{each_passed, no_ping, ordered}
+use Rattle.rds_run_laws.proofs.SumLists.{sum_none, sum_ones}
 use Rattle.rds_run_laws.proofs.Walking.{Stands, all_kind, stands_then, walk}
-
-sum_none : {X : Type 0} (f : X → ℕ) (xs : List X) → ((i : ℕ) (x : X) → slice_get xs i ≡ Some x → f x ≡ 0) → sum_by f xs ≡ 0
-sum_none f [] each = refl
-sum_none f (x ∷ xs) each =
-    let whole = sum_by-cons f x xs in
-    let here = each 0 x refl in
-    let rest = sum_none f xs (λ i y at. each (suc i) y at) in
-    omega (arith, whole, here, rest)
-
-sum_ones : {X : Type 0} (f : X → ℕ) (xs : List X) → ((i : ℕ) (x : X) → slice_get xs i ≡ Some x → f x ≡ 1) → sum_by f xs ≡ length xs
-sum_ones f [] each = refl
-sum_ones f (x ∷ xs) each =
-    let whole = sum_by-cons f x xs in
-    let here = each 0 x refl in
-    let rest = sum_ones f xs (λ i y at. each (suc i) y at) in
-    omega (arith, whole, here, rest)
 
 own_most : (w : Weight) (host : ℕ) (commands : List Placed) → own_sum w host commands ≤ sent_sum w commands
 own_most w host [] = omega arith
@@ -102,6 +87,8 @@ module _ (hosts host : ℕ) (first : List Place) (fresh : AreNewPlaces hosts hos
   stands_new bytes = record {
     lead = λ slot p at. subst (λ (x : Place). LeadToOthers hosts host (holding_of x).routes) (sym (fresh slot p at).vacant) (fresh slot p at).routes;
     room = λ slot p at. subst (HasRoom bytes) (sym (fresh slot p at).vacant) tt;
+    number = λ slot p at. ap (λ (x : Place). (holding_of x).words.slot) (fresh slot p at).vacant ∙ (fresh slot p at).number;
+    live = λ slot p at. subst (IsLive bytes) (sym (fresh slot p at).vacant) tt;
     held = λ port (p, (k, within, is), binds). absurd (omega (arith, within));
   }
 
@@ -114,7 +101,7 @@ module _ (pulled : (s : ℕ) (f : Frame) (p past : List Entry) → IsLegal past 
 
   -- of one host
   module _ (host : ℕ) (end : FinalHost) (stands : slice_get ends host ≡ Some end) where
-    abbrev outcome : IsOutcome hosts host commands end.sides end.sockets
+    abbrev pub outcome : IsOutcome hosts host commands end.sides end.sockets
     outcome = did.did host end stands
 
     led_all : AddsNothing outcome.done.first outcome.found.led
@@ -127,17 +114,18 @@ module _ (pulled : (s : ℕ) (f : Frame) (p past : List Entry) → IsLegal past 
         let most = within_least (length (filter (is_bind_of host) commands)) (calm.slots host) in
         lead host bytes (leading_binds commands) outcome.done.first outcome.found.led calm.binds outcome.found.began (omega (arith, count, vacant, few, most))
 
-    stands_led : Stands hosts host bytes (leading_binds commands) outcome.found.led
+    pub stands_led : Stands hosts host bytes (leading_binds commands) outcome.found.led
     stands_led =
         let grow = obeyed_grow bytes host (leading_binds commands) outcome.done.first outcome.found.led (all_amply_kind host bytes (leading_binds commands) calm.binds) outcome.found.began in
         let s = stands_then hosts host bytes [] outcome.done.first outcome.found.led grow (stands_new hosts host outcome.done.first outcome.done.new bytes) in
-        record { lead = s.lead; room = s.room; held = led_all.1 }
+        record { lead = s.lead; room = s.room; number = s.number; live = s.live; held = led_all.1 }
 
-    stands_last : Stands hosts host bytes (leading_binds commands) outcome.last
-    stands_last =
-        stands_then hosts host bytes (leading_binds commands) outcome.found.led outcome.last
-        (obeyed_grow bytes host (after_binds commands) outcome.found.led outcome.last (all_kind hosts host bytes (leading_binds commands) (after_binds commands) calm.rest) outcome.found.rest)
-        stands_led
+    pub led_grow : AllGrow bytes outcome.found.led outcome.last
+    led_grow =
+        obeyed_grow bytes host (after_binds commands) outcome.found.led outcome.last (all_kind hosts host bytes (leading_binds commands) (after_binds commands) calm.rest) outcome.found.rest
+
+    pub stands_last : Stands hosts host bytes (leading_binds commands) outcome.last
+    stands_last = stands_then hosts host bytes (leading_binds commands) outcome.found.led outcome.last led_grow stands_led
 
     pub sent_all : (w : Weight) (place : ℕ) (side : FinalJournal) → slice_get end.sides place ≡ Some side →
         orders_sum w (orders side.past) ≡ sent_between w host (peer_at host place) commands
@@ -158,7 +146,7 @@ module _ (pulled : (s : ℕ) (f : Frame) (p past : List Entry) → IsLegal past 
         let stood = put_is_ordered w place hosts host commands end.sides end.sockets side outcome at within stands_last.lead in
         omega (arith, walked, before, nothing, after, stood)
 
-  came_all : (w : Weight) (host place : ℕ) (end : FinalHost) (side : FinalJournal) → slice_get ends host ≡ Some end → slice_get end.sides place ≡ Some side →
+  pub came_all : (w : Weight) (host place : ℕ) (end : FinalHost) (side : FinalJournal) → slice_get ends host ≡ Some end → slice_get end.sides place ≡ Some side →
       passed_sum w side.past ≡ sent_between w (peer_at host place) host commands
   came_all w host place end side stands at =
       let peer = peer_at host place in

@@ -13,6 +13,7 @@ use Rattle.rds_fmap.specs.declared.seen.Seen.{Seen}
 use Rattle.rds_fmap.specs.declared.words.view.Look.{Look}
 use Rattle.rds_socket_parts.specs.Lanes.{IsLaneAt, IsLookTo, IsPutTo, Lane, peers_of, with_order, with_reader}
 use Rattle.rds_socket_parts.specs.PlaceLaws.{map_same}
+use Rattle.rds_socket_parts.specs.Words.{Purse}
 use Rattle.rds_socket.specs.declared.error.SendError.{SendError}
 use Rattle.rds_socket.specs.declared.error.SendError.TheVariants.{TooLong, NoRoute, Congested, SendFull, Memory}
 use Rattle.rds_socket.specs.Holding.{Holding, Open}
@@ -86,19 +87,30 @@ module _ (bytes : ℕ) where
   HasPort port (Ended own h got) = ⊥
   HasPort port (Spare h) = ⊥
 
+  -- no socket that had the slot was closed
+  abbrev pub IsLive : Place → Type 0
+  IsLive (Vacant h) = Unit {0}
+  IsLive (Bound o got) = Unit {0}
+  IsLive (Ended own h got) = ⊥
+  IsLive (Spare h) = Unit {0}
+
   pub record Grows (old new : Place) : Type 0 where
     pub routes : RoutesGrow (holding_of old).routes (holding_of new).routes
     pub room : HasRoom old → HasRoom new
     pub held : (port : ℕ) → HasPort port old → HasPort port new
+    pub slot : (holding_of new).words.slot ≡ (holding_of old).words.slot
+    pub live : IsLive old → IsLive new
 
   grows_same : (p : Place) → Grows p p
-  grows_same p = record { routes = routes_same (holding_of p).routes (holding_of p).routes refl; room = λ has. has; held = λ port has. has }
+  grows_same p = record { routes = routes_same (holding_of p).routes (holding_of p).routes refl; room = λ has. has; held = λ port has. has; slot = refl; live = λ is. is }
 
   grows_then : (p q r : Place) → Grows p q → Grows q r → Grows p r
   grows_then p q r first second = record {
     routes = routes_then (holding_of p).routes (holding_of q).routes (holding_of r).routes first.routes second.routes;
     room = λ has. second.room (first.room has);
     held = λ port has. second.held port (first.held port has);
+    slot = second.slot ∙ first.slot;
+    live = λ is. second.live (first.live is);
   }
 
   -- so it is of each slot
@@ -137,15 +149,20 @@ module _ (bytes : ℕ) where
 
   -- a socket that is another now, with the same port and buffer
   kept : (o q : Open ReaderView) (got more : List Datagram) → RoutesGrow o.own.routes q.own.routes → q.port ≡ o.port → q.sndbuf ≡ o.sndbuf →
-      Grows (Bound o got) (Bound q more)
-  kept o q got more routes port sndbuf =
-      record { routes = routes; room = λ has. subst (λ (n : ℕ). bytes ≤ n) (sym sndbuf) has; held = λ n has. port ∙ has }
+      q.own.words.slot ≡ o.own.words.slot → Grows (Bound o got) (Bound q more)
+  kept o q got more routes port sndbuf slot = record {
+    routes = routes;
+    room = λ has. subst (λ (n : ℕ). bytes ≤ n) (sym sndbuf) has;
+    held = λ n has. port ∙ has;
+    slot = slot;
+    live = λ is. tt;
+  }
 
   sends : (peer dport : ℕ) (payload : List ℕ) (o q : Open ReaderView) (got : List Datagram) → SendsOrNot peer dport payload o q → Grows (Bound o got) (Bound q got)
   sends peer dport payload o q got (inl (routes, freed, clear, fits, put, is)) =
       kept o q got got
       (routes_then o.own.routes routes q.own.routes (look_grows peer dport _ o.own.routes routes clear.look) (put_grows peer _ routes q.own.routes put))
-      (ap (λ (x : Open ReaderView). x.port) is) (ap (λ (x : Open ReaderView). x.sndbuf) is)
+      (ap (λ (x : Open ReaderView). x.port) is) (ap (λ (x : Open ReaderView). x.sndbuf) is) (ap (λ (x : Open ReaderView). x.own.words.slot) is)
   sends peer dport payload o q got (inr (e, other, refused)) = go e refused
     where
       go : (why : SendError) → RefusalFits IsLook peer dport payload o why q → Grows (Bound o got) (Bound q got)
@@ -153,13 +170,13 @@ module _ (bytes : ℕ) where
       go (NoRoute named) fits = subst (λ (x : Open ReaderView). Grows (Bound o got) (Bound x got)) (sym fits.3) (grows_same (Bound o got))
       go (Congested port version) fits =
           kept o q got got (look_grows peer dport _ o.own.routes q.own.routes fits.2) (ap (λ (x : Open ReaderView). x.port) fits.3)
-          (ap (λ (x : Open ReaderView). x.sndbuf) fits.3)
+          (ap (λ (x : Open ReaderView). x.sndbuf) fits.3) (ap (λ (x : Open ReaderView). x.own.words.slot) fits.3)
       go (SendFull queued len limit) fits =
           kept o q got got (look_grows peer dport _ o.own.routes q.own.routes fits.0.look) (ap (λ (x : Open ReaderView). x.port) fits.1.5)
-          (ap (λ (x : Open ReaderView). x.sndbuf) fits.1.5)
+          (ap (λ (x : Open ReaderView). x.sndbuf) fits.1.5) (ap (λ (x : Open ReaderView). x.own.words.slot) fits.1.5)
       go Memory fits =
           kept o q got got (look_grows peer dport _ o.own.routes q.own.routes fits.0.look) (ap (λ (x : Open ReaderView). x.port) fits.1.2)
-          (ap (λ (x : Open ReaderView). x.sndbuf) fits.1.2)
+          (ap (λ (x : Open ReaderView). x.sndbuf) fits.1.2) (ap (λ (x : Open ReaderView). x.own.words.slot) fits.1.2)
 
   sends_from : (peer dport : ℕ) (payload : List ℕ) (o : Open ReaderView) (got : List Datagram) (p : Place) → SendsFrom peer dport payload o got p → Grows (Bound o got) p
   sends_from peer dport payload o got p (q, sent, is) = subst (Grows (Bound o got)) (sym is) (sends peer dport payload o q got sent)
@@ -168,18 +185,22 @@ module _ (bytes : ℕ) where
   receives o got p (inl (item, q, (number, words, receipt, left), is)) =
       subst (Grows (Bound o got)) (sym is)
       (kept o q got _ (routes_same o.own.routes q.own.routes (ap (λ (x : Open ReaderView). x.own.routes) left)) (ap (λ (x : Open ReaderView). x.port) left)
-      (ap (λ (x : Open ReaderView). x.sndbuf) left))
+      (ap (λ (x : Open ReaderView). x.sndbuf) left) (ap (λ (x : Open ReaderView). x.own.words.slot) left ∙ ap (λ (x : Purse). x.slot) receipt.4))
   receives o got p (inr (all, is)) = subst (Grows (Bound o got)) (sym is) (grows_same (Bound o got))
 
   asked : (peer : ℕ) (item : Order) (old new : Holding ReaderView) → Asks peer item old new → RoutesGrow old.routes new.routes
   asked peer item old new (inl (put, is)) = put_grows peer item old.routes new.routes put
   asked peer item old new (inr (none, is)) = routes_same old.routes new.routes (ap (λ (h : Holding ReaderView). h.routes) is)
 
-  holds : (p : Place) (h : Holding ReaderView) → RoutesGrow (holding_of p).routes h.routes → Grows p (with_holding p h)
-  holds (Vacant v) h routes = record { routes = routes; room = λ has. has; held = λ port has. has }
-  holds (Bound o got) h routes = record { routes = routes; room = λ has. has; held = λ port has. has }
-  holds (Ended own v got) h routes = record { routes = routes; room = λ has. has; held = λ port has. has }
-  holds (Spare v) h routes = record { routes = routes; room = λ has. has; held = λ port has. has }
+  asked_slot : (peer : ℕ) (item : Order) (old new : Holding ReaderView) → Asks peer item old new → new.words.slot ≡ old.words.slot
+  asked_slot peer item old new (inl (put, is)) = ap (λ (h : Holding ReaderView). h.words.slot) is
+  asked_slot peer item old new (inr (none, is)) = ap (λ (h : Holding ReaderView). h.words.slot) is
+
+  holds : (p : Place) (h : Holding ReaderView) → RoutesGrow (holding_of p).routes h.routes → h.words.slot ≡ (holding_of p).words.slot → Grows p (with_holding p h)
+  holds (Vacant v) h routes slot = record { routes = routes; room = λ has. has; held = λ port has. has; slot = slot; live = λ is. is }
+  holds (Bound o got) h routes slot = record { routes = routes; room = λ has. has; held = λ port has. has; slot = slot; live = λ is. is }
+  holds (Ended own v got) h routes slot = record { routes = routes; room = λ has. has; held = λ port has. has; slot = slot; live = λ is. is }
+  holds (Spare v) h routes slot = record { routes = routes; room = λ has. has; held = λ port has. has; slot = slot; live = λ is. is }
 
   at_port : (port : ℕ) (Rel : Open ReaderView → List Datagram → Place → Type 0) (old new : List Place) →
       ((o : Open ReaderView) (got : List Datagram) (p : Place) → Rel o got p → Grows (Bound o got) p) → AtPort port Rel old new → AllGrow old new
@@ -188,7 +209,7 @@ module _ (bytes : ℕ) where
 
   cuts : (peer : ℕ) (old new : List Place) → CutsByLast peer old new → AllGrow old new
   cuts peer old new (inl (slot, p, q, last, at, (h, asks, is), changes)) =
-      one_grows old new slot p q at (subst (Grows p) (sym is) (holds p h (asked peer _ (holding_of p) h asks))) changes
+      one_grows old new slot p q at (subst (Grows p) (sym is) (holds p h (asked peer _ (holding_of p) h asks) (asked_slot peer _ (holding_of p) h asks))) changes
   cuts peer old new (inr (none, same)) = all_same old new same
 
   -- the command closes nothing, takes nothing back, and binds only with such a send buffer
@@ -211,6 +232,8 @@ module _ (bytes : ℕ) where
         routes = routes_same h.routes o.own.routes (ap (λ (x : Open ReaderView). x.own.routes) fits.1);
         room = λ has. subst (λ (n : ℕ). bytes ≤ n) (sym (ap (λ (x : Open ReaderView). x.sndbuf) fits.1)) kind;
         held = λ n has. absurd has;
+        slot = ap (λ (x : Open ReaderView). x.own.words.slot) fits.1;
+        live = λ is_live. tt;
       })
       is
   done_grows (script.Bind host port sndbuf rcvbuf) old new kind (inr (cannot, is)) = all_same old new is

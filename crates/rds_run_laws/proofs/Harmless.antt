@@ -21,7 +21,7 @@ use Rattle.rds_run_laws.proofs.Doing.{IsWeighed}
 use Rattle.rds_run_laws.proofs.Standing.{HaveSlots, have_slots}
 use Rattle.rds_run_laws.proofs.Weighing.{weigh, weight_of}
 
-abbrev bit : Bool → ℕ
+abbrev pub bit : Bool → ℕ
 bit true = 1
 bit false = 0
 
@@ -61,7 +61,7 @@ none_own host (placed ∷ commands) all =
     go false first rest = rest
 
 module _ (hosts : ℕ) (commands : List Placed) (calm : IsCalm hosts commands) where
-  bound_above : (host port : ℕ) → HasBind host port (leading_binds commands) → 2 ≤ port
+  pub bound_above : (host port : ℕ) → HasBind host port (leading_binds commands) → 2 ≤ port
   bound_above host port (placed, inside, takes) =
       go placed.command (All-contains (λ (p : Placed). BindsAmply (sent_sum by_length commands) p.command) (leading_binds commands) placed calm.binds inside) takes
     where

@@ -23,3 +23,6 @@ pub mod Meeting
 pub mod Ordered
 pub mod Clear
 pub mod Carried
+pub mod SumLists
+pub mod Heard
+pub mod Handed

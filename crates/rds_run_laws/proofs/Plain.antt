@@ -72,7 +72,7 @@ none_back (Bad s h found ∷ past) only n = none_back past only n
 
 -- the ports of a ping, and of what port 0 takes without an answer
 
-abbrev TakenByPort0 : Outcome → ℕ → ℕ → Type 0
+abbrev pub TakenByPort0 : Outcome → ℕ → ℕ → Type 0
 TakenByPort0 outcome.Ping sport dport = (dport ≡ 0) × (sport ≢ 0)
 TakenByPort0 outcome.Void sport dport = dport ≡ 0
 TakenByPort0 _ sport dport = Unit {0}
@@ -96,7 +96,7 @@ by_ports o sport dport obeys = go (dport == 0) refl (sport == 0) refl obeys
         delivered outcome.Ping obeys = absurd obeys
         delivered outcome.Void obeys = absurd obeys
 
-read_ports : (past : List Entry) (h : Header) (o : Outcome) → Obeys (verdict_of past h) o → TakenByPort0 o h.sport h.dport
+pub read_ports : (past : List Entry) (h : Header) (o : Outcome) → Obeys (verdict_of past h) o → TakenByPort0 o h.sport h.dport
 read_ports past h o obeys = go (kind_of h) obeys
   where
     is : (x : Outcome) → o ≡ x → TakenByPort0 x h.sport h.dport → TakenByPort0 o h.sport h.dport

@@ -29,18 +29,13 @@ use Rattle.rds_run_laws.specs.Weights.{Weight, by_length}
 use Rattle.rds_run_laws.proofs.Bounded.{place_of}
 use Rattle.rds_run_laws.proofs.Callers.{set_sum}
 use Rattle.rds_run_laws.proofs.Effects.{Adds, AddsNothing, LeadToOthers, cuts_quietly, nothing_done, receives_quietly, send_succeeds, sent_total, sent_weight, slot_weight, slots_weight, total_of}
-use Rattle.rds_run_laws.proofs.Growing.{AllGrow, AreKind, HasPort, HasRoom, IsKind, does_grow, obeyed_grow}
+use Rattle.rds_run_laws.proofs.SumLists.{part_of}
+use Rattle.rds_run_laws.proofs.Growing.{AllGrow, AreKind, HasPort, HasRoom, IsKind, IsLive, does_grow, obeyed_grow}
 
 -- no look of a slot's readers found a port marked
 abbrev pub AreClear : List Place → Type 0
 AreClear places = (slot : ℕ) (p : Place) → slice_get places slot ≡ Some p → (i : ℕ) (lane : Lane ReaderView) → IsLaneAt (holding_of p).routes i lane →
     (port : ℕ) (seen : Seen) → HasSeen lane.reader port seen → seen.set ≡ false
-
--- one of the terms of a sum
-part_of : {X : Type 0} (f : X → ℕ) (xs : List X) (i : ℕ) (x : X) → slice_get xs i ≡ Some x → f x ≤ sum_by f xs
-part_of f [] i x at = absurd (cc)
-part_of f (y ∷ xs) zero x at = let whole = sum_by-cons f y xs in let same = ap f (same_Some y x at) in omega (arith, whole, same)
-part_of f (y ∷ xs) (suc i) x at = let whole = sum_by-cons f y xs in let rest = part_of f xs i x at in omega (arith, whole, rest)
 
 adds_nothing : (host : ℕ) (c : Command) (old new : List Place) → ((w : Weight) (peer : ℕ) → sent_to w host peer c ≡ 0) → sent_by by_length c ≡ 0 →
     AddsNothing old new → Adds host c old new
@@ -50,10 +45,12 @@ adds_nothing host c old new none no_bytes nothing = record {
 }
 
 module _ (hosts host bytes : ℕ) (binds : List Placed) where
-  -- each socket of a host has its routes to the others and its room, and each port of the binds has its socket
+  -- each slot of a host has its number, its routes to the others and its room, none was closed, and each port of the binds has its socket
   pub record Stands (places : List Place) : Type 0 where
     pub lead : (slot : ℕ) (p : Place) → slice_get places slot ≡ Some p → LeadToOthers hosts host (holding_of p).routes
     pub room : (slot : ℕ) (p : Place) → slice_get places slot ≡ Some p → HasRoom bytes p
+    pub number : (slot : ℕ) (p : Place) → slice_get places slot ≡ Some p → (holding_of p).words.slot ≡ slot
+    pub live : (slot : ℕ) (p : Place) → slice_get places slot ≡ Some p → IsLive bytes p
     pub held : (port : ℕ) → HasBind host port binds → (slot : ℕ) × (p : Place) × (slice_get places slot ≡ Some p) × HasPort bytes port p
 
   pub stands_then : (old new : List Place) → AllGrow bytes old new → Stands old → Stands new
@@ -64,6 +61,12 @@ module _ (hosts host bytes : ℕ) (binds : List Placed) where
     room = λ slot q at.
         let p = stood_at old new slot q grow.count at in
         (grow.each slot p.0 q p.1 at).room (s.room slot p.0 p.1);
+    number = λ slot q at.
+        let p = stood_at old new slot q grow.count at in
+        (grow.each slot p.0 q p.1 at).slot ∙ s.number slot p.0 p.1;
+    live = λ slot q at.
+        let p = stood_at old new slot q grow.count at in
+        (grow.each slot p.0 q p.1 at).live (s.live slot p.0 p.1);
     held = λ port bind.
         let was = s.held port bind in
         let now = stood_at new old was.0 was.1 (sym grow.count) was.2 in
