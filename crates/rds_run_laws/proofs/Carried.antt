@@ -146,6 +146,20 @@ module _ (pulled : (s : ℕ) (f : Frame) (p past : List Entry) → IsLegal past 
         let stood = put_is_ordered w place hosts host commands end.sides end.sockets side outcome at within stands_last.lead in
         omega (arith, walked, before, nothing, after, stood)
 
+  -- so much it accepted
+  pub accepted_all : (w : Weight) (host place : ℕ) (end : FinalHost) (side : FinalJournal) → slice_get ends host ≡ Some end → slice_get end.sides place ≡ Some side →
+      accepted_sum w side.past ≡ sent_between w host (peer_at host place) commands
+  accepted_all w host place end side stands at =
+      let peer = peer_at host place in
+      let m = meets_at hosts commands ends did acknowledged host place end side stands at in
+      let back = m.back.past in
+      let known = host_within hosts commands ends did host end stands in
+      let its = only_sends hosts commands calm peer host back m.known known (λ same. peer_apart host place (sym same)) (back_commands hosts commands ends did acknowledged host place side.past m) in
+      let own = only_sends hosts commands calm host peer side.past known m.known (peer_apart host place)
+      (of_outcome hosts host place commands end.sides end.sockets side (did.did host end stands) at) in
+      ordered w side.past (no_ping back side.past m.met.peers.legal_b m.met.peers.legal_a its m.met.back) side.past now m.met.peers.legal_a own
+      ∙ sent_all host end stands w place side at
+
   pub came_all : (w : Weight) (host place : ℕ) (end : FinalHost) (side : FinalJournal) → slice_get ends host ≡ Some end → slice_get end.sides place ≡ Some side →
       passed_sum w side.past ≡ sent_between w (peer_at host place) host commands
   came_all w host place end side stands at =
@@ -154,12 +168,8 @@ module _ (pulled : (s : ℕ) (f : Frame) (p past : List Entry) → IsLegal past 
       let back = m.back.past in
       let known = host_within hosts commands ends did host end stands in
       let its = only_sends hosts commands calm peer host back m.known known (λ same. peer_apart host place (sym same)) (back_commands hosts commands ends did acknowledged host place side.past m) in
-      let own = only_sends hosts commands calm host peer side.past known m.known (peer_apart host place)
-      (of_outcome hosts host place commands end.sides end.sockets side (did.did host end stands) at) in
-      let sent = sent_all peer m.other m.stands w m.turn m.back m.at in
       passed_all w back side.past m.met.back (each_passed back side.past its m.met.accounted_back)
-      ∙ (ordered w back (no_ping side.past back m.met.peers.legal_a m.met.peers.legal_b own m.met.forth) back now m.met.peers.legal_b its
-      ∙ (sent ∙ ap (λ (n : ℕ). sent_between w peer n commands) m.there))
+      ∙ (accepted_all w peer m.turn m.other m.back m.stands m.at ∙ ap (λ (n : ℕ). sent_between w peer n commands) m.there)
 
   pub carries_all : (host place : ℕ) (end : FinalHost) (side : FinalJournal) → slice_get ends host ≡ Some end → slice_get end.sides place ≡ Some side →
       CarriesAll host (peer_at host place) commands side.past

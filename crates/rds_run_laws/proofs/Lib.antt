@@ -26,3 +26,5 @@ pub mod Carried
 pub mod SumLists
 pub mod Heard
 pub mod Handed
+pub mod Crossing
+pub mod Itemed

@@ -60,7 +60,7 @@ only_before (Read s f o) past only = only
 only_before (Shut s) past only = only
 only_before (Bad s h found) past only = only
 
-none_back : (past : List Entry) → OnlySends past → (n : ℕ) → was_taken_back past n ≡ false
+pub none_back : (past : List Entry) → OnlySends past → (n : ℕ) → was_taken_back past n ≡ false
 none_back [] only n = refl
 none_back (Accept slot sport dport payload ∷ past) only n = none_back past (only_before (Accept slot sport dport payload) past only) n
 none_back (Cancel slot target ∷ past) only n = absurd (no_cancellation slot target (last_all SendsToPort (orders past) (cancellation slot target) only))
