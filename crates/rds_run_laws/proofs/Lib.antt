@@ -28,3 +28,4 @@ pub mod Heard
 pub mod Handed
 pub mod Crossing
 pub mod Itemed
+pub mod Listed
