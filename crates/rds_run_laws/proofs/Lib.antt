@@ -29,3 +29,5 @@ pub mod Handed
 pub mod Crossing
 pub mod Itemed
 pub mod Listed
+pub mod CalmGenerated
+pub mod Summarized

@@ -1,15 +1,18 @@
 -- Scripts of which a run comes to the same, however its threads take turns. Source: this project's own.
-use Rattle.std.specs.Prelude.{◌≡◌, ◌≢◌, ◌<◌, ◌≤◌, ℕ, List, All, Contains, filter, length}
+use Rattle.std.specs.Prelude.{◌≡◌, ◌≢◌, ◌<◌, ◌≤◌, ℕ, List, ◌++◌, All, Contains, filter, length}
 use Rattle.rds_wire.specs.declared.kind.TheConstants.{MAX_LENGTH}
 use Rattle.rds_model.specs.declared.entry.Entry.{Entry}
 use Rattle.rds_model.specs.declared.entry.TheConstants.{MAX_SLOTS}
 use Rattle.rds_model.specs.Sums.{orders}
+use Rattle.rds_text.specs.Lines.{end_line}
+use Rattle.rds_text.specs.Report.{Counts}
+use Rattle.rds_report.specs.Summary.{summary_line}
 use Rattle.rds_script.specs.declared.script.Command.{Command}
 use Rattle.rds_script.specs.declared.script.Command.TheVariants.{Bind, BindAny, Send, Recv, Cancel, Close, Open, Move, Cut, Drain}
 use Rattle.rds_script.specs.declared.script.Placed.{Placed}
 use Rattle.rds_run_hosts.specs.Obeyed.{after_binds, is_bind_of, leading_binds}
 use Rattle.rds_run_laws.specs.Put.{sent_between}
-use Rattle.rds_run_laws.specs.Sent.{sent_sum}
+use Rattle.rds_run_laws.specs.Sent.{generated_bytes, sent_sum}
 use Rattle.rds_run_laws.specs.Weights.{Weight, by_length, orders_sum, passed_sum}
 
 -- the command binds a port that isn't reserved, and each of its buffers has room for so many bytes
@@ -60,3 +63,11 @@ pub record IsCalm (hosts : ℕ) (commands : List Placed) : Type 0 where
 pub record CarriesAll (host peer : ℕ) (commands : List Placed) (past : List Entry) : Type 0 where
   pub sent : (weight : Weight) → orders_sum weight (orders past) ≡ sent_between weight host peer commands
   pub came : (weight : Weight) → passed_sum weight past ≡ sent_between weight peer host commands
+
+-- so many datagrams were accepted, and all of them were received
+abbrev pub all_received : (count : ℕ) → Counts
+all_received count = record { accepted = count; received = count; unread = 0; dropped = 0; port0 = 0; cancelled = 0 }
+
+-- The summary of a generated script, by the words that ask for it: each of its datagrams was received, and they have so many bytes.
+abbrev pub generated_summary : (seed sends : ℕ) → List ℕ
+generated_summary seed sends = summary_line seed sends (all_received sends) (generated_bytes sends) ++ end_line
