@@ -194,6 +194,18 @@ module _ (pulled : (s : ℕ) (f : Frame) (p past : List Entry) → IsLegal past 
       (Contains-append_left (flat_map (side_items ends end.addr) end.sides) (flat_map (socket_items end.addr) end.sockets) i
       (into_flat (side_items ends end.addr) end.sides place side i at inside))
 
+  -- the pair of a datagram that a journal accepted
+  sent_pair : (host place : ℕ) (end : FinalHost) (side : FinalJournal) → slice_get ends host ≡ Some end → slice_get end.sides place ≡ Some side → (n : ℕ) (d : Taken) →
+      datagram side.past n ≡ Some d → HasPair (item side.peer d.dport end.addr d.sport Accepted)
+  sent_pair host place end side stands at n d known =
+      let lost = is_lost side.past (past_of side.peer end.addr ends) in
+      let one = item side.peer d.dport end.addr d.sport Accepted in
+      pair_there (items ends) one
+      (among_all host place end side stands at one
+      (Contains-append_left (sent_items end.addr side.peer lost side.past) (came_items side.peer end.addr side.past) one
+      (accepted_item end.addr side.peer lost side.past n d known)))
+      refl
+
   module _ (host : ℕ) (end : FinalHost) (stands : slice_get ends host ≡ Some end) where
     of_side : (place : ℕ) (side : FinalJournal) → slice_get end.sides place ≡ Some side → (i : Item) → Contains (side_items ends end.addr side) i → HasPair i
     of_side place side at i inside =
@@ -239,12 +251,7 @@ module _ (pulled : (s : ℕ) (f : Frame) (p past : List Entry) → IsLegal past 
         let moment = moment_of (Read was.stream was.frame was.outcome) side.past was.inside in
         let taken = m.met.back.accepted was.stream was.frame was.outcome moment.0 moment.1 was.passed in
         let back = m.back in
-        let one = accepted_item m.other.addr back.peer (is_lost back.past (past_of back.peer m.other.addr ends)) back.past (number was.frame) taken.0 taken.1 in
-        let there = pair_there (items ends) (item back.peer taken.0.dport m.other.addr taken.0.sport Accepted)
-        (among_all (peer_at host place) m.turn m.other back m.stands m.at (item back.peer taken.0.dport m.other.addr taken.0.sport Accepted)
-        (Contains-append_left (sent_items m.other.addr back.peer (is_lost back.past (past_of back.peer m.other.addr ends)) back.past)
-        (came_items back.peer m.other.addr back.past) (item back.peer taken.0.dport m.other.addr taken.0.sport Accepted) one))
-        refl in
+        let there = sent_pair (peer_at host place) m.turn m.other back m.stands m.at (number was.frame) taken.0 taken.1 in
         let to : back.peer ≡ end.addr =
         peer_is pulled hosts commands ends calm did acknowledged (peer_at host place) m.other m.stands m.turn back m.at
         ∙ (ap address_of m.there ∙ sym (did.addresses host end stands)) in

@@ -1,9 +1,10 @@
 -- Scripts of which a run comes to the same, however its threads take turns. Source: this project's own.
-use Rattle.std.specs.Prelude.{◌≡◌, ◌≢◌, ◌<◌, ◌≤◌, ℕ, List, ◌++◌, All, Contains, filter, length}
+use Rattle.std.specs.Prelude.{◌≡◌, ◌≢◌, ◌<◌, ◌≤◌, ℕ, true, Some, List, ◌++◌, All, Contains, filter, length, slice_get}
 use Rattle.rds_wire.specs.declared.kind.TheConstants.{MAX_LENGTH}
 use Rattle.rds_model.specs.declared.entry.Entry.{Entry}
 use Rattle.rds_model.specs.declared.entry.TheConstants.{MAX_SLOTS}
 use Rattle.rds_model.specs.Sums.{orders}
+use Rattle.rds_text.specs.FinalState.{FinalHost, FinalJournal}
 use Rattle.rds_text.specs.Lines.{end_line}
 use Rattle.rds_text.specs.Report.{Counts}
 use Rattle.rds_report.specs.Summary.{summary_line}
@@ -11,6 +12,8 @@ use Rattle.rds_script.specs.declared.script.Command.{Command}
 use Rattle.rds_script.specs.declared.script.Command.TheVariants.{Bind, BindAny, Send, Recv, Cancel, Close, Open, Move, Cut, Drain}
 use Rattle.rds_script.specs.declared.script.Placed.{Placed}
 use Rattle.rds_run_hosts.specs.Obeyed.{after_binds, is_bind_of, leading_binds}
+use Rattle.rds_run_rounds.specs.Grid.{peer_at}
+use Rattle.rds_run_threads.specs.Ends.{AreAcknowledged, AreEnds}
 use Rattle.rds_run_laws.specs.Put.{sent_between}
 use Rattle.rds_run_laws.specs.Sent.{generated_bytes, sent_sum}
 use Rattle.rds_run_laws.specs.Weights.{Weight, by_length, orders_sum, passed_sum}
@@ -63,6 +66,17 @@ pub record IsCalm (hosts : ℕ) (commands : List Placed) : Type 0 where
 pub record CarriesAll (host peer : ℕ) (commands : List Placed) (past : List Entry) : Type 0 where
   pub sent : (weight : Weight) → orders_sum weight (orders past) ≡ sent_between weight host peer commands
   pub came : (weight : Weight) → passed_sum weight past ≡ sent_between weight peer host commands
+
+-- so it is of each journal of each host
+abbrev pub CarryAll : List Placed → List FinalHost → Type 0
+CarryAll commands ends = (host place : ℕ) (end : FinalHost) (side : FinalJournal) → slice_get ends host ≡ Some end → slice_get end.sides place ≡ Some side →
+    CarriesAll host (peer_at host place) commands side.past
+
+-- So many hosts, over streams that tell their bytes, ran a calm script to an end at which they have this, and nothing is left unacknowledged.
+pub record HaveRunCalmly (hosts : ℕ) (commands : List Placed) (ends : List FinalHost) : Type 0 where
+  pub calm : IsCalm hosts commands
+  pub did : AreEnds true hosts commands ends
+  pub acknowledged : AreAcknowledged ends
 
 -- so many datagrams were accepted, and all of them were received
 abbrev pub all_received : (count : ℕ) → Counts

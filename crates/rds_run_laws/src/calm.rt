@@ -1,13 +1,12 @@
 //! What a run of a calm script comes to, however its threads take turns. Bodies are empty or call other laws; each clause is a theorem.
-ghost use Rattle.std.specs.Prelude.{◌≡◌, ◌≤◌, ℕ, true, Some, List, slice_get};
-ghost use Rattle.rds_text.specs.FinalState.{FinalHost, FinalJournal};
+ghost use Rattle.std.specs.Prelude.{◌≡◌, ◌≤◌, ℕ, true, List};
+ghost use Rattle.rds_text.specs.FinalState.{FinalHost};
 ghost use Rattle.rds_text.specs.declared.host.TheConstants.{MAX_HOSTS};
 ghost use Rattle.rds_report.specs.Summary.{all_counts, received_bytes, summary};
 ghost use Rattle.rds_script.specs.declared.script.Placed.{Placed};
 ghost use Rattle.rds_script_gen.specs.Generator.{generated};
-ghost use Rattle.rds_run_rounds.specs.Grid.{peer_at};
 ghost use Rattle.rds_run_threads.specs.Ends.{AreAcknowledged, AreEnds};
-ghost use Rattle.rds_run_laws.specs.Calm.{CarriesAll, IsCalm, all_received, generated_summary};
+ghost use Rattle.rds_run_laws.specs.Calm.{CarryAll, HaveRunCalmly, IsCalm, all_received, generated_summary};
 ghost use Rattle.rds_run_laws.specs.Sent.{sent_sum};
 ghost use Rattle.rds_run_laws.specs.Weights.{by_length, by_one};
 
@@ -22,9 +21,7 @@ pub fn generated_is_calm()
 /// In a run of a calm script that ended with nothing left to do no send is refused, and all that is sent arrives: between each two hosts exactly
 /// what the script's commands have one send to the other.
 pub fn all_arrives()
-    ensures { (hosts : ℕ) (commands : List Placed) (ends : List FinalHost) → IsCalm hosts commands → AreEnds true hosts commands ends → AreAcknowledged ends →
-        (host place : ℕ) (end : FinalHost) (side : FinalJournal) → slice_get ends host ≡ Some end → slice_get end.sides place ≡ Some side →
-        CarriesAll host (peer_at host place) commands side.past }
+    ensures { (hosts : ℕ) (commands : List Placed) (ends : List FinalHost) → HaveRunCalmly hosts commands ends → CarryAll commands ends }
 {
     pulled_maps();
 }
@@ -32,10 +29,10 @@ pub fn all_arrives()
 /// Then sockets hand out all of it: the report counts each datagram of the script as accepted and as received, and nothing else, and what was
 /// handed out has all of their bytes.
 pub fn all_is_received()
-    ensures counts { (hosts : ℕ) (commands : List Placed) (ends : List FinalHost) → hosts ≤ MAX_HOSTS → IsCalm hosts commands → AreEnds true hosts commands ends →
-        AreAcknowledged ends → all_counts ends ≡ all_received (sent_sum by_one commands) }
-    ensures bytes { (hosts : ℕ) (commands : List Placed) (ends : List FinalHost) → hosts ≤ MAX_HOSTS → IsCalm hosts commands → AreEnds true hosts commands ends →
-        AreAcknowledged ends → received_bytes ends ≡ sent_sum by_length commands }
+    ensures counts { (hosts : ℕ) (commands : List Placed) (ends : List FinalHost) → hosts ≤ MAX_HOSTS → HaveRunCalmly hosts commands ends →
+        all_counts ends ≡ all_received (sent_sum by_one commands) }
+    ensures bytes { (hosts : ℕ) (commands : List Placed) (ends : List FinalHost) → hosts ≤ MAX_HOSTS → HaveRunCalmly hosts commands ends →
+        received_bytes ends ≡ sent_sum by_length commands }
 {
     pulled_maps();
     totals_of_items();
