@@ -11,3 +11,4 @@ pub mod Named
 pub mod Parsed
 pub mod Decimals
 pub mod Generated
+pub mod Summed

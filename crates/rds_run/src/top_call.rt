@@ -16,6 +16,7 @@ ghost use Rattle.rds_run.specs.RunWords.{AreRun};
 ghost use Rattle.rds_run.specs.Works.{AreNoCommand};
 ghost use Rattle.rds_run.specs.RunStatus.{HasFilled, IsRan, IsRunAnswer, IsRunText, IsRunUnfinished, IsWireFault, memory_seen, seen_over, tells_over, wire_seen};
 ghost use Rattle.rds_run_hosts.specs.Streams.{prepared_streams};
+ghost use Rattle.rds_run_laws.specs.Calm.{generated_summary};
 ghost use Rattle.rds_run.specs.Ending.{IsEndOfProgram, ReadsScript};
 ghost use Rattle.rds_run.specs.Limits.{most_streams};
 ghost use Rattle.rds_run.specs.Reading.{IsOfScript, IsReadToEnd, TellsReadFaults};
@@ -28,6 +29,7 @@ use crate::run_command::run_text;
 use crate::status::Status;
 use crate::{Work, work_of};
 use rds_link::{Gate, Sink, Source, Wire};
+use rds_run_laws::calm::summary_of_words;
 use rds_wire::Memory;
 use std::alloc::Global;
 use std::net::Net;
@@ -121,6 +123,9 @@ where
     // what the hosts have then is sound, no journal is full, and exactly the summary of it was written.
     ensures summed { (sends seed : ℕ) → AreGen words.now sends seed → result ≡ 0 →
         IsRan memory_seen (form.Summary seed sends) (generated sends seed) (K.held sink.old) (K.held sink.new) }
+    // That summary is a function of the two numbers: each send was received, and no thread's turn shows in it.
+    ensures summary_text { (sends seed : ℕ) → AreGen words.now sends seed → result ≡ 0 →
+        SinkGained (K.held sink.old) (K.held sink.new) (generated_summary seed sends) }
     ensures written { ArePlay words.now → result ≡ 0 → (text : List ℕ) × SinkGained (K.held sink.old) (K.held sink.new) (text ++ end_line) }
     // The source's bytes spell a script. It filled a journal, and exactly its text was written, which is the line of that.
     ensures full { ArePlay words.now → result ≡ 7 →
@@ -174,6 +179,7 @@ where
     ensures given_back { W.out tcp.new ≤ W.out tcp.old }
     ensures known { result ≤ 9 }
 {
+    summary_of_words();
     do_work(rt, alloc, words, source, sink, tcp, gate).code()
 }
 

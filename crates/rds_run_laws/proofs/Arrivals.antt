@@ -1,23 +1,28 @@
 -- What one end passed sums up to no more than what the other accepted, and to as much where each number was passed.
 use Rattle.std.proofs.Common.{◌≡◌, ◌≢◌, ◌⊎◌, inl, inr, ℕ, zero, suc, ◌+◌, ◌<◌, ◌≤◌, ◌==◌, ◌&&◌, ◌||◌, Bool, true, false, cond, Option, Some, None, List, [], ◌∷◌, refl, sym, ap, subst, ◌∙◌, arith}
 use Rattle.std.proofs.lemmas.Bool.{cases_lt, cases_eq, ne_eqb}
+use Rattle.rds_wire.specs.declared.frame.Frame.{Frame}
 use Rattle.rds_model.specs.declared.entry.Entry.{Entry}
 use Rattle.rds_model.specs.declared.entry.Entry.TheVariants.{Accept, Cancel, Open, Pull, Read, Shut, Bad}
 use Rattle.rds_model.specs.Past.{Accepted, Moment, now, before, accepted, datagram, last_passed, number, passes}
 use Rattle.rds_model.specs.Streams.{was_passed}
-use Rattle.rds_model.specs.Fifo.{IsFifo}
+use Rattle.rds_model.specs.Fifo.{Carries, IsFifo}
 use Rattle.rds_model.specs.NumberLaws.{datagram_newest, datagram_other, number_of_known}
-use Rattle.rds_run_laws.specs.Weights.{accepted_sum, passed_sum}
+use Rattle.rds_run_laws.specs.Weights.{Weight, accepted_sum, passed_sum}
 
 -- the past of an entry at a moment
 pub rest_of : {e : Entry} {p j : List Entry} → Moment (e ∷ p) j → Moment p j
 rest_of now = before now
 rest_of (before m) = before (rest_of m)
 
-module _ (w : List ℕ → ℕ) where
+module _ (w : Weight) where
   abbrev worth : Option Accepted → ℕ
   worth None = 0
-  worth (Some d) = w d.payload
+  worth (Some d) = w d.sport d.dport d.payload
+
+  -- what carries a datagram weighs as much
+  same_weight : (f : Frame) (d : Accepted) → Carries f d → w f.header.sport f.header.dport f.payload ≡ w d.sport d.dport d.payload
+  same_weight f d carries = λ i. w (carries.sport i) (carries.dport i) (carries.payload i)
 
   -- of the first n numbers that were accepted
   abbrev up_sum : List Entry → ℕ → ℕ
@@ -81,18 +86,18 @@ module _ (w : List ℕ → ℕ) where
     passed_front (Read s f o ∷ p) m = go (passes o) refl (passed_front p (rest_of m))
       where
         go : (is : Bool) → passes o ≡ is → passed_sum w p ≤ up_sum a (last_passed p) →
-            cond is (passed_sum w p + w f.payload) (passed_sum w p) ≤ up_sum a (cond is (number f) (last_passed p))
+            cond is (passed_sum w p + w f.header.sport f.header.dport f.payload) (passed_sum w p) ≤ up_sum a (cond is (number f) (last_passed p))
         go false is ih = ih
         go true is ih =
             let rise = fifo.rise s f o p m is in
             let found = fifo.accepted s f o p m is in
-            step (number f) rise found.0 found.1 (ap w found.2.payload) ih
+            step (number f) rise found.0 found.1 (same_weight f found.0 found.2) ih
           where
-            step : (n : ℕ) → last_passed p < n → (d : Accepted) → datagram a n ≡ Some d → w f.payload ≡ w d.payload → passed_sum w p ≤ up_sum a (last_passed p) →
-                passed_sum w p + w f.payload ≤ up_sum a n
+            step : (n : ℕ) → last_passed p < n → (d : Accepted) → datagram a n ≡ Some d → w f.header.sport f.header.dport f.payload ≡ w d.sport d.dport d.payload → passed_sum w p ≤ up_sum a (last_passed p) →
+                passed_sum w p + w f.header.sport f.header.dport f.payload ≤ up_sum a n
             step zero rise d known carries ih = absurd (omega (arith, rise))
             step (suc n) rise d known carries ih =
-                let here : worth (datagram a (suc n)) ≡ w d.payload = ap worth known in
+                let here : worth (datagram a (suc n)) ≡ w d.sport d.dport d.payload = ap worth known in
                 let up = up_rise a (last_passed p) n (omega (arith, rise)) in
                 omega (arith, here, up, ih, carries)
     passed_front (Accept slot sport dport payload ∷ p) m = passed_front p (rest_of m)
@@ -150,15 +155,15 @@ module _ (w : List ℕ → ℕ) where
     some_few n [] m = let none = none_some n in omega (arith, none)
     some_few n (Read s f o ∷ p) m = go (passes o) refl (some_few n p (rest_of m))
       where
-        go : (is : Bool) → passes o ≡ is → some_sum p n ≤ passed_sum w p → some_sum (Read s f o ∷ p) n ≤ cond is (passed_sum w p + w f.payload) (passed_sum w p)
+        go : (is : Bool) → passes o ≡ is → some_sum p n ≤ passed_sum w p → some_sum (Read s f o ∷ p) n ≤ cond is (passed_sum w p + w f.header.sport f.header.dport f.payload) (passed_sum w p)
         go false is ih =
             let same = some_same (Read s f o ∷ p) p (λ k. ap (λ (t : Bool). t && (number f == k) || was_passed p k) is) n in
             omega (arith, ih, same)
         go true is ih =
             let more = (one_more p (Read s f o ∷ p) (number f) (λ k. ap (λ (t : Bool). t && (number f == k) || was_passed p k) is) n).0 in
             let found = fifo.accepted s f o p m is in
-            let here : worth (datagram a (number f)) ≡ w found.0.payload = ap worth found.1 in
-            let carries = ap w found.2.payload in
+            let here : worth (datagram a (number f)) ≡ w found.0.sport found.0.dport found.0.payload = ap worth found.1 in
+            let carries = same_weight f found.0 found.2 in
             omega (arith, ih, more, here, carries)
     some_few n (Accept slot sport dport payload ∷ p) m = subst (λ (k : ℕ). k ≤ passed_sum w p) (sym (some_same (Accept slot sport dport payload ∷ p) p (λ k. refl) n)) (some_few n p (rest_of m))
     some_few n (Cancel slot target ∷ p) m = subst (λ (k : ℕ). k ≤ passed_sum w p) (sym (some_same (Cancel slot target ∷ p) p (λ k. refl) n)) (some_few n p (rest_of m))

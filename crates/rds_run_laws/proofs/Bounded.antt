@@ -20,14 +20,14 @@ use Rattle.rds_run_rounds.specs.Grid.{peer_at}
 use Rattle.rds_run_threads.specs.Causes.{IsFullJournal, IsOfCommands}
 use Rattle.rds_run_laws.specs.Few.{is_own, own_commands}
 use Rattle.rds_run_laws.specs.Put.{own_sum}
-use Rattle.rds_run_laws.specs.Weights.{accepted_sum, orders_sum, passed_sum}
+use Rattle.rds_run_laws.specs.Weights.{Weight, by_length, accepted_sum, orders_sum, passed_sum}
 use Rattle.rds_run_laws.proofs.Weighing.{order_bytes, orders_weigh, own_weigh, weigh, weight_of}
 use Rattle.rds_run_laws.proofs.Doing.{IsWeighed, asked_of_done, own_weight}
 use Rattle.rds_run_laws.proofs.Reaching.{accepted_ordered, delivered_passed}
 use Rattle.rds_run_laws.proofs.Standing.{few_of_two, few_standing}
 
 -- the place of a peer in its host's row
-place_of : (hosts host peer : ℕ) → host < hosts → peer < hosts → peer ≢ host → (place : ℕ) × (suc place < hosts) × (peer_at host place ≡ peer)
+pub place_of : (hosts host peer : ℕ) → host < hosts → peer < hosts → peer ≢ host → (place : ℕ) × (suc place < hosts) × (peer_at host place ≡ peer)
 place_of hosts host peer known also apart =
     elim (cases_lt peer host) [
       | inl low ↦ (peer, omega (arith, low, known), cond-true _ _ _ (lt-ltb peer host low))
@@ -71,7 +71,7 @@ orders_are_few hosts host peer commands past known also apart of =
 
 -- an order has the bytes of the command that puts it
 pub bytes_are_few : (hosts host peer : ℕ) (commands : List Placed) (past : List Entry) → host < hosts → peer < hosts → peer ≢ host →
-    IsOfCommands hosts host peer commands past → orders_sum length (orders past) ≤ own_sum length host commands
+    IsOfCommands hosts host peer commands past → orders_sum by_length (orders past) ≤ own_sum by_length host commands
 bytes_are_few hosts host peer commands past known also apart of =
     let light : IsWeighed order_bytes payload_len =
     record {
@@ -118,12 +118,12 @@ many_maps hosts host peer entries commands own other full few lines cuts =
     omega (arith, few, all, most)
 
 -- what one journal of a run delivers to a slot its peer's commands sent
-pub few_delivered : ((weight : List ℕ → ℕ) (a b : List Entry) → IsFifo a b → passed_sum weight b ≤ accepted_sum weight a) →
+pub few_delivered : ((weight : Weight) (a b : List Entry) → IsFifo a b → passed_sum weight b ≤ accepted_sum weight a) →
     (hosts host peer slot : ℕ) (commands : List Placed) (own other : List Entry) → host < hosts → peer < hosts → peer ≢ host → IsLegal other →
-    IsFifo other own → IsOfCommands hosts peer host commands other → put_bytes slot own ≤ own_sum length peer commands
+    IsFifo other own → IsOfCommands hosts peer host commands other → put_bytes slot own ≤ own_sum by_length peer commands
 few_delivered few hosts host peer slot commands own other known also apart legal fifo of =
     let put = delivered_passed slot own in
-    let passed = few length other own fifo in
+    let passed = few by_length other own fifo in
     let accepted = accepted_ordered other legal in
     let sent = bytes_are_few hosts peer host commands other also known (λ same. apart (sym same)) of in
     omega (arith, put, passed, accepted, sent)

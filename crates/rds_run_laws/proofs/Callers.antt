@@ -24,23 +24,23 @@ use Rattle.rds_run_callers.specs.Tenants.{Asks, Cancels, Closes, ReceivesNext, S
 use Rattle.rds_run_hosts.specs.Obeyed.{HasObeyed, is_host}
 use Rattle.rds_run_laws.specs.Put.{own_sum, places_sum, routes_sum}
 use Rattle.rds_run_laws.specs.Sent.{sent_by}
-use Rattle.rds_run_laws.specs.Weights.{orders_sum}
+use Rattle.rds_run_laws.specs.Weights.{Weight, orders_sum}
 
 -- a sum with one term changed
-set_sum : {X : Type 0} (f : X → ℕ) (xs : List X) (i : ℕ) (x y : X) → slice_get xs i ≡ Some x → sum_by f (slice_set xs i y) + f x ≡ sum_by f xs + f y
+pub set_sum : {X : Type 0} (f : X → ℕ) (xs : List X) (i : ℕ) (x y : X) → slice_get xs i ≡ Some x → sum_by f (slice_set xs i y) + f x ≡ sum_by f xs + f y
 set_sum f xs i x y at =
     let changed = sum_by-set f xs i y x (slice_get_within xs i x at) in
     let here = ap f (get_or_from_slice_get xs i x x at) in
     omega (arith, changed, here)
 
-module _ (w : List ℕ → ℕ) where
+module _ (w : Weight) where
   abbrev lane_sum : Lane ReaderView → ℕ
   lane_sum lane = orders_sum w lane.pass.put
 
   abbrev place_sum : Place → ℕ
   place_sum p = routes_sum w (holding_of p).routes
 
-  put_more : (xs : List Order) (item : Order) → orders_sum w (xs ++ item ∷ []) ≡ orders_sum w xs + orders_sum w (item ∷ [])
+  pub put_more : (xs : List Order) (item : Order) → orders_sum w (xs ++ item ∷ []) ≡ orders_sum w xs + orders_sum w (item ∷ [])
   put_more [] item = omega arith
   put_more (order.Send s f t p ∷ xs) item = let ih = put_more xs item in omega (arith, ih)
   put_more (order.Cancel s t ∷ xs) item = put_more xs item
@@ -87,7 +87,7 @@ module _ (w : List ℕ → ℕ) where
       there i lane false at = (lane, at, refl)
 
   -- what a send puts
-  sends : (peer dport : ℕ) (payload : List ℕ) (o q : Open ReaderView) → SendsOrNot peer dport payload o q → PutsAtMost (w payload) o.own.routes q.own.routes
+  sends : (peer dport : ℕ) (payload : List ℕ) (o q : Open ReaderView) → SendsOrNot peer dport payload o q → PutsAtMost (w o.port dport payload) o.own.routes q.own.routes
   sends peer dport payload o q (inl (routes, freed, clear, fits, put, is)) =
       let looked = look_to peer dport (record { version = clear.version; set = false }) o.own.routes routes clear.look in
       let more = put_to peer (order_of o dport payload) routes q.own.routes put in
@@ -108,11 +108,11 @@ module _ (w : List ℕ → ℕ) where
 
   -- a slot is another now, or nothing changed
   at_port : (v port : ℕ) (Rel : Open ReaderView → List Datagram → Place → Type 0) →
-      ((o : Open ReaderView) (got : List Datagram) (p : Place) → Rel o got p → PutsAtMost v o.own.routes (holding_of p).routes) →
+      ((o : Open ReaderView) (got : List Datagram) (p : Place) → o.port ≡ port → Rel o got p → PutsAtMost v o.own.routes (holding_of p).routes) →
       (old new : List Place) → AtPort port Rel old new → places_sum w new ≤ places_sum w old + v
   at_port v port Rel few old new (inl (slot, o, got, bound, held, (p, rel, is))) =
       let changed = set_sum place_sum old slot (Bound o got) p bound in
-      let most = few o got p rel in
+      let most = few o got p held rel in
       let same = ap (places_sum w) is in
       omega (arith, changed, most, same)
   at_port v port Rel few old new (inr (free, is)) = let same = ap (places_sum w) is in omega (arith, same)
@@ -125,7 +125,7 @@ module _ (w : List ℕ → ℕ) where
       let same = ap (places_sum w) is in
       omega (arith, changed, routes, same)
 
-  held_by : (p : Place) (h : Holding ReaderView) → holding_of (with_holding p h) ≡ h
+  pub held_by : (p : Place) (h : Holding ReaderView) → holding_of (with_holding p h) ≡ h
   held_by (Vacant k) h = refl
   held_by (Bound o got) h = refl
   held_by (Ended port k got) h = refl
@@ -145,8 +145,13 @@ module _ (w : List ℕ → ℕ) where
       let most = binds_next _ (λ h o fits. ap (λ (x : Open ReaderView). x.own.routes) fits.0.1) old new next in omega (arith, most)
   does (script.BindAny host port sndbuf rcvbuf) old new (inr (none, is)) = unchanged old new 0 is
   does (script.Send host port to dport payload) old new done =
-      at_port (w payload) port _ (λ o got p (q, sent, is). let same = same_place p (Bound q got) is in let most = sends _ dport payload o q sent in omega (arith, same, most)) old new done
-  does (script.Recv host port) old new done = at_port 0 port ReceivesNext receives old new done
+      at_port (w port dport payload) port _ (λ o got p called (q, sent, is).
+      let same = same_place p (Bound q got) is in
+      let most = sends _ dport payload o q sent in
+      let named = ap (λ (n : ℕ). w n dport payload) called in
+      omega (arith, same, most, named))
+      old new done
+  does (script.Recv host port) old new done = at_port 0 port ReceivesNext (λ o got p called. receives o got p) old new done
     where
       receives : (o : Open ReaderView) (got : List Datagram) (p : Place) → ReceivesNext o got p → PutsAtMost 0 o.own.routes (holding_of p).routes
       receives o got p (inl (item, q, (number, words, receipt, left), is)) =
@@ -154,14 +159,14 @@ module _ (w : List ℕ → ℕ) where
           let second = ap (λ (x : Open ReaderView). routes_sum w x.own.routes) left in
           omega (arith, first, second)
       receives o got p (inr (all, is)) = let same = same_place p (Bound o got) is in omega (arith, same)
-  does (script.Cancel host port to dport) old new done = at_port 0 port _ cancels old new done
+  does (script.Cancel host port to dport) old new done = at_port 0 port _ (λ o got p called. cancels o got p) old new done
     where
       cancels : {peer : ℕ} (o : Open ReaderView) (got : List Datagram) (p : Place) → Cancels peer dport o got p → PutsAtMost 0 o.own.routes (holding_of p).routes
       cancels {peer} o got p (h, asked, is) =
           let same = same_place p (Bound (with_own o h) got) is in
           let most = asks peer (order.Cancel o.own.words.slot dport) o.own h refl asked in
           omega (arith, same, most)
-  does (script.Close host port) old new done = at_port 0 port Closes closes old new done
+  does (script.Close host port) old new done = at_port 0 port Closes (λ o got p called. closes o got p) old new done
     where
       closes : (o : Open ReaderView) (got : List Datagram) (p : Place) → Closes o got p → PutsAtMost 0 o.own.routes (holding_of p).routes
       closes o got p (h, closed, is) =

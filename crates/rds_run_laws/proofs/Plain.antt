@@ -28,7 +28,7 @@ use Rattle.rds_model.specs.declared.entry.Verdict.TheVariants as verdict
 use Rattle.rds_model.specs.Reading.{Obeys, is_old, verdict_of, verdict_of_kind, verdict_of_ports}
 use Rattle.rds_model.specs.Streams.{was_passed}
 use Rattle.rds_model.specs.Sums.{cancellation, orders}
-use Rattle.rds_run_laws.specs.Weights.{OnlySends, SendsToPort, accepted_sum, orders_sum}
+use Rattle.rds_run_laws.specs.Weights.{OnlySends, SendsToPort, Weight, accepted_sum, orders_sum}
 use Rattle.rds_run_laws.proofs.Arrivals.{rest_of}
 
 -- the front and the last of a list
@@ -60,7 +60,7 @@ only_before (Read s f o) past only = only
 only_before (Shut s) past only = only
 only_before (Bad s h found) past only = only
 
-none_back : (past : List Entry) → OnlySends past → (n : ℕ) → was_taken_back past n ≡ false
+pub none_back : (past : List Entry) → OnlySends past → (n : ℕ) → was_taken_back past n ≡ false
 none_back [] only n = refl
 none_back (Accept slot sport dport payload ∷ past) only n = none_back past (only_before (Accept slot sport dport payload) past only) n
 none_back (Cancel slot target ∷ past) only n = absurd (no_cancellation slot target (last_all SendsToPort (orders past) (cancellation slot target) only))
@@ -72,7 +72,7 @@ none_back (Bad s h found ∷ past) only n = none_back past only n
 
 -- the ports of a ping, and of what port 0 takes without an answer
 
-abbrev TakenByPort0 : Outcome → ℕ → ℕ → Type 0
+abbrev pub TakenByPort0 : Outcome → ℕ → ℕ → Type 0
 TakenByPort0 outcome.Ping sport dport = (dport ≡ 0) × (sport ≢ 0)
 TakenByPort0 outcome.Void sport dport = dport ≡ 0
 TakenByPort0 _ sport dport = Unit {0}
@@ -96,7 +96,7 @@ by_ports o sport dport obeys = go (dport == 0) refl (sport == 0) refl obeys
         delivered outcome.Ping obeys = absurd obeys
         delivered outcome.Void obeys = absurd obeys
 
-read_ports : (past : List Entry) (h : Header) (o : Outcome) → Obeys (verdict_of past h) o → TakenByPort0 o h.sport h.dport
+pub read_ports : (past : List Entry) (h : Header) (o : Outcome) → Obeys (verdict_of past h) o → TakenByPort0 o h.sport h.dport
 read_ports past h o obeys = go (kind_of h) obeys
   where
     is : (x : Outcome) → o ≡ x → TakenByPort0 x h.sport h.dport → TakenByPort0 o h.sport h.dport
@@ -160,8 +160,8 @@ module _ (a b : List Entry) (legal_a : IsLegal a) (legal_b : IsLegal b) (only_a 
       to_port a legal_a only_a (number f) found.0 found.1 (sym found.2.dport ∙ ports.0)
 
 -- what was accepted sums up to what was ordered, where no pong was
-orders_more : (w : List ℕ → ℕ) (xs : List Order) (slot sport dport : ℕ) (payload : List ℕ) →
-    orders_sum w (xs ++ order.Send slot sport dport payload ∷ []) ≡ orders_sum w xs + w payload
+orders_more : (w : Weight) (xs : List Order) (slot sport dport : ℕ) (payload : List ℕ) →
+    orders_sum w (xs ++ order.Send slot sport dport payload ∷ []) ≡ orders_sum w xs + w sport dport payload
 orders_more w [] slot sport dport payload = omega arith
 orders_more w (order.Send s f t p ∷ xs) slot sport dport payload = let ih = orders_more w xs slot sport dport payload in omega (arith, ih)
 orders_more w (order.Cancel s t ∷ xs) slot sport dport payload = orders_more w xs slot sport dport payload
@@ -174,7 +174,7 @@ pong_read (Read s f outcome.Ping ∷ past) port is = (s, f, past, refl)
 pong_read (Read s f _ ∷ past) port is = cc
 pong_read (_ ∷ past) port is = cc
 
-module _ (w : List ℕ → ℕ) (j : List Entry) (none : (s : ℕ) (f : Frame) (past : List Entry) → Moment (Read s f outcome.Ping ∷ past) j → ⊥) where
+module _ (w : Weight) (j : List Entry) (none : (s : ℕ) (f : Frame) (past : List Entry) → Moment (Read s f outcome.Ping ∷ past) j → ⊥) where
   pub ordered : (p : List Entry) → Moment p j → IsLegal p → OnlySends p → accepted_sum w p ≡ orders_sum w (orders p)
   ordered [] m legal only = refl
   ordered (Accept slot sport dport payload ∷ past) m legal only =
@@ -183,7 +183,7 @@ module _ (w : List ℕ → ℕ) (j : List Entry) (none : (s : ℕ) (f : Frame) (
       go : (b : Bool) → (slot == NO_SLOT) ≡ b → (p : Option ℕ) → pong_to past ≡ p →
           MatchOption p (IsLawful past (Accept slot sport dport payload)) (λ port. IsPong past port (Accept slot sport dport payload)) →
           accepted_sum w past ≡ orders_sum w (orders past) →
-          accepted_sum w past + w payload ≡ orders_sum w (cond b (orders past) (orders past ++ order.Send slot sport dport payload ∷ []))
+          accepted_sum w past + w sport dport payload ≡ orders_sum w (cond b (orders past) (orders past ++ order.Send slot sport dport payload ∷ []))
       go false is p pong continues ih = let more = orders_more w (orders past) slot sport dport payload in omega (arith, ih, more)
       go true is None pong lawful ih = absurd (lawful.socket (eqb-true slot NO_SLOT is))
       go true is (Some port) pong answer ih =

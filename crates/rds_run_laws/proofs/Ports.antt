@@ -37,7 +37,7 @@ no_bytes = subst IsBytes (sym none_is) (zeros 8192)
 
 module _ (pulled : (s : ℕ) (f : Frame) (p past : List Entry) → IsLegal past → Moment (Pull s f ∷ p) past → is_map f ≡ true →
     (length f.payload ≡ MAP_LENGTH) × IsBytes f.payload) where
-  no_port_in : (past : List Entry) → IsLegal past → PullsNoPort past → (s : ℕ) (f : Frame) (p : List Entry) → Moment (Pull s f ∷ p) past →
+  pub no_port_in : (past : List Entry) → IsLegal past → PullsNoPort past → (s : ℕ) (f : Frame) (p : List Entry) → Moment (Pull s f ∷ p) past →
       is_map f ≡ true → (port : ℕ) → has_port f.payload port ≡ false
   no_port_in past legal none s f p at map port =
       elim (cases_lt port 65536) [

@@ -8,9 +8,9 @@ use Rattle.rds_model.specs.Sums.{orders}
 use Rattle.rds_mail.specs.Merging.{by_key, is_key}
 use Rattle.rds_host_end.specs.Joins.{slot_of_order}
 use Rattle.rds_host_end.specs.Joined.{orders_of}
-use Rattle.rds_run_laws.specs.Weights.{orders_sum, slots_sum}
+use Rattle.rds_run_laws.specs.Weights.{Weight, orders_sum, slots_sum}
 
-module _ (w : List ℕ → ℕ) where
+module _ (w : Weight) where
   -- of the orders of the slots below a number in a list
   abbrev below : ℕ → List Order → ℕ
   below zero xs = 0
@@ -34,7 +34,7 @@ module _ (w : List ℕ → ℕ) where
 
   -- a datagram adds its weight at its own slot
   below_send : (slot sport dport : ℕ) (payload : List ℕ) (xs : List Order) (n : ℕ) →
-      (slot < n → below n (order.Send slot sport dport payload ∷ xs) ≡ below n xs + w payload)
+      (slot < n → below n (order.Send slot sport dport payload ∷ xs) ≡ below n xs + w sport dport payload)
       × (n ≤ slot → below n (order.Send slot sport dport payload ∷ xs) ≡ below n xs)
   below_send slot sport dport payload xs zero = (λ less. absurd (omega (arith, less)), λ least. refl)
   below_send slot sport dport payload xs (suc n) = go (cases_eq slot n) (below_send slot sport dport payload xs n)
@@ -45,11 +45,11 @@ module _ (w : List ℕ → ℕ) where
       list : List Order
       list = by_key slot_of_order n xs
 
-      go : (slot ≡ n) ⊎ (slot ≢ n) → (slot < n → below n (x ∷ xs) ≡ below n xs + w payload) × (n ≤ slot → below n (x ∷ xs) ≡ below n xs) →
-          (slot < suc n → below n (x ∷ xs) + orders_sum w (cond (slot == n) (x ∷ list) list) ≡ below n xs + orders_sum w list + w payload)
+      go : (slot ≡ n) ⊎ (slot ≢ n) → (slot < n → below n (x ∷ xs) ≡ below n xs + w sport dport payload) × (n ≤ slot → below n (x ∷ xs) ≡ below n xs) →
+          (slot < suc n → below n (x ∷ xs) + orders_sum w (cond (slot == n) (x ∷ list) list) ≡ below n xs + orders_sum w list + w sport dport payload)
           × (suc n ≤ slot → below n (x ∷ xs) + orders_sum w (cond (slot == n) (x ∷ list) list) ≡ below n xs + orders_sum w list)
       go (inl is) ih =
-          let here : orders_sum w (cond (slot == n) (x ∷ list) list) ≡ w payload + orders_sum w list =
+          let here : orders_sum w (cond (slot == n) (x ∷ list) list) ≡ w sport dport payload + orders_sum w list =
           ap (λ (b : Bool). orders_sum w (cond b (x ∷ list) list)) (eq-eqb slot n is) in
           let before = ih.1 (omega (arith, is)) in
           (λ less. omega (arith, here, before), λ least. absurd (omega (arith, is, least)))

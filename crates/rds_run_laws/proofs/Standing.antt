@@ -27,7 +27,7 @@ use Rattle.rds_run_laws.proofs.Asked.{given}
 use Rattle.rds_run_laws.proofs.Doing.{HaveAsked}
 
 -- each of these orders is of a slot
-abbrev HaveSlots : List Order → Type 0
+abbrev pub HaveSlots : List Order → Type 0
 HaveSlots [] = Unit {0}
 HaveSlots (x ∷ list) = ((slot : ℕ) × (slot_of_order x ≡ Some slot)) × HaveSlots list
 
@@ -44,7 +44,7 @@ either_sent : (pong : Bool) (slot sport dport : ℕ) (payload : List ℕ) (list 
 either_sent true slot sport dport payload list h = h
 either_sent false slot sport dport payload list h = slots_append list (order.Send slot sport dport payload) h (slot, refl)
 
-have_slots : (past : List Entry) → HaveSlots (orders past)
+pub have_slots : (past : List Entry) → HaveSlots (orders past)
 have_slots [] = tt
 have_slots (Accept slot sport dport payload ∷ past) = either_sent (slot == NO_SLOT) slot sport dport payload (orders past) (have_slots past)
 have_slots (Cancel slot target ∷ past) = slots_append (orders past) (cancellation slot target) (have_slots past) (of_slot slot target)

@@ -7,6 +7,7 @@ use Rattle.rds_run_callers.specs.Commands.{commander}
 use Rattle.rds_run_hosts.specs.Obeyed.{is_host}
 use Rattle.rds_run_threads.specs.Outcome.{BindsWith}
 use Rattle.rds_run_laws.specs.Put.{own_sum}
+use Rattle.rds_run_laws.specs.Weights.{by_length}
 
 -- whether the command is the host's own
 abbrev pub is_own : (host : ℕ) → Placed → Bool
@@ -26,5 +27,5 @@ HaveRoomFor bytes host commands = (rcvbuf : ℕ) (placed : Placed) → Contains 
 
 -- each of two hosts has room, wherever it binds, for all that the other's commands send
 pub record HoldAll (host peer : ℕ) (commands : List Placed) : Type 0 where
-  pub forth : HaveRoomFor (own_sum length peer commands) host commands
-  pub back : HaveRoomFor (own_sum length host commands) peer commands
+  pub forth : HaveRoomFor (own_sum by_length peer commands) host commands
+  pub back : HaveRoomFor (own_sum by_length host commands) peer commands

@@ -1,3 +1,4 @@
+pub mod Calm
 pub mod Few
 pub mod Put
 pub mod Sent

@@ -9,7 +9,7 @@ ghost use Rattle.rds_run_hosts.specs.Streams.{cuts_between, streams_between};
 ghost use Rattle.rds_run_threads.specs.Causes.{IsFullJournal, IsOfCommands};
 ghost use Rattle.rds_run_laws.specs.Few.{HoldAll, PullsNoPort, own_commands};
 ghost use Rattle.rds_run_laws.specs.Put.{own_sum};
-ghost use Rattle.rds_run_laws.specs.Weights.{orders_sum};
+ghost use Rattle.rds_run_laws.specs.Weights.{by_length, orders_sum};
 
 use crate::sums::sums_of_journals;
 use rds_model::laws::{bounded_of_all, few_map_pulls, few_streams, pulled_maps};
@@ -18,7 +18,7 @@ use rds_model::laws::{bounded_of_all, few_map_pulls, few_streams, pulled_maps};
 /// these send: a command puts at most one on the routes to one peer.
 pub fn few_orders()
     ensures bytes { (hosts host peer : ℕ) (commands : List Placed) (past : List Entry) → host < hosts → peer < hosts → (peer ≡ host → ⊥) →
-        IsOfCommands hosts host peer commands past → orders_sum length (orders past) ≤ own_sum length host commands }
+        IsOfCommands hosts host peer commands past → orders_sum by_length (orders past) ≤ own_sum by_length host commands }
     ensures count { (hosts host peer : ℕ) (commands : List Placed) (past : List Entry) → host < hosts → peer < hosts → (peer ≡ host → ⊥) →
         IsOfCommands hosts host peer commands past → length (orders past) ≤ own_commands host commands }
 {}

@@ -2,4 +2,5 @@
 #![tactic(auto)]
 
 pub mod bounds;
+pub mod calm;
 pub mod sums;

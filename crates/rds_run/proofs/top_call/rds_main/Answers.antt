@@ -4,6 +4,7 @@ use Rattle.rds_run.proofs.Codes as codes
 use Rattle.rds_run.proofs.Complete as complete
 use Rattle.rds_run.proofs.Ended as ended
 use Rattle.rds_run.proofs.Sources as sources
+use Rattle.rds_run.proofs.Summed as summed
 use Rattle.rds_run.proofs.top_call.rds_main.Goals as goal
 
 pub returns-clause-usage : goal.returns-clause-usage
@@ -53,6 +54,10 @@ returns-clause-ran g c = ended.ran _ _ _ _ c.do_work.result c.code.result c.code
 
 pub returns-clause-summed : goal.returns-clause-summed
 returns-clause-summed g c = ended.summed _ _ _ _ c.do_work.result c.code.result c.code.ensures c.do_work.ensures.ends
+
+pub returns-clause-summary_text : goal.returns-clause-summary_text
+returns-clause-summary_text g c =
+    summed.summary_text c.summary_of_words.ensures _ _ _ _ c.do_work.result c.code.result c.code.ensures c.do_work.ensures.ends
 
 pub returns-clause-written : goal.returns-clause-written
 returns-clause-written g c = ended.written _ _ _ _ c.do_work.result c.code.result c.code.ensures c.do_work.ensures.ends
