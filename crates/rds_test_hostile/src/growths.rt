@@ -1,21 +1,16 @@
-//! Calls that can answer that memory ran out: each is made once, and once more where it answered so. The word is the name of one; without
-//! a word all are made. The line of a call has a number that tells what came of it, however often it was made.
-#![tactic(auto)]
-
+//! Calls that can answer that memory ran out: each is made once, and once more where it answered so. The line of a call has a number
+//! that tells what came of it, however often it was made.
 mod connections;
 mod payloads;
 mod scripts;
 mod stores;
 mod tried;
 
-use std::alloc::{AllocError, Global};
-use std::env;
+use super::MEMORY;
+use std::alloc::Global;
+use std::io::Print;
 use std::process::ExitCode;
-use std::rt::Env;
 use tried::Tried;
-
-/// The status where there is no memory for what a call needs.
-const MEMORY: u8 = 6;
 
 /// The status where a call had to be made twice.
 const AGAIN: u8 = 10;
@@ -41,26 +36,18 @@ const CALLS: [&str; 17] = [
     "play",
 ];
 
-fn main(rt: HostRuntime) -> ExitCode {
-    let Ok(word) = word(&rt, rt.alloc()) else {
-        return ExitCode::from(MEMORY);
-    };
-    let is_all = word.is_empty();
+/// Makes each call, and writes what came of it. The status is the highest of them.
+pub fn show_all(rt: &impl Print, alloc: Global) -> ExitCode {
     let mut status = 0;
     for name in CALLS {
-        if is_all || name == word.as_str() {
-            status = tell(&rt, rt.alloc(), name);
-        }
+        status = tell(rt, alloc, name).max(status);
     }
     ExitCode::from(status)
 }
 
-// The first word, or no text.
-fn word<R: Env + AllocGlobal>(rt: &R, alloc: Global) -> Result<String, AllocError> {
-    match env::args(rt) {
-        Ok(words) => Ok(words.skip(1).next().unwrap_or(String::new(alloc))),
-        Err(_) => Err(AllocError),
-    }
+/// Makes the call with this name, and writes what came of it.
+pub fn show(rt: &impl Print, alloc: Global, name: &str) -> ExitCode {
+    ExitCode::from(tell(rt, alloc, name))
 }
 
 // Makes a call, and writes what came of it.

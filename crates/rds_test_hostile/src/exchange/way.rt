@@ -1,5 +1,5 @@
 //! What goes one way.
-use crate::TRIES;
+use super::TRIES;
 use rds_link::MemEnd;
 use rds_model::Order;
 use rds_test_hosts::{LineHost, PORT};

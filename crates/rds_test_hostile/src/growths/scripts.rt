@@ -1,7 +1,7 @@
 //! A script that is read and played.
 ghost use Rattle.rds_script.specs.Script.{IsScript};
 
-use crate::tried::Tried;
+use super::tried::Tried;
 use rds_link::MemSink;
 use rds_model::MAX_ENTRIES;
 use rds_play::PlayEnd;
