@@ -4,7 +4,7 @@ mod hosts;
 mod way;
 
 use super::MEMORY;
-use hosts::{Both, two};
+pub use hosts::{Both, two};
 use rds_link::MemEnd;
 use rds_model::Order;
 use rds_test_hosts::LineHost;
@@ -15,6 +15,7 @@ use std::process::ExitCode;
 use std::sync::Wait;
 use std::thread::Threads;
 use way::Way;
+pub use way::send;
 
 /// How many datagrams go each way.
 const COUNT: u32 = 40;

@@ -1,12 +1,15 @@
 //! Hostile use of what a run is made of. The first word says of what: `growths [CALL]` of calls that may find no memory, `exchange` of
-//! two lines that may find none, `frames SEED COUNT` of frames, lawful and damaged ones. Without a word it does a little of each.
+//! two lines that may find none, `frames SEED COUNT` of frames, lawful and damaged ones, `again` of whole runs, one after another. Without a word it does a little
+//! of each.
 #![tactic(auto)]
 
+mod again;
 mod exchange;
 mod frames;
 mod growths;
 
 use anyhow::{Context, bail};
+use rds_link::StdSource;
 use std::env;
 use std::process::ExitCode;
 
@@ -26,6 +29,7 @@ fn main(rt: HostRuntime) -> anyhow::Result<ExitCode> {
     let Some(what) = words.next() else {
         growths::show_all(&rt, rt.alloc());
         exchange::show(&rt, rt.alloc())?;
+        again::tell(&rt, rt.alloc(), SEED)?;
         return frames::show(&rt, rt.alloc(), SEED, FRAMES);
     };
     match what.as_str() {
@@ -41,6 +45,10 @@ fn main(rt: HostRuntime) -> anyhow::Result<ExitCode> {
                 .context("the number of frames is missing")?
                 .parse()?;
             frames::show(&rt, rt.alloc(), seed, count)
+        }
+        "again" => {
+            again::show(&rt, rt.alloc(), &mut StdSource::new(rt.reader()))?;
+            Ok(ExitCode::SUCCESS)
         }
         _ => bail!("nothing has this name"),
     }

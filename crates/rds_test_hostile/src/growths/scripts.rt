@@ -8,7 +8,7 @@ use rds_play::PlayEnd;
 use rds_script::Script;
 use std::alloc::Global;
 
-const SCRIPT: &[u8] = b"hosts 2\nbind A 4000 65536 65536\nbind B 4001 65536 65536\n\
+pub const SCRIPT: &[u8] = b"hosts 2\nbind A 4000 65536 65536\nbind B 4001 65536 65536\n\
 send A 4000 B 4001 t:hello\ndrain\nrecv B 4001\n";
 
 pub fn read(alloc: Global) -> Option<Tried> {
