@@ -1,6 +1,6 @@
 //! Hostile use of what a run is made of. The first word says of what: `growths [CALL]` of calls that may find no memory, `exchange` of
-//! two lines that may find none, `frames SEED COUNT` of frames, lawful and damaged ones, `again` of whole runs, one after another. Without a word it does a little
-//! of each.
+//! two lines that may find none, `frames SEED COUNT` of frames, lawful and damaged ones, `again` of many runs in one process. Without a
+//! word it does a little of each.
 #![tactic(auto)]
 
 mod again;
