@@ -1,7 +1,7 @@
 #!/bin/sh
 # Refuses each allocation in turn, and ends at the first wrong answer: sh bench/refuse.sh
 #
-# First of calls, one after another (crates/rds_test_growths): one that answers that memory ran out is made once more, and what came of it in the end
+# First of calls, one after another (crates/rds_test_hostile): one that answers that memory ran out is made once more, and what came of it in the end
 # has to be what comes where nothing is refused. The line of a call tells how many of its growths were refused so. A growth that asks for more room
 # than is needed, and is refused, may be followed by one that asks for less, so each is also refused together with the next one.
 #
@@ -11,10 +11,8 @@
 set -eu
 cd "$(dirname "$0")/.."
 . bench/program.sh
-GROWTHS=crates/rds_test_growths/out/rds_test_growths
-EXCHANGE=crates/rds_test_exchange/out/rds_test_exchange
-[ -x "$GROWTHS" ] || (cd crates/rds_test_growths && rt run >/dev/null)
-[ -x "$EXCHANGE" ] || (cd crates/rds_test_exchange && rt run >/dev/null)
+HOSTILE=crates/rds_test_hostile/out/rds_test_hostile
+[ -x "$HOSTILE" ] || (cd crates/rds_test_hostile && rt run >/dev/null)
 room=$(mktemp -d)
 trap 'rm -rf "$room"' EXIT
 cc -O2 -shared -fPIC -o "$room/refuse.so" bench/peers/refuse.c -ldl
@@ -50,12 +48,12 @@ wrong() {
     exit 1
 }
 
-for call in $("$GROWTHS" | sed 's/:.*//'); do
+for call in $("$HOSTILE" growths | sed 's/:.*//'); do
     more=0
-    refuse_each /dev/null "$GROWTHS" "$call"
+    refuse_each /dev/null "$HOSTILE" growths "$call"
     alone=$again
     more=1
-    refuse_each /dev/null "$GROWTHS" "$call"
+    refuse_each /dev/null "$HOSTILE" growths "$call"
     echo "$call: $alone growths refused alone, $again with the next one"
 done
 
@@ -66,7 +64,7 @@ tell_each() {
 }
 
 more=0
-tell_each /dev/null "$EXCHANGE"
+tell_each /dev/null "$HOSTILE" exchange
 tell_each examples/retransmission.rds "$PROGRAM" play
 tell_each examples/three_hosts.rds "$PROGRAM" run
 tell_each examples/hello.rds "$PROGRAM" run --wire tcp

@@ -1,5 +1,5 @@
 //! Payloads, and a reader of frames.
-use crate::tried::Tried;
+use super::tried::Tried;
 use rds_frame::Splitter;
 use rds_wire::{Header, Payload, encode, sealed};
 use std::alloc::Global;

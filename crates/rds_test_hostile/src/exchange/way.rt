@@ -1,5 +1,5 @@
 //! What goes one way.
-use crate::TRIES;
+use super::TRIES;
 use rds_link::MemEnd;
 use rds_model::Order;
 use rds_test_hosts::{LineHost, PORT};
@@ -52,8 +52,8 @@ impl Way {
     }
 }
 
-// Gives a host's line the datagram with this number. `false` where there is no memory for it.
-fn send<R: Wait>(rt: &R, alloc: Global, host: &mut LineHost<MemEnd>, number: u32) -> bool {
+/// Gives a host's line the datagram with this number. `false` where there is no memory for it.
+pub fn send<R: Wait>(rt: &R, alloc: Global, host: &mut LineHost<MemEnd>, number: u32) -> bool {
     let Ok(payload) = Payload::copy_of(alloc, &number.to_be_bytes()) else {
         return false;
     };

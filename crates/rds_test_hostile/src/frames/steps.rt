@@ -2,7 +2,7 @@
 ghost use Rattle.std.specs.Prelude.{◌<◌};
 ghost use Rattle.rds_conn.specs.Passing.{Matches};
 
-use crate::making::HELD;
+use super::making::HELD;
 use rds_cong::PortMap;
 use rds_conn::{Conn, ConnError, Fed, Found, Out, Verdict};
 use rds_model::{Entry, Journal, Order, Outcome};

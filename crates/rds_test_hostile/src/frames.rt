@@ -1,7 +1,5 @@
 //! Frames by a seed, lawful and damaged ones, through a splitter and a connection, each answer compared with that of a plain reader of
-//! the format. The words are a seed and a number of frames; without words it takes few.
-#![tactic(auto)]
-
+//! the format.
 mod chance;
 mod connecting;
 mod making;
@@ -10,33 +8,19 @@ mod splitting;
 mod steps;
 mod tally;
 
-use anyhow::{Context, anyhow};
+use anyhow::anyhow;
 use chance::Chance;
 use connecting::is_taken;
 use making::{SENT, Stream};
 use plain::Sight;
 use splitting::is_split;
 use std::alloc::Global;
-use std::env;
+use std::io::Print;
 use std::process::ExitCode;
 use tally::Tally;
 
-/// The seed and the number of frames without words.
-const SEED: u64 = 1;
-
-const FRAMES: u64 = 400;
-
-fn main(rt: HostRuntime) -> anyhow::Result<ExitCode> {
-    let mut words = env::args(&rt)?.skip(1);
-    let Some(seed) = words.next() else {
-        return tell(&rt, rt.alloc(), SEED, FRAMES);
-    };
-    let frames = words.next().context("the number of frames is missing")?;
-    tell(&rt, rt.alloc(), seed.parse()?, frames.parse()?)
-}
-
-// Compares so many frames of a seed, and writes what came.
-fn tell(rt: &impl Print, alloc: Global, seed: u64, frames: u64) -> anyhow::Result<ExitCode> {
+/// Compares so many frames of a seed, and writes what came.
+pub fn show(rt: &impl Print, alloc: Global, seed: u64, frames: u64) -> anyhow::Result<ExitCode> {
     let mut chance = Chance::new(seed);
     let mut tally = Tally::default();
     for _ in 0..frames {

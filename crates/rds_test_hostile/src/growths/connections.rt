@@ -1,6 +1,6 @@
 //! A connection, and what it pulls into.
-use crate::payloads::datagram;
-use crate::tried::Tried;
+use super::payloads::datagram;
+use super::tried::Tried;
 use rds_cong::PortMap;
 use rds_conn::{Conn, ConnError, Fed, Out};
 use rds_model::{Order, Target};

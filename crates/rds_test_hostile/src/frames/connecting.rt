@@ -1,10 +1,10 @@
 //! A connection beside the plain reader.
-use crate::chance::Chance;
-use crate::making::{HELD, SENT};
-use crate::plain::{Head, Next, Sight, front};
-use crate::splitting::behind;
-use crate::steps::{Kept, fault_at, feed, outcome_at, pass, ready};
-use crate::tally::Tally;
+use super::chance::Chance;
+use super::making::{HELD, SENT};
+use super::plain::{Head, Next, Sight, front};
+use super::splitting::behind;
+use super::steps::{Kept, fault_at, feed, outcome_at, pass, ready};
+use super::tally::Tally;
 use rds_conn::{Conn, ConnError, Fed, Verdict};
 use rds_model::Outcome;
 use rds_wire::Malformed;

@@ -1,5 +1,5 @@
 //! The map of ports, a journal, and a store of messages.
-use crate::tried::Tried;
+use super::tried::Tried;
 use rds_cong::PortMap;
 use rds_model::{Entry, Journal, Msg};
 use rds_msgs::{MAX_MESSAGES, Store};

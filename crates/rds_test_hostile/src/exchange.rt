@@ -1,22 +1,21 @@
 //! A whole exchange of two lines with a cut in its middle, which goes on where memory runs out: an order that wasn't taken is given
-//! again, and a turn that had no memory is made again. The program writes how many datagrams came each way, and whether each of them
-//! was the next one. Where there is no memory to begin with it writes nothing, and its status is 6.
-#![tactic(auto)]
-
+//! again, and a turn that had no memory is made again.
 mod hosts;
 mod way;
 
-use hosts::{Both, two};
+use super::MEMORY;
+pub use hosts::{Both, two};
 use rds_link::MemEnd;
 use rds_model::Order;
 use rds_test_hosts::LineHost;
 use std::alloc::Global;
+use std::io::Print;
+use std::net::Net;
 use std::process::ExitCode;
 use std::sync::Wait;
+use std::thread::Threads;
 use way::Way;
-
-/// The status where there is no memory to begin with.
-const MEMORY: u8 = 6;
+pub use way::send;
 
 /// How many datagrams go each way.
 const COUNT: u32 = 40;
@@ -27,13 +26,15 @@ const TRIES: u32 = 3;
 /// How often both lines turn at the end.
 const TURNS: u32 = 400;
 
-fn main(rt: HostRuntime) -> anyhow::Result<ExitCode> {
-    let Some(mut both) = two(&rt, rt.alloc()) else {
+/// Writes how many datagrams came each way, and whether each of them was the next one. Where there is no memory to begin with it
+/// writes nothing.
+pub fn show<R: Print + Threads + Wait + Net>(rt: &R, alloc: Global) -> anyhow::Result<ExitCode> {
+    let Some(mut both) = two(rt, alloc) else {
         return Ok(ExitCode::from(MEMORY));
     };
     let mut there = Way::default();
     let mut back = Way::default();
-    exchange(&rt, rt.alloc(), &mut both, &mut there, &mut back);
+    exchange(rt, alloc, &mut both, &mut there, &mut back);
     println!(rt; "{there} there, {back} back")?;
     Ok(ExitCode::SUCCESS)
 }

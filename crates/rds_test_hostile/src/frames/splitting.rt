@@ -1,7 +1,7 @@
 //! A splitter beside the plain reader.
-use crate::chance::Chance;
-use crate::plain::{Head, Next, Sight, front};
-use crate::tally::Tally;
+use super::chance::Chance;
+use super::plain::{Head, Next, Sight, front};
+use super::tally::Tally;
 use rds_frame::{FrameError, Splitter, Took};
 use rds_wire::{Frame, Malformed, Memory, encode};
 use std::alloc::Global;

@@ -1,14 +1,14 @@
 //! A script that is read and played.
 ghost use Rattle.rds_script.specs.Script.{IsScript};
 
-use crate::tried::Tried;
+use super::tried::Tried;
 use rds_link::MemSink;
 use rds_model::MAX_ENTRIES;
 use rds_play::PlayEnd;
 use rds_script::Script;
 use std::alloc::Global;
 
-const SCRIPT: &[u8] = b"hosts 2\nbind A 4000 65536 65536\nbind B 4001 65536 65536\n\
+pub const SCRIPT: &[u8] = b"hosts 2\nbind A 4000 65536 65536\nbind B 4001 65536 65536\n\
 send A 4000 B 4001 t:hello\ndrain\nrecv B 4001\n";
 
 pub fn read(alloc: Global) -> Option<Tried> {

@@ -1,5 +1,5 @@
 //! Streams of frames: lawful ones, and ones with something changed.
-use crate::chance::Chance;
+use super::chance::Chance;
 use rds_wire::{
     ACK_REQUIRED, CONG_BITMAP, Ext, Header, MAP_LENGTH, RETRANSMITTED, encode, put_ext, sealed,
 };
