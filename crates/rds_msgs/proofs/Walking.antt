@@ -11,7 +11,7 @@ use Rattle.rds_msgs_lists.specs.Lists.{Place, ListsView, AtEach, IsOn, IsDistinc
 use Rattle.rds_msgs.specs.Messages.{after_cancel, bytes_of, covers_message, covered_messages, messages_from}
 use Rattle.rds_msgs.specs.Kept.{IsKept, IsListed, HasSlot, count_before, mark_without, message_at, messages_at, no_message, seen}
 use Rattle.rds_msgs.proofs.Places.{first_of_is, none_of, all_parts, distinct_off, first_of_on}
-use Rattle.rds_msgs.proofs.Marks.{count_most, moves_by, Moves}
+use Rattle.rds_msgs.proofs.Counts.{count_most, moves_by, Moves}
 use Rattle.rds_msgs.proofs.Keeping.{kept_off}
 use Rattle.rds_msgs.proofs.Withdrawing.{Stays, stays_first, stays_past, stays_off, stays_end, between_left, covers_own, length_from}
 
