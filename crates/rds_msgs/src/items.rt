@@ -1,4 +1,4 @@
-ghost use Rattle.std.specs.Prelude.{◌≡◌, ◌≢◌, ℕ, ◌<◌, ◌≤◌, ◌+◌, max, length, get_or};
+ghost use Rattle.std.specs.Prelude.{◌≡◌, ◌≢◌, ℕ, ◌<◌, ◌≤◌, ◌+◌, ◌^◌, max, length, get_or};
 ghost use Rattle.std.specs.Vec.{vec_capacity};
 ghost use Rattle.rds_msgs.specs.Kept.{no_message};
 
@@ -16,7 +16,7 @@ pub(crate) fn message(items: &[Msg], at: Index) -> Msg
 /// The bytes of a message.
 pub(crate) fn bytes(m: Msg) -> u64
     ensures bytes { result ≡ m.len }
-    ensures few { result ≤ 4294967295 }
+    ensures few { result < 2 ^ 32 }
 {
     u64::from(m.len)
 }

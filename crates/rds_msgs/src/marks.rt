@@ -4,7 +4,7 @@ ghost use Rattle.rds_msgs.specs.Kept.{mark_without, mark_with};
 
 use rds_msgs_lists::{Index, Lists};
 
-/// The first message that isn't pulled, after one comes that isn't.
+/// The mark once an index comes to the end of the lists: that index, where all others are pulled.
 pub(crate) fn marked(mark: Option<Index>, at: Index) -> Option<Index>
     ensures { result ≡ mark_with at mark }
 {
@@ -14,7 +14,7 @@ pub(crate) fn marked(mark: Option<Index>, at: Index) -> Option<Index>
     }
 }
 
-/// The first message that isn't pulled, after one leaves with `next` behind it.
+/// The mark once an index leaves, behind which `next` stands.
 fn moved(mark: Option<Index>, at: Index, next: Option<Index>) -> Option<Index>
     ensures { result ≡ mark_without at next mark }
 {
@@ -24,7 +24,7 @@ fn moved(mark: Option<Index>, at: Index, next: Option<Index>) -> Option<Index>
     }
 }
 
-/// Takes an index off its lists, and gives the first that isn't pulled then.
+/// Takes an index off its lists, and gives the mark then.
 pub(crate) fn take_off(lists: &mut Lists, mark: Option<Index>, at: Index) -> Option<Index>
     requires on { IsOn lists.old.places at }
     ensures left { AtEach lists.old.places at (λ before p rest. lists.new ≡ record lists.old { places = before ++ rest }) }

@@ -1,8 +1,6 @@
-use Rattle.std.proofs.Common.{◌≡◌, ◌≤◌, ℕ, Option, get_or, true, false, arith, sym, ap, subst, ◌∙◌}
+use Rattle.std.proofs.Common.{◌≤◌, ℕ, Option, arith, ap, subst, ◌∙◌}
 use Rattle.rds_model.specs.declared.entry.TheConstants.{NO_SLOT}
-use Rattle.rds_model.specs.Alive.{aims_at}
 use Rattle.rds_msgs_lists.specs.Lists.{first_index, of_socket}
-use Rattle.rds_msgs.specs.Kept.{no_message}
 use Rattle.rds_msgs.proofs.Walking.{Walks, Ended, walks_first, walks_past, walks_off, walks_end, fits_more}
 use Rattle.rds_msgs.proofs.Places.{none_is}
 use Rattle.rds_msgs.proofs.slot_walk.withdraw.Given.{Over}
@@ -26,23 +24,19 @@ pub loop-next-preserved-then-covers : goal.loop-next-preserved-then-covers
 loop-next-preserved-then-covers g c =
     let w = subst (λ (o : Option ℕ). Walks c.args.items.now c.args.slots c.args.slot c.args.target c.args.lists.now c.args.mark c.tick.new.self c.loop-next.lists c.loop-next.left.mark o c.loop-next.left.bytes c.loop-next.steps) c.in-Some.is c.loop-next.invariant in
     let most : c.args.slots ≤ NO_SLOT = omega (arith, c.ranges.slots.fits) in
-    let is : get_or c.args.items.now c.in-Some.at no_message ≡ c.message-m.result = sym c.message-m.ensures in
-    let aims : aims_at c.args.target c.message-m.result.dport ≡ true = sym c.covers.ensures ∙ c.if-covers.true in
     let small : c.message-m.result.len ≤ 4294967295 = omega (arith, c.bytes.ensures.bytes, c.bytes.ensures.few) in
     rw (c.bytes.ensures.bytes, c.tick-in-Some.ensures)
     (walks_off c.args.items.now c.args.slots c.args.slot c.args.target most c.requires.slot c.args.lists.now c.args.mark c.tick.new.self c.loop-next.lists c.loop-next.left.mark c.loop-next.left.bytes c.loop-next.steps
-    c.in-Some.at c.after_of-next.result c.message-m.result c.take_off-left.new.lists c.take_off-left.result w is aims small
+    c.in-Some.at c.after_of-next.result c.message-m.result c.take_off-left.new.lists c.take_off-left.result w c.message-m.ensures c.covers.result c.covers.ensures c.if-covers.true small
     c.after_of-next.ensures.next c.after_of-next.ensures.on c.take_off-left.ensures.left c.take_off-left.ensures.mark)
 
 pub loop-next-preserved : goal.loop-next-preserved
 loop-next-preserved g c =
     let w = subst (λ (o : Option ℕ). Walks c.args.items.now c.args.slots c.args.slot c.args.target c.args.lists.now c.args.mark c.tick.new.self c.loop-next.lists c.loop-next.left.mark o c.loop-next.left.bytes c.loop-next.steps) c.in-Some.is c.loop-next.invariant in
     let most : c.args.slots ≤ NO_SLOT = omega (arith, c.ranges.slots.fits) in
-    let is : get_or c.args.items.now c.in-Some.at no_message ≡ c.message-m.result = sym c.message-m.ensures in
-    let aims : aims_at c.args.target c.message-m.result.dport ≡ false = sym c.covers.ensures ∙ c.if-covers.false in
     rw c.tick-in-Some.ensures
     (walks_past c.args.items.now c.args.slots c.args.slot c.args.target most c.requires.slot c.args.lists.now c.args.mark c.tick.new.self c.loop-next.lists c.loop-next.left.mark c.loop-next.left.bytes c.loop-next.steps
-    c.in-Some.at c.after_of-next.result c.message-m.result w is aims c.after_of-next.ensures.next c.after_of-next.ensures.on)
+    c.in-Some.at c.after_of-next.result c.message-m.result w c.message-m.ensures c.covers.result c.covers.ensures c.if-covers.false c.after_of-next.ensures.next c.after_of-next.ensures.on)
 
 ended : (g : Over) (c : In_default g) → Ended c.args.items.now c.args.slots c.args.slot c.args.target c.args.lists.now c.args.mark c.tick.new.self c.loop-next.lists c.loop-next.left.mark c.loop-next.left.bytes c.loop-next.steps
 ended g c =
