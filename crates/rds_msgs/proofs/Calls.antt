@@ -11,7 +11,7 @@ use Rattle.rds_msgs_lists.specs.Lists.{Place, ListsView, AtEach, IsOn, IsDistinc
 use Rattle.rds_msgs.specs.Messages.{after_cancel, covered_messages, without_first}
 use Rattle.rds_msgs.specs.Kept.{IsKept, IsListed, HasSlot, count_before, mark_with, mark_without, message_at, messages_at, no_message, seen}
 use Rattle.rds_msgs.proofs.Places.{not_true, HasPlace, has_place, distinct_off}
-use Rattle.rds_msgs.proofs.Marks.{count_none, count_most, count_at, count_first, count_with, moves_by, Moves}
+use Rattle.rds_msgs.proofs.Counts.{count_none, count_most, count_at, count_first, count_with, moves_by, Moves}
 use Rattle.rds_msgs.proofs.Keeping.{Written, kept_off, messages_with}
 use Rattle.rds_msgs.proofs.Withdrawing.{AreLeft, all_left, none_taken, left_front}
 

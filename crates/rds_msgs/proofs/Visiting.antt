@@ -12,7 +12,7 @@ use Rattle.rds_msgs_lists.specs.Lists.{Place, AtEach, IsOn, IsDistinct, first_in
 use Rattle.rds_msgs.specs.Messages.{covers_message, covered_messages, message_numbers}
 use Rattle.rds_msgs.specs.Kept.{IsListed, HasSlot, count_before, message_at, messages_at, no_message}
 use Rattle.rds_msgs.proofs.Places.{first_of_is, none_of, all_parts, has_place, first_on, own_times, times_split, times_first}
-use Rattle.rds_msgs.proofs.Marks.{count_none, count_at, count_past, count_there}
+use Rattle.rds_msgs.proofs.Counts.{count_none, count_at, count_past, count_there}
 use Rattle.rds_msgs.proofs.Withdrawing.{none_taken, between_left, covers_own}
 
 -- the next index of a socket stands behind this one

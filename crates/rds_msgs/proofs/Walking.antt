@@ -1,5 +1,5 @@
 -- A cancellation walks the list of its slot.
-use Rattle.std.proofs.Common.{◌≡◌, ◌≤◌, ◌+◌, ◌*◌, min, ℕ, true, false, Option, Some, None, List, [], ◌∷◌, ◌++◌, length, arith, refl, sym, ap, ◌∙◌, subst, length-append, get_or}
+use Rattle.std.proofs.Common.{◌≡◌, ◌≤◌, ◌+◌, ◌*◌, min, ℕ, Bool, true, false, Option, Some, None, List, [], ◌∷◌, ◌++◌, length, arith, refl, sym, ap, ◌∙◌, subst, length-append, get_or}
 use Rattle.std.proofs.lemmas.List.{append_assoc, map-append, length-map}
 use Rattle.std.specs.List.{AllByRecursion}
 use Rattle.std.specs.Option.{IfSome}
@@ -11,7 +11,7 @@ use Rattle.rds_msgs_lists.specs.Lists.{Place, ListsView, AtEach, IsOn, IsDistinc
 use Rattle.rds_msgs.specs.Messages.{after_cancel, bytes_of, covers_message, covered_messages, messages_from}
 use Rattle.rds_msgs.specs.Kept.{IsKept, IsListed, HasSlot, count_before, mark_without, message_at, messages_at, no_message, seen}
 use Rattle.rds_msgs.proofs.Places.{first_of_is, none_of, all_parts, distinct_off, first_of_on}
-use Rattle.rds_msgs.proofs.Marks.{count_most, moves_by, Moves}
+use Rattle.rds_msgs.proofs.Counts.{count_most, moves_by, Moves}
 use Rattle.rds_msgs.proofs.Keeping.{kept_off}
 use Rattle.rds_msgs.proofs.Withdrawing.{Stays, stays_first, stays_past, stays_off, stays_end, between_left, covers_own, length_from}
 
@@ -101,14 +101,14 @@ module _ (items : List Msg) (slots slot : ℕ) (target : Target) where
         omega arith
 
     -- the walk leaves the message there
-    pub walks_past : (at : ℕ) (next : Option ℕ) (m : Msg) → Walks old first begun now mark (Some at) bytes steps → get_or items at no_message ≡ m → aims_at target m.dport ≡ false
+    pub walks_past : (at : ℕ) (next : Option ℕ) (m : Msg) → Walks old first begun now mark (Some at) bytes steps → m ≡ get_or items at no_message → (aims : Bool) → aims ≡ aims_at target m.dport → aims ≡ false
         → AtEach now.places at (λ before p rest. next ≡ first_index (of_socket p.socket rest)) → IfSome next (IsOn now.places)
         → Walks old first begun now mark next bytes (steps + 1)
-    walks_past at next m w e no' after on =
+    walks_past at next m w e aims decides no' after on =
         let s = stands at w in
-        let i : message_at items s.place ≡ m = ap (λ (k : ℕ). get_or items k no_message) s.its ∙ e in
+        let i : message_at items s.place ≡ m = ap (λ (k : ℕ). get_or items k no_message) s.its ∙ sym e in
         let c : covers_message slot target (message_at items s.place) ≡ false =
-        covers_own items slots slot most has target s.place s.listed s.owner ∙ (ap (λ (n : Msg). aims_at target n.dport) i ∙ no') in
+        covers_own items slots slot most has target s.place s.listed s.owner ∙ (ap (λ (n : Msg). aims_at target n.dport) i ∙ (sym decides ∙ no')) in
         let t = stays_past slot target (messages_at items old.places) (count_before first old.places) (messages_at items s.before) (message_at items s.place ∷ []) (messages_at items s.rest) (count_before mark now.places) bytes (c, tt) s.stays in
         record {
           kept = w.kept;
@@ -126,16 +126,16 @@ module _ (items : List Msg) (slots slot : ℕ) (target : Target) where
         }
 
     -- it takes the message there
-    pub walks_off : (at : ℕ) (next : Option ℕ) (m : Msg) (then' : ListsView) (left : Option ℕ) → Walks old first begun now mark (Some at) bytes steps → get_or items at no_message ≡ m → aims_at target m.dport ≡ true → m.len ≤ 4294967295
+    pub walks_off : (at : ℕ) (next : Option ℕ) (m : Msg) (then' : ListsView) (left : Option ℕ) → Walks old first begun now mark (Some at) bytes steps → m ≡ get_or items at no_message → (aims : Bool) → aims ≡ aims_at target m.dport → aims ≡ true → m.len ≤ 4294967295
         → AtEach now.places at (λ before p rest. next ≡ first_index (of_socket p.socket rest)) → IfSome next (IsOn now.places)
         → AtEach now.places at (λ before p rest. then' ≡ record now { places = before ++ rest })
         → AtEach now.places at (λ before p rest. left ≡ mark_without at (first_index rest) mark)
         → Walks old first begun then' left next (bytes + m.len) (steps + 1)
-    walks_off at next m then' left w e yes' small after on removed moved =
+    walks_off at next m then' left w e aims decides yes' small after on removed moved =
         let s = stands at w in
-        let i : message_at items s.place ≡ m = ap (λ (k : ℕ). get_or items k no_message) s.its ∙ e in
+        let i : message_at items s.place ≡ m = ap (λ (k : ℕ). get_or items k no_message) s.its ∙ sym e in
         let c : covers_message slot target (message_at items s.place) ≡ true =
-        covers_own items slots slot most has target s.place s.listed s.owner ∙ (ap (λ (n : Msg). aims_at target n.dport) i ∙ yes') in
+        covers_own items slots slot most has target s.place s.listed s.owner ∙ (ap (λ (n : Msg). aims_at target n.dport) i ∙ (sym decides ∙ yes')) in
         let r = removed s.before s.place s.rest s.whole s.its in
         let p : then'.places ≡ s.before ++ s.rest = ap (λ (u : ListsView). u.places) r in
         let v : left ≡ mark_without s.place.index (first_index s.rest) mark =

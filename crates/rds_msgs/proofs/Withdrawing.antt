@@ -12,7 +12,7 @@ use Rattle.rds_model.specs.Alive.{aims_at}
 use Rattle.rds_msgs_lists.specs.Lists.{Place, of_socket, is_of}
 use Rattle.rds_msgs.specs.Messages.{covers_message, covered_messages, uncovered_messages, bytes_of, messages_from}
 use Rattle.rds_msgs.specs.Kept.{IsListed, HasSlot, message_at, messages_at}
-use Rattle.rds_msgs.proofs.Marks.{Moves}
+use Rattle.rds_msgs.proofs.Counts.{Moves}
 
 -- the front of two lists
 pub take_none : {A : Type 0} (n : ℕ) → take {A = A} n [] ≡ []

@@ -1,8 +1,10 @@
 //! The datagrams of a connection that are accepted and not acknowledged, in the order of their numbers.
 #![tactic(auto)]
 
-mod parts;
+mod items;
+mod marks;
 mod slot_walk;
+mod slots;
 mod steps;
 mod store;
 

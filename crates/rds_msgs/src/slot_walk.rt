@@ -4,7 +4,9 @@ ghost use Rattle.rds_msgs.specs.Messages.{after_cancel, bytes_of, covered_messag
 ghost use Rattle.rds_msgs.specs.Kept.{HasSlot, IsKept, seen, messages_at};
 
 use crate::Steps;
-use crate::parts::{bytes, has_slot, list_of, message, take_off};
+use crate::items::{bytes, message};
+use crate::marks::take_off;
+use crate::slots::{has_slot, list_of};
 use rds_model::{Msg, Target};
 use rds_msgs_lists::{Index, Lists};
 use rds_wire::Memory;

@@ -3,8 +3,10 @@ ghost use Rattle.rds_model.specs.declared.entry.Target.TheVariants.{Port, All as
 ghost use Rattle.rds_msgs.specs.Messages.{IsAscending, message_numbers, bytes_of, covered_messages, messages_from, after_cancel, without_first};
 
 use crate::Steps;
-use crate::parts::{has_slot, list_of, marked, message, put, take_off};
+use crate::items::{message, put};
+use crate::marks::{marked, take_off};
 use crate::slot_walk::{push_covered, withdraw};
+use crate::slots::{has_slot, list_of};
 use rds_model::{Msg, NO_SLOT, Target};
 use rds_msgs_lists::{Index, Lists};
 use rds_wire::Memory;

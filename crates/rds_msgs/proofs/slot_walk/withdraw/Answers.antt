@@ -1,4 +1,4 @@
-use Rattle.std.proofs.Common.{◌≤◌, ℕ, Option, arith, sym, ap, subst, ◌∙◌}
+use Rattle.std.proofs.Common.{◌≤◌, ℕ, Option, arith, ap, subst, ◌∙◌}
 use Rattle.rds_model.specs.declared.entry.TheConstants.{NO_SLOT}
 use Rattle.rds_msgs_lists.specs.Lists.{first_index, of_socket}
 use Rattle.rds_msgs.proofs.Walking.{Walks, Ended, walks_first, walks_past, walks_off, walks_end, fits_more}
@@ -27,7 +27,7 @@ loop-next-preserved-then-covers g c =
     let small : c.message-m.result.len ≤ 4294967295 = omega (arith, c.bytes.ensures.bytes, c.bytes.ensures.few) in
     rw (c.bytes.ensures.bytes, c.tick-in-Some.ensures)
     (walks_off c.args.items.now c.args.slots c.args.slot c.args.target most c.requires.slot c.args.lists.now c.args.mark c.tick.new.self c.loop-next.lists c.loop-next.left.mark c.loop-next.left.bytes c.loop-next.steps
-    c.in-Some.at c.after_of-next.result c.message-m.result c.take_off-left.new.lists c.take_off-left.result w (sym c.message-m.ensures) (sym c.covers.ensures ∙ c.if-covers.true) small
+    c.in-Some.at c.after_of-next.result c.message-m.result c.take_off-left.new.lists c.take_off-left.result w c.message-m.ensures c.covers.result c.covers.ensures c.if-covers.true small
     c.after_of-next.ensures.next c.after_of-next.ensures.on c.take_off-left.ensures.left c.take_off-left.ensures.mark)
 
 pub loop-next-preserved : goal.loop-next-preserved
@@ -36,7 +36,7 @@ loop-next-preserved g c =
     let most : c.args.slots ≤ NO_SLOT = omega (arith, c.ranges.slots.fits) in
     rw c.tick-in-Some.ensures
     (walks_past c.args.items.now c.args.slots c.args.slot c.args.target most c.requires.slot c.args.lists.now c.args.mark c.tick.new.self c.loop-next.lists c.loop-next.left.mark c.loop-next.left.bytes c.loop-next.steps
-    c.in-Some.at c.after_of-next.result c.message-m.result w (sym c.message-m.ensures) (sym c.covers.ensures ∙ c.if-covers.false) c.after_of-next.ensures.next c.after_of-next.ensures.on)
+    c.in-Some.at c.after_of-next.result c.message-m.result w c.message-m.ensures c.covers.result c.covers.ensures c.if-covers.false c.after_of-next.ensures.next c.after_of-next.ensures.on)
 
 ended : (g : Over) (c : In_default g) → Ended c.args.items.now c.args.slots c.args.slot c.args.target c.args.lists.now c.args.mark c.tick.new.self c.loop-next.lists c.loop-next.left.mark c.loop-next.left.bytes c.loop-next.steps
 ended g c =

@@ -3,7 +3,7 @@ use Rattle.std.proofs.lemmas.List.{get_or_read}
 use Rattle.rds_msgs_lists.specs.Lists.{IsOn}
 use Rattle.rds_msgs.specs.Messages.{StoreView}
 use Rattle.rds_msgs.specs.Kept.{count_before, messages_at, no_message}
-use Rattle.rds_msgs.proofs.Marks.{read_at}
+use Rattle.rds_msgs.proofs.Counts.{read_at}
 use Rattle.rds_msgs.proofs.Calls.{read_none}
 use Rattle.rds_msgs.proofs.Places.{some_if}
 use Rattle.rds_msgs.proofs.store.Store.next_to_pull.Goals as goal
