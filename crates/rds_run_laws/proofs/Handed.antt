@@ -80,9 +80,9 @@ module _ (k v : ℕ) where
       go (Ended port h got) is ih = one h.words.slot port is ih
       go (Spare h) is ih = (ih.0, λ less. ih.1 (omega (arith, less)))
 
-module _ (w : Weight) where
+module _ (w : (from : ℕ) → Weight) where
   abbrev pub weight_of_datagram : Datagram → ℕ
-  weight_of_datagram d = w d.sport d.dport d.payload
+  weight_of_datagram d = w d.from d.sport d.dport d.payload
 
   abbrev pub data_sum : List Datagram → ℕ
   data_sum list = sum_by weight_of_datagram list
@@ -102,7 +102,7 @@ module _ (w : Weight) where
 
     pub all_delivered : (past : List Entry) →
         ((s : ℕ) (f : Frame) (o : Outcome) → passes o ≡ true → Contains past (Read s f o) → (slot : ℕ) × (o ≡ outcome.Slot slot) × IsOneSlot slot) →
-        to_sockets past ≡ passed_sum w past
+        to_sockets past ≡ passed_sum (w from) past
     all_delivered [] each = sum_none (λ (s : FinalSocket). data_sum []) sockets (λ i s at. refl)
     all_delivered (Read st f o ∷ past) each =
         go (passes o) refl (all_delivered past (λ s g x passed (k, within, is). each s g x passed (suc k, omega (arith, within), is)))
@@ -125,8 +125,8 @@ module _ (w : Weight) where
         none_to outcome.Map slot is = refl
         none_to outcome.OddMap slot is = refl
 
-        go : (b : Bool) → passes o ≡ b → to_sockets past ≡ passed_sum w past →
-            to_sockets (Read st f o ∷ past) ≡ cond b (passed_sum w past + w f.header.sport f.header.dport f.payload) (passed_sum w past)
+        go : (b : Bool) → passes o ≡ b → to_sockets past ≡ passed_sum (w from) past →
+            to_sockets (Read st f o ∷ past) ≡ cond b (passed_sum (w from) past + w from f.header.sport f.header.dport f.payload) (passed_sum (w from) past)
         go false is ih =
             let whole = split in
             let none = sum_none (λ (s : FinalSocket). cond (is_delivery_to s.slot o) (weight_of_datagram (datagram_from from f)) 0) sockets
@@ -216,14 +216,14 @@ module _ (pulled : (s : ℕ) (f : Frame) (p past : List Entry) → IsLegal past 
       go (Ended port h got) live handed = absurd live
       go (Spare h) live handed = absurd handed
 
-  pub handed_all : (w : Weight) →
-      sum_by (λ (s : FinalSocket). data_sum w s.got) end.sockets ≡ sum_by (λ (side : FinalJournal). passed_sum w side.past) end.sides
+  pub handed_all : (w : (from : ℕ) → Weight) →
+      sum_by (λ (s : FinalSocket). data_sum w s.got) end.sockets ≡ sum_by (λ (side : FinalJournal). passed_sum (w side.peer) side.past) end.sides
   handed_all w =
       sum_same (λ (s : FinalSocket). data_sum w s.got) (λ (s : FinalSocket). sum_by (λ (side : FinalJournal). data_sum w (delivered_datagrams side.peer s.slot side.past)) end.sides)
       end.sockets (λ i s at. of_socket i s at)
       ∙ sum_swap (λ (s : FinalSocket) (side : FinalJournal). data_sum w (delivered_datagrams side.peer s.slot side.past)) end.sockets end.sides
       ∙ sum_same (λ (side : FinalJournal). sum_by (λ (s : FinalSocket). data_sum w (delivered_datagrams side.peer s.slot side.past)) end.sockets)
-      (λ (side : FinalJournal). passed_sum w side.past) end.sides
+      (λ (side : FinalJournal). passed_sum (w side.peer) side.past) end.sides
       (λ place side at. all_delivered w side.peer end.sockets side.past (λ s f o passed inside. to_slot place side at s f o passed inside))
     where
       of_socket : (i : ℕ) (s : FinalSocket) → slice_get end.sockets i ≡ Some s →
