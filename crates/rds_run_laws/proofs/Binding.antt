@@ -67,9 +67,12 @@ module _ (host bytes : ℕ) where
       (slot, now.0, now.1, (grow.each slot p now.0 at now.1).held port has)
 
   bound_now : (port sndbuf rcvbuf : ℕ) (old new : List Place) → 2 ≤ port → 1 ≤ vacancies old → Binds port sndbuf rcvbuf old new → IsHeldIn port new
-  bound_now port sndbuf rcvbuf old new least some (inl (above, free, (slot, h, o, next, fits, is))) =
-      (slot, Bound o [], subst (λ (l : List Place). slice_get l slot ≡ Some (Bound o [])) (sym is) (at_set old slot (Bound o []) (slice_get_within old slot (Vacant h) next.0)),
-      ap (λ (x : Open ReaderView). x.port) fits.1)
+  bound_now port sndbuf rcvbuf old new least some (inl (above, free, (slot, h, o, next, fits, is))) = (
+    slot,
+    Bound o [],
+    subst (λ (l : List Place). slice_get l slot ≡ Some (Bound o [])) (sym is) (at_set old slot (Bound o []) (slice_get_within old slot (Vacant h) next.0)),
+    ap (λ (x : Open ReaderView). x.port) fits.1,
+  )
   bound_now port sndbuf rcvbuf old new least some (inr (cannot, is)) = go cannot
     where
       go : CannotBind port old → IsHeldIn port new
@@ -100,9 +103,11 @@ module _ (host bytes : ℕ) where
   -- one of the host's own binds
   own_bind : (c : Command) (old new : List Place) → BindsAmply bytes c → 1 ≤ vacancies old → IsDone c old new →
       AddsNothing old new × (vacancies old ≤ vacancies new + 1) × ((port : ℕ) → BindsPort host port c → IsHeldIn port new)
-  own_bind (script.Bind by port sndbuf rcvbuf) old new amply some done =
-      (bound_quietly port sndbuf rcvbuf old new done, one_less port sndbuf rcvbuf old new done,
-      λ asked is. subst (λ (n : ℕ). IsHeldIn n new) is.1 (bound_now port sndbuf rcvbuf old new amply.0 some done))
+  own_bind (script.Bind by port sndbuf rcvbuf) old new amply some done = (
+    bound_quietly port sndbuf rcvbuf old new done,
+    one_less port sndbuf rcvbuf old new done,
+    λ asked is. subst (λ (n : ℕ). IsHeldIn n new) is.1 (bound_now port sndbuf rcvbuf old new amply.0 some done),
+  )
   own_bind (script.BindAny by port sndbuf rcvbuf) old new amply some done = absurd amply
   own_bind (script.Send by port to dport payload) old new amply some done = absurd amply
   own_bind (script.Recv by port) old new amply some done = absurd amply

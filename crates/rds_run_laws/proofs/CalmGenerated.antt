@@ -49,8 +49,8 @@ AreOthers (c ∷ commands) = (is_bind c ≡ false) × AreOthers commands
 none_lead : (n : ℕ) (others : List Command) → AreOthers others → (leading_binds (lines n others) ≡ []) × (after_binds (lines n others) ≡ lines n others)
 none_lead n [] are = (refl, refl)
 none_lead n (c ∷ others) are = (
-    ap (λ (b : Bool). cond b (placed (n, c) ∷ leading_binds (lines (n + 1) others)) []) are.0,
-    ap (λ (b : Bool). cond b (after_binds (lines (n + 1) others)) (placed (n, c) ∷ lines (n + 1) others)) are.0,
+  ap (λ (b : Bool). cond b (placed (n, c) ∷ leading_binds (lines (n + 1) others)) []) are.0,
+  ap (λ (b : Bool). cond b (after_binds (lines (n + 1) others)) (placed (n, c) ∷ lines (n + 1) others)) are.0,
 )
 
 split : (n : ℕ) (first others : List Command) → AreBinds first → AreOthers others →

@@ -90,19 +90,19 @@ module _ (w : (from to : ℕ) → Weight) (hosts : ℕ) where
   both_ways : (c : Command) → Crosses hosts c → (over (one_way c) ≡ routed c) × (over (other_way c) ≡ routed c)
   both_ways (script.Send by port to dport payload) across = (
     (let way = place_of hosts by to across.known across.to_known across.apart in
-    over_one (one_way (script.Send by port to dport payload)) by way.0 (w by to port dport payload) across.known way.1
-    (λ h i apart. ap (λ (b : Bool). cond (b && (to == peer_at h i)) (w h (peer_at h i) port dport payload) 0) (ne_eqb by h (λ same. apart (sym same))))
-    (λ i apart. ap (λ (b : Bool). cond ((by == by) && b) (w by (peer_at by i) port dport payload) 0) (ne_eqb to (peer_at by i) (λ same. apart (place_is by i way.0 (sym same ∙ sym way.2))))
-    ∙ neither (by == by) (w by (peer_at by i) port dport payload))
-    (ap (λ (b : Bool). cond (b && (to == peer_at by way.0)) (w by (peer_at by way.0) port dport payload) 0) (eq-eqb by by refl)
-    ∙ (ap (λ (b : Bool). cond b (w by (peer_at by way.0) port dport payload) 0) (eq-eqb to (peer_at by way.0) (sym way.2)) ∙ ap (λ (n : ℕ). w by n port dport payload) way.2))),
+        over_one (one_way (script.Send by port to dport payload)) by way.0 (w by to port dport payload) across.known way.1
+        (λ h i apart. ap (λ (b : Bool). cond (b && (to == peer_at h i)) (w h (peer_at h i) port dport payload) 0) (ne_eqb by h (λ same. apart (sym same))))
+        (λ i apart. ap (λ (b : Bool). cond ((by == by) && b) (w by (peer_at by i) port dport payload) 0) (ne_eqb to (peer_at by i) (λ same. apart (place_is by i way.0 (sym same ∙ sym way.2))))
+        ∙ neither (by == by) (w by (peer_at by i) port dport payload))
+        (ap (λ (b : Bool). cond (b && (to == peer_at by way.0)) (w by (peer_at by way.0) port dport payload) 0) (eq-eqb by by refl)
+        ∙ (ap (λ (b : Bool). cond b (w by (peer_at by way.0) port dport payload) 0) (eq-eqb to (peer_at by way.0) (sym way.2)) ∙ ap (λ (n : ℕ). w by n port dport payload) way.2))),
     (let way = place_of hosts to by across.to_known across.known (λ same. across.apart (sym same)) in
-    over_one (other_way (script.Send by port to dport payload)) to way.0 (w by to port dport payload) across.to_known way.1
-    (λ h i apart. ap (λ (b : Bool). cond ((by == peer_at h i) && b) (w (peer_at h i) h port dport payload) 0) (ne_eqb to h (λ same. apart (sym same)))
-    ∙ neither (by == peer_at h i) (w (peer_at h i) h port dport payload))
-    (λ i apart. ap (λ (b : Bool). cond (b && (to == to)) (w (peer_at to i) to port dport payload) 0) (ne_eqb by (peer_at to i) (λ same. apart (place_is to i way.0 (sym same ∙ sym way.2)))))
-    (ap (λ (b : Bool). cond (b && (to == to)) (w (peer_at to way.0) to port dport payload) 0) (eq-eqb by (peer_at to way.0) (sym way.2))
-    ∙ (ap (λ (b : Bool). cond b (w (peer_at to way.0) to port dport payload) 0) (eq-eqb to to refl) ∙ ap (λ (n : ℕ). w n to port dport payload) way.2))),
+        over_one (other_way (script.Send by port to dport payload)) to way.0 (w by to port dport payload) across.to_known way.1
+        (λ h i apart. ap (λ (b : Bool). cond ((by == peer_at h i) && b) (w (peer_at h i) h port dport payload) 0) (ne_eqb to h (λ same. apart (sym same)))
+        ∙ neither (by == peer_at h i) (w (peer_at h i) h port dport payload))
+        (λ i apart. ap (λ (b : Bool). cond (b && (to == to)) (w (peer_at to i) to port dport payload) 0) (ne_eqb by (peer_at to i) (λ same. apart (place_is to i way.0 (sym same ∙ sym way.2)))))
+        (ap (λ (b : Bool). cond (b && (to == to)) (w (peer_at to way.0) to port dport payload) 0) (eq-eqb by (peer_at to way.0) (sym way.2))
+        ∙ (ap (λ (b : Bool). cond b (w (peer_at to way.0) to port dport payload) 0) (eq-eqb to to refl) ∙ ap (λ (n : ℕ). w n to port dport payload) way.2))),
   )
   both_ways (script.Bind by port sndbuf rcvbuf) across = (over_none (one_way (script.Bind by port sndbuf rcvbuf)) (λ h i. refl), over_none (other_way (script.Bind by port sndbuf rcvbuf)) (λ h i. refl))
   both_ways (script.BindAny by port sndbuf rcvbuf) across = (over_none (one_way (script.BindAny by port sndbuf rcvbuf)) (λ h i. refl), over_none (other_way (script.BindAny by port sndbuf rcvbuf)) (λ h i. refl))

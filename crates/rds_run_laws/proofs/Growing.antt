@@ -56,9 +56,11 @@ one_route old place was now at same more = record {
   looks = λ i lane at_lane.
       elim (cases_eq i place) [
         | inl here ↦
-            let is : was ≡ lane = same_Some was lane (sym at ∙ (ap (slice_get old) (sym here) ∙ at_lane)) in
-            (now, ap (slice_get (slice_set old place now)) here ∙ at_set old place now (slice_get_within old place was at),
-            subst (λ (l : Lane ReaderView). SeesAll l now) is more)
+            let is : was ≡ lane = same_Some was lane (sym at ∙ (ap (slice_get old) (sym here) ∙ at_lane)) in (
+              now,
+              ap (slice_get (slice_set old place now)) here ∙ at_set old place now (slice_get_within old place was at),
+              subst (λ (l : Lane ReaderView). SeesAll l now) is more,
+            )
         | inr apart ↦ (lane, beside_set old place i now apart ∙ at_lane, λ look found. found)
       ];
 }
