@@ -1,24 +1,24 @@
 -- The binds that a calm script begins with: each of them takes its port, and nothing is sent.
-use Rattle.std.proofs.Common.{◌≡◌, ◌≢◌, inl, inr, ℕ, zero, suc, ◌+◌, ◌<◌, ◌≤◌, ◌&&◌, Bool, true, false, cond, ◌⊎◌, Some, All, List, [], ◌∷◌, filter, length, slice_get, slice_set, refl, sym, ap, subst, ◌∙◌, arith}
-use Rattle.std.specs.Prelude.{Contains, sum_by}
+use Rattle.std.proofs.Common.{◌≡◌, ◌≢◌, inl, inr, ℕ, zero, suc, ◌+◌, ◌≤◌, Bool, true, false, cond, ◌⊎◌, Some, All, List, [], ◌∷◌, filter, length, slice_get, refl, sym, ap, subst, ◌∙◌, arith}
+use Rattle.std.specs.Prelude.{sum_by}
 use Rattle.std.proofs.lemmas.Bool.{eq-eqb}
 use Rattle.std.proofs.lemmas.List.Elements.{All-head, All-tail}
 use Rattle.std.proofs.lemmas.List.Sums.{sum_by-cons}
-use Rattle.std.proofs.lemmas.Option.{same_Some, slice_get_within}
+use Rattle.std.proofs.lemmas.Option.{slice_get_within}
 use Rattle.rds_fmap.specs.Readers.{ReaderView}
 use Rattle.rds_script.specs.declared.script.Command.{Command}
 use Rattle.rds_script.specs.declared.script.Command.TheVariants as script
 use Rattle.rds_script.specs.declared.script.Placed.{Placed}
-use Rattle.rds_socket.specs.Holding.{Holding, Open}
+use Rattle.rds_socket.specs.Holding.{Open}
 use Rattle.rds_run_callers.specs.Commands.{commander}
 use Rattle.rds_run_callers.specs.Doing.{Binds, CannotBind, IsDone, NoneVacant}
-use Rattle.rds_run_callers.specs.Places.{Bound, Ended, Place, Spare, Vacant, holding_of}
+use Rattle.rds_run_callers.specs.Places.{Bound, Ended, Place, Spare, Vacant}
 use Rattle.rds_run_hosts.specs.Obeyed.{HasObeyed, is_bind_of, is_host}
 use Rattle.rds_run_threads.proofs.At.{at_set, stood_at}
 use Rattle.rds_run_laws.specs.Calm.{BindsAmply, BindsPort, HasBind}
 use Rattle.rds_run_laws.proofs.Callers.{set_sum}
-use Rattle.rds_run_laws.proofs.Effects.{AddsNothing, nothing_done, one_quiet, same_routes, slots_weight, total_of}
-use Rattle.rds_run_laws.proofs.Growing.{AllGrow, AreKind, HasPort, IsKind, does_grow, obeyed_grow}
+use Rattle.rds_run_laws.proofs.Effects.{AddsNothing, nothing_done, one_quiet, same_routes}
+use Rattle.rds_run_laws.proofs.Growing.{AllGrow, AreKind, HasPort, IsKind, obeyed_grow}
 
 -- how many slots are vacant
 abbrev pub vacancy : Place → ℕ

@@ -10,11 +10,11 @@ use Rattle.rds_script.specs.declared.script.Command.{Command}
 use Rattle.rds_script.specs.declared.script.Command.TheVariants as script
 use Rattle.rds_script.specs.declared.script.Placed.{Placed}
 use Rattle.rds_script.specs.Reading.{counting}
-use Rattle.rds_script_gen.specs.Generator.{bind, binds, binds_of, generated, placed, receiver, receiver_port, sender, sender_port, state_after, the_send, turn, turns}
+use Rattle.rds_script_gen.specs.Generator.{bind, binds, binds_of, generated, placed, receiver, sender, state_after, the_send, turn, turns}
 use Rattle.rds_run_callers.specs.Commands.{binds as is_bind, commander}
 use Rattle.rds_run_hosts.specs.Obeyed.{after_binds, is_bind_of, is_host, leading_binds}
 use Rattle.rds_run_laws.specs.Calm.{BindsAmply, BindsPort, HasBind, IsCalm, IsCalmAfter}
-use Rattle.rds_run_laws.specs.Sent.{generated_bytes, sent_sum}
+use Rattle.rds_run_laws.specs.Sent.{sent_sum}
 use Rattle.rds_run_laws.specs.Weights.{by_length}
 use Rattle.rds_run_laws.proofs.Generated.{bytes_generated}
 

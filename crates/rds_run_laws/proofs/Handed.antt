@@ -1,8 +1,8 @@
 -- In a run of a calm script the sockets of a host hand out all that its journals pass.
-use Rattle.std.proofs.Common.{◌≡◌, ◌⊎◌, inl, inr, ℕ, zero, suc, ◌+◌, ◌-◌, ◌<◌, ◌≤◌, ◌==◌, Bool, true, false, cond, All, Option, Some, None, List, [], ◌∷◌, ◌++◌, length, map, filter, slice_get, refl, sym, ap, subst, ◌∙◌, arith}
+use Rattle.std.proofs.Common.{◌≡◌, inl, inr, ℕ, suc, ◌+◌, ◌-◌, ◌<◌, ◌≤◌, ◌==◌, Bool, true, false, cond, All, Some, List, [], ◌∷◌, ◌++◌, length, map, slice_get, refl, sym, ap, subst, ◌∙◌, arith}
 use Rattle.std.specs.Prelude.{Contains, sum_by}
 use Rattle.std.proofs.lemmas.Bool.{cases_eq, eq-eqb, eqb-true, ne_eqb}
-use Rattle.std.proofs.lemmas.List.{append-nil, length-map}
+use Rattle.std.proofs.lemmas.List.{append-nil}
 use Rattle.std.proofs.lemmas.List.Elements.{All-head, All-tail}
 use Rattle.std.proofs.lemmas.List.Sums.{sum_by-append, sum_by-cons}
 use Rattle.std.proofs.lemmas.Option.{same_Some, slice_get_within}
@@ -19,7 +19,6 @@ use Rattle.rds_model.specs.Legal.{IsLegal}
 use Rattle.rds_model.specs.Owed.{is_map}
 use Rattle.rds_model.specs.Pairs.{is_delivery_to}
 use Rattle.rds_model.specs.Past.{Moment, passes}
-use Rattle.rds_fmap.specs.Readers.{ReaderView}
 use Rattle.rds_text.specs.FinalState.{FinalHost, FinalJournal, FinalSocket}
 use Rattle.rds_text.specs.Hosts.{address_of}
 use Rattle.rds_script.specs.declared.script.Placed.{Placed}
@@ -27,7 +26,7 @@ use Rattle.rds_run_callers.specs.Ends.{used_name}
 use Rattle.rds_run_callers.specs.Places.{Bound, Ended, Place, Spare, Vacant, holding_of, somes}
 use Rattle.rds_run_hosts.proofs.At.{map_at}
 use Rattle.rds_run_hosts.proofs.Made.{peer_there}
-use Rattle.rds_run_rounds.specs.Grid.{others, peer_at}
+use Rattle.rds_run_rounds.specs.Grid.{peer_at}
 use Rattle.rds_run_threads.specs.Ends.{AreAcknowledged, AreEnds}
 use Rattle.rds_run_threads.specs.Outcome.{HandedOutAt, socket_name}
 use Rattle.rds_run_threads.specs.Reliable.{AllWentToSockets, HandsOutDelivered, HasReceived, IsWithPeer, all_handed, from_host}

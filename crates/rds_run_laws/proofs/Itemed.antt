@@ -1,8 +1,7 @@
 -- What is counted of a run of a calm script.
-use Rattle.std.proofs.Common.{◌≡◌, ◌≢◌, ℕ, zero, suc, ◌+◌, ◌-◌, ◌<◌, ◌≤◌, ◌&&◌, not, Bool, true, false, cond, All, Some, List, [], ◌∷◌, ◌++◌, length, map, slice_get, refl, sym, ap, subst, ◌∙◌, arith}
+use Rattle.std.proofs.Common.{◌≡◌, ℕ, suc, ◌+◌, ◌-◌, ◌&&◌, not, Bool, true, false, Some, List, [], ◌∷◌, ◌++◌, length, map, slice_get, refl, ap, ◌∙◌, arith}
 use Rattle.std.specs.Prelude.{Contains, flat_map, sum_by}
 use Rattle.std.proofs.lemmas.List.Sums.{sum_by-append, sum_by-cons}
-use Rattle.std.proofs.lemmas.Option.{slice_get_within}
 use Rattle.rds_wire.specs.Bytes.{IsBytes}
 use Rattle.rds_wire.specs.declared.frame.Frame.{Frame}
 use Rattle.rds_wire.specs.declared.kind.TheConstants.{MAP_LENGTH}
@@ -30,14 +29,14 @@ use Rattle.rds_run_laws.specs.Put.{sent_between}
 use Rattle.rds_run_laws.specs.Weights.{Weight, accepted_sum, passed_sum}
 use Rattle.rds_run_laws.proofs.At.{sum_up}
 use Rattle.rds_run_laws.proofs.Carried.{accepted_all, came_all}
-use Rattle.rds_run_laws.proofs.Crossing.{all_across, over, over_plus, routed_sum}
+use Rattle.rds_run_laws.proofs.Crossing.{all_across, over_plus, routed_sum}
 use Rattle.rds_run_laws.proofs.Handed.{all_read, data_sum, handed_all, peer_is}
 use Rattle.rds_run_laws.proofs.Harmless.{only_sends}
 use Rattle.rds_run_laws.proofs.Heard.{goes_to_slot}
 use Rattle.rds_run_laws.proofs.Meeting.{host_within, meets_at, of_outcome, side_count}
 use Rattle.rds_run_laws.proofs.Plain.{none_back}
-use Rattle.rds_run_laws.proofs.Shares.{sum_up_plus, sum_up_same}
-use Rattle.rds_run_laws.proofs.SumLists.{sum_by_place, sum_flat, sum_mapped, sum_plus, sum_same}
+use Rattle.rds_run_laws.proofs.Shares.{sum_up_plus}
+use Rattle.rds_run_laws.proofs.SumLists.{sum_by_place, sum_flat, sum_mapped, sum_same}
 
 module _ (v : Key → What → ℕ) where
   abbrev pub worth : Item → ℕ

@@ -1,10 +1,10 @@
 -- In a run of a calm script each thing that is counted is of a port pair for which a datagram was accepted.
-use Rattle.std.proofs.Common.{◌≡◌, ◌⊎◌, inl, inr, ℕ, zero, suc, ◌+◌, ◌-◌, ◌<◌, ◌≤◌, ◌==◌, ◌&&◌, ◌||◌, not, Bool, true, false, cond, All, Option, Some, None, List, [], ◌∷◌, ◌++◌, length, map, filter, slice_get, refl, sym, ap, subst, ◌∙◌, arith}
+use Rattle.std.proofs.Common.{◌≡◌, inl, inr, ℕ, zero, suc, ◌+◌, ◌-◌, ◌==◌, ◌&&◌, ◌||◌, not, Bool, true, false, cond, All, Some, List, [], ◌∷◌, ◌++◌, length, map, filter, slice_get, refl, sym, ap, subst, ◌∙◌, arith}
 use Rattle.std.specs.Prelude.{Contains, flat_map}
 use Rattle.std.specs.List.{list_any}
-use Rattle.std.proofs.lemmas.Bool.{cases_eq, eq-eqb, false≢true, or_right}
+use Rattle.std.proofs.lemmas.Bool.{cases_eq, eq-eqb, or_right}
 use Rattle.std.proofs.lemmas.List.{append-nil}
-use Rattle.std.proofs.lemmas.List.Elements.{All-cons, All-contains, All-nil, Contains-append_cases, Contains-append_left, Contains-append_right, Contains-push, Contains-push_cases}
+use Rattle.std.proofs.lemmas.List.Elements.{All-cons, All-contains, All-nil, Contains-append_cases, Contains-append_left, Contains-append_right, Contains-push_cases}
 use Rattle.rds_wire.specs.Bytes.{IsBytes}
 use Rattle.rds_wire.specs.declared.frame.Frame.{Frame}
 use Rattle.rds_wire.specs.declared.kind.TheConstants.{MAP_LENGTH}
@@ -12,7 +12,6 @@ use Rattle.rds_model.specs.declared.entry.Entry.{Entry}
 use Rattle.rds_model.specs.declared.entry.Entry.TheVariants.{Accept, Cancel, Open, Pull, Read, Shut, Bad}
 use Rattle.rds_model.specs.declared.entry.Outcome.{Outcome}
 use Rattle.rds_model.specs.declared.order.Datagram.{Datagram}
-use Rattle.rds_model.specs.Alive.{was_taken_back}
 use Rattle.rds_model.specs.Deliveries.{datagram_from, delivered_datagrams}
 use Rattle.rds_model.specs.Legal.{IsLegal}
 use Rattle.rds_model.specs.NumberLaws.{datagram_newest, datagram_other}
@@ -22,16 +21,14 @@ use Rattle.rds_model.specs.Past.{Accepted as Taken, Moment, accepted, datagram, 
 use Rattle.rds_model.specs.Streams.{was_passed}
 use Rattle.rds_text.specs.FinalState.{FinalHost, FinalJournal, FinalSocket, past_of}
 use Rattle.rds_text.specs.Hosts.{address_of}
-use Rattle.rds_text.specs.Report.{Group}
-use Rattle.rds_report.specs.declared.item.Group.{Group as Key}
-use Rattle.rds_report.specs.Item.{Item, What, Accepted, Cancelled, Received, Unread}
+use Rattle.rds_report.specs.Item.{Item, Accepted, Received, Unread}
 use Rattle.rds_report.specs.ItemReport.{AllOfAccepted, accepted_pairs, is_accepted, is_same}
 use Rattle.rds_report.specs.Items.{accepted_items, came_items, host_items, is_lost, item, items, seen, sent_items, side_items, socket_items}
 use Rattle.rds_report.proofs.Orders.{same_itself}
 use Rattle.rds_script.specs.declared.script.Placed.{Placed}
 use Rattle.rds_run_rounds.specs.Grid.{peer_at}
 use Rattle.rds_run_threads.specs.Ends.{AreAcknowledged, AreEnds}
-use Rattle.rds_run_threads.specs.Reliable.{HandsOutDelivered, HasReceived, IsWithPeer, all_handed, from_host}
+use Rattle.rds_run_threads.specs.Reliable.{HandsOutDelivered, HasReceived, IsWithPeer, all_handed}
 use Rattle.rds_run_threads.proofs.At.{all_at}
 use Rattle.rds_run_threads.proofs.Rows.{peer_apart}
 use Rattle.rds_run_laws.specs.Calm.{IsCalm}

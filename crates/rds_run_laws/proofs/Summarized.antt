@@ -1,7 +1,6 @@
 -- The counts and the bytes of a run of a calm script, and the summary of a generated one.
-use Rattle.std.proofs.Common.{◌≡◌, ◌≢◌, ℕ, zero, suc, ◌+◌, ◌<◌, ◌≤◌, ◌&&◌, Bool, true, false, cond, All, Some, List, [], ◌∷◌, ◌++◌, filter, length, slice_get, refl, sym, ap, ◌∙◌, arith}
+use Rattle.std.proofs.Common.{◌≡◌, ◌≢◌, ℕ, ◌+◌, ◌<◌, ◌≤◌, ◌&&◌, Bool, true, false, cond, List, [], ◌∷◌, ◌++◌, filter, length, refl, sym, ap, ◌∙◌, arith}
 use Rattle.std.specs.Prelude.{sum_by}
-use Rattle.std.specs.List.{AllPairs}
 use Rattle.std.proofs.lemmas.List.Sums.{sum_by-cons}
 use Rattle.std.proofs.lemmas.Option.{slice_get_within}
 use Rattle.rds_wire.specs.Bytes.{IsBytes}
@@ -18,7 +17,7 @@ use Rattle.rds_text.specs.Hosts.{IsAddress, address_of}
 use Rattle.rds_text.specs.Lines.{end_line}
 use Rattle.rds_text.specs.Report.{Counts, Group, counts}
 use Rattle.rds_text.specs.declared.host.TheConstants.{MAX_HOSTS}
-use Rattle.rds_report.specs.Item.{Item, What, Accepted, Cancelled, Dropped, Port0, Received, Unread}
+use Rattle.rds_report.specs.Item.{Item, What, Accepted, Received}
 use Rattle.rds_report.specs.ItemReport.{AllOfAccepted, count_of, is_accepted, is_cancelled_item, is_dropped, is_port0, is_received, is_same, is_unread, of_pair, tally}
 use Rattle.rds_report.specs.ItemTotals.{bytes_of, payload_bytes}
 use Rattle.rds_report.specs.Items.{items, seen}
@@ -35,7 +34,7 @@ use Rattle.rds_run_threads.specs.Ends.{AreAcknowledged, AreEnds}
 use Rattle.rds_run_threads.proofs.At.{all_from, pairs_from}
 use Rattle.rds_run_threads.proofs.Rows.{peer_within, peers_ascend}
 use Rattle.rds_run_laws.specs.Calm.{IsCalm, all_received, generated_summary, is_send_of, sends_of}
-use Rattle.rds_run_laws.specs.Sent.{generated_bytes, sent_by, sent_sum}
+use Rattle.rds_run_laws.specs.Sent.{sent_by, sent_sum}
 use Rattle.rds_run_laws.specs.Weights.{Weight, by_length, by_one}
 use Rattle.rds_run_laws.proofs.Crossing.{routed, routed_sum}
 use Rattle.rds_run_laws.proofs.Generated.{bytes_generated, count_generated}
