@@ -1,5 +1,5 @@
 -- In a run of a calm script each journal is ordered to send what the commands say, and passes what they have the peer send.
-use Rattle.std.proofs.Common.{◌≡◌, ℕ, suc, ◌+◌, ◌-◌, ◌<◌, ◌≤◌, Bool, true, false, cond, nat_lt, All, Option, Some, None, List, [], ◌∷◌, filter, length, slice_get, refl, sym, ap, subst, ◌∙◌, arith}
+use Rattle.std.proofs.Common.{◌≡◌, ℕ, suc, ◌+◌, ◌<◌, ◌≤◌, Bool, true, false, cond, nat_lt, All, Option, Some, None, List, [], ◌∷◌, filter, length, slice_get, refl, sym, ap, subst, ◌∙◌, arith}
 use Rattle.std.proofs.lemmas.Bool.{ltb-true}
 use Rattle.std.proofs.lemmas.Option.{slice_get_within}
 use Rattle.rds_wire.specs.Bytes.{IsBytes}

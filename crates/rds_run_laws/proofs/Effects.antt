@@ -1,5 +1,5 @@
 -- What a command adds to what a host's slots have put on their routes at one place, and to the bytes that they have sent.
-use Rattle.std.proofs.Common.{◌≡◌, ◌≢◌, inl, inr, ℕ, zero, suc, ◌+◌, ◌-◌, ◌<◌, ◌≤◌, ◌==◌, Bool, true, false, cond, Option, Some, None, List, [], ◌∷◌, length, map, slice_get, slice_set, refl, sym, ap, subst, ◌∙◌, arith}
+use Rattle.std.proofs.Common.{◌≡◌, ◌≢◌, inl, inr, ℕ, zero, suc, ◌+◌, ◌<◌, ◌≤◌, ◌==◌, Bool, true, false, cond, Option, Some, None, List, [], ◌∷◌, length, map, slice_get, slice_set, refl, sym, ap, subst, ◌∙◌, arith}
 use Rattle.std.specs.Prelude.{All, sum_by}
 use Rattle.std.proofs.Math.Nat.{le-min}
 use Rattle.std.proofs.lemmas.Bool.{cases_eq, eq-eqb, ne_eqb}
@@ -12,7 +12,6 @@ use Rattle.rds_fmap.specs.Readers.{HasSeen, IsLook, ReaderView}
 use Rattle.rds_fmap.specs.declared.seen.Seen.{Seen}
 use Rattle.rds_text.specs.Hosts.{address_of}
 use Rattle.rds_script.specs.declared.script.Command.{Command}
-use Rattle.rds_script.specs.declared.script.Command.TheVariants as script
 use Rattle.rds_socket_parts.specs.Lanes.{IsLaneAt, IsLookTo, IsPutTo, Lane, LeadsTo, peers_of, with_order, with_reader}
 use Rattle.rds_socket.specs.declared.error.SendError.{SendError}
 use Rattle.rds_socket.specs.declared.error.SendError.TheVariants as refused
