@@ -1,24 +1,24 @@
 -- The binds that a calm script begins with: each of them takes its port, and nothing is sent.
-use Rattle.std.proofs.Common.{◌≡◌, ◌≢◌, inl, inr, ℕ, zero, suc, ◌+◌, ◌<◌, ◌≤◌, ◌&&◌, Bool, true, false, cond, ◌⊎◌, Some, All, List, [], ◌∷◌, filter, length, slice_get, slice_set, refl, sym, ap, subst, ◌∙◌, arith}
-use Rattle.std.specs.Prelude.{Contains, sum_by}
+use Rattle.std.proofs.Common.{◌≡◌, ◌≢◌, inl, inr, ℕ, zero, suc, ◌+◌, ◌≤◌, Bool, true, false, cond, ◌⊎◌, Some, All, List, [], ◌∷◌, filter, length, slice_get, refl, sym, ap, subst, ◌∙◌, arith}
+use Rattle.std.specs.Prelude.{sum_by}
 use Rattle.std.proofs.lemmas.Bool.{eq-eqb}
 use Rattle.std.proofs.lemmas.List.Elements.{All-head, All-tail}
 use Rattle.std.proofs.lemmas.List.Sums.{sum_by-cons}
-use Rattle.std.proofs.lemmas.Option.{same_Some, slice_get_within}
+use Rattle.std.proofs.lemmas.Option.{slice_get_within}
 use Rattle.rds_fmap.specs.Readers.{ReaderView}
 use Rattle.rds_script.specs.declared.script.Command.{Command}
 use Rattle.rds_script.specs.declared.script.Command.TheVariants as script
 use Rattle.rds_script.specs.declared.script.Placed.{Placed}
-use Rattle.rds_socket.specs.Holding.{Holding, Open}
+use Rattle.rds_socket.specs.Holding.{Open}
 use Rattle.rds_run_callers.specs.Commands.{commander}
 use Rattle.rds_run_callers.specs.Doing.{Binds, CannotBind, IsDone, NoneVacant}
-use Rattle.rds_run_callers.specs.Places.{Bound, Ended, Place, Spare, Vacant, holding_of}
+use Rattle.rds_run_callers.specs.Places.{Bound, Ended, Place, Spare, Vacant}
 use Rattle.rds_run_hosts.specs.Obeyed.{HasObeyed, is_bind_of, is_host}
 use Rattle.rds_run_threads.proofs.At.{at_set, stood_at}
 use Rattle.rds_run_laws.specs.Calm.{BindsAmply, BindsPort, HasBind}
 use Rattle.rds_run_laws.proofs.Callers.{set_sum}
-use Rattle.rds_run_laws.proofs.Effects.{AddsNothing, nothing_done, one_quiet, same_routes, slots_weight, total_of}
-use Rattle.rds_run_laws.proofs.Growing.{AllGrow, AreKind, HasPort, IsKind, does_grow, obeyed_grow}
+use Rattle.rds_run_laws.proofs.Effects.{AddsNothing, nothing_done, one_quiet, same_routes}
+use Rattle.rds_run_laws.proofs.Growing.{AllGrow, AreKind, HasPort, IsKind, obeyed_grow}
 
 -- how many slots are vacant
 abbrev pub vacancy : Place → ℕ
@@ -67,9 +67,12 @@ module _ (host bytes : ℕ) where
       (slot, now.0, now.1, (grow.each slot p now.0 at now.1).held port has)
 
   bound_now : (port sndbuf rcvbuf : ℕ) (old new : List Place) → 2 ≤ port → 1 ≤ vacancies old → Binds port sndbuf rcvbuf old new → IsHeldIn port new
-  bound_now port sndbuf rcvbuf old new least some (inl (above, free, (slot, h, o, next, fits, is))) =
-      (slot, Bound o [], subst (λ (l : List Place). slice_get l slot ≡ Some (Bound o [])) (sym is) (at_set old slot (Bound o []) (slice_get_within old slot (Vacant h) next.0)),
-      ap (λ (x : Open ReaderView). x.port) fits.1)
+  bound_now port sndbuf rcvbuf old new least some (inl (above, free, (slot, h, o, next, fits, is))) = (
+    slot,
+    Bound o [],
+    subst (λ (l : List Place). slice_get l slot ≡ Some (Bound o [])) (sym is) (at_set old slot (Bound o []) (slice_get_within old slot (Vacant h) next.0)),
+    ap (λ (x : Open ReaderView). x.port) fits.1,
+  )
   bound_now port sndbuf rcvbuf old new least some (inr (cannot, is)) = go cannot
     where
       go : CannotBind port old → IsHeldIn port new
@@ -100,9 +103,11 @@ module _ (host bytes : ℕ) where
   -- one of the host's own binds
   own_bind : (c : Command) (old new : List Place) → BindsAmply bytes c → 1 ≤ vacancies old → IsDone c old new →
       AddsNothing old new × (vacancies old ≤ vacancies new + 1) × ((port : ℕ) → BindsPort host port c → IsHeldIn port new)
-  own_bind (script.Bind by port sndbuf rcvbuf) old new amply some done =
-      (bound_quietly port sndbuf rcvbuf old new done, one_less port sndbuf rcvbuf old new done,
-      λ asked is. subst (λ (n : ℕ). IsHeldIn n new) is.1 (bound_now port sndbuf rcvbuf old new amply.0 some done))
+  own_bind (script.Bind by port sndbuf rcvbuf) old new amply some done = (
+    bound_quietly port sndbuf rcvbuf old new done,
+    one_less port sndbuf rcvbuf old new done,
+    λ asked is. subst (λ (n : ℕ). IsHeldIn n new) is.1 (bound_now port sndbuf rcvbuf old new amply.0 some done),
+  )
   own_bind (script.BindAny by port sndbuf rcvbuf) old new amply some done = absurd amply
   own_bind (script.Send by port to dport payload) old new amply some done = absurd amply
   own_bind (script.Recv by port) old new amply some done = absurd amply

@@ -10,11 +10,11 @@ use Rattle.rds_script.specs.declared.script.Command.{Command}
 use Rattle.rds_script.specs.declared.script.Command.TheVariants as script
 use Rattle.rds_script.specs.declared.script.Placed.{Placed}
 use Rattle.rds_script.specs.Reading.{counting}
-use Rattle.rds_script_gen.specs.Generator.{bind, binds, binds_of, generated, placed, receiver, receiver_port, sender, sender_port, state_after, the_send, turn, turns}
+use Rattle.rds_script_gen.specs.Generator.{bind, binds, binds_of, generated, placed, receiver, sender, state_after, the_send, turn, turns}
 use Rattle.rds_run_callers.specs.Commands.{binds as is_bind, commander}
 use Rattle.rds_run_hosts.specs.Obeyed.{after_binds, is_bind_of, is_host, leading_binds}
 use Rattle.rds_run_laws.specs.Calm.{BindsAmply, BindsPort, HasBind, IsCalm, IsCalmAfter}
-use Rattle.rds_run_laws.specs.Sent.{generated_bytes, sent_sum}
+use Rattle.rds_run_laws.specs.Sent.{sent_sum}
 use Rattle.rds_run_laws.specs.Weights.{by_length}
 use Rattle.rds_run_laws.proofs.Generated.{bytes_generated}
 
@@ -49,8 +49,8 @@ AreOthers (c ∷ commands) = (is_bind c ≡ false) × AreOthers commands
 none_lead : (n : ℕ) (others : List Command) → AreOthers others → (leading_binds (lines n others) ≡ []) × (after_binds (lines n others) ≡ lines n others)
 none_lead n [] are = (refl, refl)
 none_lead n (c ∷ others) are = (
-    ap (λ (b : Bool). cond b (placed (n, c) ∷ leading_binds (lines (n + 1) others)) []) are.0,
-    ap (λ (b : Bool). cond b (after_binds (lines (n + 1) others)) (placed (n, c) ∷ lines (n + 1) others)) are.0,
+  ap (λ (b : Bool). cond b (placed (n, c) ∷ leading_binds (lines (n + 1) others)) []) are.0,
+  ap (λ (b : Bool). cond b (after_binds (lines (n + 1) others)) (placed (n, c) ∷ lines (n + 1) others)) are.0,
 )
 
 split : (n : ℕ) (first others : List Command) → AreBinds first → AreOthers others →

@@ -1,28 +1,17 @@
 -- What a calm script says of each of its commands.
-use Rattle.std.proofs.Common.{◌≡◌, ◌≢◌, inl, inr, ℕ, suc, ◌+◌, ◌≤◌, ◌==◌, Bool, true, false, cond, All, Some, List, [], ◌∷◌, filter, length, refl, sym, ap, subst, ◌∙◌, arith}
+use Rattle.std.proofs.Common.{◌≡◌, ℕ, ◌≤◌, Bool, true, false, cond, All, List, [], ◌∷◌, filter, length, refl, subst, arith}
 use Rattle.std.specs.Prelude.{Contains}
-use Rattle.std.proofs.lemmas.Bool.{ne_eqb}
 use Rattle.std.proofs.lemmas.List.Elements.{All-cons, All-contains, All-head, All-nil, All-tail}
-use Rattle.rds_model.specs.declared.entry.Entry.{Entry}
-use Rattle.rds_model.specs.declared.order.Order.{Order}
-use Rattle.rds_model.specs.declared.order.Order.TheVariants as order
-use Rattle.rds_model.specs.Sums.{orders}
 use Rattle.rds_script.specs.declared.script.Command.{Command}
 use Rattle.rds_script.specs.declared.script.Command.TheVariants as script
 use Rattle.rds_script.specs.declared.script.Placed.{Placed}
 use Rattle.rds_run_callers.specs.Commands.{binds}
-use Rattle.rds_run_hosts.specs.Obeyed.{after_binds, is_bind_of, leading_binds}
-use Rattle.rds_run_threads.specs.Causes.{IsOfCommands}
+use Rattle.rds_run_hosts.specs.Obeyed.{after_binds, leading_binds}
 use Rattle.rds_run_threads.specs.Outcome.{BindsWith}
-use Rattle.rds_run_laws.specs.Calm.{BindsAmply, BindsPort, HasBind, IsCalm, IsCalmAfter}
-use Rattle.rds_run_laws.specs.Few.{is_own}
+use Rattle.rds_run_laws.specs.Calm.{BindsAmply, IsCalm, IsCalmAfter}
 use Rattle.rds_run_laws.specs.Put.{own_sum, sent_between, sent_to}
 use Rattle.rds_run_laws.specs.Sent.{sent_by, sent_sum}
 use Rattle.rds_run_laws.specs.Weights.{Weight, by_length}
-use Rattle.rds_run_laws.proofs.Bounded.{standing_weigh}
-use Rattle.rds_run_laws.proofs.Doing.{IsWeighed, own_weight}
-use Rattle.rds_run_laws.proofs.Standing.{HaveSlots, have_slots}
-use Rattle.rds_run_laws.proofs.Weighing.{weigh, weight_of}
 
 -- what holds of the leading binds and of what comes after them holds of all commands
 pub of_both : (P : Placed → Type 0) (commands : List Placed) → All P (leading_binds commands) → All P (after_binds commands) → All P commands

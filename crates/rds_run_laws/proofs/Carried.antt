@@ -1,8 +1,6 @@
 -- In a run of a calm script each journal is ordered to send what the commands say, and passes what they have the peer send.
-use Rattle.std.proofs.Common.{◌≡◌, ◌≢◌, inl, inr, ℕ, zero, suc, ◌+◌, ◌-◌, ◌<◌, ◌≤◌, Bool, true, false, cond, nat_lt, All, Option, Some, None, List, [], ◌∷◌, filter, length, map, slice_get, refl, sym, ap, subst, ◌∙◌, arith}
-use Rattle.std.specs.Prelude.{sum_by}
+use Rattle.std.proofs.Common.{◌≡◌, ℕ, suc, ◌+◌, ◌<◌, ◌≤◌, Bool, true, false, cond, nat_lt, All, Option, Some, None, List, [], ◌∷◌, filter, length, slice_get, refl, sym, ap, subst, ◌∙◌, arith}
 use Rattle.std.proofs.lemmas.Bool.{ltb-true}
-use Rattle.std.proofs.lemmas.List.Sums.{sum_by-cons}
 use Rattle.std.proofs.lemmas.Option.{slice_get_within}
 use Rattle.rds_wire.specs.Bytes.{IsBytes}
 use Rattle.rds_wire.specs.declared.frame.Frame.{Frame}
@@ -18,9 +16,8 @@ use Rattle.rds_fmap.specs.Readers.{ReaderView}
 use Rattle.rds_text.specs.FinalState.{FinalHost, FinalJournal}
 use Rattle.rds_script.specs.declared.script.Placed.{Placed}
 use Rattle.rds_socket_parts.specs.Lanes.{Lane}
-use Rattle.rds_socket.specs.Holding.{Holding}
-use Rattle.rds_run_callers.specs.Places.{Place, Vacant, holding_of}
-use Rattle.rds_run_hosts.specs.Obeyed.{AreNewPlaces, IsNewSlot, after_binds, is_bind_of, is_host, leading_binds, slot_count, within_slots}
+use Rattle.rds_run_callers.specs.Places.{Place, holding_of}
+use Rattle.rds_run_hosts.specs.Obeyed.{AreNewPlaces, after_binds, is_bind_of, is_host, leading_binds, within_slots}
 use Rattle.rds_run_callers.specs.Commands.{commander}
 use Rattle.rds_run_rounds.specs.Grid.{peer_at}
 use Rattle.rds_run_threads.specs.Ends.{AreAcknowledged, AreEnds}
@@ -30,12 +27,12 @@ use Rattle.rds_run_threads.proofs.Rows.{peer_apart}
 use Rattle.rds_run_laws.specs.Calm.{CarriesAll, HasBind, IsCalm}
 use Rattle.rds_run_laws.specs.Put.{own_sum, sent_between}
 use Rattle.rds_run_laws.specs.Sent.{sent_by, sent_sum}
-use Rattle.rds_run_laws.specs.Weights.{Weight, by_length, OnlySends, accepted_sum, orders_sum, passed_sum}
+use Rattle.rds_run_laws.specs.Weights.{Weight, by_length, accepted_sum, orders_sum, passed_sum}
 use Rattle.rds_run_laws.proofs.Arrivals.{passed_all}
 use Rattle.rds_run_laws.proofs.Binding.{IsHeldIn, all_amply_kind, lead, vacancies, vacancy}
 use Rattle.rds_run_laws.proofs.Calmly.{fewer_lead, own_after, sent_after}
 use Rattle.rds_run_laws.proofs.Clear.{all_clear, back_commands}
-use Rattle.rds_run_laws.proofs.Effects.{AddsNothing, LeadToOthers, lane_weight, route_weight, slot_weight, slots_weight, total_of}
+use Rattle.rds_run_laws.proofs.Effects.{AddsNothing, LeadToOthers, lane_weight, slot_weight, slots_weight, total_of}
 use Rattle.rds_run_laws.proofs.Growing.{AllGrow, HasRoom, IsLive, obeyed_grow}
 use Rattle.rds_run_laws.proofs.Harmless.{only_sends}
 use Rattle.rds_run_laws.proofs.Meeting.{host_within, meets_at, of_outcome, side_count}

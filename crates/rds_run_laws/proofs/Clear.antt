@@ -1,5 +1,5 @@
 -- In a run of a calm script no map with a port is pulled, and no look finds a port marked.
-use Rattle.std.proofs.Common.{◌≡◌, ◌≢◌, ℕ, suc, ◌+◌, ◌-◌, ◌<◌, ◌≤◌, true, false, Some, List, [], ◌∷◌, ◌++◌, length, slice_get, refl, sym, ap, subst, ◌∙◌, arith}
+use Rattle.std.proofs.Common.{◌≡◌, ℕ, ◌+◌, ◌-◌, ◌<◌, ◌≤◌, true, Some, List, ◌∷◌, length, slice_get, refl, sym, ap, subst, ◌∙◌, arith}
 use Rattle.std.specs.Prelude.{Contains}
 use Rattle.std.proofs.lemmas.List.{length-map}
 use Rattle.std.proofs.lemmas.List.Elements.{Contains-append_right}
@@ -7,7 +7,6 @@ use Rattle.std.proofs.lemmas.Option.{slice_get_within}
 use Rattle.rds_wire.specs.Bytes.{IsBytes}
 use Rattle.rds_wire.specs.declared.frame.Frame.{Frame}
 use Rattle.rds_wire.specs.declared.kind.TheConstants.{MAP_LENGTH}
-use Rattle.rds_seats.specs.Views.{total}
 use Rattle.rds_model.specs.declared.entry.Entry.{Entry}
 use Rattle.rds_model.specs.declared.entry.Entry.TheVariants.{Pull}
 use Rattle.rds_model.specs.Deliveries.{put_bytes}
@@ -15,11 +14,10 @@ use Rattle.rds_model.specs.Legal.{IsLegal}
 use Rattle.rds_model.specs.Owed.{is_map}
 use Rattle.rds_model.specs.Past.{Moment}
 use Rattle.rds_model.proofs.Matching.{other_way}
-use Rattle.rds_fmap.specs.Readers.{HasSeen, ReaderView}
-use Rattle.rds_fmap.specs.declared.seen.Seen.{Seen}
+use Rattle.rds_fmap.specs.Readers.{ReaderView}
 use Rattle.rds_text.specs.FinalState.{FinalHost, FinalJournal}
 use Rattle.rds_script.specs.declared.script.Placed.{Placed}
-use Rattle.rds_socket_parts.specs.Lanes.{IsLaneAt, Lane}
+use Rattle.rds_socket_parts.specs.Lanes.{Lane}
 use Rattle.rds_run_callers.specs.Places.{Place, holding_of}
 use Rattle.rds_run_hosts.proofs.Made.{peers_count}
 use Rattle.rds_run_rounds.specs.Grid.{peer_at}
@@ -32,7 +30,6 @@ use Rattle.rds_run_threads.proofs.Rows.{peer_apart, place_is}
 use Rattle.rds_run_laws.specs.Calm.{IsCalm}
 use Rattle.rds_run_laws.specs.Few.{PullsNoPort}
 use Rattle.rds_run_laws.specs.Put.{own_sum}
-use Rattle.rds_run_laws.specs.Sent.{sent_sum}
 use Rattle.rds_run_laws.specs.Weights.{by_length}
 use Rattle.rds_run_laws.proofs.Arrivals.{passed_few}
 use Rattle.rds_run_laws.proofs.Bounded.{few_delivered}

@@ -1,5 +1,5 @@
 -- What the commands have each host send to each other one sums up to what all of them send.
-use Rattle.std.proofs.Common.{◌≡◌, ◌≢◌, inl, inr, ℕ, zero, suc, ◌+◌, ◌-◌, ◌<◌, ◌≤◌, ◌==◌, ◌&&◌, Bool, true, false, cond, All, List, [], ◌∷◌, length, refl, sym, ap, ◌∙◌, arith}
+use Rattle.std.proofs.Common.{◌≡◌, ◌≢◌, inl, inr, ℕ, zero, suc, ◌+◌, ◌-◌, ◌<◌, ◌≤◌, ◌==◌, ◌&&◌, Bool, true, false, cond, All, List, [], ◌∷◌, refl, sym, ap, ◌∙◌, arith}
 use Rattle.std.proofs.lemmas.Bool.{cases_eq, eq-eqb, ne_eqb}
 use Rattle.std.proofs.lemmas.List.Elements.{All-head, All-tail}
 use Rattle.rds_script.specs.declared.script.Command.{Command}
@@ -10,7 +10,7 @@ use Rattle.rds_run_rounds.specs.Grid.{peer_at}
 use Rattle.rds_run_threads.proofs.Rows.{place_is}
 use Rattle.rds_run_laws.specs.Calm.{BindsAmply, IsCalm, IsCalmAfter}
 use Rattle.rds_run_laws.specs.Put.{sent_between, sent_to}
-use Rattle.rds_run_laws.specs.Sent.{sent_by, sent_sum}
+use Rattle.rds_run_laws.specs.Sent.{sent_sum}
 use Rattle.rds_run_laws.specs.Weights.{Weight, by_length}
 use Rattle.rds_run_laws.proofs.At.{sum_up}
 use Rattle.rds_run_laws.proofs.Bounded.{place_of}
@@ -46,12 +46,21 @@ abbrev Crosses : ℕ → Command → Type 0
 Crosses hosts (script.Send host port to dport payload) = IsAcross hosts host to
 Crosses hosts _ = Unit {0}
 
-module _ (w : Weight) (hosts : ℕ) where
+module _ (w : (from to : ℕ) → Weight) (hosts : ℕ) where
+  -- what a command sends, by a weight that knows its hosts
+  abbrev pub routed : Command → ℕ
+  routed (script.Send host port to dport payload) = w host to port dport payload
+  routed _ = 0
+
+  abbrev pub routed_sum : List Placed → ℕ
+  routed_sum [] = 0
+  routed_sum (placed ∷ commands) = routed placed.command + routed_sum commands
+
   abbrev one_way : Command → ℕ → ℕ → ℕ
-  one_way c h i = sent_to w h (peer_at h i) c
+  one_way c h i = sent_to (w h (peer_at h i)) h (peer_at h i) c
 
   abbrev other_way : Command → ℕ → ℕ → ℕ
-  other_way c h i = sent_to w (peer_at h i) h c
+  other_way c h i = sent_to (w (peer_at h i) h) (peer_at h i) h c
 
   -- over all hosts and places
   abbrev pub over : (ℕ → ℕ → ℕ) → ℕ
@@ -78,23 +87,23 @@ module _ (w : Weight) (hosts : ℕ) where
       (λ h apart. sum_up_none (f h) 0 (hosts - 1) (λ i least. others h i apart))
       ∙ (sum_up_one (f k) 0 (hosts - 1) place (omega arith) (omega (arith, within)) rest ∙ here)
 
-  both_ways : (c : Command) → Crosses hosts c → (over (one_way c) ≡ sent_by w c) × (over (other_way c) ≡ sent_by w c)
+  both_ways : (c : Command) → Crosses hosts c → (over (one_way c) ≡ routed c) × (over (other_way c) ≡ routed c)
   both_ways (script.Send by port to dport payload) across = (
     (let way = place_of hosts by to across.known across.to_known across.apart in
-    over_one (one_way (script.Send by port to dport payload)) by way.0 v across.known way.1
-    (λ h i apart. ap (λ (b : Bool). cond (b && (to == peer_at h i)) v 0) (ne_eqb by h (λ same. apart (sym same))))
-    (λ i apart. ap (λ (b : Bool). cond ((by == by) && b) v 0) (ne_eqb to (peer_at by i) (λ same. apart (place_is by i way.0 (sym same ∙ sym way.2)))) ∙ neither (by == by) v)
-    (ap (λ (b : Bool). cond (b && (to == peer_at by way.0)) v 0) (eq-eqb by by refl)
-    ∙ ap (λ (b : Bool). cond b v 0) (eq-eqb to (peer_at by way.0) (sym way.2)))),
+        over_one (one_way (script.Send by port to dport payload)) by way.0 (w by to port dport payload) across.known way.1
+        (λ h i apart. ap (λ (b : Bool). cond (b && (to == peer_at h i)) (w h (peer_at h i) port dport payload) 0) (ne_eqb by h (λ same. apart (sym same))))
+        (λ i apart. ap (λ (b : Bool). cond ((by == by) && b) (w by (peer_at by i) port dport payload) 0) (ne_eqb to (peer_at by i) (λ same. apart (place_is by i way.0 (sym same ∙ sym way.2))))
+        ∙ neither (by == by) (w by (peer_at by i) port dport payload))
+        (ap (λ (b : Bool). cond (b && (to == peer_at by way.0)) (w by (peer_at by way.0) port dport payload) 0) (eq-eqb by by refl)
+        ∙ (ap (λ (b : Bool). cond b (w by (peer_at by way.0) port dport payload) 0) (eq-eqb to (peer_at by way.0) (sym way.2)) ∙ ap (λ (n : ℕ). w by n port dport payload) way.2))),
     (let way = place_of hosts to by across.to_known across.known (λ same. across.apart (sym same)) in
-    over_one (other_way (script.Send by port to dport payload)) to way.0 v across.to_known way.1
-    (λ h i apart. ap (λ (b : Bool). cond ((by == peer_at h i) && b) v 0) (ne_eqb to h (λ same. apart (sym same))) ∙ neither (by == peer_at h i) v)
-    (λ i apart. ap (λ (b : Bool). cond (b && (to == to)) v 0) (ne_eqb by (peer_at to i) (λ same. apart (place_is to i way.0 (sym same ∙ sym way.2)))))
-    (ap (λ (b : Bool). cond (b && (to == to)) v 0) (eq-eqb by (peer_at to way.0) (sym way.2)) ∙ ap (λ (b : Bool). cond b v 0) (eq-eqb to to refl))),
+        over_one (other_way (script.Send by port to dport payload)) to way.0 (w by to port dport payload) across.to_known way.1
+        (λ h i apart. ap (λ (b : Bool). cond ((by == peer_at h i) && b) (w (peer_at h i) h port dport payload) 0) (ne_eqb to h (λ same. apart (sym same)))
+        ∙ neither (by == peer_at h i) (w (peer_at h i) h port dport payload))
+        (λ i apart. ap (λ (b : Bool). cond (b && (to == to)) (w (peer_at to i) to port dport payload) 0) (ne_eqb by (peer_at to i) (λ same. apart (place_is to i way.0 (sym same ∙ sym way.2)))))
+        (ap (λ (b : Bool). cond (b && (to == to)) (w (peer_at to way.0) to port dport payload) 0) (eq-eqb by (peer_at to way.0) (sym way.2))
+        ∙ (ap (λ (b : Bool). cond b (w (peer_at to way.0) to port dport payload) 0) (eq-eqb to to refl) ∙ ap (λ (n : ℕ). w n to port dport payload) way.2))),
   )
-    where
-      v : ℕ
-      v = w port dport payload
   both_ways (script.Bind by port sndbuf rcvbuf) across = (over_none (one_way (script.Bind by port sndbuf rcvbuf)) (λ h i. refl), over_none (other_way (script.Bind by port sndbuf rcvbuf)) (λ h i. refl))
   both_ways (script.BindAny by port sndbuf rcvbuf) across = (over_none (one_way (script.BindAny by port sndbuf rcvbuf)) (λ h i. refl), over_none (other_way (script.BindAny by port sndbuf rcvbuf)) (λ h i. refl))
   both_ways (script.Recv by port) across = (over_none (one_way (script.Recv by port)) (λ h i. refl), over_none (other_way (script.Recv by port)) (λ h i. refl))
@@ -106,13 +115,14 @@ module _ (w : Weight) (hosts : ℕ) where
   both_ways script.Drain across = (over_none (one_way script.Drain) (λ h i. refl), over_none (other_way script.Drain) (λ h i. refl))
 
   all_ways : (commands : List Placed) → All (λ (p : Placed). Crosses hosts p.command) commands →
-      (over (λ h i. sent_between w h (peer_at h i) commands) ≡ sent_sum w commands) × (over (λ h i. sent_between w (peer_at h i) h commands) ≡ sent_sum w commands)
+      (over (λ h i. sent_between (w h (peer_at h i)) h (peer_at h i) commands) ≡ routed_sum commands)
+      × (over (λ h i. sent_between (w (peer_at h i) h) (peer_at h i) h commands) ≡ routed_sum commands)
   all_ways [] all = (over_none (λ h i. 0) (λ h i. refl), over_none (λ h i. 0) (λ h i. refl))
   all_ways (placed ∷ commands) all =
       let here = both_ways placed.command (All-head (λ (p : Placed). Crosses hosts p.command) placed commands all) in
       let rest = all_ways commands (All-tail (λ (p : Placed). Crosses hosts p.command) placed commands all) in
-      let first = over_plus (one_way placed.command) (λ h i. sent_between w h (peer_at h i) commands) in
-      let second = over_plus (other_way placed.command) (λ h i. sent_between w (peer_at h i) h commands) in
+      let first = over_plus (one_way placed.command) (λ h i. sent_between (w h (peer_at h i)) h (peer_at h i) commands) in
+      let second = over_plus (other_way placed.command) (λ h i. sent_between (w (peer_at h i) h) (peer_at h i) h commands) in
       let a = here.0 in
       let b = here.1 in
       let c = rest.0 in
@@ -120,7 +130,8 @@ module _ (w : Weight) (hosts : ℕ) where
       (omega (arith, first, a, c), omega (arith, second, b, d))
 
   pub all_across : (commands : List Placed) → IsCalm hosts commands →
-      (over (λ h i. sent_between w h (peer_at h i) commands) ≡ sent_sum w commands) × (over (λ h i. sent_between w (peer_at h i) h commands) ≡ sent_sum w commands)
+      (over (λ h i. sent_between (w h (peer_at h i)) h (peer_at h i) commands) ≡ routed_sum commands)
+      × (over (λ h i. sent_between (w (peer_at h i) h) (peer_at h i) h commands) ≡ routed_sum commands)
   all_across commands calm =
       all_ways commands (of_both (λ (p : Placed). Crosses hosts p.command) commands (λ i d within. bind_crosses _ (calm.binds i d within)) (λ i d within. after_crosses _ (calm.rest i d within)))
     where

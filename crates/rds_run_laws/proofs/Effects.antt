@@ -1,31 +1,29 @@
 -- What a command adds to what a host's slots have put on their routes at one place, and to the bytes that they have sent.
-use Rattle.std.proofs.Common.{◌≡◌, ◌≢◌, inl, inr, ℕ, zero, suc, ◌+◌, ◌-◌, ◌<◌, ◌≤◌, ◌==◌, ◌&&◌, Bool, true, false, cond, Option, Some, None, Ok, List, [], ◌∷◌, ◌++◌, length, map, slice_get, slice_set, refl, sym, ap, subst, ◌∙◌, arith}
-use Rattle.std.specs.Prelude.{All, Contains, min, sum_by}
+use Rattle.std.proofs.Common.{◌≡◌, ◌≢◌, inl, inr, ℕ, zero, suc, ◌+◌, ◌<◌, ◌≤◌, ◌==◌, Bool, true, false, cond, Option, Some, None, List, [], ◌∷◌, length, map, slice_get, slice_set, refl, sym, ap, subst, ◌∙◌, arith}
+use Rattle.std.specs.Prelude.{All, sum_by}
 use Rattle.std.proofs.Math.Nat.{le-min}
 use Rattle.std.proofs.lemmas.Bool.{cases_eq, eq-eqb, ne_eqb}
 use Rattle.std.proofs.lemmas.List.Elements.{Contains-push}
 use Rattle.std.proofs.lemmas.Option.{same_Some, slice_get_within}
 use Rattle.rds_wire.specs.declared.kind.TheConstants.{MAX_LENGTH}
-use Rattle.rds_model.specs.declared.order.Datagram.{Datagram}
 use Rattle.rds_model.specs.declared.order.Order.{Order}
 use Rattle.rds_model.specs.declared.order.Order.TheVariants as order
 use Rattle.rds_fmap.specs.Readers.{HasSeen, IsLook, ReaderView}
 use Rattle.rds_fmap.specs.declared.seen.Seen.{Seen}
 use Rattle.rds_text.specs.Hosts.{address_of}
 use Rattle.rds_script.specs.declared.script.Command.{Command}
-use Rattle.rds_script.specs.declared.script.Command.TheVariants as script
 use Rattle.rds_socket_parts.specs.Lanes.{IsLaneAt, IsLookTo, IsPutTo, Lane, LeadsTo, peers_of, with_order, with_reader}
 use Rattle.rds_socket.specs.declared.error.SendError.{SendError}
 use Rattle.rds_socket.specs.declared.error.SendError.TheVariants as refused
 use Rattle.rds_socket.specs.Holding.{Holding, Open}
 use Rattle.rds_socket.specs.Sends.{IsSent, RefusalFits, limit_of, order_of}
-use Rattle.rds_run_callers.specs.Doing.{AtPort, CutsByLast, IsDone}
+use Rattle.rds_run_callers.specs.Doing.{AtPort, CutsByLast}
 use Rattle.rds_run_callers.specs.Places.{Bound, Place, holding_of, with_holding}
-use Rattle.rds_run_callers.specs.Tenants.{Asks, ReceivesNext, SendsFrom, SendsOrNot}
+use Rattle.rds_run_callers.specs.Tenants.{Asks, ReceivesNext, SendsOrNot}
 use Rattle.rds_run_rounds.specs.Grid.{others, peer_at}
 use Rattle.rds_run_hosts.proofs.At.{map_at}
 use Rattle.rds_run_hosts.proofs.Made.{peer_there, peers_count}
-use Rattle.rds_run_threads.proofs.At.{all_at, at_set, beside_set, some_at}
+use Rattle.rds_run_threads.proofs.At.{all_at, at_set, beside_set}
 use Rattle.rds_run_threads.proofs.Rows.{place_is}
 use Rattle.rds_run_laws.specs.Put.{sent_to}
 use Rattle.rds_run_laws.specs.Sent.{sent_by}

@@ -1,6 +1,6 @@
 -- What a caller that closes nothing keeps of its slots: the peers of their routes, what their readers found, and each socket, with its port and its
 -- send buffer.
-use Rattle.std.proofs.Common.{◌≡◌, inl, inr, ℕ, zero, suc, ◌≤◌, List, [], ◌∷◌, ◌++◌, Ok, Some, length, set, slice_get, slice_set, refl, sym, ap, subst, ◌∙◌}
+use Rattle.std.proofs.Common.{◌≡◌, inl, inr, ℕ, ◌≤◌, List, [], ◌∷◌, Some, length, slice_get, slice_set, refl, sym, ap, subst, ◌∙◌}
 use Rattle.std.specs.Prelude.{Contains}
 use Rattle.std.proofs.lemmas.Bool.{cases_eq}
 use Rattle.std.proofs.lemmas.List.{length-set}
@@ -22,9 +22,9 @@ use Rattle.rds_text.specs.Hosts.{address_of}
 use Rattle.rds_script.specs.declared.script.Command.{Command}
 use Rattle.rds_script.specs.declared.script.Command.TheVariants as script
 use Rattle.rds_script.specs.declared.script.Placed.{Placed}
-use Rattle.rds_run_callers.specs.Doing.{AtPort, BindsNext, CutsByLast, IsDone}
+use Rattle.rds_run_callers.specs.Doing.{AtPort, CutsByLast, IsDone}
 use Rattle.rds_run_callers.specs.Places.{Bound, Ended, Place, Spare, Vacant, holding_of, with_holding}
-use Rattle.rds_run_callers.specs.Tenants.{Asks, Cancels, ReceivesNext, SendsFrom, SendsOrNot}
+use Rattle.rds_run_callers.specs.Tenants.{Asks, ReceivesNext, SendsFrom, SendsOrNot}
 use Rattle.rds_run_hosts.specs.Obeyed.{DoesCommand, HasObeyed}
 use Rattle.rds_run_threads.proofs.At.{at_set, beside_set, stood_at}
 
@@ -56,9 +56,11 @@ one_route old place was now at same more = record {
   looks = λ i lane at_lane.
       elim (cases_eq i place) [
         | inl here ↦
-            let is : was ≡ lane = same_Some was lane (sym at ∙ (ap (slice_get old) (sym here) ∙ at_lane)) in
-            (now, ap (slice_get (slice_set old place now)) here ∙ at_set old place now (slice_get_within old place was at),
-            subst (λ (l : Lane ReaderView). SeesAll l now) is more)
+            let is : was ≡ lane = same_Some was lane (sym at ∙ (ap (slice_get old) (sym here) ∙ at_lane)) in (
+              now,
+              ap (slice_get (slice_set old place now)) here ∙ at_set old place now (slice_get_within old place was at),
+              subst (λ (l : Lane ReaderView). SeesAll l now) is more,
+            )
         | inr apart ↦ (lane, beside_set old place i now apart ∙ at_lane, λ look found. found)
       ];
 }

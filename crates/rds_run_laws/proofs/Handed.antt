@@ -1,8 +1,8 @@
 -- In a run of a calm script the sockets of a host hand out all that its journals pass.
-use Rattle.std.proofs.Common.{◌≡◌, ◌⊎◌, inl, inr, ℕ, zero, suc, ◌+◌, ◌-◌, ◌<◌, ◌≤◌, ◌==◌, Bool, true, false, cond, All, Option, Some, None, List, [], ◌∷◌, ◌++◌, length, map, filter, slice_get, refl, sym, ap, subst, ◌∙◌, arith}
+use Rattle.std.proofs.Common.{◌≡◌, inl, inr, ℕ, suc, ◌+◌, ◌<◌, ◌≤◌, ◌==◌, Bool, true, false, cond, All, Some, List, [], ◌∷◌, ◌++◌, length, map, slice_get, refl, sym, ap, subst, ◌∙◌, arith}
 use Rattle.std.specs.Prelude.{Contains, sum_by}
 use Rattle.std.proofs.lemmas.Bool.{cases_eq, eq-eqb, eqb-true, ne_eqb}
-use Rattle.std.proofs.lemmas.List.{append-nil, length-map}
+use Rattle.std.proofs.lemmas.List.{append-nil}
 use Rattle.std.proofs.lemmas.List.Elements.{All-head, All-tail}
 use Rattle.std.proofs.lemmas.List.Sums.{sum_by-append, sum_by-cons}
 use Rattle.std.proofs.lemmas.Option.{same_Some, slice_get_within}
@@ -19,7 +19,6 @@ use Rattle.rds_model.specs.Legal.{IsLegal}
 use Rattle.rds_model.specs.Owed.{is_map}
 use Rattle.rds_model.specs.Pairs.{is_delivery_to}
 use Rattle.rds_model.specs.Past.{Moment, passes}
-use Rattle.rds_fmap.specs.Readers.{ReaderView}
 use Rattle.rds_text.specs.FinalState.{FinalHost, FinalJournal, FinalSocket}
 use Rattle.rds_text.specs.Hosts.{address_of}
 use Rattle.rds_script.specs.declared.script.Placed.{Placed}
@@ -27,7 +26,7 @@ use Rattle.rds_run_callers.specs.Ends.{used_name}
 use Rattle.rds_run_callers.specs.Places.{Bound, Ended, Place, Spare, Vacant, holding_of, somes}
 use Rattle.rds_run_hosts.proofs.At.{map_at}
 use Rattle.rds_run_hosts.proofs.Made.{peer_there}
-use Rattle.rds_run_rounds.specs.Grid.{others, peer_at}
+use Rattle.rds_run_rounds.specs.Grid.{peer_at}
 use Rattle.rds_run_threads.specs.Ends.{AreAcknowledged, AreEnds}
 use Rattle.rds_run_threads.specs.Outcome.{HandedOutAt, socket_name}
 use Rattle.rds_run_threads.specs.Reliable.{AllWentToSockets, HandsOutDelivered, HasReceived, IsWithPeer, all_handed, from_host}
@@ -80,9 +79,9 @@ module _ (k v : ℕ) where
       go (Ended port h got) is ih = one h.words.slot port is ih
       go (Spare h) is ih = (ih.0, λ less. ih.1 (omega (arith, less)))
 
-module _ (w : Weight) where
+module _ (w : (from : ℕ) → Weight) where
   abbrev pub weight_of_datagram : Datagram → ℕ
-  weight_of_datagram d = w d.sport d.dport d.payload
+  weight_of_datagram d = w d.from d.sport d.dport d.payload
 
   abbrev pub data_sum : List Datagram → ℕ
   data_sum list = sum_by weight_of_datagram list
@@ -102,7 +101,7 @@ module _ (w : Weight) where
 
     pub all_delivered : (past : List Entry) →
         ((s : ℕ) (f : Frame) (o : Outcome) → passes o ≡ true → Contains past (Read s f o) → (slot : ℕ) × (o ≡ outcome.Slot slot) × IsOneSlot slot) →
-        to_sockets past ≡ passed_sum w past
+        to_sockets past ≡ passed_sum (w from) past
     all_delivered [] each = sum_none (λ (s : FinalSocket). data_sum []) sockets (λ i s at. refl)
     all_delivered (Read st f o ∷ past) each =
         go (passes o) refl (all_delivered past (λ s g x passed (k, within, is). each s g x passed (suc k, omega (arith, within), is)))
@@ -125,8 +124,8 @@ module _ (w : Weight) where
         none_to outcome.Map slot is = refl
         none_to outcome.OddMap slot is = refl
 
-        go : (b : Bool) → passes o ≡ b → to_sockets past ≡ passed_sum w past →
-            to_sockets (Read st f o ∷ past) ≡ cond b (passed_sum w past + w f.header.sport f.header.dport f.payload) (passed_sum w past)
+        go : (b : Bool) → passes o ≡ b → to_sockets past ≡ passed_sum (w from) past →
+            to_sockets (Read st f o ∷ past) ≡ cond b (passed_sum (w from) past + w from f.header.sport f.header.dport f.payload) (passed_sum (w from) past)
         go false is ih =
             let whole = split in
             let none = sum_none (λ (s : FinalSocket). cond (is_delivery_to s.slot o) (weight_of_datagram (datagram_from from f)) 0) sockets
@@ -216,14 +215,14 @@ module _ (pulled : (s : ℕ) (f : Frame) (p past : List Entry) → IsLegal past 
       go (Ended port h got) live handed = absurd live
       go (Spare h) live handed = absurd handed
 
-  pub handed_all : (w : Weight) →
-      sum_by (λ (s : FinalSocket). data_sum w s.got) end.sockets ≡ sum_by (λ (side : FinalJournal). passed_sum w side.past) end.sides
+  pub handed_all : (w : (from : ℕ) → Weight) →
+      sum_by (λ (s : FinalSocket). data_sum w s.got) end.sockets ≡ sum_by (λ (side : FinalJournal). passed_sum (w side.peer) side.past) end.sides
   handed_all w =
       sum_same (λ (s : FinalSocket). data_sum w s.got) (λ (s : FinalSocket). sum_by (λ (side : FinalJournal). data_sum w (delivered_datagrams side.peer s.slot side.past)) end.sides)
       end.sockets (λ i s at. of_socket i s at)
       ∙ sum_swap (λ (s : FinalSocket) (side : FinalJournal). data_sum w (delivered_datagrams side.peer s.slot side.past)) end.sockets end.sides
       ∙ sum_same (λ (side : FinalJournal). sum_by (λ (s : FinalSocket). data_sum w (delivered_datagrams side.peer s.slot side.past)) end.sockets)
-      (λ (side : FinalJournal). passed_sum w side.past) end.sides
+      (λ (side : FinalJournal). passed_sum (w side.peer) side.past) end.sides
       (λ place side at. all_delivered w side.peer end.sockets side.past (λ s f o passed inside. to_slot place side at s f o passed inside))
     where
       of_socket : (i : ℕ) (s : FinalSocket) → slice_get end.sockets i ≡ Some s →

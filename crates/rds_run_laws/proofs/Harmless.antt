@@ -1,5 +1,5 @@
 -- A calm script has a journal take no order but datagrams to ports other than 0.
-use Rattle.std.proofs.Common.{◌≡◌, ◌≢◌, ℕ, suc, ◌+◌, ◌<◌, ◌≤◌, ◌==◌, Bool, true, false, cond, All, Some, List, [], ◌∷◌, filter, length, refl, sym, ap, subst, ◌∙◌, arith}
+use Rattle.std.proofs.Common.{◌≡◌, ◌≢◌, ℕ, ◌<◌, ◌≤◌, ◌==◌, Bool, true, false, cond, All, List, [], ◌∷◌, filter, refl, ap, subst, arith}
 use Rattle.std.proofs.lemmas.Bool.{eq-eqb, ne_eqb}
 use Rattle.std.proofs.lemmas.List.Elements.{All-cons, All-contains, All-head, All-nil, All-tail}
 use Rattle.rds_model.specs.declared.entry.Entry.{Entry}
@@ -9,7 +9,7 @@ use Rattle.rds_model.specs.Sums.{orders}
 use Rattle.rds_script.specs.declared.script.Command.{Command}
 use Rattle.rds_script.specs.declared.script.Command.TheVariants as script
 use Rattle.rds_script.specs.declared.script.Placed.{Placed}
-use Rattle.rds_run_hosts.specs.Obeyed.{after_binds, leading_binds}
+use Rattle.rds_run_hosts.specs.Obeyed.{leading_binds}
 use Rattle.rds_run_threads.specs.Causes.{IsOfCommands}
 use Rattle.rds_run_laws.specs.Calm.{BindsAmply, BindsPort, HasBind, IsCalm, IsCalmAfter}
 use Rattle.rds_run_laws.specs.Few.{is_own}

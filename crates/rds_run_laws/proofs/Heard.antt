@@ -1,5 +1,5 @@
 -- In a run of a calm script each datagram that is passed goes to a socket.
-use Rattle.std.proofs.Common.{◌≡◌, ◌⊎◌, inl, inr, ℕ, zero, suc, ◌+◌, ◌<◌, ◌≤◌, ◌==◌, ◌&&◌, Bool, true, false, cond, All, Some, List, [], ◌∷◌, length, slice_get, refl, sym, ap, subst, ◌∙◌, arith}
+use Rattle.std.proofs.Common.{◌≡◌, ◌⊎◌, inl, inr, ℕ, zero, suc, ◌+◌, ◌≤◌, ◌==◌, ◌&&◌, Bool, true, false, cond, All, Some, List, [], ◌∷◌, length, slice_get, refl, sym, ap, subst, arith}
 use Rattle.std.specs.Prelude.{Contains}
 use Rattle.std.proofs.lemmas.Bool.{eq-eqb, eqb-true}
 use Rattle.std.proofs.lemmas.List.Elements.{All-head, All-tail}
@@ -14,8 +14,6 @@ use Rattle.rds_model.specs.Legal.{IsLegal}
 use Rattle.rds_model.specs.LegalityLaws.{lawful_read}
 use Rattle.rds_model.specs.Owed.{is_map}
 use Rattle.rds_model.specs.Past.{Moment, before, now, passes}
-use Rattle.rds_fmap.specs.Readers.{ReaderView}
-use Rattle.rds_socket.specs.Holding.{Holding, Open as Socket}
 use Rattle.rds_text.specs.FinalState.{FinalHost, FinalJournal}
 use Rattle.rds_script.specs.declared.script.Command.{Command}
 use Rattle.rds_script.specs.declared.script.Command.TheVariants as script

@@ -1,10 +1,10 @@
 -- In a run of a calm script each thing that is counted is of a port pair for which a datagram was accepted.
-use Rattle.std.proofs.Common.{◌≡◌, ◌⊎◌, inl, inr, ℕ, zero, suc, ◌+◌, ◌-◌, ◌<◌, ◌≤◌, ◌==◌, ◌&&◌, ◌||◌, not, Bool, true, false, cond, All, Option, Some, None, List, [], ◌∷◌, ◌++◌, length, map, filter, slice_get, refl, sym, ap, subst, ◌∙◌, arith}
+use Rattle.std.proofs.Common.{◌≡◌, inl, inr, ℕ, zero, suc, ◌==◌, ◌&&◌, ◌||◌, not, Bool, true, false, cond, All, Some, List, [], ◌∷◌, ◌++◌, length, map, filter, slice_get, refl, sym, ap, subst, ◌∙◌, arith}
 use Rattle.std.specs.Prelude.{Contains, flat_map}
 use Rattle.std.specs.List.{list_any}
-use Rattle.std.proofs.lemmas.Bool.{cases_eq, eq-eqb, false≢true, or_right}
+use Rattle.std.proofs.lemmas.Bool.{cases_eq, eq-eqb, or_right}
 use Rattle.std.proofs.lemmas.List.{append-nil}
-use Rattle.std.proofs.lemmas.List.Elements.{All-cons, All-contains, All-nil, Contains-append_cases, Contains-append_left, Contains-append_right, Contains-push, Contains-push_cases}
+use Rattle.std.proofs.lemmas.List.Elements.{All-cons, All-contains, All-nil, Contains-append_cases, Contains-append_left, Contains-append_right, Contains-push_cases}
 use Rattle.rds_wire.specs.Bytes.{IsBytes}
 use Rattle.rds_wire.specs.declared.frame.Frame.{Frame}
 use Rattle.rds_wire.specs.declared.kind.TheConstants.{MAP_LENGTH}
@@ -12,7 +12,6 @@ use Rattle.rds_model.specs.declared.entry.Entry.{Entry}
 use Rattle.rds_model.specs.declared.entry.Entry.TheVariants.{Accept, Cancel, Open, Pull, Read, Shut, Bad}
 use Rattle.rds_model.specs.declared.entry.Outcome.{Outcome}
 use Rattle.rds_model.specs.declared.order.Datagram.{Datagram}
-use Rattle.rds_model.specs.Alive.{was_taken_back}
 use Rattle.rds_model.specs.Deliveries.{datagram_from, delivered_datagrams}
 use Rattle.rds_model.specs.Legal.{IsLegal}
 use Rattle.rds_model.specs.NumberLaws.{datagram_newest, datagram_other}
@@ -22,16 +21,14 @@ use Rattle.rds_model.specs.Past.{Accepted as Taken, Moment, accepted, datagram, 
 use Rattle.rds_model.specs.Streams.{was_passed}
 use Rattle.rds_text.specs.FinalState.{FinalHost, FinalJournal, FinalSocket, past_of}
 use Rattle.rds_text.specs.Hosts.{address_of}
-use Rattle.rds_text.specs.Report.{Group}
-use Rattle.rds_report.specs.declared.item.Group.{Group as Key}
-use Rattle.rds_report.specs.Item.{Item, What, Accepted, Cancelled, Received, Unread}
+use Rattle.rds_report.specs.Item.{Item, Accepted, Received, Unread}
 use Rattle.rds_report.specs.ItemReport.{AllOfAccepted, accepted_pairs, is_accepted, is_same}
 use Rattle.rds_report.specs.Items.{accepted_items, came_items, host_items, is_lost, item, items, seen, sent_items, side_items, socket_items}
 use Rattle.rds_report.proofs.Orders.{same_itself}
 use Rattle.rds_script.specs.declared.script.Placed.{Placed}
 use Rattle.rds_run_rounds.specs.Grid.{peer_at}
 use Rattle.rds_run_threads.specs.Ends.{AreAcknowledged, AreEnds}
-use Rattle.rds_run_threads.specs.Reliable.{HandsOutDelivered, HasReceived, IsWithPeer, all_handed, from_host}
+use Rattle.rds_run_threads.specs.Reliable.{HandsOutDelivered, HasReceived, IsWithPeer, all_handed}
 use Rattle.rds_run_threads.proofs.At.{all_at}
 use Rattle.rds_run_threads.proofs.Rows.{peer_apart}
 use Rattle.rds_run_laws.specs.Calm.{IsCalm}
@@ -40,7 +37,7 @@ use Rattle.rds_run_laws.proofs.Handed.{all_read, peer_is}
 use Rattle.rds_run_laws.proofs.Harmless.{only_sends}
 use Rattle.rds_run_laws.proofs.Heard.{goes_to_slot, moment_of}
 use Rattle.rds_run_laws.proofs.Itemed.{none_came}
-use Rattle.rds_run_laws.proofs.Meeting.{host_within, meets_at, of_outcome}
+use Rattle.rds_run_laws.proofs.Meeting.{MeetsAt, host_within, meets_at, of_outcome}
 use Rattle.rds_run_laws.proofs.Plain.{delivery_passes, none_back}
 
 -- members of lists
@@ -228,11 +225,40 @@ module _ (pulled : (s : ℕ) (f : Frame) (p past : List Entry) → IsLegal past 
 
         nothing : Contains (came_items side.peer end.addr side.past) i → ⊥
         nothing came =
-            let none = none_came (λ what. 0) side.peer end.addr side.past (λ s f o passed found.
+            let none = none_came (λ key what. 0) side.peer end.addr side.past (λ s f o passed found.
             goes_to_slot pulled hosts commands ends calm did acknowledged host place end side stands at s f o passed found) in
             let empty = subst (λ (l : List Item). Contains l i) none came in
             let less = empty.1 in
             absurd (omega (arith, less))
+
+    -- the pair of what was read from a peer
+    of_read : (place : ℕ) (side : FinalJournal) → slice_get end.sides place ≡ Some side → (d : Datagram) → WasRead side.peer side.past d → side.peer ≡ d.from →
+        MeetsAt hosts ends host place side.past → HasPair (item end.addr d.dport d.from d.sport (Received d.payload))
+    of_read place side at d was peer m =
+        let moment = moment_of (Read was.stream was.frame was.outcome) side.past was.inside in
+        let taken = m.met.back.accepted was.stream was.frame was.outcome moment.0 moment.1 was.passed in
+        with_pair place side at d peer m taken.0 (sent_pair (peer_at host place) m.turn m.other m.back m.stands m.at (number was.frame) taken.0 taken.1)
+        (sym taken.2.dport ∙ ap (λ (y : Datagram). y.dport) was.is) (sym taken.2.sport ∙ ap (λ (y : Datagram). y.sport) was.is)
+      where
+        same : (a b c e f g h j : ℕ) → a ≡ b → c ≡ e → f ≡ g → h ≡ j →
+            list_any (is_same (record { to = a; dport = c; from = f; sport = h })) (accepted_pairs (items ends)) ≡ true →
+            list_any (is_same (record { to = b; dport = e; from = g; sport = j })) (accepted_pairs (items ends)) ≡ true
+        same a b c e f g h j p q r t is =
+            subst (λ (x : ℕ). list_any (is_same (record { to = b; dport = e; from = g; sport = x })) (accepted_pairs (items ends)) ≡ true) t
+            (subst (λ (x : ℕ). list_any (is_same (record { to = b; dport = e; from = x; sport = h })) (accepted_pairs (items ends)) ≡ true) r
+            (subst (λ (x : ℕ). list_any (is_same (record { to = b; dport = x; from = f; sport = h })) (accepted_pairs (items ends)) ≡ true) q
+            (subst (λ (x : ℕ). list_any (is_same (record { to = x; dport = c; from = f; sport = h })) (accepted_pairs (items ends)) ≡ true) p is)))
+
+        with_pair : (spot : ℕ) (s : FinalJournal) → slice_get end.sides spot ≡ Some s → (x : Datagram) → s.peer ≡ x.from → (met : MeetsAt hosts ends host spot s.past) (t : Taken) →
+            HasPair (item met.back.peer t.dport met.other.addr t.sport Accepted) → t.dport ≡ x.dport → t.sport ≡ x.sport →
+            HasPair (item end.addr x.dport x.from x.sport (Received x.payload))
+        with_pair spot s at_s x peer_of met t there dport sport =
+            same met.back.peer end.addr t.dport x.dport met.other.addr x.from t.sport x.sport
+            (peer_is pulled hosts commands ends calm did acknowledged (peer_at host spot) met.other met.stands met.turn met.back met.at
+            ∙ (ap address_of met.there ∙ sym (did.addresses host end stands)))
+            dport
+            (did.addresses (peer_at host spot) met.other met.stands ∙ (sym (peer_is pulled hosts commands ends calm did acknowledged host end stands spot s at_s) ∙ peer_of))
+            sport there
 
     -- the pair of what a socket handed out
     of_received : (k : ℕ) (s : FinalSocket) → slice_get end.sockets k ≡ Some s → (d : Datagram) → Contains s.got d →
@@ -246,30 +272,8 @@ module _ (pulled : (s : ℕ) (f : Frame) (p past : List Entry) → IsLegal past 
         let side = with.1 in
         let delivered = all_at (HandsOutDelivered s) end.sides place side (all_at (λ (x : FinalSocket). All (HandsOutDelivered x) end.sides) end.sockets k s received.delivered at_s) with.2 in
         let found = into_filter (λ (y : Datagram). y.from == side.peer) (all_handed s) d (eq-eqb d.from side.peer (sym with.3)) handed in
-        let was = was_read side.peer s.slot side.past d (subst (λ (l : List Datagram). Contains l d) delivered found) in
-        let m = meets_at hosts commands ends did acknowledged host place end side stands with.2 in
-        let moment = moment_of (Read was.stream was.frame was.outcome) side.past was.inside in
-        let taken = m.met.back.accepted was.stream was.frame was.outcome moment.0 moment.1 was.passed in
-        let back = m.back in
-        let there = sent_pair (peer_at host place) m.turn m.other back m.stands m.at (number was.frame) taken.0 taken.1 in
-        let to : back.peer ≡ end.addr =
-        peer_is pulled hosts commands ends calm did acknowledged (peer_at host place) m.other m.stands m.turn back m.at
-        ∙ (ap address_of m.there ∙ sym (did.addresses host end stands)) in
-        let from : m.other.addr ≡ d.from =
-        did.addresses (peer_at host place) m.other m.stands
-        ∙ (sym (peer_is pulled hosts commands ends calm did acknowledged host end stands place side with.2) ∙ with.3) in
-        let dport : taken.0.dport ≡ d.dport = sym taken.2.dport ∙ ap (λ (y : Datagram). y.dport) was.is in
-        let sport : taken.0.sport ≡ d.sport = sym taken.2.sport ∙ ap (λ (y : Datagram). y.sport) was.is in
-        same back.peer end.addr taken.0.dport d.dport m.other.addr d.from taken.0.sport d.sport to dport from sport there
-      where
-        same : (a b c e f g h j : ℕ) → a ≡ b → c ≡ e → f ≡ g → h ≡ j →
-            list_any (is_same (record { to = a; dport = c; from = f; sport = h })) (accepted_pairs (items ends)) ≡ true →
-            list_any (is_same (record { to = b; dport = e; from = g; sport = j })) (accepted_pairs (items ends)) ≡ true
-        same a b c e f g h j p q r t is =
-            subst (λ (x : ℕ). list_any (is_same (record { to = b; dport = e; from = g; sport = x })) (accepted_pairs (items ends)) ≡ true) t
-            (subst (λ (x : ℕ). list_any (is_same (record { to = b; dport = e; from = x; sport = h })) (accepted_pairs (items ends)) ≡ true) r
-            (subst (λ (x : ℕ). list_any (is_same (record { to = b; dport = x; from = f; sport = h })) (accepted_pairs (items ends)) ≡ true) q
-            (subst (λ (x : ℕ). list_any (is_same (record { to = x; dport = c; from = f; sport = h })) (accepted_pairs (items ends)) ≡ true) p is)))
+        of_read place side with.2 d (was_read side.peer s.slot side.past d (subst (λ (l : List Datagram). Contains l d) delivered found)) with.3
+        (meets_at hosts commands ends did acknowledged host place end side stands with.2)
 
     of_socket : (k : ℕ) (s : FinalSocket) → slice_get end.sockets k ≡ Some s → (i : Item) → Contains (socket_items end.addr s) i → HasPair i
     of_socket k s at_s i inside =

@@ -1,30 +1,25 @@
 -- The two journals of each two hosts in the end.
-use Rattle.std.proofs.Common.{◌≡◌, ◌≢◌, inl, inr, ℕ, suc, ◌+◌, ◌-◌, ◌<◌, ◌≤◌, true, Some, List, [], ◌∷◌, ◌++◌, length, map, slice_get, refl, sym, ap, subst, ◌∙◌, arith}
+use Rattle.std.proofs.Common.{◌≡◌, inl, inr, ℕ, suc, ◌-◌, ◌<◌, ◌≤◌, true, Some, List, [], length, map, slice_get, refl, sym, ap, subst, ◌∙◌, arith}
 use Rattle.std.proofs.lemmas.Bool.{cases_lt}
 use Rattle.std.proofs.lemmas.List.{append-nil, length-map}
 use Rattle.std.proofs.lemmas.Option.{slice_get_within}
 use Rattle.rds_model.specs.declared.entry.Entry.{Entry}
 use Rattle.rds_model.specs.Fifo.{IsFifo}
-use Rattle.rds_model.specs.Honest.{Begins}
 use Rattle.rds_model.specs.Pairs.{IsAllAccounted}
 use Rattle.rds_model.proofs.Matching.{ArePeers, other_way}
-use Rattle.rds_fmap.specs.Readers.{ReaderView}
 use Rattle.rds_text.specs.FinalState.{FinalHost, FinalJournal, FinalSocket}
-use Rattle.rds_text.specs.Hosts.{address_of}
 use Rattle.rds_script.specs.declared.script.Placed.{Placed}
-use Rattle.rds_line.specs.Keeps.{uncut}
 use Rattle.rds_host_end.specs.Joined.{orders_of}
-use Rattle.rds_socket_parts.specs.Lanes.{IsLaneAt, Lane}
-use Rattle.rds_run_callers.specs.Places.{Place, holding_of}
-use Rattle.rds_run_rounds.specs.Grid.{IsAt, others, peer_at}
-use Rattle.rds_run_rounds.specs.Sound.{AreSoundJournals}
+use Rattle.rds_socket_parts.specs.Lanes.{IsLaneAt}
+use Rattle.rds_run_callers.specs.Places.{holding_of}
+use Rattle.rds_run_rounds.specs.Grid.{IsAt, peer_at}
 use Rattle.rds_run_hosts.proofs.At.{map_at}
 use Rattle.rds_run_hosts.proofs.Made.{peers_count}
 use Rattle.rds_run_threads.specs.Causes.{IsOfCommands}
 use Rattle.rds_run_threads.specs.Ends.{AreAcknowledged, AreEnds}
 use Rattle.rds_run_threads.specs.Outcome.{IsOutcome}
 use Rattle.rds_run_threads.proofs.At.{all_at, some_at}
-use Rattle.rds_run_threads.proofs.Rows.{peer_after, peer_apart, peer_before, peer_within, place_is}
+use Rattle.rds_run_threads.proofs.Rows.{peer_after, peer_before, place_is}
 
 -- What two ends of a connection are for each other: they follow the rules, streams gave beginnings of what was written to them, and each accepted
 -- datagram is accounted for.

@@ -1,5 +1,5 @@
 -- Each congestion map that was read was pulled at the other end, where streams gave a beginning of what was written to them.
-use Rattle.std.proofs.Common.{◌≡◌, ◌==◌, inl, inr, ℕ, zero, suc, Bool, true, false, cond, Some, List, [], ◌∷◌, ◌++◌, slice_get, refl, sym, ap, subst, ◌∙◌, arith}
+use Rattle.std.proofs.Common.{◌≡◌, ◌==◌, inl, inr, ℕ, zero, suc, Bool, true, false, cond, List, [], ◌∷◌, refl, sym, ap, ◌∙◌, arith}
 use Rattle.std.specs.Prelude.{Contains}
 use Rattle.std.proofs.lemmas.List.Elements.{Contains-push_cases}
 use Rattle.std.proofs.lemmas.Option.{get_or_from_slice_get, same_Some, slice_get_within}
@@ -17,11 +17,10 @@ use Rattle.rds_model.specs.declared.entry.Entry.TheVariants.{Accept, Cancel, Ope
 use Rattle.rds_model.specs.declared.entry.Outcome.{Outcome}
 use Rattle.rds_model.specs.declared.entry.Outcome.TheVariants as outcome
 use Rattle.rds_model.specs.declared.entry.Verdict.TheVariants as verdict
-use Rattle.rds_model.specs.Legal.{IsLegal}
 use Rattle.rds_model.specs.LegalityLaws.{lawful_read}
 use Rattle.rds_model.specs.Owed.{is_map, is_map_kind}
 use Rattle.rds_model.specs.Past.{Moment, before, now}
-use Rattle.rds_model.specs.Reading.{Obeys, is_old, verdict_of_kind, verdict_of_ports}
+use Rattle.rds_model.specs.Reading.{Obeys, is_old, verdict_of_kind}
 use Rattle.rds_model.specs.Sums.{maps, with_map}
 use Rattle.rds_model.proofs.Matching.{ArePeers, pull_of_read}
 

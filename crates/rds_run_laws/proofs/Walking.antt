@@ -1,11 +1,8 @@
 -- After its binds a calm script has each host send exactly what its commands send, since no send is refused.
-use Rattle.std.proofs.Common.{◌≡◌, ◌≢◌, inl, inr, ℕ, zero, suc, ◌+◌, ◌-◌, ◌<◌, ◌≤◌, ◌==◌, ◌&&◌, Bool, true, false, cond, Some, All, List, [], ◌∷◌, length, slice_get, slice_set, refl, sym, ap, subst, ◌∙◌, arith}
-use Rattle.std.specs.Prelude.{sum_by}
+use Rattle.std.proofs.Common.{◌≡◌, ◌≢◌, inl, inr, ℕ, ◌+◌, ◌≤◌, ◌==◌, ◌&&◌, Bool, false, cond, Some, All, List, [], ◌∷◌, length, slice_get, refl, sym, ap, subst, ◌∙◌, arith}
 use Rattle.std.proofs.lemmas.Bool.{eq-eqb, ne_eqb}
 use Rattle.std.proofs.lemmas.List.Elements.{All-head, All-tail}
-use Rattle.std.proofs.lemmas.List.Sums.{sum_by-cons}
 use Rattle.std.proofs.lemmas.Option.{same_Some, slice_get_within}
-use Rattle.rds_model.specs.declared.order.Datagram.{Datagram}
 use Rattle.rds_fmap.specs.Readers.{HasSeen, IsLook, ReaderView}
 use Rattle.rds_fmap.specs.declared.seen.Seen.{Seen}
 use Rattle.rds_text.specs.Hosts.{address_of}
@@ -13,7 +10,6 @@ use Rattle.rds_script.specs.declared.script.Command.{Command}
 use Rattle.rds_script.specs.declared.script.Command.TheVariants as script
 use Rattle.rds_script.specs.declared.script.Placed.{Placed}
 use Rattle.rds_socket_parts.specs.Lanes.{IsLaneAt, Lane}
-use Rattle.rds_socket.specs.Holding.{Open}
 use Rattle.rds_socket.specs.Sends.{IsSent}
 use Rattle.rds_run_callers.specs.Commands.{commander}
 use Rattle.rds_run_callers.specs.Doing.{AtPort, IsDone, IsFree}

@@ -1,12 +1,14 @@
 -- Scripts of which a run comes to the same, however its threads take turns. Source: this project's own.
-use Rattle.std.specs.Prelude.{◌≡◌, ◌≢◌, ◌<◌, ◌≤◌, ℕ, true, Some, List, ◌++◌, All, Contains, filter, length, slice_get}
+use Rattle.std.specs.Prelude.{◌≡◌, ◌≢◌, ◌<◌, ◌≤◌, ℕ, Bool, true, false, Some, List, ◌++◌, All, Contains, filter, length, slice_get}
 use Rattle.rds_wire.specs.declared.kind.TheConstants.{MAX_LENGTH}
 use Rattle.rds_model.specs.declared.entry.Entry.{Entry}
 use Rattle.rds_model.specs.declared.entry.TheConstants.{MAX_SLOTS}
 use Rattle.rds_model.specs.Sums.{orders}
 use Rattle.rds_text.specs.FinalState.{FinalHost, FinalJournal}
 use Rattle.rds_text.specs.Lines.{end_line}
-use Rattle.rds_text.specs.Report.{Counts}
+use Rattle.rds_text.specs.Hosts.{address_of}
+use Rattle.rds_text.specs.Report.{Counts, Group}
+use Rattle.rds_report.specs.ItemReport.{is_same}
 use Rattle.rds_report.specs.Summary.{summary_line}
 use Rattle.rds_script.specs.declared.script.Command.{Command}
 use Rattle.rds_script.specs.declared.script.Command.TheVariants.{Bind, BindAny, Send, Recv, Cancel, Close, Open, Move, Cut, Drain}
@@ -81,6 +83,15 @@ pub record HaveRunCalmly (hosts : ℕ) (commands : List Placed) (ends : List Fin
 -- so many datagrams were accepted, and all of them were received
 abbrev pub all_received : (count : ℕ) → Counts
 all_received count = record { accepted = count; received = count; unread = 0; dropped = 0; port0 = 0; cancelled = 0 }
+
+-- the command sends a datagram of the port pair
+abbrev pub is_send_of : Group → Command → Bool
+is_send_of g (Send host port to dport payload) = is_same g (record { to = address_of to; dport = dport; from = address_of host; sport = port })
+is_send_of g _ = false
+
+-- how many of the commands do
+abbrev pub sends_of : Group → List Placed → ℕ
+sends_of g commands = length (filter (λ (placed : Placed). is_send_of g placed.command) commands)
 
 -- The summary of a generated script, by the words that ask for it: each of its datagrams was received, and they have so many bytes.
 abbrev pub generated_summary : (seed sends : ℕ) → List ℕ

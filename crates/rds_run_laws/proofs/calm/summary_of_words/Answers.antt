@@ -10,4 +10,4 @@ returns c sends seed ends few did acknowledged =
     let commands = (generated sends seed).commands in
     let run : HaveRunCalmly 8 commands ends = record { calm = c.generated_is_calm.ensures sends seed few; did = did; acknowledged = acknowledged } in
     let room : 8 ≤ MAX_HOSTS = omega arith in
-    summary_is seed sends ends (c.all_is_received.ensures.counts 8 commands ends room run) (c.all_is_received.ensures.bytes 8 commands ends room run)
+    summary_is seed sends ends (c.all_is_received.ensures.totals 8 commands ends room run) (c.all_is_received.ensures.bytes 8 commands ends room run)
