@@ -1,5 +1,5 @@
 //! A host that is made, and one that ends.
-ghost use Rattle.std.specs.Prelude.{◌≡◌, ◌∷◌, [], IfOk, IfSome, All, length};
+ghost use Rattle.std.specs.Prelude.{◌≡◌, ◌≤◌, ◌∷◌, [], IfOk, IfSome, All, length};
 ghost use Rattle.rds_link.specs.Memory.{memory_means};
 ghost use Rattle.rds_line_channel.specs.Streams.{AreNumbered, IsUnused};
 ghost use Rattle.rds_host.specs.Passes.{AreAllPasses};
@@ -23,9 +23,6 @@ use std::thread::Threads;
 /// The slots of a host, and its lines.
 type Parts = (Vec<Vacant<Reader>>, Vec<Line<MemEnd, Writer>>);
 
-/// The streams to the only peer, as `make` takes them.
-type Streams = Vec<Vec<(u32, MemEnd)>>;
-
 /// The host, and its peer.
 const ME: u32 = 0x0a00_0001;
 
@@ -35,34 +32,56 @@ fn wire(alloc: Global) -> MemWire {
     MemWire::new(alloc, Vec::new(alloc), Vec::new(alloc))
 }
 
+// The stream 1, with this end.
+fn one(alloc: Global, end: MemEnd) -> Option<Vec<(u32, MemEnd)>>
+    requires { IsUnused memory_means end }
+    ensures numbered { IfSome result (λ one. AreNumbered one.items) }
+    ensures unused { IfSome result (λ one. All (λ stream. IsUnused memory_means stream.1) one.items) }
+{
+    let mut one = Vec::with_capacity(alloc, 1).ok()?;
+    one.push((1, end)).ok()?;
+    Some(one)
+}
+
 // An end of one stream.
-fn streams<R: Threads + Wait + Net>(rt: &R, alloc: Global, wire: &mut MemWire) -> Option<Streams>
-    ensures length { IfSome result (λ list. length list.items ≡ 1) }
-    ensures numbered { IfSome result (λ list. All (λ streams. AreNumbered streams.items) list.items) }
-    ensures unused { IfSome result (λ list. All (λ streams. All (λ stream. IsUnused memory_means stream.1) streams.items) list.items) }
+fn opened<R: Threads + Wait + Net>(
+    rt: &R,
+    alloc: Global,
+    wire: &mut MemWire,
+) -> Option<Vec<(u32, MemEnd)>>
+    ensures numbered { IfSome result (λ one. AreNumbered one.items) }
+    ensures unused { IfSome result (λ one. All (λ stream. IsUnused memory_means stream.1) one.items) }
 {
     let (end, _other) = wire.open(rt, ME, PEER, 1).ok()?;
-    let one = vec![in alloc; (1, end)].ok()?;
-    vec![in alloc; one].ok()
+    one(alloc, end)
+}
+
+// The streams to the only peer, as `make` takes them.
+fn alone(alloc: Global, one: Vec<(u32, MemEnd)>) -> Result<Vec<Vec<(u32, MemEnd)>>, Memory>
+    ensures { IfOk result (λ list. list.items ≡ one ∷ []) }
+{
+    let mut list = Vec::with_capacity(alloc, 1)?;
+    list.push(one)?;
+    Ok(list)
 }
 
 // A host with so many slots.
-fn made(alloc: Global, slots: u16, streams: Streams) -> Result<Parts, Memory>
+fn made(alloc: Global, slots: u16, one: Vec<(u32, MemEnd)>) -> Result<Parts, Memory>
     requires slots { (1 ≤ slots) × (slots ≤ 8) }
-    requires length { length streams.items ≡ 1 }
-    requires numbered { All (λ streams. AreNumbered streams.items) streams.items }
-    requires unused { All (λ streams. All (λ stream. IsUnused memory_means stream.1) streams.items) streams.items }
+    requires numbered { AreNumbered one.items }
+    requires unused { All (λ stream. IsUnused memory_means stream.1) one.items }
     ensures count { IfOk result (λ host. length host.0.items ≡ slots) }
     ensures host { IfOk result (λ host. AreOfHost host.0.items host.1.items) }
     ensures passes { IfOk result (λ host. AreAllPasses host.0.items host.1.items) }
 {
+    let streams = alone(alloc, one)?;
     make(alloc, ME, &[PEER], slots, streams, MAX_ENTRIES)
 }
 
 pub fn host<R: Threads + Wait + Net>(rt: &R, alloc: Global) -> Option<Tried> {
     let mut wire = wire(alloc);
-    let first = streams(rt, alloc, &mut wire)?;
-    let second = streams(rt, alloc, &mut wire)?;
+    let first = opened(rt, alloc, &mut wire)?;
+    let second = opened(rt, alloc, &mut wire)?;
     if let Ok((slots, _lines)) = made(alloc, 8, first) {
         return Some(Tried::of(false, slots.len()));
     }
@@ -85,8 +104,8 @@ fn gathered<R: Threads + Wait + Net>(
     alloc: Global,
     wire: &mut MemWire,
 ) -> Option<Result<HostEnd, Memory>> {
-    let streams = streams(rt, alloc, wire)?;
-    let (slots, lines) = made(alloc, 1, streams).ok()?;
+    let one = opened(rt, alloc, wire)?;
+    let (slots, lines) = made(alloc, 1, one).ok()?;
     let closed = finished(alloc, slots)?;
     Some(gather_host(rt, alloc, wire, ME, Vec::new(alloc), closed, lines))
 }

@@ -12,6 +12,9 @@ use std::thread::Threads;
 /// How many datagrams go from the first host to the second.
 const COUNT: u32 = 40;
 
+/// How many are counted at most.
+const MOST: usize = 1_000;
+
 /// How often both lines turn.
 const TURNS: u32 = 20;
 
@@ -56,11 +59,10 @@ fn turn_once(rt: &impl Wait, host: &mut LineHost<MemEnd>) -> Option<bool> {
 
 // How many datagrams wait.
 fn received(rt: &impl Wait, host: &mut LineHost<MemEnd>) -> usize {
-    let mut count = 0;
-    for _ in 0..=COUNT {
-        if host.next(rt).is_some() {
-            count += 1;
+    for count in 0..MOST {
+        if host.next(rt).is_none() {
+            return count;
         }
     }
-    count
+    MOST
 }

@@ -22,6 +22,9 @@ const BUFFER: u32 = 65_536;
 /// How often a call is made that doesn't end the socket.
 const TIMES: u32 = 100;
 
+/// How many orders or datagrams are counted at most.
+const MOST: usize = 1_000;
+
 // A host whose socket is bound to port 4000.
 fn bound(alloc: Global) -> Option<Bound>
     ensures { IfSome result (λ b. b.socket.told ≡ None) }
@@ -32,13 +35,12 @@ fn bound(alloc: Global) -> Option<Bound>
 
 // How many orders wait.
 fn waiting(rt: &impl Wait, orders: &mut Orders) -> usize {
-    let mut count = 0;
-    for _ in 0..=TIMES {
-        if orders.next(rt).is_some() {
-            count += 1;
+    for count in 0..MOST {
+        if orders.next(rt).is_none() {
+            return count;
         }
     }
-    count
+    MOST
 }
 
 pub fn send(rt: &impl Wait, alloc: Global) -> Option<Tried> {
@@ -169,11 +171,10 @@ fn datagram(payload: &Payload) -> Option<Datagram> {
 
 // How many datagrams wait.
 fn received(rt: &impl Wait, socket: &mut Socket<Reader>) -> usize {
-    let mut count = 0;
-    for _ in 0..=TIMES {
-        if socket.recv(rt).is_some() {
-            count += 1;
+    for count in 0..MOST {
+        if socket.recv(rt).is_none() {
+            return count;
         }
     }
-    count
+    MOST
 }
